@@ -1,0 +1,2 @@
+pub mod NumberSet
+pub mod Octets

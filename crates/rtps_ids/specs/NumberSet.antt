@@ -1,0 +1,85 @@
+-- Sets of sequence numbers. DDSI-RTPS 2.5, 8.3.5.5 "SequenceNumberSet" and 9.4.2.6 "SequenceNumberSet": a base, how
+-- many numbers from the base on have a bit, and words of 32 bits, the bit of the base highest in the first.
+use Rattle.std.specs.Prelude.{ℕ, ℤ, pos, ◌+◌, ◌-◌, ◌*◌, ◌/◌, ◌%◌, ◌^◌, ◌+ℤ◌, ◌<◌, ◌≡◌, ◌==◌, ◌||◌, ◌&&◌, int_lt, nat_lt, nat_eq, not, Bool, if◌then◌else◌, List, [], ◌∷◌, drop, length, map, min, slice_index, Option, Some, None}
+use Rattle.std.specs.Int.{bit_at}
+use Rattle.std.specs.Int.RustNames.{unsigned_abs}
+use Rattle.std.specs.List.{range_with_len}
+use Rattle.rtps_ids.specs.Octets.{number_of, sequence_number_of}
+use Rattle.rtps_ids.specs.declared.order.Order.{Order}
+use Rattle.rtps_ids.specs.declared.set.SetFault.{SetFault}
+use Rattle.rtps_ids.specs.declared.set.SetFault.TheVariants.{BadSet, CutWords}
+
+-- a set as it is kept: the base, how many bits, and eight words, in which no bit past those is set
+pub record NumberSetValue : Type 0 where
+  pub base : ℕ
+  pub count : ℕ
+  pub words : List ℕ
+
+-- bit i of the words, counted from the highest bit of the first word
+abbrev pub bit_of : List ℕ → ℕ → ℕ
+bit_of words i = bit_at (slice_index words (i / 32)) (31 - i % 32)
+
+-- n is base + i for a bit i that is set
+pub record IsMember (set : NumberSetValue) (n : ℤ) : Type 0 where
+  pub bit : ℕ
+  pub in_count : bit < set.count
+  pub number : n ≡ pos (set.base + bit)
+  pub is_set : bit_of set.words bit ≡ 1
+
+-- how many of the bits of word i stand for a number
+abbrev pub kept_bits : ℕ → ℕ → ℕ
+kept_bits count i = min 32 (count - 32 * i)
+
+-- word i without the bits that stand for no number (own: such bits are ignored, so they are cleared)
+abbrev pub cleared : ℕ → ℕ → ℕ → ℕ
+cleared count word i = if nat_lt (32 * i) count then word / 2 ^ (32 - kept_bits count i) * 2 ^ (32 - kept_bits count i) else 0
+
+-- the eight words that `word` gives, cleared
+unfoldable pub cleared_words : ℕ → (ℕ → ℕ) → List ℕ
+cleared_words count word = map (λ i. cleared count (word i) i) (range_with_len 0 8)
+
+-- No set has such a base and count: a base below 0, more than 256 bits, bits at base 0, or a number past 2^63 - 1.
+-- own: base 0 with no bit is a set, since readers send it before they have seen anything.
+abbrev pub is_bad : ℤ → ℕ → Bool
+is_bad base count =
+    int_lt base (pos 0) || nat_lt 256 count || (int_lt base (pos 1) && nat_lt 0 count)
+    || (int_lt (pos 0) base && int_lt (pos (2 ^ 63)) (base +ℤ pos count))
+
+-- the base, the count and word i that octets spell
+abbrev pub spelled_base : Order → List ℕ → ℤ
+spelled_base order octets = sequence_number_of order octets
+
+abbrev pub spelled_count : Order → List ℕ → ℕ
+spelled_count order octets = number_of order 4 (drop 8 octets)
+
+abbrev pub spelled_word : Order → List ℕ → ℕ → ℕ
+spelled_word order octets i = number_of order 4 (drop (12 + 4 * i) octets)
+
+-- how many octets a set of so many bits takes: the base, the count, and as many words as hold the bits
+abbrev pub octets_of_count : ℕ → ℕ
+octets_of_count count = 12 + 4 * ((count + 31) / 32)
+
+-- why octets begin with no set: they end before the count does, the set is bad, or they end before its words do
+abbrev pub set_fault : Order → List ℕ → Option SetFault
+set_fault order octets =
+    if nat_lt (length octets) 12 then Some CutWords
+    else if is_bad (spelled_base order octets) (spelled_count order octets) then Some BadSet
+    else if nat_lt (length octets) (octets_of_count (spelled_count order octets)) then Some CutWords
+    else None
+
+-- the set that octets without a fault spell at their beginning
+abbrev pub spelled_set : Order → List ℕ → NumberSetValue
+spelled_set order octets =
+    record {
+      base = unsigned_abs (spelled_base order octets);
+      count = spelled_count order octets;
+      words = cleared_words (spelled_count order octets) (spelled_word order octets);
+    }
+
+-- what every set that is kept has
+pub record IsKeptSet (set : NumberSetValue) : Type 0 where
+  pub few : set.count < 257
+  pub start : set.base ≡ 0 → set.count ≡ 0
+  pub end : 0 < set.base → set.base + set.count < 2 ^ 63 + 1
+  pub low : set.base < 2 ^ 63
+  pub eight : length set.words ≡ 8

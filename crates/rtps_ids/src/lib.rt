@@ -1,0 +1,16 @@
+//! Identities, numbers and sets of the DDS Interoperability Wire Protocol (DDSI-RTPS 2.5).
+#![tactic(auto)]
+
+mod identity;
+mod memory;
+mod number;
+mod octets;
+mod order;
+mod set;
+
+pub use identity::{EntityId, Guid, GuidPrefix, Stamp, Vendor, Version};
+pub use memory::Memory;
+pub use number::SeqNum;
+pub use octets::{number_at, u16_at, u32_at};
+pub use order::Order;
+pub use set::{NumberSet, SetFault};

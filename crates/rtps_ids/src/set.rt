@@ -1,0 +1,184 @@
+ghost use Rattle.std.specs.Prelude.{◌≡◌, ◌<◌, ◌≤◌, ◌^◌, ◌/◌, length, ◌↔◌, ◌<ℤ◌, ℤ, pos, true, false, None, Some, IsTrue, IsSome, IfSome, MatchOption, MatchResult, slice_index};
+ghost use Rattle.rtps_ids.specs.NumberSet.{IsMember, cleared_words, bit_of, is_bad as is_bad_lem, octets_of_count, set_fault, spelled_set, spelled_word, cleared as cleared_lem};
+
+use crate::octets::{number_at, u32_at};
+use crate::order::Order;
+use std::marker::Model;
+
+/// Why octets begin with no set of sequence numbers.
+#[derive(Clone, Copy, PartialEq, Eq, Debug)]
+pub enum SetFault {
+    /// A base below 0, more than 256 bits, bits at base 0, or a number past 2^63 - 1.
+    BadSet = 1,
+    /// The octets end before the set does.
+    CutWords = 2,
+}
+
+/// A set of sequence numbers: those of 0 to 256 numbers from a base on whose bit is set (DDSI-RTPS 2.5, 8.3.5.5
+/// "SequenceNumberSet" and 9.4.2.6 "SequenceNumberSet").
+#[derive(Clone, Copy, PartialEq, Eq, Debug)]
+pub struct NumberSet {
+    base: u64,
+    count: u32,
+    words: [u32; 8],
+}
+
+impl Model for NumberSet {
+    ghost use Rattle.rtps_ids.specs.NumberSet.{NumberSetValue, IsKeptSet};
+
+    ghost Value = { NumberSetValue };
+
+    ghost view = { λ s. record { base = s.base; count = s.count; words = s.words } };
+
+    ghost invariant = { λ s. IsKeptSet (record { base = s.base; count = s.count; words = s.words }) };
+
+    ghost inverse = { λ v. record { base = v.base; count = v.count; words = v.words } };
+}
+
+impl NumberSet {
+    /// The set of this base whose bits are the first `count` of the words, the bit of the base highest in the first
+    /// word; later bits are cleared. None where the base is below 0, the count above 256, the base 0 and the count
+    /// not, or the last number past 2^63 - 1.
+    pub fn new(base: i64, count: u32, words: [u32; 8]) -> Option<NumberSet>
+        ensures exists { MatchOption result (is_bad_lem base count ≡ true) (λ set. is_bad_lem base count ≡ false) }
+        ensures base { IfSome result (λ set. pos set.base ≡ base) }
+        ensures count { IfSome result (λ set. set.count ≡ count) }
+        ensures words { IfSome result (λ set. set.words ≡ cleared_words count (λ i. slice_index words i)) }
+    {
+        if is_bad(base, count) {
+            return None;
+        }
+        let mut cleared_words = [0; 8];
+        for i in 0..8 {
+            cleared_words[i] = cleared(count, words[i], i);
+        }
+        Some(set_of(base, count, cleared_words))
+    }
+
+    /// Reads the set at the beginning of the octets, and says how many octets it takes. The fault is `CutWords` where
+    /// the octets end before the count does, then `BadSet` where `new` gives None, then `CutWords` where they end
+    /// before the words do.
+    pub fn read(order: Order, bytes: &[u8]) -> Result<(NumberSet, usize), SetFault>
+        ensures { MatchResult result
+            (λ found. (set_fault order bytes.now ≡ None) × (found.0 ≡ spelled_set order bytes.now) × (found.1 ≡ octets_of_count found.0.count))
+            (λ fault. set_fault order bytes.now ≡ Some fault) }
+    {
+        let (Some(base), Some(count)) = (number_at(order, bytes, 0), u32_at(order, bytes, 8)) else {
+            return Err(SetFault::CutWords);
+        };
+        if is_bad(base, count) {
+            return Err(SetFault::BadSet);
+        }
+        let used = 12 + 4 * count.div_ceil(32) as usize;
+        if bytes.len() < used {
+            return Err(SetFault::CutWords);
+        }
+        let words = read_words(order, bytes, count);
+        Ok((set_of(base, count, words), used))
+    }
+
+    /// The number that the first bit stands for, from 0 on.
+    pub fn base(&self) -> i64
+        ensures { result ≡ pos self.now.base }
+    {
+        self.base.cast_signed()
+    }
+
+    /// How many numbers have a bit, 0 to 256.
+    pub fn count(&self) -> u32
+        ensures { result ≡ self.now.count }
+    {
+        self.count
+    }
+
+    /// The word of 32 bits at this place, 0 from 8 on.
+    pub fn word(&self, i: usize) -> u32
+        ensures { result ≡ slice_index self.now.words i }
+    {
+        if i < 8 { self.words[i] } else { 0 }
+    }
+
+    /// Whether this number is in the set. Every number that is lies from 1 to 2^63 - 1.
+    pub fn contains(&self, n: i64) -> bool
+        ensures member { IsTrue result ↔ IsMember self.now n }
+        ensures range { (number : ℤ) → IsMember self.now number → (pos 0 <ℤ number) × (number <ℤ pos (2 ^ 63)) }
+    {
+        let n = n.cast_unsigned();
+        if n < self.base || n - self.base >= u64::from(self.count) {
+            return false;
+        }
+        is_set(&self.words, (n - self.base) as usize)
+    }
+}
+
+/// Whether this bit is set, counted from the highest of the first word.
+fn is_set(words: &[u32], bit: usize) -> bool
+    requires { bit / 32 < length words.now }
+    ensures { IsTrue result ↔ (bit_of words.now bit ≡ 1) }
+{
+    (words[bit / 32] >> (31 - bit % 32)) & 1 == 1
+}
+
+/// Whether no set has this base and count.
+fn is_bad(base: i64, count: u32) -> bool
+    ensures { result ≡ is_bad_lem base count }
+{
+    if base < 0 || count > 256 {
+        return true;
+    }
+    if base == 0 {
+        return count > 0;
+    }
+    base.cast_unsigned() + u64::from(count) > 1 << 63
+}
+
+/// Word `i` without the bits past `count`.
+fn cleared(count: u32, word: u32, i: usize) -> u32
+    requires { i < 8 }
+    ensures { result ≡ cleared_lem count word i }
+{
+    let before = 32 * i as u32;
+    if before >= count {
+        return 0;
+    }
+    let dropped = 32 - (count - before).min(32);
+    ((u64::from(word) >> dropped) << dropped) as u32
+}
+
+/// The set of this base and count, whose words are cleared already.
+fn set_of(base: i64, count: u32, words: [u32; 8]) -> NumberSet
+    requires { is_bad_lem base count ≡ false }
+    ensures base { pos result.base ≡ base }
+    ensures count { result.count ≡ count }
+    ensures words { result.words ≡ words }
+{
+    NumberSet {
+        base: base.cast_unsigned(),
+        count,
+        words,
+    }
+}
+
+/// Word `i` of the set at the beginning of the octets, cleared past its count.
+fn word_at(order: Order, bytes: &[u8], count: u32, i: usize) -> u32
+    requires place { i < 8 }
+    requires whole { octets_of_count count ≤ length bytes.now }
+    ensures { result ≡ cleared_lem count (spelled_word order bytes.now i) i }
+{
+    let Some(word) = u32_at(order, bytes, 12 + 4 * i) else {
+        return 0;
+    };
+    cleared(count, word, i)
+}
+
+/// The words of a set of so many bits, cleared past its count.
+fn read_words(order: Order, bytes: &[u8], count: u32) -> [u32; 8]
+    requires { octets_of_count count ≤ length bytes.now }
+    ensures { result ≡ cleared_words count (λ i. spelled_word order bytes.now i) }
+{
+    let mut words = [0; 8];
+    for i in 0..8 {
+        words[i] = word_at(order, bytes, count, i);
+    }
+    words
+}
