@@ -40,7 +40,7 @@ cleared_words count word = map (λ i. cleared count (word i) i) (range_with_len 
 
 -- No set has such a base and count: a base below 0, more than 256 bits, bits at base 0, or a number past 2^63 - 1.
 -- own: base 0 with no bit is a set, since readers send it before they have seen anything.
-abbrev pub is_bad : ℤ → ℕ → Bool
+unfoldable pub is_bad : ℤ → ℕ → Bool
 is_bad base count =
     int_lt base (pos 0) || nat_lt 256 count || (int_lt base (pos 1) && nat_lt 0 count)
     || (int_lt (pos 0) base && int_lt (pos (2 ^ 63)) (base +ℤ pos count))
@@ -60,7 +60,7 @@ abbrev pub octets_of_count : ℕ → ℕ
 octets_of_count count = 12 + 4 * ((count + 31) / 32)
 
 -- why octets begin with no set: they end before the count does, the set is bad, or they end before its words do
-abbrev pub set_fault : Order → List ℕ → Option SetFault
+unfoldable pub set_fault : Order → List ℕ → Option SetFault
 set_fault order octets =
     if nat_lt (length octets) 12 then Some CutWords
     else if is_bad (spelled_base order octets) (spelled_count order octets) then Some BadSet

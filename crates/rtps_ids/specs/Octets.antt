@@ -7,13 +7,13 @@ use Rattle.rtps_ids.specs.declared.order.Order.TheVariants.{Big, Little}
 
 -- the number that the first `width` octets spell: the sum of octet i times 256 to the power of width - 1 - i for Big,
 -- and of octet i times 256 to the power of i for Little
-abbrev pub number_of : Order → ℕ → List ℕ → ℕ
+unfoldable pub number_of : Order → ℕ → List ℕ → ℕ
 number_of Big width octets = big_number width octets
 number_of Little width octets = little_number width octets
 
 -- the sequence number that the first eight octets spell: a signed high part of four octets, and then an unsigned low
 -- part of four, in either order (9.3.2, "SequenceNumber_t")
-abbrev pub sequence_number_of : Order → List ℕ → ℤ
+unfoldable pub sequence_number_of : Order → List ℕ → ℤ
 sequence_number_of order octets = twos_complement 8 (number_of order 4 octets * 2 ^ 32 + number_of order 4 (drop 4 octets))
 
 -- what `value` reads from place `at` on, where `width` octets stand there

@@ -5,6 +5,7 @@ use crate::order::Order;
 use byteorder::{BigEndian, ByteOrder, LittleEndian};
 
 /// The number of two octets at the place `at`, or None where the octets do not reach.
+#[tactic(auto, unfolding(crate::specs::Octets::number_of))]
 pub fn u16_at(order: Order, bytes: &[u8], at: usize) -> Option<u16>
     ensures { result ≡ read_at (number_of order 2) 2 bytes.now at }
 {
@@ -19,6 +20,7 @@ pub fn u16_at(order: Order, bytes: &[u8], at: usize) -> Option<u16>
 }
 
 /// The number of four octets at the place `at`, or None where the octets do not reach.
+#[tactic(auto, unfolding(crate::specs::Octets::number_of))]
 pub fn u32_at(order: Order, bytes: &[u8], at: usize) -> Option<u32>
     ensures { result ≡ read_at (number_of order 4) 4 bytes.now at }
 {
@@ -34,6 +36,7 @@ pub fn u32_at(order: Order, bytes: &[u8], at: usize) -> Option<u32>
 
 /// The sequence number of eight octets at the place `at`, a signed high part and then an unsigned low part, or None
 /// where the octets do not reach.
+#[tactic(auto, unfolding(crate::specs::Octets::number_of, crate::specs::Octets::sequence_number_of))]
 pub fn number_at(order: Order, bytes: &[u8], at: usize) -> Option<i64>
     ensures { result ≡ read_at (sequence_number_of order) 8 bytes.now at }
 {

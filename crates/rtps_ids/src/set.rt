@@ -58,6 +58,7 @@ impl NumberSet {
     /// Reads the set at the beginning of the octets, and says how many octets it takes. The fault is `CutWords` where
     /// the octets end before the count does, then `BadSet` where `new` gives None, then `CutWords` where they end
     /// before the words do.
+    #[tactic(auto, unfolding(crate::specs::NumberSet::set_fault))]
     pub fn read(order: Order, bytes: &[u8]) -> Result<(NumberSet, usize), SetFault>
         ensures { MatchResult result
             (λ found. (set_fault order bytes.now ≡ None) × (found.0 ≡ spelled_set order bytes.now) × (found.1 ≡ octets_of_count found.0.count))
@@ -120,6 +121,7 @@ fn is_set(words: &[u32], bit: usize) -> bool
 }
 
 /// Whether no set has this base and count.
+#[tactic(auto, unfolding(crate::specs::NumberSet::is_bad))]
 fn is_bad(base: i64, count: u32) -> bool
     ensures { result ≡ is_bad_lem base count }
 {
@@ -146,6 +148,7 @@ fn cleared(count: u32, word: u32, i: usize) -> u32
 }
 
 /// The set of this base and count, whose words are cleared already.
+#[tactic(auto, unfolding(crate::specs::NumberSet::is_bad))]
 fn set_of(base: i64, count: u32, words: [u32; 8]) -> NumberSet
     requires { is_bad_lem base count ≡ false }
     ensures base { pos result.base ≡ base }

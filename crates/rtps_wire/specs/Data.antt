@@ -1,0 +1,55 @@
+-- DATA. DDSI-RTPS 2.5, 8.3.8.2 "Data" and 9.4.5.4 "Data Submessage".
+use Rattle.std.specs.Prelude.{ℕ, ℤ, ◌+◌, ◌==◌, ◌&&◌, ◌||◌, bit_and, not, pos, int_le, nat_lt, Bool, List, [], ◌∷◌, length, take, drop, Option, if◌then◌else◌}
+use Rattle.std.specs.Int.RustNames.{unsigned_abs}
+use Rattle.rtps_ids.specs.Octets.{number_of, sequence_number_of}
+use Rattle.rtps_ids.specs.declared.order.Order.{Order}
+use Rattle.rtps_wire.specs.Fault.{first_fault}
+use Rattle.rtps_wire.specs.Values.{DataValue, PayloadValue}
+use Rattle.rtps_wire.specs.Values.PayloadValue.{Absent, Whole, Key}
+use Rattle.rtps_wire.specs.declared.fault.WireFault.{WireFault}
+use Rattle.rtps_wire.specs.declared.fault.WireFault.TheVariants.{ShortBody, BadFlags, BadOffset, BadNumber, BadInlineQos}
+
+-- flags Q (inline QoS), D (data) and K (key); N has no effect
+abbrev pub has_qos : ℕ → Bool
+has_qos flags = bit_and flags 2 == 2
+
+abbrev pub has_data : ℕ → Bool
+has_data flags = bit_and flags 4 == 4
+
+abbrev pub has_key : ℕ → Bool
+has_key flags = bit_and flags 8 == 8
+
+-- extraFlags (ignored), octetsToInlineQos at 2, readerId at 4, writerId at 8, writerSN at 12
+abbrev pub octets_to_inline_qos : Order → List ℕ → ℕ
+octets_to_inline_qos order body = number_of order 2 (drop 2 body)
+
+abbrev pub data_number : Order → List ℕ → ℤ
+data_number order body = sequence_number_of order (drop 12 body)
+
+-- octetsToInlineQos counts from the octet behind it
+abbrev pub behind_fields : Order → List ℕ → List ℕ
+behind_fields order body = drop (4 + octets_to_inline_qos order body) body
+
+-- own: an offset into the named fields is bad, since what it would name is read already
+abbrev pub data_fault : Order → ℕ → List ℕ → Option WireFault
+data_fault order flags body = first_fault (
+    (ShortBody, nat_lt (length body) 20)
+    ∷ (BadFlags, has_data flags && has_key flags)
+    ∷ (BadOffset, nat_lt (octets_to_inline_qos order body) 16 || nat_lt (length body) (4 + octets_to_inline_qos order body))
+    ∷ (BadNumber, int_le (data_number order body) (pos 0))
+    ∷ (BadInlineQos, has_qos flags)
+    ∷ [])
+
+-- own: without D and K, octets that are left over are ignored
+abbrev pub payload_of : ℕ → List ℕ → PayloadValue
+payload_of flags octets = if has_data flags then Whole octets else if has_key flags then Key octets else Absent
+
+-- the DATA that a body without a fault spells
+abbrev pub data_of : Order → ℕ → List ℕ → DataValue
+data_of order flags body =
+    record {
+      reader = record { 0 = take 4 (drop 4 body) };
+      writer = record { 0 = take 4 (drop 8 body) };
+      number = unsigned_abs (data_number order body);
+      payload = payload_of flags (behind_fields order body);
+    }

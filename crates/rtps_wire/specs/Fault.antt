@@ -1,0 +1,12 @@
+-- Which fault a submessage has: the first condition of its table that holds.
+use Rattle.std.specs.Prelude.{◌≡◌, Bool, if◌then◌else◌, List, [], ◌∷◌, Option, Some, None, Result, Ok, Err}
+use Rattle.rtps_wire.specs.declared.fault.WireFault.{WireFault}
+
+abbrev pub first_fault : List (WireFault × Bool) → Option WireFault
+first_fault [] = None
+first_fault (row ∷ rows) = if row.1 then Some row.0 else first_fault rows
+
+-- A reader answers the fault where there is one, and else what `view` sees as the value.
+abbrev pub Answers : {X Y : Type 0} → (X → Y) → Result X WireFault → Option WireFault → Y → Type 0
+Answers view (Ok x) fault value = (fault ≡ None) × (view x ≡ value)
+Answers view (Err e) fault value = fault ≡ Some e

@@ -1,0 +1,40 @@
+-- GAP. DDSI-RTPS 2.5, 8.3.8.4 "Gap" and 9.4.5.6 "Gap Submessage".
+use Rattle.std.specs.Prelude.{ℕ, ℤ, ◌||◌, ◌+◌, int_le, pos, nat_lt, Bool, List, [], ◌∷◌, length, take, drop, Option}
+use Rattle.std.specs.Int.RustNames.{unsigned_abs}
+use Rattle.rtps_ids.specs.NumberSet.{is_bad, octets_of_count, spelled_base, spelled_count, spelled_set}
+use Rattle.rtps_ids.specs.Octets.{sequence_number_of}
+use Rattle.rtps_ids.specs.declared.order.Order.{Order}
+use Rattle.rtps_wire.specs.Fault.{first_fault}
+use Rattle.rtps_wire.specs.declared.body.GapBody.{GapBody}
+use Rattle.rtps_wire.specs.declared.fault.WireFault.{WireFault}
+use Rattle.rtps_wire.specs.declared.fault.WireFault.TheVariants.{ShortBody, BadNumber, BadSet}
+
+-- readerId, writerId, gapStart at 8, gapList at 16
+abbrev pub start_number : Order → List ℕ → ℤ
+start_number order body = sequence_number_of order (drop 8 body)
+
+-- own: a gapList of base 0 is bad also without a bit, since only a reader that has seen nothing sends such a set
+abbrev pub list_faults : Order → List ℕ → List (WireFault × Bool)
+list_faults order body =
+    (BadSet, is_bad (spelled_base order (drop 16 body)) (spelled_count order (drop 16 body)) || int_le (spelled_base order (drop 16 body)) (pos 0))
+    ∷ (ShortBody, nat_lt (length body) (16 + octets_of_count (spelled_count order (drop 16 body))))
+    ∷ []
+
+abbrev pub list_fault : Order → List ℕ → Option WireFault
+list_fault order body = first_fault (list_faults order body)
+
+abbrev pub gap_fault : Order → List ℕ → Option WireFault
+gap_fault order body = first_fault (
+    (ShortBody, nat_lt (length body) 28)
+    ∷ (BadNumber, int_le (start_number order body) (pos 0))
+    ∷ list_faults order body)
+
+-- the GAP that a body without a fault spells
+abbrev pub gap_of : Order → List ℕ → GapBody
+gap_of order body =
+    record {
+      reader = record { 0 = take 4 body };
+      writer = record { 0 = take 4 (drop 4 body) };
+      start = unsigned_abs (start_number order body);
+      list = spelled_set order (drop 16 body);
+    }

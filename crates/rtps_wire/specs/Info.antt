@@ -1,0 +1,39 @@
+-- INFO_TS, INFO_DST and INFO_SRC. DDSI-RTPS 2.5, 8.3.8.9 "InfoTimestamp" and 9.4.5.11 "InfoTimestamp Submessage",
+-- 8.3.8.7 "InfoDestination" and 9.4.5.9 "InfoDestination Submessage", 8.3.8.8 "InfoSource" and 9.4.5.10 "InfoSource
+-- Submessage".
+use Rattle.std.specs.Prelude.{ℕ, ◌==◌, ◌&&◌, bit_and, nat_lt, List, [], ◌∷◌, length, slice_index, take, drop, Option, Some, None, if◌then◌else◌}
+use Rattle.rtps_ids.specs.Octets.{number_of}
+use Rattle.rtps_ids.specs.declared.identity.GuidPrefix.{GuidPrefix}
+use Rattle.rtps_ids.specs.declared.identity.Stamp.{Stamp}
+use Rattle.rtps_ids.specs.declared.order.Order.{Order}
+use Rattle.rtps_wire.specs.Fault.{first_fault}
+use Rattle.rtps_wire.specs.declared.fault.WireFault.{WireFault}
+use Rattle.rtps_wire.specs.declared.fault.WireFault.TheVariants.{ShortBody}
+use Rattle.rtps_wire.specs.declared.header.Header.{Header}
+
+-- INFO_TS: flag I, 0x02, says that there is no time, and then no octet of the body is looked at
+abbrev pub info_ts_fault : ℕ → List ℕ → Option WireFault
+info_ts_fault flags body = first_fault ((ShortBody, (bit_and flags 2 == 0) && nat_lt (length body) 8) ∷ [])
+
+-- seconds, fraction
+abbrev pub info_ts_of : Order → ℕ → List ℕ → Option Stamp
+info_ts_of order flags body =
+    if bit_and flags 2 == 0 then Some (record { seconds = number_of order 4 body; fraction = number_of order 4 (drop 4 body) }) else None
+
+abbrev pub info_dst_fault : List ℕ → Option WireFault
+info_dst_fault body = first_fault ((ShortBody, nat_lt (length body) 12) ∷ [])
+
+abbrev pub info_dst_of : List ℕ → GuidPrefix
+info_dst_of body = record { 0 = take 12 body }
+
+abbrev pub info_src_fault : List ℕ → Option WireFault
+info_src_fault body = first_fault ((ShortBody, nat_lt (length body) 20) ∷ [])
+
+-- four unused octets, the version, the vendor id, the prefix: behind the first four, as in a header
+abbrev pub info_src_of : List ℕ → Header
+info_src_of body =
+    record {
+      version = record { major = slice_index body 4; minor = slice_index body 5 };
+      vendor = record { 0 = take 2 (drop 6 body) };
+      prefix = record { 0 = take 12 (drop 8 body) };
+    }

@@ -1,0 +1,11 @@
+pub mod AckNack
+pub mod Data
+pub mod Fault
+pub mod Gap
+pub mod Header
+pub mod Heartbeat
+pub mod Info
+pub mod Message
+pub mod Reading
+pub mod SetField
+pub mod Values

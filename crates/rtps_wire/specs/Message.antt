@@ -1,0 +1,108 @@
+-- A message: a header, and then submessages. DDSI-RTPS 2.5, 8.3.3 "The Overall Structure of an RTPS Message", 8.3.4.1
+-- "Rules Followed By The Message Receiver" and 9.4.5.1 "Submessage Header".
+use Rattle.std.specs.Prelude.{ℕ, ◌+◌, ◌≡◌, ◌==◌, ◌<◌, ◌||◌, bit_and, nat_lt, Bool, List, [], ◌∷◌, length, take, drop, slice_index, Option, Some, None, if◌then◌else◌}
+use Rattle.rtps_ids.specs.Octets.{number_of}
+use Rattle.rtps_ids.specs.declared.order.Order.{Order}
+use Rattle.rtps_ids.specs.declared.order.Order.TheVariants.{Big, Little}
+use Rattle.rtps_wire.specs.AckNack.{ack_nack_fault, ack_nack_of}
+use Rattle.rtps_wire.specs.Data.{data_fault, data_of}
+use Rattle.rtps_wire.specs.Gap.{gap_fault, gap_of}
+use Rattle.rtps_wire.specs.Header.{header_fault, header_of}
+use Rattle.rtps_wire.specs.Heartbeat.{heartbeat_fault, heartbeat_of}
+use Rattle.rtps_wire.specs.Info.{info_dst_fault, info_dst_of, info_src_fault, info_src_of, info_ts_fault, info_ts_of}
+use Rattle.rtps_wire.specs.Values.{BodyValue, ItemValue}
+use Rattle.rtps_wire.specs.Values.BodyValue.{Data, Heartbeat, AckNack, Gap, InfoTs, InfoDst, InfoSrc, Skipped}
+use Rattle.rtps_wire.specs.declared.fault.Refusal.{Refusal}
+use Rattle.rtps_wire.specs.declared.fault.WireFault.{WireFault}
+use Rattle.rtps_wire.specs.declared.fault.WireFault.TheVariants.{CutHeader, Overrun}
+use Rattle.rtps_wire.specs.declared.header.Header.{Header}
+
+-- A submessage header is submessageId, flags and octetsToNextHeader. In what follows, `rest` are the octets from the
+-- first of a submessage on.
+abbrev pub id_of : List ℕ → ℕ
+id_of rest = slice_index rest 0
+
+abbrev pub flags_of : List ℕ → ℕ
+flags_of rest = slice_index rest 1
+
+-- flag E, 0x01, tells the order of the submessage, and that of its octetsToNextHeader too
+abbrev pub order_of : ℕ → Order
+order_of flags = if bit_and flags 1 == 1 then Little else Big
+
+abbrev pub octets_to_next_header : List ℕ → ℕ
+octets_to_next_header rest = number_of (order_of (flags_of rest)) 2 (drop 2 rest)
+
+-- A submessage's extent comes from octetsToNextHeader alone: 0 is an empty body of PAD (0x01) and of INFO_TS (0x09),
+-- and of any other id all octets that are left.
+abbrev pub extent_of : ℕ → ℕ → ℕ → ℕ
+extent_of id declared left = if declared == 0 then (if id == 1 || id == 9 then 0 else left) else declared
+
+abbrev pub body_length : List ℕ → ℕ
+body_length rest = extent_of (id_of rest) (octets_to_next_header rest) (length (drop 4 rest))
+
+abbrev pub body_octets : List ℕ → List ℕ
+body_octets rest = take (body_length rest) (drop 4 rest)
+
+-- the octets from the next submessage on, and how many stand before it
+abbrev pub next_rest : List ℕ → List ℕ
+next_rest rest = drop (4 + body_length rest) rest
+
+-- the fault of a body, and what a body without one says; ids that are not read have no fault
+abbrev pub body_fault : ℕ → ℕ → List ℕ → Option WireFault
+body_fault id flags body =
+    if id == 6 then ack_nack_fault (order_of flags) body
+    else if id == 7 then heartbeat_fault (order_of flags) body
+    else if id == 8 then gap_fault (order_of flags) body
+    else if id == 9 then info_ts_fault flags body
+    else if id == 12 then info_src_fault body
+    else if id == 14 then info_dst_fault body
+    else if id == 21 then data_fault (order_of flags) flags body
+    else None
+
+abbrev pub source_value : Header → BodyValue
+source_value source = InfoSrc source.version source.vendor source.prefix
+
+abbrev pub body_of : ℕ → ℕ → List ℕ → BodyValue
+body_of id flags body =
+    if id == 6 then AckNack (ack_nack_of (order_of flags) flags body)
+    else if id == 7 then Heartbeat (heartbeat_of (order_of flags) flags body)
+    else if id == 8 then Gap (gap_of (order_of flags) body)
+    else if id == 9 then InfoTs (info_ts_of (order_of flags) flags body)
+    else if id == 12 then source_value (info_src_of body)
+    else if id == 14 then InfoDst (info_dst_of body)
+    else if id == 21 then Data (data_of (order_of flags) flags body)
+    else Skipped id
+
+-- the fault of the first submessage
+unfoldable pub fault_at : List ℕ → Option WireFault
+fault_at rest =
+    if nat_lt (length rest) 4 then Some CutHeader
+    else if nat_lt (length (drop 4 rest)) (octets_to_next_header rest) then Some Overrun
+    else body_fault (id_of rest) (flags_of rest) (body_octets rest)
+
+-- the first submessage, at this place, where it has no fault
+unfoldable pub item_at : List ℕ → ℕ → ItemValue
+item_at rest at = record { at = at; order = order_of (flags_of rest); body = body_of (id_of rest) (flags_of rest) (body_octets rest) }
+
+-- These octets, of which the first is at this place, are these items, and then no octet or a refusal.
+abbrev pub ReadsFrom : List ℕ → ℕ → List ItemValue → Option Refusal → Type 0
+ReadsFrom rest at [] None = rest ≡ []
+ReadsFrom rest at [] (Some refusal) = (0 < length rest) × (refusal.at ≡ at) × (fault_at rest ≡ Some refusal.fault)
+ReadsFrom rest at (item ∷ items) ending =
+    (0 < length rest) × (fault_at rest ≡ None) × (item ≡ item_at rest at) × ReadsFrom (next_rest rest) (at + 4 + body_length rest) items ending
+
+-- what a datagram says: its header, the items at their places, and the refusal that ends it, if one does
+pub record Reading : Type 0 where
+  pub header : Option Header
+  pub items : List ItemValue
+  pub ending : Option Refusal
+
+-- A datagram whose header is refused has no header and no items, and its refusal is at 0.
+abbrev pub ReadsWith : Option WireFault → List ℕ → Reading → Type 0
+ReadsWith (Some fault) datagram reading =
+    (reading.header ≡ None) × (reading.items ≡ []) × (reading.ending ≡ Some (record { at = 0; fault = fault }))
+ReadsWith None datagram reading =
+    (reading.header ≡ Some (header_of datagram)) × ReadsFrom (drop 20 datagram) 20 reading.items reading.ending
+
+abbrev pub Reads : List ℕ → Reading → Type 0
+Reads datagram reading = ReadsWith (header_fault datagram) datagram reading

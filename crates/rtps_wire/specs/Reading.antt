@@ -1,0 +1,65 @@
+-- The one reading of a datagram, as a function. That it is what `Reads` of specs/Message says, and that nothing else
+-- is, are laws.
+use Rattle.std.specs.Prelude.{ℕ, zero, suc, ◌+◌, List, [], ◌∷◌, length, drop, Option, Some, None, Result, Ok, Err}
+use Rattle.rtps_wire.specs.Header.{header_fault, header_of}
+use Rattle.rtps_wire.specs.Message.{Reading, body_length, fault_at, item_at, next_rest}
+use Rattle.rtps_wire.specs.Values.{ItemValue, item_value}
+use Rattle.rtps_wire.specs.declared.body.Item.{Item}
+use Rattle.rtps_wire.specs.declared.fault.Refusal.{Refusal}
+use Rattle.rtps_wire.specs.declared.fault.WireFault.{WireFault}
+
+-- what is read next: an item, or the refusal that ends the message
+abbrev pub Outcome : Type 0
+Outcome = Result ItemValue Refusal
+
+abbrev pub outcome_value : Result Item Refusal → Outcome
+outcome_value (Ok item) = Ok (item_value item)
+outcome_value (Err refusal) = Err refusal
+
+-- what is still unread of a datagram: its octets, and the place of the first of them
+pub record Unread : Type 0 where
+  pub rest : List ℕ
+  pub at : ℕ
+
+-- an item and what `more` reads behind it, or a refusal and nothing more
+abbrev pub outcomes_with : (List ℕ → ℕ → List Outcome) → Option WireFault → List ℕ → ℕ → List Outcome
+outcomes_with more (Some fault) rest at = Err (record { at = at; fault = fault }) ∷ []
+outcomes_with more None rest at = Ok (item_at rest at) ∷ more (next_rest rest) (at + 4 + body_length rest)
+
+-- at most so many of them
+unfoldable pub outcomes_within : ℕ → List ℕ → ℕ → List Outcome
+outcomes_within zero rest at = []
+outcomes_within (suc n) [] at = []
+outcomes_within (suc n) (octet ∷ octets) at = outcomes_with (outcomes_within n) (fault_at (octet ∷ octets)) (octet ∷ octets) at
+
+-- all of them: a submessage has at least one octet
+unfoldable pub outcomes : List ℕ → ℕ → List Outcome
+outcomes rest at = outcomes_within (length rest) rest at
+
+-- all that is still to come
+abbrev pub outcomes_left : Unread → List Outcome
+outcomes_left unread = outcomes unread.rest unread.at
+
+-- the items among them, and the refusal
+abbrev pub items_among : List Outcome → List ItemValue
+items_among [] = []
+items_among (Ok item ∷ rest) = item ∷ items_among rest
+items_among (Err refusal ∷ rest) = items_among rest
+
+abbrev pub refusal_among : List Outcome → Option Refusal
+refusal_among [] = None
+refusal_among (Ok item ∷ rest) = refusal_among rest
+refusal_among (Err refusal ∷ rest) = Some refusal
+
+abbrev pub reading_with : Option WireFault → List ℕ → Reading
+reading_with (Some fault) datagram = record { header = None; items = []; ending = Some (record { at = 0; fault = fault }) }
+reading_with None datagram =
+    record {
+      header = Some (header_of datagram);
+      items = items_among (outcomes (drop 20 datagram) 20);
+      ending = refusal_among (outcomes (drop 20 datagram) 20);
+    }
+
+-- the reading of a datagram
+abbrev pub reading_of : List ℕ → Reading
+reading_of datagram = reading_with (header_fault datagram) datagram

@@ -1,0 +1,66 @@
+-- Items, bodies and payloads with lists of octets where the types hold a part of the caller's datagram, so that two
+-- are equal where their octets are.
+use Rattle.std.specs.Prelude.{ℕ, List, Option}
+use Rattle.rtps_ids.specs.declared.identity.EntityId.{EntityId}
+use Rattle.rtps_ids.specs.declared.identity.GuidPrefix.{GuidPrefix}
+use Rattle.rtps_ids.specs.declared.identity.Stamp.{Stamp}
+use Rattle.rtps_ids.specs.declared.identity.Vendor.{Vendor}
+use Rattle.rtps_ids.specs.declared.identity.Version.{Version}
+use Rattle.rtps_ids.specs.declared.order.Order.{Order}
+use Rattle.rtps_wire.specs.declared.body.AckNackBody.{AckNackBody}
+use Rattle.rtps_wire.specs.declared.body.Body.{Body}
+use Rattle.rtps_wire.specs.declared.body.Body.TheVariants as body
+use Rattle.rtps_wire.specs.declared.body.DataBody.{DataBody}
+use Rattle.rtps_wire.specs.declared.body.GapBody.{GapBody}
+use Rattle.rtps_wire.specs.declared.body.HeartbeatBody.{HeartbeatBody}
+use Rattle.rtps_wire.specs.declared.body.Item.{Item}
+use Rattle.rtps_wire.specs.declared.body.Payload.{Payload}
+use Rattle.rtps_wire.specs.declared.body.Payload.TheVariants as payload
+
+pub data PayloadValue : Type 0 where
+  Absent : PayloadValue
+  Whole : (octets : List ℕ) → PayloadValue
+  Key : (octets : List ℕ) → PayloadValue
+
+pub record DataValue : Type 0 where
+  pub reader : EntityId
+  pub writer : EntityId
+  pub number : ℕ
+  pub payload : PayloadValue
+
+pub data BodyValue : Type 0 where
+  Data : (value : DataValue) → BodyValue
+  Heartbeat : (value : HeartbeatBody) → BodyValue
+  AckNack : (value : AckNackBody) → BodyValue
+  Gap : (value : GapBody) → BodyValue
+  InfoTs : (time : Option Stamp) → BodyValue
+  InfoDst : (prefix : GuidPrefix) → BodyValue
+  InfoSrc : (version : Version) (vendor : Vendor) (prefix : GuidPrefix) → BodyValue
+  Skipped : (id : ℕ) → BodyValue
+
+pub record ItemValue : Type 0 where
+  pub at : ℕ
+  pub order : Order
+  pub body : BodyValue
+
+-- what a payload, a DATA, a body and an item of the code stand for
+abbrev pub payload_value : Payload → PayloadValue
+payload_value payload.Absent = Absent
+payload_value (payload.Whole octets) = Whole octets.now
+payload_value (payload.Key octets) = Key octets.now
+
+abbrev pub data_value : DataBody → DataValue
+data_value value = record { reader = value.reader; writer = value.writer; number = value.number; payload = payload_value value.payload }
+
+abbrev pub body_value : Body → BodyValue
+body_value (body.Data value) = Data (data_value value)
+body_value (body.Heartbeat value) = Heartbeat value
+body_value (body.AckNack value) = AckNack value
+body_value (body.Gap value) = Gap value
+body_value (body.InfoTs time) = InfoTs time
+body_value (body.InfoDst prefix) = InfoDst prefix
+body_value (body.InfoSrc version vendor prefix) = InfoSrc version vendor prefix
+body_value (body.Skipped id) = Skipped id
+
+abbrev pub item_value : Item → ItemValue
+item_value item = record { at = item.at; order = item.order; body = body_value item.body }

@@ -1,0 +1,86 @@
+use rtps_ids::{EntityId, GuidPrefix, NumberSet, Order, SeqNum, Stamp, Vendor, Version};
+
+/// What a DATA carries: nothing, a whole sample, or the key of one (DDSI-RTPS 2.5, 9.4.5.4 "Data Submessage", flags
+/// D and K).
+#[derive(Clone, Copy, PartialEq, Eq, Debug)]
+pub enum Payload<'a> {
+    Absent,
+    Whole(&'a [u8]),
+    Key(&'a [u8]),
+}
+
+/// A change of a writer, whole or by its key (DDSI-RTPS 2.5, 8.3.8.2 "Data").
+#[derive(Clone, Copy, PartialEq, Eq, Debug)]
+pub struct DataBody<'a> {
+    pub reader: EntityId,
+    pub writer: EntityId,
+    pub number: SeqNum,
+    pub payload: Payload<'a>,
+}
+
+/// Which numbers a writer has: `first` to `last`, none where `last` is `first` - 1 (DDSI-RTPS 2.5, 8.3.8.6
+/// "Heartbeat").
+#[derive(Clone, Copy, PartialEq, Eq, Debug)]
+pub struct HeartbeatBody {
+    pub reader: EntityId,
+    pub writer: EntityId,
+    pub first: SeqNum,
+    pub last: i64,
+    /// own: read as a number without a sign; nothing rests on it.
+    pub count: u32,
+    pub is_final: bool,
+    pub live: bool,
+}
+
+/// Which numbers a reader has, all below the base of the set, and which it asks for, the set (DDSI-RTPS 2.5, 8.3.8.1
+/// "AckNack").
+#[derive(Clone, Copy, PartialEq, Eq, Debug)]
+pub struct AckNackBody {
+    pub reader: EntityId,
+    pub writer: EntityId,
+    pub set: NumberSet,
+    /// own: read as a number without a sign; nothing rests on it.
+    pub count: u32,
+    pub is_final: bool,
+}
+
+/// Which numbers will not come: those from `start` up to the base of `list`, and the list (DDSI-RTPS 2.5, 8.3.8.4
+/// "Gap").
+#[derive(Clone, Copy, PartialEq, Eq, Debug)]
+pub struct GapBody {
+    pub reader: EntityId,
+    pub writer: EntityId,
+    pub start: SeqNum,
+    pub list: NumberSet,
+}
+
+/// What a submessage says.
+#[derive(Clone, Copy, PartialEq, Eq, Debug)]
+pub enum Body<'a> {
+    Data(DataBody<'a>),
+    Heartbeat(HeartbeatBody),
+    AckNack(AckNackBody),
+    Gap(GapBody),
+    /// The time of what follows, or none (DDSI-RTPS 2.5, 8.3.8.9 "InfoTimestamp").
+    InfoTs(Option<Stamp>),
+    /// For whom what follows is (DDSI-RTPS 2.5, 8.3.8.7 "InfoDestination").
+    InfoDst(GuidPrefix),
+    /// From whom what follows is (DDSI-RTPS 2.5, 8.3.8.8 "InfoSource").
+    InfoSrc {
+        version: Version,
+        vendor: Vendor,
+        prefix: GuidPrefix,
+    },
+    /// A submessage that is not read: PAD, those of fragments, of security, and unknown ids.
+    Skipped { id: u8 },
+}
+
+/// One submessage of a datagram.
+#[derive(Clone, Copy, PartialEq, Eq, Debug)]
+pub struct Item<'a> {
+    /// The place of its first octet in the datagram, from 0.
+    pub at: usize,
+    /// The order of the octets of its numbers.
+    pub order: Order,
+    pub body: Body<'a>,
+}

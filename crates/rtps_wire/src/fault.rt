@@ -1,0 +1,36 @@
+/// Why a datagram, or a submessage and all that follows it, is refused. The conditions of one submessage are looked
+/// at in a fixed order, and the first that holds is named.
+#[derive(Clone, Copy, PartialEq, Eq, Debug)]
+pub enum WireFault {
+    /// Fewer octets than a header has.
+    Short = 1,
+    /// The first four octets are not `RTPS`.
+    NotRtps = 2,
+    /// The major version is not 2.
+    BadVersion = 3,
+    /// One to three octets where a submessage header begins.
+    CutHeader = 4,
+    /// octetsToNextHeader passes the octets that are left.
+    Overrun = 5,
+    /// The body ends before its fields do.
+    ShortBody = 6,
+    /// A DATA that says that it has data and that it has a key.
+    BadFlags = 7,
+    /// A DATA whose octetsToInlineQos points into its fields or past its body.
+    BadOffset = 8,
+    /// A sequence number below 1, or a lastSN below 0.
+    BadNumber = 9,
+    /// A lastSN below firstSN - 1.
+    BadRange = 10,
+    /// A set that no numbers make.
+    BadSet = 11,
+    /// An inline QoS that is no parameter list.
+    BadInlineQos = 12,
+}
+
+/// Where a datagram is refused: the place of the submessage's first octet (0 for the header), and why.
+#[derive(Clone, Copy, PartialEq, Eq, Debug)]
+pub struct Refusal {
+    pub at: usize,
+    pub fault: WireFault,
+}

@@ -1,0 +1,15 @@
+//! Messages of the DDS Interoperability Wire Protocol (DDSI-RTPS 2.5): a header, and then submessages.
+#![tactic(auto)]
+
+mod body;
+mod fault;
+mod flags;
+mod header;
+mod message;
+mod read;
+
+pub use body::{AckNackBody, Body, DataBody, GapBody, HeartbeatBody, Item, Payload};
+pub use fault::{Refusal, WireFault};
+pub use flags::DataFlags;
+pub use header::Header;
+pub use message::Items;

@@ -1,0 +1,152 @@
+ghost use Rattle.std.specs.Prelude.{◌≡◌, ◌≤◌, ◌+◌, drop, length, IfOk, MatchResult, Some, None};
+ghost use Rattle.std.specs.Iterator.{YieldsFirstBy, item_count};
+ghost use Rattle.rtps_wire.specs.Fault.{Answers};
+ghost use Rattle.rtps_wire.specs.Header.{header_fault, header_of};
+ghost use Rattle.rtps_wire.specs.Message.{body_fault, body_length, body_of, extent_of, fault_at, item_at, order_of as order_of_lem};
+ghost use Rattle.rtps_wire.specs.Reading.{outcome_value, outcomes_left};
+ghost use Rattle.rtps_wire.specs.Values.{body_value, item_value};
+
+use crate::body::{Body, Item};
+use crate::fault::{Refusal, WireFault};
+use crate::header::{HEADER_SIZE, Header, read_header};
+use crate::read;
+use crate::read::fields::rest_at;
+use rtps_ids::{Order, u16_at};
+use std::marker::Model;
+
+/// What is still unread of a datagram: its items in order, and then the refusal that ends it, if one does
+/// (DDSI-RTPS 2.5, 8.3.4.1 "Rules Followed By The Message Receiver"). A refused submessage makes the rest of the
+/// message invalid; what stood before it stays.
+#[derive(Drop)]
+pub struct Items<'a> {
+    rest: &'a [u8],
+    at: usize,
+}
+
+impl<'a> Model for Items<'a> {
+    ghost use Rattle.std.specs.Prelude.{◌+◌, ◌<◌, ◌^◌, length};
+    ghost use Rattle.rtps_wire.specs.Reading.{Unread};
+
+    ghost Value = { Unread };
+
+    ghost view = { λ items. record { rest = items.rest.now; at = items.at } };
+
+    ghost invariant = { λ items. items.at + length items.rest.now < 2 ^ 64 };
+}
+
+impl<'a> Items<'a> {
+    /// Reads the header of a datagram, of any length, and leaves all behind it to be read. The refusal, at place 0,
+    /// is `Short`, `NotRtps` or `BadVersion`.
+    pub fn open(bytes: &'a [u8]) -> Result<(Header, Items<'a>), Refusal>
+        ensures { MatchResult result
+            (λ opened. (header_fault bytes.now ≡ None) × (opened.0 ≡ header_of bytes.now) × (opened.1 ≡ record { rest = drop 20 bytes.now; at = 20 }))
+            (λ refusal. (header_fault bytes.now ≡ Some refusal.fault) × (refusal.at ≡ 0)) }
+    {
+        match read_header(bytes) {
+            Ok(header) => {
+                let rest = rest_at(bytes, HEADER_SIZE);
+                let at = HEADER_SIZE;
+                Ok((header, Items { rest, at }))
+            }
+            Err(fault) => Err(Refusal { at: 0, fault }),
+        }
+    }
+}
+
+impl<'a> Iterator for Items<'a> {
+    type Item = Result<Item<'a>, Refusal>;
+
+    ghost next_gives = { YieldsFirstBy outcome_value outcomes_left };
+
+    ghost remaining = { item_count outcomes_left };
+
+    /// The next item, or the refusal that ends the message. After a refusal or the end it answers None for good.
+    fn next(&mut self) -> Option<Result<Item<'a>, Refusal>> {
+        if self.rest.is_empty() {
+            return None;
+        }
+        let at = self.at;
+        match read_item(self.rest, at) {
+            Ok((item, size)) => {
+                self.rest = rest_at(self.rest, size);
+                self.at += size;
+                Some(Ok(item))
+            }
+            Err(fault) => {
+                self.rest = &[];
+                Some(Err(Refusal { at, fault }))
+            }
+        }
+    }
+}
+
+/// Reads the submessage at the front, whose place this is, and says how many octets it has.
+#[tactic(auto, unfolding(crate::specs::Message::fault_at, crate::specs::Message::item_at))]
+fn read_item(rest: &[u8], at: usize) -> Result<(Item<'_>, usize), WireFault>
+    ensures item { Answers (λ found. item_value found.0) result (fault_at rest.now) (item_at rest.now at) }
+    ensures size { IfOk result (λ found. (found.1 ≡ 4 + body_length rest.now) × (found.1 ≤ length rest.now)) }
+{
+    if rest.len() < 4 {
+        return Err(WireFault::CutHeader);
+    }
+    let (id, flags, behind) = (rest[0], rest[1], rest_at(rest, 4));
+    let order = order_of(flags);
+    let Some(declared) = u16_at(order, rest, 2) else {
+        return Err(WireFault::CutHeader);
+    };
+    let declared = declared as usize;
+    if declared > behind.len() {
+        return Err(WireFault::Overrun);
+    }
+    let size = extent(id, declared, behind.len());
+    let (octets, _) = behind.split_at(size);
+    match read_body(id, flags, octets) {
+        Ok(body) => Ok((Item { at, order, body }, 4 + size)),
+        Err(fault) => Err(fault),
+    }
+}
+
+/// How many octets the body of a submessage has, where so many are left behind its header.
+fn extent(id: u8, declared: usize, left: usize) -> usize
+    ensures { result ≡ extent_of id declared left }
+{
+    match (declared, id) {
+        (0, 1 | 9) => 0,
+        (0, _) => left,
+        _ => declared,
+    }
+}
+
+/// The order that the flags tell.
+fn order_of(flags: u8) -> Order
+    ensures { result ≡ order_of_lem flags }
+{
+    if flags & 1 == 1 {
+        Order::Little
+    } else {
+        Order::Big
+    }
+}
+
+/// Reads the body of a submessage.
+fn read_body(id: u8, flags: u8, octets: &[u8]) -> Result<Body<'_>, WireFault>
+    ensures { Answers body_value result (body_fault id flags octets.now) (body_of id flags octets.now) }
+{
+    let order = order_of(flags);
+    match id {
+        6 => Ok(Body::AckNack(read::ack_nack(order, flags, octets)?)),
+        7 => Ok(Body::Heartbeat(read::heartbeat(order, flags, octets)?)),
+        8 => Ok(Body::Gap(read::gap(order, octets)?)),
+        9 => Ok(Body::InfoTs(read::info_ts(order, flags, octets)?)),
+        12 => {
+            let Header { version, vendor, prefix } = read::info_src(octets)?;
+            Ok(Body::InfoSrc { version, vendor, prefix })
+        }
+        14 => Ok(Body::InfoDst(read::info_dst(octets)?)),
+        21 => match read::data(order, flags, octets) {
+            Ok(data) => Ok(Body::Data(data)),
+            Err(fault) => Err(fault),
+        },
+        _ => Ok(Body::Skipped { id }),
+    }
+}

@@ -1,0 +1,53 @@
+ghost use Rattle.std.specs.Prelude.{◌≡◌};
+ghost use Rattle.rtps_wire.specs.Data.{data_fault, data_of, payload_of as payload_of_lem};
+ghost use Rattle.rtps_wire.specs.Fault.{Answers};
+ghost use Rattle.rtps_wire.specs.Values.{data_value, payload_value};
+
+use super::fields::{entity_at, rest_at};
+use crate::body::{DataBody, Payload};
+use crate::fault::WireFault;
+use crate::flags::DataFlags;
+use bitflags::Flags;
+use rtps_ids::{Order, SeqNum, number_at, u16_at};
+
+/// Reads the body of a DATA.
+pub(crate) fn data(order: Order, flags: u8, body: &[u8]) -> Result<DataBody<'_>, WireFault>
+    ensures { Answers data_value result (data_fault order flags body.now) (data_of order flags body.now) }
+{
+    let flags = DataFlags::from_bits_retain(flags);
+    let (Some(offset), Some(number)) = (u16_at(order, body, 2), number_at(order, body, 12)) else {
+        return Err(WireFault::ShortBody);
+    };
+    if flags.contains(DataFlags::D) && flags.contains(DataFlags::K) {
+        return Err(WireFault::BadFlags);
+    }
+    let start = 4 + offset as usize;
+    if start < 20 || start > body.len() {
+        return Err(WireFault::BadOffset);
+    }
+    let Some(number) = SeqNum::new(number) else {
+        return Err(WireFault::BadNumber);
+    };
+    if flags.contains(DataFlags::Q) {
+        return Err(WireFault::BadInlineQos);
+    }
+    Ok(DataBody {
+        reader: entity_at(body, 4),
+        writer: entity_at(body, 8),
+        number,
+        payload: payload(flags, rest_at(body, start)),
+    })
+}
+
+/// The payload that these octets are.
+fn payload(flags: DataFlags, octets: &[u8]) -> Payload<'_>
+    ensures { payload_value result ≡ payload_of_lem flags.0 octets.now }
+{
+    if flags.contains(DataFlags::D) {
+        Payload::Whole(octets)
+    } else if flags.contains(DataFlags::K) {
+        Payload::Key(octets)
+    } else {
+        Payload::Absent
+    }
+}

@@ -1,0 +1,38 @@
+ghost use Rattle.rtps_wire.specs.Fault.{Answers};
+ghost use Rattle.rtps_wire.specs.Heartbeat.{heartbeat_fault, heartbeat_of};
+
+use super::fields::entity_at;
+use crate::body::HeartbeatBody;
+use crate::fault::WireFault;
+use rtps_ids::{Order, SeqNum, number_at, u32_at};
+
+/// Reads the body of a HEARTBEAT.
+pub(crate) fn heartbeat(order: Order, flags: u8, body: &[u8]) -> Result<HeartbeatBody, WireFault>
+    ensures { Answers (λ heartbeat. heartbeat) result (heartbeat_fault order body.now) (heartbeat_of order flags body.now) }
+{
+    let (Some(first), Some(last), Some(count)) = (
+        number_at(order, body, 8),
+        number_at(order, body, 16),
+        u32_at(order, body, 24),
+    ) else {
+        return Err(WireFault::ShortBody);
+    };
+    let Some(first) = SeqNum::new(first) else {
+        return Err(WireFault::BadNumber);
+    };
+    if last < 0 {
+        return Err(WireFault::BadNumber);
+    }
+    if last < first.get() - 1 {
+        return Err(WireFault::BadRange);
+    }
+    Ok(HeartbeatBody {
+        reader: entity_at(body, 0),
+        writer: entity_at(body, 4),
+        first,
+        last,
+        count,
+        is_final: flags & 2 != 0,
+        live: flags & 4 != 0,
+    })
+}

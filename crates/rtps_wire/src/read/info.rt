@@ -1,0 +1,47 @@
+ghost use Rattle.rtps_wire.specs.Fault.{Answers};
+ghost use Rattle.rtps_wire.specs.Info.{info_dst_fault, info_dst_of, info_src_fault, info_src_of, info_ts_fault, info_ts_of};
+
+use super::fields::{prefix_at, vendor_at};
+use crate::fault::WireFault;
+use crate::header::Header;
+use rtps_ids::{GuidPrefix, Order, Stamp, Version, u32_at};
+
+/// Reads the body of an INFO_TS.
+pub(crate) fn info_ts(order: Order, flags: u8, body: &[u8]) -> Result<Option<Stamp>, WireFault>
+    ensures { Answers (λ stamp. stamp) result (info_ts_fault flags body.now) (info_ts_of order flags body.now) }
+{
+    if flags & 2 != 0 {
+        return Ok(None);
+    }
+    let (Some(seconds), Some(fraction)) = (u32_at(order, body, 0), u32_at(order, body, 4)) else {
+        return Err(WireFault::ShortBody);
+    };
+    Ok(Some(Stamp { seconds, fraction }))
+}
+
+/// Reads the body of an INFO_DST.
+pub(crate) fn info_dst(body: &[u8]) -> Result<GuidPrefix, WireFault>
+    ensures { Answers (λ prefix. prefix) result (info_dst_fault body.now) (info_dst_of body.now) }
+{
+    if body.len() < 12 {
+        return Err(WireFault::ShortBody);
+    }
+    Ok(prefix_at(body, 0))
+}
+
+/// Reads the body of an INFO_SRC, which has the fields of a header.
+pub(crate) fn info_src(body: &[u8]) -> Result<Header, WireFault>
+    ensures { Answers (λ source. source) result (info_src_fault body.now) (info_src_of body.now) }
+{
+    if body.len() < 20 {
+        return Err(WireFault::ShortBody);
+    }
+    Ok(Header {
+        version: Version {
+            major: body[4],
+            minor: body[5],
+        },
+        vendor: vendor_at(body, 6),
+        prefix: prefix_at(body, 8),
+    })
+}
