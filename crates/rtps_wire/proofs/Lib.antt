@@ -1,3 +1,4 @@
+pub mod OneReading
 pub mod Readings
 pub mod SetFields
 pub mod Submessages

@@ -9,7 +9,7 @@ use Rattle.rtps_wire.specs.Reading.{Outcome, outcomes, outcomes_with, outcomes_w
 use Rattle.rtps_wire.specs.declared.fault.WireFault.{WireFault}
 
 -- what is behind a submessage is shorter
-length-next_rest : (rest : List ℕ) → 0 < length rest → length (next_rest rest) < length rest
+pub length-next_rest : (rest : List ℕ) → 0 < length rest → length (next_rest rest) < length rest
 length-next_rest rest some = omega (arith, length-drop (4 + body_length rest) rest)
 
 -- more of what is read behind two alike is alike
@@ -75,3 +75,19 @@ outcomes-taken rest rest' at at' size item some good item_is size_is rest_is at_
     let next : rest' ≡ next_rest rest = rest_is ∙ ap (λ n. drop n rest) size_is in
     let place : at' ≡ at + 4 + body_length rest = omega arith in
     rw (item_is, next, place) (outcomes-item rest at some good)
+
+-- each outcome takes an octet at least
+length-outcomes_within : (n : ℕ) (rest : List ℕ) (at : ℕ) → length rest ≤ n → length (outcomes rest at) ≤ length rest
+length-outcomes_within n [] at enough = rw (outcomes-done at) (omega arith)
+length-outcomes_within zero (x ∷ xs) at enough = absurd (omega arith)
+length-outcomes_within (suc n) (x ∷ xs) at enough =
+    let shorter : length (next_rest (x ∷ xs)) < length (x ∷ xs) = length-next_rest (x ∷ xs) (omega arith) in
+    rw (outcomes-step (x ∷ xs) at (omega arith)) (one_more (fault_at (x ∷ xs)) (x ∷ xs) at shorter (λ at'. length-outcomes_within n (next_rest (x ∷ xs)) at' (omega arith)))
+  where
+    one_more : (fault : Option WireFault) (rest : List ℕ) (at : ℕ) → length (next_rest rest) < length rest
+        → ((at' : ℕ) → length (outcomes (next_rest rest) at') ≤ length (next_rest rest)) → length (outcomes_with outcomes fault rest at) ≤ length rest
+    one_more (Some fault) rest at shorter behind = omega arith
+    one_more None rest at shorter behind = omega (arith, behind (at + 4 + body_length rest))
+
+pub length-outcomes : (rest : List ℕ) (at : ℕ) → length (outcomes rest at) ≤ length rest
+length-outcomes rest at = length-outcomes_within (length rest) rest at (omega arith)

@@ -8,4 +8,5 @@ pub mod Info
 pub mod Message
 pub mod Reading
 pub mod SetField
+pub mod Tally
 pub mod Values

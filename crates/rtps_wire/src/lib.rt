@@ -2,12 +2,17 @@
 #![tactic(auto)]
 
 mod body;
+mod counting;
+mod counts;
 mod fault;
 mod flags;
 mod header;
+pub mod laws;
 mod message;
 mod read;
 
+pub use counting::tally;
+pub use counts::Tally;
 pub use body::{AckNackBody, Body, DataBody, GapBody, HeartbeatBody, Item, Payload};
 pub use fault::{Refusal, WireFault};
 pub use flags::DataFlags;

@@ -1,0 +1,43 @@
+-- What a datagram adds to the counts of a recording. own: fragments are not put together, so they are counted apart,
+-- for a count above 0 warns that numbers may have been told that no item tells.
+use Rattle.std.specs.Prelude.{ℕ, ◌+◌, ◌==◌, if◌then◌else◌, ◌||◌, ◌&&◌, not, Bool, false, count_by, is_some, List}
+use Rattle.rtps_wire.specs.Message.{Reading}
+use Rattle.rtps_wire.specs.Reading.{Outcome, items_among, refusal_among}
+use Rattle.rtps_wire.specs.Values.{BodyValue, ItemValue}
+use Rattle.rtps_wire.specs.Values.BodyValue.{Skipped}
+use Rattle.rtps_wire.specs.declared.counts.Tally.{Tally}
+
+-- NACK_FRAG, HEARTBEAT_FRAG and DATA_FRAG (DDSI-RTPS 2.5, 9.4.5.1.1 "SubmessageIds")
+abbrev pub is_fragment_id : ℕ → Bool
+is_fragment_id id = id == 18 || id == 19 || id == 22
+
+abbrev pub is_fragment : BodyValue → Bool
+is_fragment (Skipped id) = is_fragment_id id
+is_fragment _ = false
+
+abbrev pub is_skipped : BodyValue → Bool
+is_skipped (Skipped id) = not (is_fragment_id id)
+is_skipped _ = false
+
+abbrev pub fragments_in : List ItemValue → ℕ
+fragments_in items = count_by (λ item. is_fragment item.body) items
+
+abbrev pub skipped_in : List ItemValue → ℕ
+skipped_in items = count_by (λ item. is_skipped item.body) items
+
+abbrev pub tally_of : Reading → Tally
+tally_of reading = record { refused = is_some reading.ending; skipped = skipped_in reading.items; fragments = fragments_in reading.items }
+
+-- the tally with one item more
+abbrev pub after_body : Tally → BodyValue → Tally
+after_body tally body =
+    record {
+      refused = tally.refused;
+      skipped = tally.skipped + (if is_skipped body then 1 else 0);
+      fragments = tally.fragments + (if is_fragment body then 1 else 0);
+    }
+
+-- the tally of what is read
+abbrev pub tally_of_outcomes : List Outcome → Tally
+tally_of_outcomes results =
+    record { refused = is_some (refusal_among results); skipped = skipped_in (items_among results); fragments = fragments_in (items_among results) }

@@ -1,0 +1,35 @@
+ghost use Rattle.std.specs.Prelude.{◌≡◌, ◌<◌, ◌^◌, length};
+ghost use Rattle.rtps_wire.specs.Reading.{outcomes_left, reading_of};
+ghost use Rattle.rtps_wire.specs.Tally.{tally_of, tally_of_outcomes};
+
+use crate::counts::Tally;
+use crate::message::Items;
+
+/// Counts one datagram, of any length. Items before a refusal count.
+pub fn tally(bytes: &[u8]) -> Tally
+    ensures { result ≡ tally_of (reading_of bytes.now) }
+{
+    match Items::open(bytes) {
+        Ok((_, items)) => tally_items(items),
+        Err(_) => Tally {
+            refused: true,
+            skipped: 0,
+            fragments: 0,
+        },
+    }
+}
+
+/// Counts what is unread of a datagram.
+fn tally_items(items: Items<'_>) -> Tally
+    requires { length (outcomes_left items) < 2 ^ 64 }
+    ensures { result ≡ tally_of_outcomes (outcomes_left items.entry) }
+{
+    let mut tally = Tally::NOTHING;
+    for outcome in items {
+        match outcome {
+            Ok(item) => tally.add(&item.body),
+            Err(_) => tally.refused = true,
+        }
+    }
+    tally
+}
