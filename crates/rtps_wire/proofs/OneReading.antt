@@ -65,7 +65,9 @@ only_with None datagram reading (p, behind) =
     reading_is reading (reading_with None datagram) p those.these those.end
 
 pub has_reading : (datagram : List ℕ) → Reads datagram (reading_of datagram)
+unfolding reading_of
 has_reading datagram = reads_with (header_fault datagram) datagram
 
 pub one_reading : (datagram : List ℕ) (reading : Reading) → Reads datagram reading → reading ≡ reading_of datagram
+unfolding reading_of
 one_reading datagram reading reads = only_with (header_fault datagram) datagram reading reads

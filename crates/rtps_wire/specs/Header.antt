@@ -7,7 +7,7 @@ use Rattle.rtps_wire.specs.declared.header.Header.{Header}
 
 -- octets 0 to 3 are `RTPS`, 4 and 5 the version, 6 and 7 the vendor id, 8 to 19 the prefix
 -- own: versions 0 and 1 are refused, since their messages are laid out otherwise; every minor version is taken
-abbrev pub header_fault : List ℕ → Option WireFault
+unfoldable pub header_fault : List ℕ → Option WireFault
 header_fault octets = first_fault (
     (Short, nat_lt (length octets) 20)
     ∷ (NotRtps, not (slice_index octets 0 == 82) || not (slice_index octets 1 == 84) || not (slice_index octets 2 == 80) || not (slice_index octets 3 == 83))
@@ -15,7 +15,7 @@ header_fault octets = first_fault (
     ∷ [])
 
 -- the header that octets without a fault spell
-abbrev pub header_of : List ℕ → Header
+unfoldable pub header_of : List ℕ → Header
 header_of octets =
     record {
       version = record { major = slice_index octets 4; minor = slice_index octets 5 };

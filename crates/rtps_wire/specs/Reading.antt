@@ -61,5 +61,5 @@ reading_with None datagram =
     }
 
 -- the reading of a datagram
-abbrev pub reading_of : List ℕ → Reading
+unfoldable pub reading_of : List ℕ → Reading
 reading_of datagram = reading_with (header_fault datagram) datagram

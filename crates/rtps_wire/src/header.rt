@@ -18,6 +18,7 @@ pub struct Header {
 pub(crate) const HEADER_SIZE: usize = 20;
 
 /// Reads the header at the beginning of a datagram.
+#[tactic(auto, unfolding(crate::specs::Header::header_fault, crate::specs::Header::header_of))]
 pub(crate) fn read_header(bytes: &[u8]) -> Result<Header, WireFault>
     ensures header { Answers (λ header. header) result (header_fault bytes.now) (header_of bytes.now) }
     ensures size { IfOk result (λ header. 20 ≤ length bytes.now) }

@@ -1,0 +1,4 @@
+pub mod Ending
+pub mod Agreement
+pub mod Front
+pub mod Texts

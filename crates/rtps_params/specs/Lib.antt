@@ -1,0 +1,6 @@
+pub mod Grammar
+pub mod Reading
+pub mod Parameter
+pub mod Shown
+pub mod Item
+pub mod Values

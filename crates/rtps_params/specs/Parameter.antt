@@ -1,0 +1,19 @@
+-- A parameter that was read from the front of octets.
+use Rattle.std.specs.Prelude.{◌≡◌, ◌≢◌, ◌≤◌, ℕ, List, length, take, drop}
+use Rattle.rtps_ids.specs.declared.order.Order.{Order}
+use Rattle.rtps_params.specs.Grammar.{pid_of, length_of}
+use Rattle.rtps_params.specs.Reading.{size_of}
+use Rattle.rtps_params.specs.declared.parameter.Parameter.{Parameter}
+
+-- the octets begin with a sentinel
+pub record BeginsWithSentinel (order : Order) (octets : List ℕ) : Type 0 where
+  pub room : 4 ≤ length octets
+  pub pid_is : pid_of order octets ≡ 1
+
+-- the octets begin with this parameter, whole, and it is no sentinel
+pub record BeginsWith (order : Order) (octets : List ℕ) (parameter : Parameter) : Type 0 where
+  pub pid_is : parameter.pid ≡ pid_of order octets
+  pub no_sentinel : pid_of order octets ≢ 1
+  pub room : size_of order octets ≤ length octets
+  pub value_is : parameter.value.now ≡ take (length_of order octets) (drop 4 octets)
+  pub rest_is : parameter.rest.now ≡ drop (size_of order octets) octets

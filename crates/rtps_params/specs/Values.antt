@@ -1,0 +1,43 @@
+-- Values of parameters: a text, a GUID and a number, each at the front of a value whose further octets say nothing.
+-- DDSI-RTPS 2.5, 9.3.2 "Mapping of the Types that Appear Within Submessages or Built-in Topic Data".
+use Rattle.std.specs.Prelude.{◌≡◌, ◌==◌, ◌⊎◌, ℕ, ◌+◌, ◌-◌, nat_le, ◌&&◌, if◌then◌else◌, List, [], ◌∷◌, ◌++◌, length, take, drop, slice_index, Option, Some, None}
+use Rattle.rtps_ids.specs.Octets.{number_of}
+use Rattle.rtps_ids.specs.declared.identity.Guid.{Guid}
+use Rattle.rtps_ids.specs.declared.order.Order.{Order}
+
+-- a value that spells this name: a length of four octets, which counts the name and the NUL that closes it, then the
+-- name and the NUL. What stands behind it says nothing. own: a length of 0, which has no room for the NUL, spells the
+-- empty name too. own: a name may be any octets, NULs among them, since names are compared and never taken apart.
+pub record SpellsText (order : Order) (name value : List ℕ) : Type 0 where
+  pub size : List ℕ
+  pub behind : List ℕ
+  pub four_octets : length size ≡ 4
+  pub whole : value ≡ size ++ behind
+  pub named :
+      ((number_of order 4 size ≡ length name + 1) × ((ignored : List ℕ) × (behind ≡ name ++ 0 ∷ ignored))) ⊎ ((number_of order 4 size ≡ 0) × (name ≡ []))
+
+-- the length that a text says of itself
+abbrev pub text_size : Order → List ℕ → ℕ
+text_size order value = number_of order 4 value
+
+-- the name that a value spells, if it spells one
+abbrev pub text_of : Order → List ℕ → Option (List ℕ)
+text_of order value =
+    if nat_le 4 (length value)
+    then (if text_size order value == 0 then Some []
+    else if nat_le (4 + text_size order value) (length value) && (slice_index value (3 + text_size order value) == 0)
+    then Some (take (text_size order value - 1) (drop 4 value))
+    else None)
+    else None
+
+-- the GUID in the first 16 octets: 12 of the prefix and 4 of the entity id (DDSI-RTPS 2.5, 9.3.1 "The Globally Unique
+-- Identifier (GUID)")
+abbrev pub guid_of : List ℕ → Option Guid
+guid_of value =
+    if nat_le 16 (length value)
+    then Some (record { prefix = record { 0 = take 12 value }; entity = record { 0 = take 4 (drop 12 value) } })
+    else None
+
+-- the number in the first four octets
+abbrev pub u32_of : Order → List ℕ → Option ℕ
+u32_of order value = if nat_le 4 (length value) then Some (number_of order 4 value) else None

@@ -1,0 +1,43 @@
+//! Laws of the definitions that the contracts cite, each the contract of a function that does nothing.
+
+ghost use Rattle.std.specs.Prelude.{◌≡◌, ◌≤◌, ◌⊎◌, ◌↔◌, ◌++◌, ℕ, List, Some, Ok, Err, length, take};
+ghost use Rattle.rtps_ids.specs.declared.order.Order.{Order};
+ghost use Rattle.rtps_params.specs.Grammar.{BeginsWithList, HasFault, IsList, Pairs};
+ghost use Rattle.rtps_params.specs.Reading.{list_end, pairs_of};
+ghost use Rattle.rtps_params.specs.Values.{SpellsText, text_of};
+ghost use Rattle.rtps_params.specs.declared.fault.ParamFault.{ParamFault};
+
+/// No octets have two beginnings that are lists in one order, and a list has one list of pairs: so nothing that follows
+/// a list changes it.
+pub fn one_beginning()
+    ensures { (order : Order) (pairs : Pairs) (others : Pairs)
+        (list : List ℕ) (other : List ℕ) (rest : List ℕ) (more : List ℕ)
+        → IsList order pairs list → IsList order others other → list ++ rest ≡ other ++ more
+        → (list ≡ other) × (pairs ≡ others) × (rest ≡ more) }
+{}
+
+/// In each order, octets begin with a list or have a fault, not both, and not two faults.
+pub fn list_or_fault()
+    ensures some { (order : Order) (octets : List ℕ)
+        → BeginsWithList order octets ⊎ ((fault : ParamFault) × HasFault order fault octets) }
+    ensures not_both { (order : Order) (octets : List ℕ) (fault : ParamFault)
+        → BeginsWithList order octets → HasFault order fault octets → ⊥ }
+    ensures one_fault { (order : Order) (octets : List ℕ) (fault : ParamFault) (other : ParamFault)
+        → HasFault order fault octets → HasFault order other octets → fault ≡ other }
+{}
+
+/// `list_end` says how long the list is that octets begin with, or the fault that they have, and `pairs_of` its pairs.
+pub fn ends()
+    ensures list { (order : Order) (octets : List ℕ) (used : ℕ) → (list_end order octets ≡ Ok used)
+        ↔ ((used ≤ length octets) × ((pairs : Pairs) × IsList order pairs (take used octets))) }
+    ensures fault { (order : Order) (octets : List ℕ) (fault : ParamFault)
+        → (list_end order octets ≡ Err fault) ↔ HasFault order fault octets }
+    ensures pairs { (order : Order) (pairs : Pairs) (list : List ℕ) (rest : List ℕ)
+        → IsList order pairs list → pairs_of order (list ++ rest) ≡ pairs }
+{}
+
+/// `text_of` gives the name that a value spells: no value spells two.
+pub fn texts()
+    ensures { (order : Order) (name : List ℕ) (value : List ℕ)
+        → (text_of order value ≡ Some name) ↔ SpellsText order name value }
+{}

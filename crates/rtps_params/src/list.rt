@@ -1,0 +1,83 @@
+ghost use Rattle.std.specs.Prelude.{◌≡◌};
+ghost use Rattle.rtps_params.specs.Grammar.{IsList, Pairs};
+
+use crate::fault::ParamFault;
+use crate::pairs::Params;
+use crate::parameter::list_size;
+use rtps_ids::Order;
+
+/// A parameter list: its octets, sentinel included, and the order of its numbers (DDSI-RTPS 2.5, 9.4.2.11
+/// "ParameterList"). It can only hold octets that are a list. Two lists are equal when order and octets are.
+#[derive(Clone, Copy, PartialEq, Eq, Debug)]
+pub struct ParamList<'a> {
+    octets: &'a [u8],
+    order: Order,
+    ghost is_list: { ∥ ((pairs : Pairs) × IsList order pairs octets.now) ∥₁ },
+}
+
+impl<'a> ParamList<'a> {
+    ghost use Rattle.std.specs.Prelude.{◌≤◌, ◌<◌, ℕ, length, take};
+    ghost use Rattle.std.specs.Prelude.{Ok, Err, IfOk, IfErr, OnErr, IsNone, option_copied};
+    ghost use Rattle.rtps_params.specs.Grammar.{HasFault};
+    ghost use Rattle.rtps_params.specs.Reading.{first_value, list_end, pairs_of};
+    ghost use Rattle.rtps_params.specs.Shown.{list_octets, list_order, list_pairs};
+
+    /// Reads the list at the beginning of the octets, and says how many octets it takes, sentinel included. What
+    /// follows them is not looked at. A length that is no multiple of 4 is taken as it stands, and the sentinel's says
+    /// nothing. The fault says why no beginning of the octets is a list.
+    pub fn read(bytes: &'a [u8], order: Order) -> Result<(ParamList<'a>, usize), ParamFault>
+        // It is the list that the octets begin with.
+        ensures list { IfOk result (λ found. IsList order (pairs_of order bytes.now) (take found.1 bytes.now)) }
+        ensures used { IfOk result (λ found. found.1 ≤ length bytes.now) }
+        ensures octets { IfOk result (λ found. list_octets found.0 ≡ take found.1 bytes.now) }
+        ensures order { IfOk result (λ found. list_order found.0 ≡ order) }
+        // Otherwise no beginning of the octets is a list, and the fault is the one that holds.
+        ensures none { OnErr result ((pairs : Pairs) (used : ℕ)
+            → IsList order pairs (take used bytes.now) → ⊥) }
+        ensures fault { IfErr result (λ fault. HasFault order fault bytes.now) }
+        // Both as functions of the octets.
+        ensures found { IfOk result (λ found. list_end order bytes.now ≡ Ok found.1) }
+        ensures refused { IfErr result (λ fault. list_end order bytes.now ≡ Err fault) }
+    {
+        let used = list_size(bytes, order)?;
+        let octets = &bytes[..used];
+        Ok((ParamList { octets, order }, used))
+    }
+
+    /// All octets that it takes, the four of the sentinel included.
+    pub fn octets(&self) -> &'a [u8]
+        ensures octets { result.now ≡ list_octets self.now }
+        ensures list { IsList (list_order self.now) (list_pairs self.now) (list_octets self.now) }
+    {
+        self.octets
+    }
+
+    /// The order of its numbers.
+    pub fn order(&self) -> Order
+        ensures { result ≡ list_order self.now }
+    {
+        self.order
+    }
+
+    /// Its parameters in order, without pads.
+    pub fn params(&self) -> Params<'a>
+        ensures { result ≡ list_pairs self.now }
+    {
+        Params::new(self.octets, self.order)
+    }
+
+    /// The octets of the value of the first parameter of this id, since of two parameters of one id the first counts.
+    /// None for the ids of a pad and of the sentinel, 0 and 1.
+    #[tactic(auto, using(crate::proofs::Agreement::no_reserved_value))]
+    pub fn first(&self, pid: u16) -> Option<&'a [u8]>
+        ensures value { option_copied result ≡ first_value pid (list_pairs self.now) }
+        ensures reserved { pid < 2 → IsNone result }
+    {
+        for (found, value) in self.params() {
+            if found == pid {
+                return Some(value);
+            }
+        }
+        None
+    }
+}

@@ -1,0 +1,57 @@
+ghost use Rattle.std.specs.Prelude.{◌≡◌, MatchOption, MatchResult};
+ghost use Rattle.rtps_params.specs.Grammar.{IsCut};
+ghost use Rattle.rtps_params.specs.Parameter.{BeginsWith, BeginsWithSentinel};
+ghost use Rattle.rtps_params.specs.Reading.{list_end};
+
+use crate::fault::ParamFault;
+use rtps_ids::{Order, u16_at};
+
+/// The id of a parameter that only fills octets: PID_PAD.
+pub(crate) const PAD: u16 = 0;
+
+/// The id of the parameter that closes a list: PID_SENTINEL.
+const SENTINEL: u16 = 1;
+
+/// The octets of a parameter's id and length.
+const HEADER: usize = 4;
+
+/// A parameter, and the octets behind it.
+#[derive(Clone, Copy)]
+pub(crate) struct Parameter<'a> {
+    pub(crate) pid: u16,
+    pub(crate) value: &'a [u8],
+    pub(crate) rest: &'a [u8],
+}
+
+/// The parameter in front, or None where a sentinel stands there.
+pub(crate) fn front(octets: &[u8], order: Order) -> Result<Option<Parameter<'_>>, ParamFault>
+    ensures { MatchResult result
+        (λ found. MatchOption found (BeginsWithSentinel order octets.now)
+        (λ parameter. BeginsWith order octets.now parameter))
+        (λ fault. IsCut order fault octets.now) }
+{
+    let (Some(pid), Some(length)) = (u16_at(order, octets, 0), u16_at(order, octets, 2)) else {
+        return Err(ParamFault::CutHeader);
+    };
+    if pid == SENTINEL {
+        return Ok(None);
+    }
+    let length = usize::from(length);
+    let body = &octets[HEADER..];
+    if body.len() < length {
+        return Err(ParamFault::CutValue);
+    }
+    let (value, rest) = body.split_at(length);
+    Ok(Some(Parameter { pid, value, rest }))
+}
+
+/// How many octets the list in front takes, sentinel included.
+pub(crate) fn list_size(octets: &[u8], order: Order) -> Result<usize, ParamFault>
+    ensures { result ≡ list_end order octets.now }
+{
+    let mut rest = octets;
+    while let Some(parameter) = front(rest, order)? {
+        rest = parameter.rest;
+    }
+    Ok(octets.len() - rest.len() + HEADER)
+}

@@ -1,0 +1,128 @@
+use super::*;
+use rtps_ids::Order;
+use std::process::Abort;
+use std::test::Fail;
+
+/// A list whose octets are the front of these, so many, and whose pairs are these.
+fn check_list(
+    rt: &impl Abort,
+    octets: &[u8],
+    order: Order,
+    used: usize,
+    pairs: &[(u16, &[u8])],
+) -> Result<(), Fail> {
+    let (list, found) = ParamList::read(octets, order)?;
+    assert_eq!(rt; found, used);
+    assert_eq!(rt; Some(list.octets()), octets.get(..used));
+    assert_eq!(rt; list.order(), order);
+    let mut params = list.params();
+    for (pid, value) in pairs {
+        assert_eq!(rt; params.next(), Some((*pid, *value)));
+    }
+    assert_eq!(rt; params.next(), None);
+    assert_eq!(rt; params.next(), None);
+    Ok(())
+}
+
+#[test]
+fn reads_lists(rt: HostRuntime) -> Result<(), Fail> {
+    check_list(&rt, &[0, 1, 0, 0], Order::Big, 4, &[])?;
+    check_list(&rt, &[0, 1, 0xff, 0xff], Order::Big, 4, &[])?;
+    let octets = b"\x00\x05\x00\x03abc\x00\x01\x00\x00";
+    check_list(&rt, octets, Order::Big, 11, &[(5, b"abc")])?;
+    let octets = b"\x00\x00\x00\x04\x01\x02\x03\x04\x00\x05\x00\x00\x00\x01\x00\x00\x00\x05";
+    check_list(&rt, octets, Order::Big, 16, &[(5, b"")])?;
+    let octets = b"\x05\x00\x02\x00ab\x01\x00\x00\x00";
+    check_list(&rt, octets, Order::Little, 10, &[(5, b"ab")])?;
+    let octets = b"\x00\x05\x00\x01a\x00\x05\x00\x01b\x00\x01\x00\x00";
+    check_list(&rt, octets, Order::Big, 14, &[(5, b"a"), (5, b"b")])
+}
+
+/// A pad of odd length, unknown ids, a pad and a parameter without a value, a sentinel with a length, and more.
+#[test]
+fn takes_lengths_as_they_stand(rt: HostRuntime) -> Result<(), Fail> {
+    let pairs: [(u16, &[u8]); 2] = [(0x1234, b"abc"), (0x8007, b"")];
+    let octets =
+        b"\x00\x00\x00\x01\xff\x12\x34\x00\x03abc\x00\x00\x00\x00\x80\x07\x00\x00\x00\x01\xab\xcd\xff";
+    check_list(&rt, octets, Order::Big, 24, &pairs)?;
+    let octets =
+        b"\x00\x00\x01\x00\xff\x34\x12\x03\x00abc\x00\x00\x00\x00\x07\x80\x00\x00\x01\x00\xcd\xab\xff";
+    check_list(&rt, octets, Order::Little, 24, &pairs)
+}
+
+#[test]
+fn refuses_what_is_cut(rt: HostRuntime) {
+    let rows: [(&[u8], ParamFault); 5] = [
+        (b"", ParamFault::CutHeader),
+        (b"\x00\x01\x00", ParamFault::CutHeader),
+        (b"\x00\x05\x00\x00", ParamFault::CutHeader),
+        (b"\x01\x00\x00\x00", ParamFault::CutHeader),
+        (b"\x00\x05\x00\x04abc", ParamFault::CutValue),
+    ];
+    for (octets, fault) in rows {
+        assert_eq!(rt; ParamList::read(octets, Order::Big).err(), Some(fault));
+    }
+    assert_eq!(rt; ParamFault::CutHeader as u8, 1);
+    assert_eq!(rt; ParamFault::CutValue as u8, 2);
+}
+
+#[test]
+fn finds_the_first(rt: HostRuntime) -> Result<(), Fail> {
+    let octets =
+        b"\x00\x00\x00\x01z\x00\x05\x00\x01a\x00\x05\x00\x01b\x00\x06\x00\x00\x00\x01\x00\x01c";
+    let (list, _) = ParamList::read(octets, Order::Big)?;
+    assert_eq!(rt; list.first(5), Some(b"a".as_slice()));
+    assert_eq!(rt; list.first(6), Some(b"".as_slice()));
+    assert_eq!(rt; list.first(7), None);
+    assert_eq!(rt; list.first(0), None);
+    assert_eq!(rt; list.first(1), None);
+    Ok(())
+}
+
+#[test]
+fn compares_octets_and_order(rt: HostRuntime) -> Result<(), Fail> {
+    let (list, _) = ParamList::read(b"\x00\x05\x00\x01a\x00\x01\x00\x00", Order::Big)?;
+    let (same, _) = ParamList::read(b"\x00\x05\x00\x01a\x00\x01\x00\x00more", Order::Big)?;
+    let (other, _) = ParamList::read(b"\x00\x05\x00\x01b\x00\x01\x00\x00", Order::Big)?;
+    let (little, _) = ParamList::read(b"\x05\x00\x01\x00a\x01\x00\x00\x00", Order::Little)?;
+    assert_eq!(rt; list, same);
+    assert_ne!(rt; list, other);
+    assert_ne!(rt; list, little);
+    Ok(())
+}
+
+#[test]
+fn reads_values(rt: HostRuntime) {
+    let texts: [(&[u8], Order, Option<&[u8]>); 10] = [
+        (b"\0\0\0\0", Order::Big, Some(b"")),
+        (b"\0\0\0\x01\0", Order::Big, Some(b"")),
+        (b"\0\0\0\x05pose\0", Order::Big, Some(b"pose")),
+        (b"\x05\0\0\0pose\0more", Order::Little, Some(b"pose")),
+        (b"\0\0\0\x03\0\xff\0", Order::Big, Some(b"\0\xff")),
+        (b"\0\0\0\x05pose", Order::Big, None),
+        (b"\0\0\0\x04pose", Order::Big, None),
+        (b"\0\0\0", Order::Big, None),
+        (b"\0\0\0\x01", Order::Big, None),
+        (b"\xff\xff\xff\xff\0", Order::Big, None),
+    ];
+    for (value, order, name) in texts {
+        assert_eq!(rt; read_text(value, order), name);
+    }
+    let octets = b"abcdefghijklmnopq";
+    let guid = rtps_ids::Guid {
+        prefix: rtps_ids::GuidPrefix(*b"abcdefghijkl"),
+        entity: rtps_ids::EntityId(*b"mnop"),
+    };
+    assert_eq!(rt; read_guid(octets), Some(guid));
+    assert_eq!(rt; read_guid(&octets[..16]), Some(guid));
+    assert_eq!(rt; read_guid(&octets[..15]), None);
+    assert_eq!(rt;
+        read_u32(b"\x01\x02\x03\x04\x05", Order::Big),
+        Some(0x0102_0304)
+    );
+    assert_eq!(rt;
+        read_u32(b"\x01\x02\x03\x04\x05", Order::Little),
+        Some(0x0403_0201)
+    );
+    assert_eq!(rt; read_u32(b"\x01\x02\x03", Order::Big), None);
+}

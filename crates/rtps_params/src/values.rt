@@ -1,0 +1,50 @@
+ghost use Rattle.std.specs.Prelude.{◌≡◌, ℕ, List, IfSome, IfNone, option_copied};
+ghost use Rattle.rtps_params.specs.Values.{SpellsText, guid_of, text_of, u32_of};
+
+use rtps_ids::{EntityId, Guid, GuidPrefix, Order, u32_at};
+
+/// The name that a value spells: a length of four octets, which counts the NUL that closes the name, then the name and
+/// the NUL (DDSI-RTPS 2.5, 9.3.2 "Mapping of the Types that Appear Within Submessages or Built-in Topic Data"). A length
+/// of 0 is the empty name. Octets behind it say nothing. The name may be any octets, NULs among them. None where the
+/// octets do not reach or where no NUL closes the name.
+pub fn read_text(value: &[u8], order: Order) -> Option<&[u8]>
+    ensures spelled { IfSome result (λ name. SpellsText order name.now value.now) }
+    ensures none { IfNone result ((name : List ℕ) → SpellsText order name value.now → ⊥) }
+    ensures text { option_copied result ≡ text_of order value.now }
+{
+    name_in(value, order)
+}
+
+/// The name, by the function that says it.
+fn name_in(value: &[u8], order: Order) -> Option<&[u8]>
+    ensures { option_copied result ≡ text_of order value.now }
+{
+    let size = u32_at(order, value, 0)? as usize;
+    if size == 0 {
+        return Some(&[]);
+    }
+    if value.len() < 4 + size || value[3 + size] != 0 {
+        return None;
+    }
+    Some(&value[4..3 + size])
+}
+
+/// The GUID in the first 16 octets of a value, 12 of the prefix and 4 of the entity id (DDSI-RTPS 2.5, 9.3.1 "The
+/// Globally Unique Identifier (GUID)"), or None where there are fewer.
+pub fn read_guid(value: &[u8]) -> Option<Guid>
+    ensures { result ≡ guid_of value.now }
+{
+    let (prefix, rest) = value.split_first_chunk()?;
+    let (entity, _) = rest.split_first_chunk()?;
+    Some(Guid {
+        prefix: GuidPrefix(*prefix),
+        entity: EntityId(*entity),
+    })
+}
+
+/// The number in the first four octets of a value, or None where there are fewer.
+pub fn read_u32(value: &[u8], order: Order) -> Option<u32>
+    ensures { result ≡ u32_of order value.now }
+{
+    u32_at(order, value, 0)
+}

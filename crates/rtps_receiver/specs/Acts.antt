@@ -1,0 +1,119 @@
+-- Acts: the DATA, HEARTBEAT, ACKNACK and GAP of a datagram with the receiver's state at their places. DDSI-RTPS 2.5,
+-- 8.3.4 "The RTPS Message Receiver" and 8.3.4.1 "Rules Followed By The Message Receiver".
+use Rattle.std.specs.Prelude.{ℕ, ◌≡◌, if◌then◌else◌, List, [], ◌∷◌, ◌++◌, map, Option, Some, None, unwrap_or, option_to_list, Result, Ok, Err}
+use Rattle.rtps_ids.specs.declared.identity.GuidPrefix.{GuidPrefix}
+use Rattle.rtps_ids.specs.declared.identity.Stamp.{Stamp}
+use Rattle.rtps_ids.specs.declared.order.Order.{Order}
+use Rattle.rtps_wire.specs.Message.{Reading}
+use Rattle.rtps_wire.specs.Reading.{Outcome, Unread, items_among, outcomes_left, refusal_among}
+use Rattle.rtps_wire.specs.Values.{BodyValue, ItemValue}
+use Rattle.rtps_wire.specs.Values.BodyValue.{Data, Heartbeat, AckNack, Gap, InfoTs, InfoDst, InfoSrc}
+use Rattle.rtps_wire.specs.declared.fault.Refusal.{Refusal}
+use Rattle.rtps_wire.specs.declared.header.Header.{Header}
+use Rattle.rtps_receiver.specs.Destination.{is_unknown}
+use Rattle.rtps_receiver.specs.declared.act.Act.{Act}
+use Rattle.rtps_receiver.specs.declared.state.State.{State}
+use Rattle.rtps_receiver.specs.Values.{ActBodyValue, ActValue, act_value}
+use Rattle.rtps_receiver.specs.Values.ActBodyValue.{Data as DataAct, Heartbeat as HeartbeatAct, AckNack as AckNackAct, Gap as GapAct}
+
+-- the later of two, where it is there
+abbrev pub later : {X : Type 0} → Option X → Option X → Option X
+later (Some x) earlier = Some x
+later None earlier = earlier
+
+-- what the last of these items that says something says
+abbrev pub last_said : {X : Type 0} → (BodyValue → Option X) → List ItemValue → Option X
+last_said says [] = None
+last_said says (item ∷ items) = later (last_said says items) (says item.body)
+
+-- an INFO_SRC says the source: version, vendor and prefix (own: any version is taken)
+abbrev pub says_source : BodyValue → Option Header
+says_source (InfoSrc version vendor prefix) = Some (record { version = version; vendor = vendor; prefix = prefix })
+says_source _ = None
+
+-- an INFO_DST says the destination; the prefix of zeros is everyone
+abbrev pub says_destination : BodyValue → Option (Option GuidPrefix)
+says_destination (InfoDst prefix) = Some (if is_unknown prefix then None else Some prefix)
+says_destination _ = None
+
+-- an INFO_TS says the time, or that there is none (own: so does an INFO_SRC, since a time is that of its source; it
+-- leaves the destination as it is)
+abbrev pub says_time : BodyValue → Option (Option Stamp)
+says_time (InfoTs time) = Some time
+says_time (InfoSrc version vendor prefix) = Some None
+says_time _ = None
+
+-- at the start of a message the source is the header's, the destination everyone, and there is no time
+abbrev pub state_at_start : Header → State
+state_at_start header = record { source = header; dest = None; stamp = None }
+
+-- the receiver's state behind these items: what the last of them said, and what it was at the start where none did
+abbrev pub state_behind : State → List ItemValue → State
+state_behind start items =
+    record {
+      source = unwrap_or (last_said says_source items) start.source;
+      dest = unwrap_or (last_said says_destination items) start.dest;
+      stamp = unwrap_or (last_said says_time items) start.stamp;
+    }
+
+-- the items that are acts
+abbrev pub act_body : BodyValue → Option ActBodyValue
+act_body (Data value) = Some (DataAct value)
+act_body (Heartbeat value) = Some (HeartbeatAct value)
+act_body (AckNack value) = Some (AckNackAct value)
+act_body (Gap value) = Some (GapAct value)
+act_body _ = None
+
+-- an act in a state
+abbrev pub act_at : State → ℕ → Order → ActBodyValue → ActValue
+act_at state at order body =
+    record {
+      at = at;
+      source = state.source.prefix;
+      version = state.source.version;
+      vendor = state.source.vendor;
+      dest = state.dest;
+      stamp = state.stamp;
+      order = order;
+      body = body;
+    }
+
+-- an act that is this item in this state
+abbrev pub IsActIn : State → ItemValue → Act → Type 0
+IsActIn state item act = (body : ActBodyValue) × (act_body item.body ≡ Some body) × (act_value act ≡ act_at state item.at item.order body)
+
+abbrev pub acts_in : State → ItemValue → Option ActBodyValue → List ActValue
+acts_in state item (Some body) = act_at state item.at item.order body ∷ []
+acts_in state item None = []
+
+-- the acts among items, each in the state behind all items before it
+abbrev pub acts_behind : State → List ItemValue → List ItemValue → List ActValue
+acts_behind start before [] = []
+acts_behind start before (item ∷ items) =
+    acts_in (state_behind start before) item (act_body item.body) ++ acts_behind start (before ++ item ∷ []) items
+
+-- the acts of a reading; one without a header has none
+abbrev pub acts_with : Option Header → List ItemValue → List ActValue
+acts_with None items = []
+acts_with (Some header) items = acts_behind (state_at_start header) [] items
+
+unfoldable pub acts_of : Reading → List ActValue
+acts_of reading = acts_with reading.header reading.items
+
+-- what is still to come of a message
+pub record Awaited : Type 0 where
+  pub state : State
+  pub unread : Unread
+
+-- an act, or the refusal that ends the message
+abbrev pub ActOutcome : Type 0
+ActOutcome = Result ActValue Refusal
+
+-- acts, and then the refusal where there is one
+abbrev pub acts_then : List ActValue → Option Refusal → List ActOutcome
+acts_then acts ending = map Ok acts ++ map Err (option_to_list ending)
+
+-- the acts of the unread items from the state on, and the refusal
+unfoldable pub acts_left : Awaited → List ActOutcome
+acts_left awaited =
+    acts_then (acts_behind awaited.state [] (items_among (outcomes_left awaited.unread))) (refusal_among (outcomes_left awaited.unread))

@@ -1,0 +1,55 @@
+-- Acts with lists of octets where the types hold a part of the caller's datagram.
+use Rattle.std.specs.Prelude.{ℕ, Option, Result, Ok, Err}
+use Rattle.rtps_ids.specs.declared.identity.GuidPrefix.{GuidPrefix}
+use Rattle.rtps_ids.specs.declared.identity.Stamp.{Stamp}
+use Rattle.rtps_ids.specs.declared.identity.Vendor.{Vendor}
+use Rattle.rtps_ids.specs.declared.identity.Version.{Version}
+use Rattle.rtps_ids.specs.declared.order.Order.{Order}
+use Rattle.rtps_wire.specs.Values.{DataValue, data_value}
+use Rattle.rtps_wire.specs.declared.body.AckNackBody.{AckNackBody}
+use Rattle.rtps_wire.specs.declared.body.GapBody.{GapBody}
+use Rattle.rtps_wire.specs.declared.body.HeartbeatBody.{HeartbeatBody}
+use Rattle.rtps_wire.specs.declared.fault.Refusal.{Refusal}
+use Rattle.rtps_receiver.specs.declared.act.Act.{Act}
+use Rattle.rtps_receiver.specs.declared.act.ActBody.{ActBody}
+use Rattle.rtps_receiver.specs.declared.act.ActBody.TheVariants as body
+
+pub data ActBodyValue : Type 0 where
+  Data : (value : DataValue) → ActBodyValue
+  Heartbeat : (value : HeartbeatBody) → ActBodyValue
+  AckNack : (value : AckNackBody) → ActBodyValue
+  Gap : (value : GapBody) → ActBodyValue
+
+pub record ActValue : Type 0 where
+  pub at : ℕ
+  pub source : GuidPrefix
+  pub version : Version
+  pub vendor : Vendor
+  pub dest : Option GuidPrefix
+  pub stamp : Option Stamp
+  pub order : Order
+  pub body : ActBodyValue
+
+abbrev pub act_body_value : ActBody → ActBodyValue
+act_body_value (body.Data value) = Data (data_value value)
+act_body_value (body.Heartbeat value) = Heartbeat value
+act_body_value (body.AckNack value) = AckNack value
+act_body_value (body.Gap value) = Gap value
+
+-- what an act of the code stands for
+abbrev pub act_value : Act → ActValue
+act_value act =
+    record {
+      at = act.at;
+      source = act.source;
+      version = act.version;
+      vendor = act.vendor;
+      dest = act.dest;
+      stamp = act.stamp;
+      order = act.order;
+      body = act_body_value act.body;
+    }
+
+abbrev pub act_outcome_value : Result Act Refusal → Result ActValue Refusal
+act_outcome_value (Ok act) = Ok (act_value act)
+act_outcome_value (Err refusal) = Err refusal

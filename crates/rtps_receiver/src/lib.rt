@@ -1,0 +1,10 @@
+//! The receiver of messages (DDSI-RTPS 2.5, 8.3.4 "The RTPS Message Receiver"): acts with source, destination and
+//! time.
+#![tactic(auto)]
+
+mod act;
+mod receiver;
+mod state;
+
+pub use act::{Act, ActBody};
+pub use receiver::Acts;

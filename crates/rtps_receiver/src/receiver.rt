@@ -1,0 +1,69 @@
+ghost use Rattle.std.specs.Prelude.{◌≡◌, MatchResult, None, Some};
+ghost use Rattle.std.specs.Iterator.{YieldsFirstBy, item_count};
+ghost use Rattle.rtps_receiver.specs.Acts.{acts_left, acts_of, acts_then};
+ghost use Rattle.rtps_receiver.specs.Values.{act_outcome_value};
+ghost use Rattle.rtps_wire.specs.Header.{header_fault};
+ghost use Rattle.rtps_wire.specs.Reading.{reading_of};
+
+use crate::act::Act;
+use crate::state::State;
+use rtps_wire::{Items, Refusal};
+use std::marker::Model;
+
+/// What is still to come of a datagram: its acts in order, each with the receiver's state at its place, and then the
+/// refusal that ends it, if one does (DDSI-RTPS 2.5, 8.3.4 "The RTPS Message Receiver").
+#[derive(Drop)]
+pub struct Acts<'a> {
+    items: Items<'a>,
+    state: State,
+}
+
+impl<'a> Model for Acts<'a> {
+    ghost use Rattle.rtps_receiver.specs.Acts.{Awaited};
+
+    ghost Value = { Awaited };
+
+    ghost view = { λ acts. record { state = acts.state; unread = acts.items } };
+}
+
+impl<'a> Acts<'a> {
+    /// Reads the header of a datagram, of any length, and leaves its acts to be read. The refusal, at place 0, is
+    /// `Short`, `NotRtps` or `BadVersion`.
+    pub fn open(bytes: &'a [u8]) -> Result<Acts<'a>, Refusal>
+        ensures { MatchResult result
+            (λ acts. (header_fault bytes.now ≡ None) × (acts_left acts ≡ acts_then (acts_of (reading_of bytes.now)) (reading_of bytes.now).ending))
+            (λ refusal. (header_fault bytes.now ≡ Some refusal.fault) × (refusal.at ≡ 0)) }
+    {
+        match Items::open(bytes) {
+            Ok((header, items)) => {
+                let state = State::at_start(header);
+                Ok(Acts { items, state })
+            }
+            Err(refusal) => Err(refusal),
+        }
+    }
+}
+
+impl<'a> Iterator for Acts<'a> {
+    type Item = Result<Act<'a>, Refusal>;
+
+    ghost next_gives = { YieldsFirstBy act_outcome_value acts_left };
+
+    ghost remaining = { item_count acts_left };
+
+    /// The next act, or the refusal that ends the message. After a refusal or the end it answers None for good.
+    fn next(&mut self) -> Option<Result<Act<'a>, Refusal>> {
+        while let Some(outcome) = self.items.next() {
+            match outcome {
+                Ok(item) => {
+                    if let Some(act) = self.state.act(&item) {
+                        return Some(Ok(act));
+                    }
+                    self.state.hear(&item);
+                }
+                Err(refusal) => return Some(Err(refusal)),
+            }
+        }
+        None
+    }
+}

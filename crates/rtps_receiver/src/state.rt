@@ -1,0 +1,103 @@
+ghost use Rattle.std.specs.Prelude.{◌≡◌, if◌then◌else◌, None, Some};
+ghost use Rattle.std.specs.Option.{option_map};
+ghost use Rattle.rtps_receiver.specs.Acts.{act_body};
+ghost use Rattle.rtps_receiver.specs.Destination.{is_unknown};
+ghost use Rattle.rtps_receiver.specs.Values.{act_body_value};
+ghost use Rattle.rtps_wire.specs.Values.{body_value};
+
+use crate::act::{Act, ActBody};
+use rtps_ids::{GuidPrefix, Stamp};
+use rtps_wire::{Body, DataBody, Header, Item};
+
+/// What the receiver knows at a place of a message: from whom, for whom (None is everyone), and when it was sent.
+#[derive(Clone, Copy, Debug)]
+pub struct State {
+    pub source: Header,
+    pub dest: Option<GuidPrefix>,
+    pub stamp: Option<Stamp>,
+}
+
+impl State {
+    ghost use Rattle.std.specs.Prelude.{◌≡◌, [], ◌∷◌, MatchOption, None, Some};
+    ghost use Rattle.rtps_receiver.specs.Acts.{IsActIn, act_body, state_at_start, state_behind};
+    ghost use Rattle.rtps_receiver.specs.Values.{act_value};
+    ghost use Rattle.rtps_wire.specs.Values.{item_value};
+
+    /// The state at the start of a message.
+    pub fn at_start(header: Header) -> State
+        ensures { result ≡ state_at_start header }
+    {
+        State {
+            source: header,
+            dest: None,
+            stamp: None,
+        }
+    }
+
+    /// The act that this item is in this state, or None where it is none.
+    pub fn act<'a>(&self, item: &Item<'a>) -> Option<Act<'a>>
+        ensures { MatchOption result (act_body (item_value item.now).body ≡ None) (IsActIn self.now (item_value item.now)) }
+    {
+        let Some(body) = body_of_act(&item.body) else {
+            return None;
+        };
+        Some(Act {
+            at: item.at,
+            source: self.source.prefix,
+            version: self.source.version,
+            vendor: self.source.vendor,
+            dest: self.dest,
+            stamp: self.stamp,
+            order: item.order,
+            body,
+        })
+    }
+
+    /// Takes what this item says of the state of what follows it.
+    pub fn hear(&mut self, item: &Item<'_>)
+        ensures { self.new ≡ state_behind self.old (item_value item.now ∷ []) }
+    {
+        match &item.body {
+            Body::InfoTs(stamp) => self.stamp = *stamp,
+            Body::InfoDst(prefix) => self.dest = destination(*prefix),
+            Body::InfoSrc { version, vendor, prefix } => {
+                self.source = Header {
+                    version: *version,
+                    vendor: *vendor,
+                    prefix: *prefix,
+                };
+                self.stamp = None;
+            }
+            _ => {}
+        }
+    }
+}
+
+/// What an act with this body says, or None where the body is none of an act.
+fn body_of_act<'a>(body: &Body<'a>) -> Option<ActBody<'a>>
+    ensures { option_map act_body_value result ≡ act_body (body_value body.now) }
+{
+    match body {
+        Body::Data(data) => Some(ActBody::Data(DataBody {
+            reader: data.reader,
+            writer: data.writer,
+            number: data.number,
+            payload: data.payload,
+        })),
+        Body::Heartbeat(heartbeat) => Some(ActBody::Heartbeat(*heartbeat)),
+        Body::AckNack(ack_nack) => Some(ActBody::AckNack(*ack_nack)),
+        Body::Gap(gap) => Some(ActBody::Gap(*gap)),
+        _ => None,
+    }
+}
+
+/// The participant that this prefix names, or None for everyone where all its octets are zero.
+fn destination(prefix: GuidPrefix) -> Option<GuidPrefix>
+    ensures { result ≡ (if is_unknown prefix then None else Some prefix) }
+{
+    if prefix.0.iter().all(|octet| *octet == 0) {
+        None
+    } else {
+        Some(prefix)
+    }
+}
