@@ -16,3 +16,11 @@ list_order list = list.order
 -- its ids and values in order, without pads
 abbrev pub list_pairs : ParamList → Pairs
 list_pairs list = pairs_of list.order list.octets.now
+
+-- a list as its order and its octets
+pub record ListValue : Type 0 where
+  pub order : Order
+  pub octets : List ℕ
+
+abbrev pub list_value : ParamList → ListValue
+list_value list = record { order = list.order; octets = list.octets.now }

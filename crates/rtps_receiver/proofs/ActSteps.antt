@@ -93,7 +93,7 @@ unfolding acts_left
 acts_left-heard state old new item next none =
     ap (left_of state) next
     ∙ (ap (λ body. acts_then (acts_in state item body ++ acts_behind state (item ∷ []) (items_among (outcomes_left new))) (refusal_among (outcomes_left new))) none
-      ∙ ap (λ acts. acts_then acts (refusal_among (outcomes_left new))) (acts_behind-one state item (items_among (outcomes_left new))))
+    ∙ ap (λ acts. acts_then acts (refusal_among (outcomes_left new))) (acts_behind-one state item (items_among (outcomes_left new))))
 
 -- an act
 pub acts_left-act : (state : State) (old new : Unread) (item : ItemValue) (body : ActBodyValue) → outcomes_left old ≡ Ok item ∷ outcomes_left new → act_body item.body ≡ Some body
@@ -102,9 +102,9 @@ unfolding acts_left
 acts_left-act state old new item body next is =
     ap (left_of state) next
     ∙ (ap (λ b. acts_then (acts_in state item b ++ acts_behind state (item ∷ []) (items_among (outcomes_left new))) (refusal_among (outcomes_left new))) is
-      ∙ ap (λ acts. acts_then (act_at state item.at item.order body ∷ acts) (refusal_among (outcomes_left new)))
-        (acts_behind-one state item (items_among (outcomes_left new))
-          ∙ ap (λ s. acts_behind s [] (items_among (outcomes_left new))) (act_says_nothing state item item.body body refl is)))
+    ∙ ap (λ acts. acts_then (act_at state item.at item.order body ∷ acts) (refusal_among (outcomes_left new)))
+    (acts_behind-one state item (items_among (outcomes_left new))
+    ∙ ap (λ s. acts_behind s [] (items_among (outcomes_left new))) (act_says_nothing state item item.body body refl is)))
 
 -- a refusal
 pub acts_left-refused : (state : State) (old new : Unread) (refusal : Refusal) → outcomes_left old ≡ Err refusal ∷ outcomes_left new

@@ -60,7 +60,11 @@ impl State {
         match &item.body {
             Body::InfoTs(stamp) => self.stamp = *stamp,
             Body::InfoDst(prefix) => self.dest = destination(*prefix),
-            Body::InfoSrc { version, vendor, prefix } => {
+            Body::InfoSrc {
+                version,
+                vendor,
+                prefix,
+            } => {
                 self.source = Header {
                     version: *version,
                     vendor: *vendor,
@@ -82,6 +86,7 @@ fn body_of_act<'a>(body: &Body<'a>) -> Option<ActBody<'a>>
             reader: data.reader,
             writer: data.writer,
             number: data.number,
+            qos: data.qos,
             payload: data.payload,
         })),
         Body::Heartbeat(heartbeat) => Some(ActBody::Heartbeat(*heartbeat)),

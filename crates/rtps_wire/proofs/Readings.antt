@@ -33,8 +33,8 @@ outcomes_within-enough zero n (x ∷ xs) at p q = absurd (omega arith)
 outcomes_within-enough (suc m) zero (x ∷ xs) at p q = absurd (omega arith)
 outcomes_within-enough (suc m) (suc n) (x ∷ xs) at p q =
     outcomes_with-same (outcomes_within m) (outcomes_within n) (fault_at (x ∷ xs)) (x ∷ xs) at (λ at'.
-        let shorter : length (next_rest (x ∷ xs)) < length (x ∷ xs) = length-next_rest (x ∷ xs) (omega arith) in
-        outcomes_within-enough m n (next_rest (x ∷ xs)) at' (omega arith) (omega arith))
+    let shorter : length (next_rest (x ∷ xs)) < length (x ∷ xs) = length-next_rest (x ∷ xs) (omega arith) in
+    outcomes_within-enough m n (next_rest (x ∷ xs)) at' (omega arith) (omega arith))
 
 pub outcomes-done : (at : ℕ) → outcomes [] at ≡ []
 unfolding outcomes outcomes_within
@@ -46,8 +46,8 @@ unfolding outcomes outcomes_within
 outcomes-step [] at some = absurd (omega arith)
 outcomes-step (x ∷ xs) at some =
     outcomes_with-same (outcomes_within (length xs)) outcomes (fault_at (x ∷ xs)) (x ∷ xs) at (λ at'.
-        let shorter : length (next_rest (x ∷ xs)) < length (x ∷ xs) = length-next_rest (x ∷ xs) some in
-        outcomes_within-enough (length xs) (length (next_rest (x ∷ xs))) (next_rest (x ∷ xs)) at' (omega arith) (omega arith))
+    let shorter : length (next_rest (x ∷ xs)) < length (x ∷ xs) = length-next_rest (x ∷ xs) some in
+    outcomes_within-enough (length xs) (length (next_rest (x ∷ xs))) (next_rest (x ∷ xs)) at' (omega arith) (omega arith))
 
 pub outcomes-item : (rest : List ℕ) (at : ℕ) → 0 < length rest → fault_at rest ≡ None
     → outcomes rest at ≡ Ok (item_at rest at) ∷ outcomes (next_rest rest) (at + 4 + body_length rest)

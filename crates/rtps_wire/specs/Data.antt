@@ -1,8 +1,11 @@
 -- DATA. DDSI-RTPS 2.5, 8.3.8.2 "Data" and 9.4.5.4 "Data Submessage".
-use Rattle.std.specs.Prelude.{ℕ, ℤ, ◌+◌, ◌==◌, ◌&&◌, ◌||◌, bit_and, not, pos, int_le, nat_lt, Bool, List, [], ◌∷◌, length, take, drop, Option, if◌then◌else◌}
+use Rattle.std.specs.Prelude.{ℕ, ℤ, ◌+◌, ◌==◌, ◌&&◌, ◌||◌, bit_and, not, pos, int_le, nat_lt, Bool, List, [], ◌∷◌, length, take, drop, is_err, Option, Some, None, if◌then◌else◌}
 use Rattle.std.specs.Int.RustNames.{unsigned_abs}
+use Rattle.std.specs.Result.{result_unwrap_or}
 use Rattle.rtps_ids.specs.Octets.{number_of, sequence_number_of}
 use Rattle.rtps_ids.specs.declared.order.Order.{Order}
+use Rattle.rtps_params.specs.Reading.{list_end}
+use Rattle.rtps_params.specs.Shown.{ListValue}
 use Rattle.rtps_wire.specs.Fault.{first_fault}
 use Rattle.rtps_wire.specs.Values.{DataValue, PayloadValue}
 use Rattle.rtps_wire.specs.Values.PayloadValue.{Absent, Whole, Key}
@@ -37,12 +40,23 @@ data_fault order flags body = first_fault (
     ∷ (BadFlags, has_data flags && has_key flags)
     ∷ (BadOffset, nat_lt (octets_to_inline_qos order body) 16 || nat_lt (length body) (4 + octets_to_inline_qos order body))
     ∷ (BadNumber, int_le (data_number order body) (pos 0))
-    ∷ (BadInlineQos, has_qos flags)
+    ∷ (BadInlineQos, has_qos flags && is_err (list_end order (behind_fields order body)))
     ∷ [])
+
+-- how many octets the inline QoS takes, and what they are; the list goes by the order of the submessage
+abbrev pub qos_length : Order → ℕ → List ℕ → ℕ
+qos_length order flags octets = if has_qos flags then result_unwrap_or (list_end order octets) 0 else 0
+
+abbrev pub qos_of : Order → ℕ → List ℕ → Option ListValue
+qos_of order flags octets = if has_qos flags then Some (record { order = order; octets = take (qos_length order flags octets) octets }) else None
 
 -- own: without D and K, octets that are left over are ignored
 abbrev pub payload_of : ℕ → List ℕ → PayloadValue
 payload_of flags octets = if has_data flags then Whole octets else if has_key flags then Key octets else Absent
+
+-- the payload is all that is behind the inline QoS
+abbrev pub behind_qos : Order → ℕ → List ℕ → List ℕ
+behind_qos order flags octets = drop (qos_length order flags octets) octets
 
 -- the DATA that a body without a fault spells
 abbrev pub data_of : Order → ℕ → List ℕ → DataValue
@@ -51,5 +65,6 @@ data_of order flags body =
       reader = record { 0 = take 4 (drop 4 body) };
       writer = record { 0 = take 4 (drop 8 body) };
       number = unsigned_abs (data_number order body);
-      payload = payload_of flags (behind_fields order body);
+      qos = qos_of order flags (behind_fields order body);
+      payload = payload_of flags (behind_qos order flags (behind_fields order body));
     }

@@ -5,6 +5,7 @@ pub mod Gap
 pub mod Header
 pub mod Heartbeat
 pub mod Info
+pub mod InlineQos
 pub mod Message
 pub mod Reading
 pub mod SetField

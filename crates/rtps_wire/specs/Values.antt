@@ -1,12 +1,14 @@
 -- Items, bodies and payloads with lists of octets where the types hold a part of the caller's datagram, so that two
 -- are equal where their octets are.
 use Rattle.std.specs.Prelude.{ℕ, List, Option}
+use Rattle.std.specs.Option.{option_map}
 use Rattle.rtps_ids.specs.declared.identity.EntityId.{EntityId}
 use Rattle.rtps_ids.specs.declared.identity.GuidPrefix.{GuidPrefix}
 use Rattle.rtps_ids.specs.declared.identity.Stamp.{Stamp}
 use Rattle.rtps_ids.specs.declared.identity.Vendor.{Vendor}
 use Rattle.rtps_ids.specs.declared.identity.Version.{Version}
 use Rattle.rtps_ids.specs.declared.order.Order.{Order}
+use Rattle.rtps_params.specs.Shown.{ListValue, list_value}
 use Rattle.rtps_wire.specs.declared.body.AckNackBody.{AckNackBody}
 use Rattle.rtps_wire.specs.declared.body.Body.{Body}
 use Rattle.rtps_wire.specs.declared.body.Body.TheVariants as body
@@ -26,6 +28,7 @@ pub record DataValue : Type 0 where
   pub reader : EntityId
   pub writer : EntityId
   pub number : ℕ
+  pub qos : Option ListValue
   pub payload : PayloadValue
 
 pub data BodyValue : Type 0 where
@@ -50,7 +53,7 @@ payload_value (payload.Whole octets) = Whole octets.now
 payload_value (payload.Key octets) = Key octets.now
 
 abbrev pub data_value : DataBody → DataValue
-data_value value = record { reader = value.reader; writer = value.writer; number = value.number; payload = payload_value value.payload }
+data_value value = record { reader = value.reader; writer = value.writer; number = value.number; qos = option_map list_value value.qos; payload = payload_value value.payload }
 
 abbrev pub body_value : Body → BodyValue
 body_value (body.Data value) = Data (data_value value)

@@ -1,4 +1,5 @@
 use rtps_ids::{EntityId, GuidPrefix, NumberSet, Order, SeqNum, Stamp, Vendor, Version};
+use rtps_params::ParamList;
 
 /// What a DATA carries: nothing, a whole sample, or the key of one (DDSI-RTPS 2.5, 9.4.5.4 "Data Submessage", flags
 /// D and K).
@@ -15,6 +16,8 @@ pub struct DataBody<'a> {
     pub reader: EntityId,
     pub writer: EntityId,
     pub number: SeqNum,
+    /// The parameters that go with this change alone (DDSI-RTPS 2.5, 8.7.2 "Inline QoS").
+    pub qos: Option<ParamList<'a>>,
     pub payload: Payload<'a>,
 }
 
@@ -72,7 +75,9 @@ pub enum Body<'a> {
         prefix: GuidPrefix,
     },
     /// A submessage that is not read: PAD, those of fragments, of security, and unknown ids.
-    Skipped { id: u8 },
+    Skipped {
+        id: u8,
+    },
 }
 
 /// One submessage of a datagram.

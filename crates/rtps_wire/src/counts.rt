@@ -30,7 +30,9 @@ impl Tally {
         ensures { self.new ≡ after_body self.old (body_value body.now) }
     {
         match body {
-            Body::Skipped { id: 0x12 | 0x13 | 0x16 } => self.fragments += 1,
+            Body::Skipped {
+                id: 0x12 | 0x13 | 0x16,
+            } => self.fragments += 1,
             Body::Skipped { id: _ } => self.skipped += 1,
             _ => {}
         }

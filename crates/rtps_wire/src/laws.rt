@@ -8,5 +8,4 @@ ghost use Rattle.rtps_wire.specs.Reading.{reading_of};
 pub fn one_reading()
     ensures exists { (datagram : List ℕ) → Reads datagram (reading_of datagram) }
     ensures unique { (datagram : List ℕ) (reading other : Reading) → Reads datagram reading → Reads datagram other → reading ≡ other }
-{
-}
+{}

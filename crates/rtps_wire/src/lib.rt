@@ -11,9 +11,9 @@ pub mod laws;
 mod message;
 mod read;
 
+pub use body::{AckNackBody, Body, DataBody, GapBody, HeartbeatBody, Item, Payload};
 pub use counting::tally;
 pub use counts::Tally;
-pub use body::{AckNackBody, Body, DataBody, GapBody, HeartbeatBody, Item, Payload};
 pub use fault::{Refusal, WireFault};
 pub use flags::DataFlags;
 pub use header::Header;

@@ -139,8 +139,16 @@ fn read_body(id: u8, flags: u8, octets: &[u8]) -> Result<Body<'_>, WireFault>
         8 => Ok(Body::Gap(read::gap(order, octets)?)),
         9 => Ok(Body::InfoTs(read::info_ts(order, flags, octets)?)),
         12 => {
-            let Header { version, vendor, prefix } = read::info_src(octets)?;
-            Ok(Body::InfoSrc { version, vendor, prefix })
+            let Header {
+                version,
+                vendor,
+                prefix,
+            } = read::info_src(octets)?;
+            Ok(Body::InfoSrc {
+                version,
+                vendor,
+                prefix,
+            })
         }
         14 => Ok(Body::InfoDst(read::info_dst(octets)?)),
         21 => match read::data(order, flags, octets) {

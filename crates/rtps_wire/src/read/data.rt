@@ -1,6 +1,7 @@
-ghost use Rattle.std.specs.Prelude.{◌≡◌};
+ghost use Rattle.std.specs.Prelude.{◌≡◌, MatchResult};
 ghost use Rattle.rtps_wire.specs.Data.{data_fault, data_of, payload_of as payload_of_lem};
 ghost use Rattle.rtps_wire.specs.Fault.{Answers};
+ghost use Rattle.rtps_wire.specs.InlineQos.{HasQos, LacksQos};
 ghost use Rattle.rtps_wire.specs.Values.{data_value, payload_value};
 
 use super::fields::{entity_at, rest_at};
@@ -9,6 +10,7 @@ use crate::fault::WireFault;
 use crate::flags::DataFlags;
 use bitflags::Flags;
 use rtps_ids::{Order, SeqNum, number_at, u16_at};
+use rtps_params::ParamList;
 
 /// Reads the body of a DATA.
 pub(crate) fn data(order: Order, flags: u8, body: &[u8]) -> Result<DataBody<'_>, WireFault>
@@ -28,15 +30,34 @@ pub(crate) fn data(order: Order, flags: u8, body: &[u8]) -> Result<DataBody<'_>,
     let Some(number) = SeqNum::new(number) else {
         return Err(WireFault::BadNumber);
     };
-    if flags.contains(DataFlags::Q) {
-        return Err(WireFault::BadInlineQos);
-    }
+    let (qos, octets) = match inline_qos(flags, order, rest_at(body, start)) {
+        Ok(found) => found,
+        Err(fault) => return Err(fault),
+    };
     Ok(DataBody {
         reader: entity_at(body, 4),
         writer: entity_at(body, 8),
         number,
-        payload: payload(flags, rest_at(body, start)),
+        qos,
+        payload: payload(flags, octets),
     })
+}
+
+/// The inline QoS that these octets begin with, where the flags say that there is one, and the octets behind it.
+fn inline_qos(
+    flags: DataFlags,
+    order: Order,
+    octets: &[u8],
+) -> Result<(Option<ParamList<'_>>, &[u8]), WireFault>
+    ensures { MatchResult result (HasQos order flags.0 octets.now) (LacksQos order flags.0 octets.now) }
+{
+    if !flags.contains(DataFlags::Q) {
+        return Ok((None, octets));
+    }
+    match ParamList::read(octets, order) {
+        Ok((list, used)) => Ok((Some(list), rest_at(octets, used))),
+        Err(_) => Err(WireFault::BadInlineQos),
+    }
 }
 
 /// The payload that these octets are.

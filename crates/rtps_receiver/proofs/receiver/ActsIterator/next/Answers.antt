@@ -11,7 +11,7 @@ returns-in-Some-act-clause-steps c =
     let is = c.in-Some-act.ensures in
     sym c.loop-outcome.invariant
     ∙ (acts_left-act c.loop-outcome.self-inside.state _ _ _ is.0 next is.1
-      ∙ ap (λ act. Ok act ∷ acts_left (record { state = c.loop-outcome.self-inside.state; unread = c.next.new.self })) (sym is.2))
+    ∙ ap (λ act. Ok act ∷ acts_left (record { state = c.loop-outcome.self-inside.state; unread = c.next.new.self })) (sym is.2))
 
 pub returns-in-Some-act-clause-goes : goal.returns-in-Some-act-clause-goes
 returns-in-Some-act-clause-goes c =

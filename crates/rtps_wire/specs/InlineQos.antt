@@ -1,0 +1,22 @@
+-- Inline QoS behind the fields of a DATA. DDSI-RTPS 2.5, 8.7.2 "Inline QoS".
+use Rattle.std.specs.Prelude.{◌≡◌, ℕ, List, Option, is_err, true, false, ◌&&◌}
+use Rattle.std.specs.Borrow.{Bor}
+use Rattle.std.specs.Option.{option_map}
+use Rattle.rtps_ids.specs.declared.order.Order.{Order}
+use Rattle.rtps_params.specs.Reading.{list_end}
+use Rattle.rtps_params.specs.Shown.{list_value}
+use Rattle.rtps_params.specs.declared.list.ParamList.{ParamList}
+use Rattle.rtps_wire.specs.Data.{behind_qos, has_qos, qos_of}
+use Rattle.rtps_wire.specs.declared.fault.WireFault.{WireFault}
+use Rattle.rtps_wire.specs.declared.fault.WireFault.TheVariants.{BadInlineQos}
+
+-- the list that the octets begin with, where there is to be one, and what is behind it
+pub record HasQos (order : Order) (flags : ℕ) (octets : List ℕ) (found : Option ParamList × Bor (List ℕ)) : Type 0 where
+  pub good : (has_qos flags && is_err (list_end order octets)) ≡ false
+  pub list : option_map list_value found.0 ≡ qos_of order flags octets
+  pub behind : found.1.now ≡ behind_qos order flags octets
+
+-- there is to be a list, and the octets begin with none
+pub record LacksQos (order : Order) (flags : ℕ) (octets : List ℕ) (fault : WireFault) : Type 0 where
+  pub bad : (has_qos flags && is_err (list_end order octets)) ≡ true
+  pub fault_is : fault ≡ BadInlineQos
