@@ -76,7 +76,11 @@ pub struct Stamp {
 }
 
 /// Writes octets in lower-case hexadecimal, by way of `digits`, of which there are two for each octet.
-fn write_digits<W: fmt::Write>(octets: &[u8], digits: &mut [u8], f: &mut fmt::Formatter<W>) -> fmt::Result
+fn write_digits<W: fmt::Write>(
+    octets: &[u8],
+    digits: &mut [u8],
+    f: &mut fmt::Formatter<W>,
+) -> fmt::Result
     requires { length digits.old ≡ 2 * length octets.now }
     ensures { WritesOnOk W.write_str_gives f.old result (encode_lower octets.now) f.new }
 {

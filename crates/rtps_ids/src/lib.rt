@@ -7,6 +7,8 @@ mod number;
 mod octets;
 mod order;
 mod set;
+#[cfg(test)]
+mod tests;
 
 pub use identity::{EntityId, Guid, GuidPrefix, Stamp, Vendor, Version};
 pub use memory::Memory;

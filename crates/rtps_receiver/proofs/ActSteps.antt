@@ -10,7 +10,7 @@ use Rattle.rtps_wire.specs.declared.fault.Refusal.{Refusal}
 use Rattle.rtps_wire.specs.declared.header.Header.{Header}
 use Rattle.rtps_ids.specs.declared.identity.GuidPrefix.{GuidPrefix}
 use Rattle.rtps_ids.specs.declared.identity.Stamp.{Stamp}
-use Rattle.rtps_receiver.specs.Acts.{ActOutcome, Awaited, act_at, act_body, acts_behind, acts_in, acts_left, acts_of, acts_then, last_said, later, says_destination, says_source, says_time, state_at_start, state_behind}
+use Rattle.rtps_receiver.specs.Acts.{ActOutcome, Awaited, act_at, act_body, acts_behind, acts_in, acts_left, acts_of, acts_then, gathered, last_said, later, says_destination, says_source, says_time, state_at_start, state_behind}
 use Rattle.rtps_receiver.specs.Values.{ActBodyValue, ActValue}
 use Rattle.rtps_receiver.specs.declared.state.State.{State}
 
@@ -50,17 +50,23 @@ state_behind-append start before items =
     state_is _ _ _ _ _ _ (said_behind says_source before items start.source) (said_behind says_destination before items start.dest) (said_behind says_time before items start.stamp)
 
 -- what stands before counts by the state behind it alone
-acts_behind-append : (start : State) (before middle items : List ItemValue) → acts_behind start (before ++ middle) items ≡ acts_behind (state_behind start before) middle items
-acts_behind-append start before middle [] = refl
-acts_behind-append start before middle (item ∷ items) =
-    let rest : acts_behind start ((before ++ middle) ++ item ∷ []) items ≡ acts_behind (state_behind start before) (middle ++ item ∷ []) items =
-    ap (λ all. acts_behind start all items) (append_assoc before middle (item ∷ [])) ∙ acts_behind-append start before (middle ++ item ∷ []) items in
-    ap (λ state. acts_in state item (act_body item.body) ++ acts_behind start ((before ++ middle) ++ item ∷ []) items) (state_behind-append start before middle)
-    ∙ ap (λ more. acts_in (state_behind (state_behind start before) middle) item (act_body item.body) ++ more) rest
+gathered-append : {X : Type 0} (gives : State → ItemValue → List X) (start : State) (before middle items : List ItemValue)
+    → gathered gives start (before ++ middle) items ≡ gathered gives (state_behind start before) middle items
+gathered-append gives start before middle [] = refl
+gathered-append gives start before middle (item ∷ items) =
+    let rest : gathered gives start ((before ++ middle) ++ item ∷ []) items ≡ gathered gives (state_behind start before) (middle ++ item ∷ []) items =
+    ap (λ all. gathered gives start all items) (append_assoc before middle (item ∷ [])) ∙ gathered-append gives start before (middle ++ item ∷ []) items in
+    ap (λ state. gives state item ++ gathered gives start ((before ++ middle) ++ item ∷ []) items) (state_behind-append start before middle)
+    ∙ ap (λ more. gives (state_behind (state_behind start before) middle) item ++ more) rest
+
+-- what is gathered behind one item is gathered from the state behind it on
+pub gathered-one : {X : Type 0} (gives : State → ItemValue → List X) (state : State) (item : ItemValue) (items : List ItemValue)
+    → gathered gives state (item ∷ []) items ≡ gathered gives (state_behind state (item ∷ [])) [] items
+gathered-one gives state item items = gathered-append gives state (item ∷ []) [] items
 
 -- the acts behind one item
 acts_behind-one : (state : State) (item : ItemValue) (items : List ItemValue) → acts_behind state (item ∷ []) items ≡ acts_behind (state_behind state (item ∷ [])) [] items
-acts_behind-one state item items = acts_behind-append state (item ∷ []) [] items
+acts_behind-one state item items = gathered-one (λ s i. acts_in s i (act_body i.body)) state item items
 
 -- an act leaves the state as it is
 act_says_nothing : (state : State) (item : ItemValue) (body : BodyValue) (act : ActBodyValue) → item.body ≡ body → act_body body ≡ Some act → state_behind state (item ∷ []) ≡ state

@@ -86,11 +86,14 @@ abbrev pub acts_in : State → ItemValue → Option ActBodyValue → List ActVal
 acts_in state item (Some body) = act_at state item.at item.order body ∷ []
 acts_in state item None = []
 
+-- what `gives` makes of each item in the state behind all items before it, one after another
+abbrev pub gathered : {X : Type 0} → (State → ItemValue → List X) → State → List ItemValue → List ItemValue → List X
+gathered gives start before [] = []
+gathered gives start before (item ∷ items) = gives (state_behind start before) item ++ gathered gives start (before ++ item ∷ []) items
+
 -- the acts among items, each in the state behind all items before it
 abbrev pub acts_behind : State → List ItemValue → List ItemValue → List ActValue
-acts_behind start before [] = []
-acts_behind start before (item ∷ items) =
-    acts_in (state_behind start before) item (act_body item.body) ++ acts_behind start (before ++ item ∷ []) items
+acts_behind start before items = gathered (λ state item. acts_in state item (act_body item.body)) start before items
 
 -- the acts of a reading; one without a header has none
 abbrev pub acts_with : Option Header → List ItemValue → List ActValue

@@ -1,3 +1,4 @@
 pub mod Acts
 pub mod Destination
+pub mod Speech
 pub mod Values

@@ -4,7 +4,9 @@
 
 mod act;
 mod receiver;
+mod speech;
 mod state;
 
 pub use act::{Act, ActBody};
 pub use receiver::Acts;
+pub use state::State;

@@ -10,6 +10,8 @@ mod header;
 pub mod laws;
 mod message;
 mod read;
+#[cfg(test)]
+mod tests;
 
 pub use body::{AckNackBody, Body, DataBody, GapBody, HeartbeatBody, Item, Payload};
 pub use counting::tally;

@@ -1,0 +1,694 @@
+#!/usr/bin/env python3
+"""A second reading of recordings, apart from the proved program, to compare it with.
+
+    reference.py show|list|audit FILE      prints what `rtps-audit` should print
+    reference.py compare PROGRAM [COUNT [SEED]]
+                                           runs PROGRAM on COUNT random recordings, and says where it differs
+
+It is written for clearness: every verdict of a small recording is found by trying what a reader may take
+(`verdict_by_runs`), and that of a large one by the plain conditions.
+"""
+import random
+import subprocess
+import sys
+import tempfile
+
+READ = {0x06, 0x07, 0x08, 0x09, 0x0c, 0x0e, 0x15}
+FRAGMENTS = {0x12, 0x13, 0x16}
+GREATEST = 2 ** 63 - 1
+
+
+class Refused(Exception):
+    def __init__(self, at, fault):
+        self.at, self.fault = at, fault
+
+
+def number(octets, order, signed=False):
+    return int.from_bytes(octets, 'big' if order == 'be' else 'little', signed=signed)
+
+
+def sequence_number(octets, order):
+    return number(octets[:4], order, True) * 2 ** 32 + number(octets[4:8], order)
+
+
+def header_of(d):
+    if len(d) < 20:
+        raise Refused(0, 'Short')
+    if d[:4] != b'RTPS':
+        raise Refused(0, 'NotRtps')
+    if d[4] != 2:
+        raise Refused(0, 'BadVersion')
+    return {'version': (d[4], d[5]), 'vendor': d[6:8], 'prefix': d[8:20]}
+
+
+def read_set(body, at, order):
+    """base, count, words, octets used"""
+    base, count = sequence_number(body[at:], order), number(body[at + 8:at + 12], order)
+    if base < 0 or count > 256 or (base == 0 and count != 0) or (base >= 1 and base + count - 1 > GREATEST):
+        return 'BadSet'
+    words = (count + 31) // 32
+    if len(body) < at + 12 + 4 * words:
+        return 'ShortBody'
+    bits = [number(body[at + 12 + 4 * i:at + 16 + 4 * i], order) for i in range(words)]
+    for i in range(words):
+        kept = min(32, count - 32 * i)
+        bits[i] = bits[i] >> (32 - kept) << (32 - kept)
+    return base, count, bits, 12 + 4 * words
+
+
+def members(base, count, bits):
+    return [base + i for i in range(count) if bits[i // 32] >> (31 - i % 32) & 1]
+
+
+def read_list(octets, order):
+    """pairs and octets used, or the fault"""
+    at, pairs = 0, []
+    while True:
+        if len(octets) - at < 4:
+            return 'CutHeader'
+        pid, length = number(octets[at:at + 2], order), number(octets[at + 2:at + 4], order)
+        if pid == 1:
+            return pairs, at + 4
+        if len(octets) - at - 4 < length:
+            return 'CutValue'
+        if pid != 0:
+            pairs.append((pid, octets[at + 4:at + 4 + length]))
+        at += 4 + length
+
+
+def read_body(sid, flags, order, b):
+    """the body's fields, or the fault's name"""
+    if sid == 0x15:
+        if len(b) < 20:
+            return 'ShortBody'
+        q, d, k = flags & 2, flags & 4, flags & 8
+        if d and k:
+            return 'BadFlags'
+        offset = number(b[2:4], order)
+        if offset < 16 or 4 + offset > len(b):
+            return 'BadOffset'
+        n = sequence_number(b[12:20], order)
+        if n <= 0:
+            return 'BadNumber'
+        rest, qos = b[4 + offset:], 0
+        if q:
+            found = read_list(rest, order)
+            if isinstance(found, str):
+                return 'BadInlineQos'
+            qos = found[1]
+            rest = rest[qos:]
+        payload = ('whole', rest) if d else ('key', rest) if k else ('absent', b'')
+        return {'kind': 'data', 'reader': b[4:8], 'writer': b[8:12], 'number': n, 'qos': qos, 'payload': payload}
+    if sid == 0x07:
+        if len(b) < 28:
+            return 'ShortBody'
+        first, last = sequence_number(b[8:16], order), sequence_number(b[16:24], order)
+        if first <= 0 or last < 0:
+            return 'BadNumber'
+        if last < first - 1:
+            return 'BadRange'
+        return {'kind': 'heartbeat', 'reader': b[:4], 'writer': b[4:8], 'first': first, 'last': last,
+                'count': number(b[24:28], order), 'final': int(bool(flags & 2)), 'live': int(bool(flags & 4))}
+    if sid == 0x06:
+        if len(b) < 24:
+            return 'ShortBody'
+        found = read_set(b, 8, order)
+        if isinstance(found, str):
+            return found
+        if len(b) < 8 + found[3] + 4:
+            return 'ShortBody'
+        at = 8 + found[3]
+        return {'kind': 'acknack', 'reader': b[:4], 'writer': b[4:8], 'set': found,
+                'count': number(b[at:at + 4], order), 'final': int(bool(flags & 2))}
+    if sid == 0x08:
+        if len(b) < 28:
+            return 'ShortBody'
+        start = sequence_number(b[8:16], order)
+        if start <= 0:
+            return 'BadNumber'
+        if sequence_number(b[16:24], order) == 0:
+            return 'BadSet'
+        found = read_set(b, 16, order)
+        if isinstance(found, str):
+            return found
+        return {'kind': 'gap', 'reader': b[:4], 'writer': b[4:8], 'start': start, 'set': found}
+    if sid == 0x09:
+        if flags & 2:
+            return {'kind': 'info_ts', 'time': None}
+        if len(b) < 8:
+            return 'ShortBody'
+        return {'kind': 'info_ts', 'time': (number(b[:4], order), number(b[4:8], order))}
+    if sid == 0x0e:
+        return {'kind': 'info_dst', 'prefix': b[:12]} if len(b) >= 12 else 'ShortBody'
+    if sid == 0x0c:
+        if len(b) < 20:
+            return 'ShortBody'
+        return {'kind': 'info_src', 'version': (b[4], b[5]), 'vendor': b[6:8], 'prefix': b[8:20]}
+    return {'kind': 'skipped', 'id': sid}
+
+
+def read(d):
+    """header, items and refusal of a datagram"""
+    try:
+        header = header_of(d)
+    except Refused as refusal:
+        return None, [], refusal
+    at, items = 20, []
+    while at < len(d):
+        if len(d) - at < 4:
+            return header, items, Refused(at, 'CutHeader')
+        sid, flags = d[at], d[at + 1]
+        order = 'le' if flags & 1 else 'be'
+        declared, rest = number(d[at + 2:at + 4], order), len(d) - at - 4
+        if declared > rest:
+            return header, items, Refused(at, 'Overrun')
+        length = declared if declared else 0 if sid in (1, 9) else rest
+        body = read_body(sid, flags, order, d[at + 4:at + 4 + length])
+        if isinstance(body, str):
+            return header, items, Refused(at, body)
+        items.append({'at': at, 'order': order, **body})
+        at += 4 + length
+    return header, items, None
+
+
+def acts_of(d):
+    """items that are acts, each with the last INFO before it"""
+    header, items, refusal = read(d)
+    acts = []
+    for k, item in enumerate(items):
+        if item['kind'] not in ('data', 'heartbeat', 'acknack', 'gap'):
+            continue
+        before = items[:k]
+        sources = [i for i in before if i['kind'] == 'info_src']
+        dests = [i for i in before if i['kind'] == 'info_dst']
+        times = [i for i in before if i['kind'] in ('info_ts', 'info_src')]
+        source = sources[-1]['prefix'] if sources else header['prefix']
+        dest = dests[-1]['prefix'] if dests and any(dests[-1]['prefix']) else None
+        acts.append({**item, 'source': source, 'dest': dest, 'time': times[-1].get('time') if times else None})
+    return acts
+
+
+def recording_of(text):
+    """datagrams of a text, or the line that is written to standard error"""
+    if len(text) > 1073741824:
+        return 'too many datagrams'
+    datagrams = []
+    lines = text.split(b'\n')
+    if lines[-1] == b'':
+        lines.pop()
+    for n, line in enumerate(lines, 1):
+        if line.endswith(b'\r'):
+            line = line[:-1]
+        if not line or line.startswith(b'#'):
+            continue
+        if len(datagrams) == 1000000:
+            return 'too many datagrams'
+        if len(line) > 131070:
+            return f'line {n}: too long'
+        if len(line) % 2 or any(c not in b'0123456789abcdefABCDEF' for c in line):
+            return f'line {n}: bad hex'
+        datagrams.append(bytes.fromhex(line.decode()))
+    return datagrams
+
+
+def show(datagrams):
+    out = []
+    for i, d in enumerate(datagrams, 1):
+        header, items, refusal = read(d)
+        if header is None:
+            out.append(f'datagram {i} unread')
+        else:
+            major, minor = header['version']
+            out.append(f"datagram {i} version {major}.{minor} vendor {header['vendor'].hex()} prefix {header['prefix'].hex()}")
+        acts = {act['at']: act for act in acts_of(d)}
+        for item in items:
+            out.append(line_of(item, acts.get(item['at'])))
+        if refusal:
+            out.append(f'refused {refusal.at} {refusal.fault}')
+    return out
+
+
+def line_of(i, act):
+    kind, head = i['kind'], f"{i['kind']} {i['at']} {i['order']}"
+    if act:
+        to = act['dest'].hex() if act['dest'] else 'all'
+        ending = f" from {act['source'].hex()} to {to} {time_of(act['time'])}"
+        head += f" reader {i['reader'].hex()} writer {i['writer'].hex()}"
+    if kind == 'data':
+        form, octets = i['payload']
+        payload = form if form == 'absent' else f'{form} {len(octets)}'
+        return f"{head} number {i['number']} qos {i['qos']} payload {payload}{ending}"
+    if kind == 'heartbeat':
+        return f"{head} first {i['first']} last {i['last']} count {i['count']} final {i['final']} live {i['live']}{ending}"
+    if kind in ('acknack', 'gap'):
+        base, count, bits, _ = i['set']
+        words = ''.join(f'{w:08x}' for w in bits) or '-'
+        if kind == 'gap':
+            return f"{head} start {i['start']} base {base} bits {count} {words}{ending}"
+        return f"{head} base {base} bits {count} {words} count {i['count']} final {i['final']}{ending}"
+    if kind == 'info_ts':
+        return f"{head} {time_of(i['time'])}"
+    if kind == 'info_dst':
+        return f"{head} prefix {i['prefix'].hex()}"
+    if kind == 'info_src':
+        return f"{head} version {i['version'][0]}.{i['version'][1]} vendor {i['vendor'].hex()} prefix {i['prefix'].hex()}"
+    return f"skipped {i['at']} id {i['id']:02x}"
+
+
+def time_of(time):
+    return 'time none' if time is None else f'time {time[0]} {time[1]}'
+
+
+# ---- discovery
+
+BUILTIN = {b'\x00\x01\x00\xc2': 'participant', b'\x00\x00\x03\xc2': 'writer', b'\x00\x00\x04\xc2': 'reader'}
+RELIABILITIES = {1: 0, 2: 1}
+RELIABILITY_WORDS = ['best-effort', 'reliable']
+DURABILITY_WORDS = ['volatile', 'transient-local', 'transient', 'persistent']
+
+
+def text_of(value, order):
+    if len(value) < 4:
+        return None
+    length = number(value[:4], order)
+    if length == 0:
+        return b''
+    if len(value) < 4 + length or value[3 + length] != 0:
+        return None
+    return value[4:3 + length]
+
+
+def announcement(payload, what):
+    """what it announces, or the fault"""
+    if len(payload) < 4:
+        return 'CutRepresentation'
+    if payload[:2] not in (b'\x00\x02', b'\x00\x03'):
+        return 'Representation'
+    order = 'be' if payload[1] == 2 else 'le'
+    found = read_list(payload[4:], order)
+    if isinstance(found, str):
+        return 'List'
+    first = {}
+    for pid, value in found[0]:
+        first.setdefault(pid, value)
+    guid = first.get(0x50 if what == 'participant' else 0x5a)
+    if guid is None or len(guid) < 16:
+        return 'NoGuid'
+    guid = guid[:16]
+    if what == 'participant':
+        return (guid,)
+    if 5 not in first:
+        return 'NoTopic'
+    if 7 not in first:
+        return 'NoType'
+    topic, kind = text_of(first[5], order), text_of(first[7], order)
+    if topic is None or kind is None:
+        return 'BadText'
+    reliability = 1 if what == 'writer' else 0
+    if 0x1a in first:
+        value = first[0x1a]
+        if len(value) < 4 or number(value[:4], order) not in RELIABILITIES:
+            return 'BadReliability'
+        reliability = RELIABILITIES[number(value[:4], order)]
+    durability = 0
+    if 0x1d in first:
+        value = first[0x1d]
+        if len(value) < 4 or number(value[:4], order) > 3:
+            return 'BadDurability'
+        durability = number(value[:4], order)
+    return (guid, what, topic, kind, reliability, durability)
+
+
+def discovery(datagrams):
+    participants, endpoints, faults = set(), {}, 0
+    for d in datagrams:
+        for act in acts_of(d):
+            if act['kind'] != 'data' or act['payload'][0] != 'whole' or act['writer'] not in BUILTIN:
+                continue
+            what = BUILTIN[act['writer']]
+            said = announcement(act['payload'][1], what)
+            if isinstance(said, str):
+                faults += 1
+            elif what == 'participant':
+                participants.add(said[0])
+            else:
+                endpoints.setdefault(said[0], set()).add(said)
+    settled = sorted(next(iter(v)) for v in endpoints.values() if len(v) == 1)
+    unsettled = sum(len(v) > 1 for v in endpoints.values())
+    matched = [(w, r) for w in settled if w[1] == 'writer' for r in settled if r[1] == 'reader'
+               and w[2:4] == r[2:4] and w[4] >= r[4] and w[5] >= r[5]]
+    return sorted(participants), settled, matched, unsettled, faults
+
+
+def guid_text(guid):
+    return f'{guid[:12].hex()}.{guid[12:].hex()}'
+
+
+def name_text(name):
+    return ''.join(chr(c) if 0x20 <= c <= 0x7e and c not in b'"\\' else f'\\x{c:02x}' for c in name)
+
+
+def list_text(datagrams):
+    participants, settled, matched, unsettled, faults = discovery(datagrams)
+    out = [f'participant {guid_text(p)}' for p in participants]
+    for guid, side, topic, kind, reliability, durability in settled:
+        out.append(f'{side} {guid_text(guid)} topic "{name_text(topic)}" type "{name_text(kind)}" '
+                   f'{RELIABILITY_WORDS[reliability]} {DURABILITY_WORDS[durability]}')
+    for w, r in matched:
+        out.append(f'pair {guid_text(w[0])} {guid_text(r[0])} {RELIABILITY_WORDS[min(w[4], r[4])]}')
+    out.append(f'participants {len(participants)} endpoints {len(settled)} unsettled {unsettled} faults {faults}')
+    return out
+
+
+# ---- the audit
+
+def spoken(act, w):
+    return act['kind'] != 'acknack' and act['source'] == w[:12] and act['writer'] == w[12:]
+
+
+def heard(act, r):
+    return act['dest'] in (None, r[:12]) and act['reader'] in (bytes(4), r[12:])
+
+
+def answered(act, w, r):
+    return (act['kind'] == 'acknack' and act['source'] == r[:12] and act['reader'] == r[12:]
+            and act['dest'] == w[:12] and act['writer'] == w[12:])
+
+
+class Words:
+    """which numbers an act gives a word for: spans [lo, hi) and a payload"""
+    def __init__(self, act):
+        self.payload = None
+        if act['kind'] == 'data':
+            self.spans, self.payload = [(act['number'], act['number'] + 1)], act['payload']
+        elif act['kind'] == 'gap':
+            base, count, bits, _ = act['set']
+            self.spans = [(act['start'], base)] if act['start'] < base else []
+            self.spans += [(n, n + 1) for n in members(base, count, bits)]
+        else:
+            self.spans = [(1, act['first'])]
+
+
+def speech(recording, w, r):
+    """for each datagram the words that r hears from w, and the bases that r answers; and the last number"""
+    last, said = 0, []
+    for acts in recording:
+        words, bases = [], []
+        for act in acts:
+            if spoken(act, w):
+                if act['kind'] == 'data':
+                    last = max(last, act['number'])
+                elif act['kind'] == 'heartbeat':
+                    last = max(last, act['last'])
+                if heard(act, r):
+                    words.append(Words(act))
+            elif answered(act, w, r):
+                bases.append(act['set'][0])
+        said.append((words, bases))
+    return said, last
+
+
+def least_missing(spans):
+    n = 1
+    for lo, hi in sorted(spans):
+        if lo > n:
+            break
+        n = max(n, hi)
+    return n
+
+
+def judge(recording, w, r):
+    said, last = speech(recording, w, r)
+    spans, greatest = [], 0
+    for j, (words, bases) in enumerate(said, 1):
+        if bases and max(bases) > 1:
+            n = least_missing(spans)
+            if n < max(bases):
+                return f'unfounded {j} {n}'
+            greatest = max(greatest, max(bases))
+        for word in words:
+            spans += word.spans
+    payloads, conflict = {}, None
+    for words, _ in said:
+        for word in words:
+            if word.payload is not None:
+                n = word.spans[0][0]
+                if payloads.setdefault(n, word.payload) != word.payload:
+                    conflict = n if conflict is None else min(n, conflict)
+    if conflict is not None:
+        return f'conflict {conflict}'
+    if max(greatest, 1) <= last:
+        return f'open {max(greatest, 1)}'
+    return f'complete {last}'
+
+
+def verdict_by_runs(recording, w, r, bound):
+    """the verdict of a recording whose numbers are all below `bound`, by trying what the reader may take"""
+    said, last = speech(recording, w, r)
+    gives = [[{(n, word.payload or 'gone') for word in words for lo, hi in word.spans for n in range(lo, min(hi, bound))}] for words, _ in said]
+    # a state is how many datagrams were sent and which (number, word) are held; all that can be reached
+    states, ends = {frozenset()}, None
+    for j, (words, bases) in enumerate(said):
+        claims = {n for b in bases for n in range(1, b)}
+        sendable = {s for s in states if claims <= {n for n, _ in s}}
+        if not sendable:
+            told = {n for g in gives[:j] for n, _ in g[0]}
+            return f'unfounded {j + 1} {min(n for n in claims if n not in told)}'
+        states = set()
+        for s in sendable:
+            grown = {s}
+            for item in gives[j][0]:
+                grown |= {g | {item} for g in grown}
+            states |= grown
+        # a word may also be taken later: let each state take any word told so far
+        told = {item for g in gives[:j + 1] for item in g[0]}
+        for item in told:
+            states |= {s | {item} for s in states}
+    conflicts = {n for s in states for n, a in s for m, b in s if n == m and a != b and 'gone' not in (a, b)}
+    if conflicts:
+        return f'conflict {min(conflicts)}'
+    missing = {n for s in states for n in range(1, last + 1) if n not in {m for m, _ in s}}
+    if missing:
+        return f'open {min(missing)}'
+    return f'complete {last}'
+
+
+def audit(datagrams):
+    _, _, matched, unsettled, _ = discovery(datagrams)
+    pairs = [(w[0], r[0]) for w, r in matched if w[4] == 1 and r[4] == 1]
+    recording = [acts_of(d) for d in datagrams]
+    out = [f'pairs {len(pairs)}']
+    for w, r in pairs:
+        out.append(f'{guid_text(w)} {guid_text(r)} {judge(recording, w, r)}')
+    refused = skipped = fragments = undirected = 0
+    for d, acts in zip(datagrams, recording):
+        _, items, refusal = read(d)
+        refused += refusal is not None
+        skipped += sum(i['kind'] == 'skipped' and i['id'] not in FRAGMENTS for i in items)
+        fragments += sum(i['kind'] == 'skipped' and i['id'] in FRAGMENTS for i in items)
+        undirected += sum(a['kind'] == 'acknack' and a['dest'] is None for a in acts)
+    out.append(f'datagrams {len(datagrams)} refused {refused} skipped {skipped} fragments {fragments} '
+               f'undirected {undirected} unsettled {unsettled}')
+    return out
+
+
+VIEWS = {'show': show, 'list': list_text, 'audit': audit}
+
+
+def answer(view, text):
+    """text and status of the program"""
+    datagrams = recording_of(text)
+    if isinstance(datagrams, str):
+        return '', 2
+    lines = VIEWS[view](datagrams)
+    unclean = view == 'audit' and any(' complete ' not in line for line in lines[1:-1])
+    return ''.join(line + '\n' for line in lines), int(unclean)
+
+
+# ---- random recordings
+
+A, B, C = b'\xaa' * 12, b'\xbb' * 12, b'\xcc' * 12
+
+
+def u(order, width, value):
+    return (value % 2 ** (8 * width)).to_bytes(width, 'big' if order == 'be' else 'little')
+
+
+def sn(order, value):
+    value %= 2 ** 64
+    return u(order, 4, value >> 32) + u(order, 4, value)
+
+
+def submessage(rng, sid, flags, body, order):
+    length = len(body)
+    if rng.random() < 0.03:
+        length = rng.choice([0, length - 1, length + 1, rng.randrange(70)]) % 65536
+    return bytes([sid, flags | (order == 'le')]) + u(order, 2, length) + body
+
+
+def parameter(order, pid, value):
+    return u(order, 2, pid) + u(order, 2, len(value)) + value
+
+
+def some_text(rng, order):
+    name = rng.choice([b'pose', b'pose', b'pose', b'Pose', b'a"\\\x01\xff', b''])
+    text = u(order, 4, len(name) + 1) + name + b'\0'
+    text += bytes(-len(text) % 4)
+    return rng.choice([text] * 30 + [text[:3], u(order, 4, 0), u(order, 4, 99) + name, u(order, 4, len(name) + 1) + name + b'x'])
+
+
+def some_announcement(rng, order):
+    inner = rng.choice(['be', 'le'])
+    what = rng.choice(['participant', 'writer', 'reader'])
+    guid = rng.choice([A, B]) + {'participant': b'\0\0\x01\xc1', 'writer': b'\0\0\x01\x03', 'reader': b'\0\0\x01\x04'}[what]
+    if rng.random() < 0.1:
+        guid = rng.choice([A, B, C]) + rng.choice([b'\0\0\x01\x03', b'\0\0\x01\x04'])
+    params = [parameter(inner, 0x50 if what == 'participant' else 0x5a, guid[:rng.choice([16] * 20 + [15])])]
+    if what != 'participant':
+        params += [parameter(inner, 5, some_text(rng, inner)), parameter(inner, 7, some_text(rng, inner))]
+        if rng.random() < 0.8:
+            params.append(parameter(inner, 0x1a, u(inner, 4, rng.choice([1, 2, 2, 2, 2, 2, 3])) + bytes(8)))
+        if rng.random() < 0.4:
+            params.append(parameter(inner, 0x1d, u(inner, 4, rng.choice([0, 0, 0, 1, 2, 3, 4]))))
+    if rng.random() < 0.2:
+        params.insert(rng.randrange(len(params) + 1), parameter(inner, rng.choice([0, 0x70, 0x5a, 5]), bytes(rng.randrange(9))))
+    if rng.random() < 0.1:
+        params.pop(rng.randrange(len(params)))
+    tail = rng.choice([parameter(inner, 1, b'')] * 20 + [b'', b'\0\1'])
+    kind = rng.choice([b'\0\2' if inner == 'be' else b'\0\3'] * 20 + [b'\0\0', b'\0'])
+    payload = kind + bytes(2) + b''.join(params) + tail if len(kind) == 2 else kind
+    entity = {'participant': b'\0\1\0\xc2', 'writer': b'\0\0\3\xc2', 'reader': b'\0\0\4\xc2'}[what]
+    body = u(order, 2, 0) + u(order, 2, 16) + bytes(4) + entity + sn(order, 1) + payload
+    return submessage(rng, 0x15, rng.choice([4, 4, 4, 4, 8]), body, order)
+
+
+def some_set(rng, order, base):
+    count = rng.choice([0, 0, 1, 2, 5, 33, 256, 257]) if base else rng.choice([0, 0, 0, 1])
+    words = (count + 31) // 32
+    return sn(order, base) + u(order, 4, count) + b''.join(u(order, 4, rng.getrandbits(32) & rng.getrandbits(32)) for _ in range(words))
+
+
+def some_number(rng):
+    return rng.choice([1, 1, 2, 2, 3, 3, 4, 5, 6]) if rng.random() < 0.97 else rng.choice([0, -1, GREATEST, GREATEST - 1, 2 ** 32])
+
+
+def some_submessage(rng):
+    order = rng.choice(['be', 'le'])
+    reader = rng.choice([bytes(4), bytes(4), b'\0\0\1\4', b'\0\0\1\5'])
+    writer = rng.choice([b'\0\0\1\3'] * 5 + [b'\0\0\1\2'])
+    kind = rng.randrange(20)
+    if kind < 6:
+        flags = rng.choice([4, 4, 4, 4, 4, 0, 8, 6, 12])
+        qos = b''
+        if flags & 2:
+            qos = parameter(order, 0x8001, bytes(rng.randrange(5))) + rng.choice([parameter(order, 1, b'')] * 5 + [b''])
+        payload = bytes([rng.randrange(2)]) * rng.choice([8, 8, 8, 0, 3])
+        body = u(order, 2, 0) + u(order, 2, rng.choice([16] * 30 + [15, 20, 40])) + reader + writer + sn(order, some_number(rng)) + qos + payload
+        return submessage(rng, 0x15, flags, body, order)
+    if kind < 9:
+        first = some_number(rng)
+        body = reader + writer + sn(order, first) + sn(order, first + rng.choice([-2, -1, 0, 0, 1, 2, 3])) + u(order, 4, rng.getrandbits(32))
+        return submessage(rng, 0x07, rng.choice([0, 2, 4, 6]), body, order)
+    if kind < 11:
+        body = reader + writer + sn(order, some_number(rng)) + some_set(rng, order, max(0, some_number(rng)))
+        return submessage(rng, 0x08, 0, body, order)
+    if kind < 15:
+        reader = rng.choice([b'\0\0\1\4'] * 6 + [b'\0\0\1\5'])
+        body = reader + writer + some_set(rng, order, rng.choice([0, 1, 2, 2, 3, 3, 4, 5, 7])) + u(order, 4, rng.getrandbits(32))
+        return submessage(rng, 0x06, rng.choice([0, 2]), body, order)
+    if kind == 15:
+        return submessage(rng, 0x09, rng.choice([0, 0, 2]), rng.choice([bytes(8), b'\0\0\0\5\x80\0\0\0', b'']), order)
+    if kind == 16:
+        return submessage(rng, 0x0e, 0, rng.choice([A, A, B, C, bytes(12), bytes(11)]), order)
+    if kind == 17:
+        return submessage(rng, 0x0c, 0, bytes(4) + b'\2\5\1\2' + rng.choice([A, B, C]), order)
+    return submessage(rng, rng.choice([0x01, 0x80, 0x16, 0x12, 0x13, 0x0d, 0x0f, 0x00]), 0, bytes(rng.choice([0, 4, 8])), order)
+
+
+def from_header(rng, prefix):
+    header = b'RTPS\2\5\0\0' + prefix
+    if rng.random() < 0.02:
+        header = rng.choice([header[:19], b'RTPX' + header[4:], header[:4] + b'\1' + header[5:]])
+    return header
+
+
+def some_datagram(rng):
+    kind = rng.random()
+    if kind < 0.2:
+        return from_header(rng, rng.choice([A, B])) + some_announcement(rng, rng.choice(['be', 'le']))
+    if kind < 0.5:
+        answers = b'\x0e\0\0\x0c' + A if rng.random() < 0.9 else b''
+        return from_header(rng, B) + answers + b''.join(some_submessage(rng) for _ in range(rng.randrange(1, 3)))
+    d = from_header(rng, A) + b''.join(some_submessage(rng) for _ in range(rng.randrange(1, 4)))
+    return d[:rng.randrange(len(d))] if rng.random() < 0.03 else d
+
+
+NAMES = b'\0\5\0\x0c\0\0\0\5pose\0\0\0\0\0\7\0\x0c\0\0\0\5Pose\0\0\0\0'
+
+
+def announced(writer, prefix, entity, more):
+    value = b'\0\2\0\0' + b'\0\x5a\0\x10' + prefix + entity + NAMES + more + b'\0\1\0\0'
+    body = b'\0\0\0\x10' + bytes(4) + writer + bytes(7) + b'\1' + value
+    return b'RTPS\2\5\0\0' + prefix + b'\x15\4' + len(body).to_bytes(2, 'big') + body
+
+
+START = [announced(b'\0\0\3\xc2', A, b'\0\0\1\3', b''), announced(b'\0\0\4\xc2', B, b'\0\0\1\4', b'\0\x1a\0\x0c\0\0\0\2' + bytes(8))]
+
+
+def some_recording(rng):
+    datagrams = list(START) if rng.random() < 0.9 else []
+    datagrams += [some_datagram(rng) for _ in range(rng.randrange(8))]
+    lines = []
+    for d in datagrams:
+        line = d.hex().encode()
+        if rng.random() < 0.1:
+            line = line.upper()
+        if rng.random() < 0.004:
+            line = rng.choice([line[:-1], line + b'g0', b'\r' + line, line + b'\r\r'])
+        lines.append(line + rng.choice([b'\n', b'\n', b'\r\n']))
+        if rng.random() < 0.1:
+            lines.append(rng.choice([b'\n', b'# a comment\n', b'\r\n']))
+    text = b''.join(lines)
+    return text[:-1] if text and rng.random() < 0.1 else text
+
+
+def compare(program, count, seed):
+    rng, differing, verdicts = random.Random(seed), 0, {}
+    for k in range(count):
+        text = some_recording(rng)
+        for view in VIEWS:
+            want, status = answer(view, text)
+            got = subprocess.run(program.split() + [view, '-'], input=text, capture_output=True)
+            if got.stdout.decode() != want or got.returncode != status:
+                differing += 1
+                with tempfile.NamedTemporaryFile(delete=False, suffix='.rec') as f:
+                    f.write(text)
+                print(f'{view} differs on recording {k}, kept in {f.name}')
+        datagrams = recording_of(text)
+        if not isinstance(datagrams, str):
+            recording = [acts_of(d) for d in datagrams]
+            w, r = A + b'\0\0\1\3', B + b'\0\0\1\4'
+            plain = judge(recording, w, r)
+            kind = plain.split()[0]
+            verdicts[kind] = verdicts.get(kind, 0) + 1
+            said, _ = speech(recording, w, r)
+            few = len({(n, x.payload) for words, _ in said for x in words for lo, hi in x.spans for n in range(lo, min(hi, 12))}) <= 8
+            if few and all(hi < 12 for words, _ in said for x in words for _, hi in x.spans) and plain != verdict_by_runs(recording, w, r, 12):
+                differing += 1
+                print(f'the plain conditions and the runs differ on recording {k}')
+    print(f'{count} recordings, {differing} differences; verdicts {verdicts}')
+    return int(differing > 0)
+
+
+def main():
+    if sys.argv[1] == 'compare':
+        count = int(sys.argv[3]) if len(sys.argv) > 3 else 1000
+        return compare(sys.argv[2], count, int(sys.argv[4]) if len(sys.argv) > 4 else 1)
+    with open(sys.argv[2], 'rb') as f:
+        text, status = answer(sys.argv[1], f.read())
+    sys.stdout.write(text)
+    return status
+
+
+if __name__ == '__main__':
+    sys.exit(main())

@@ -1,0 +1,48 @@
+-- Who speaks an act, who hears it, and whom an ACKNACK answers. DDSI-RTPS 2.5, 8.3.4 "The RTPS Message Receiver",
+-- 8.3.8.1 "AckNack", 8.3.8.2 "Data", 8.3.8.4 "Gap" and 8.3.8.6 "Heartbeat".
+use Rattle.std.specs.Prelude.{ℕ, ◌≡◌, List, ◌∷◌, [], replicate, Option, Some, None}
+use Rattle.std.specs.Prelude.{◌⊎◌}
+use Rattle.rtps_ids.specs.declared.identity.EntityId.{EntityId}
+use Rattle.rtps_ids.specs.declared.identity.Guid.{Guid}
+use Rattle.rtps_receiver.specs.Values.{ActBodyValue, ActValue}
+use Rattle.rtps_receiver.specs.Values.ActBodyValue.{Data, Heartbeat, AckNack, Gap}
+
+-- the writer and the reader that an act of a writer names
+abbrev pub writer_named : ActBodyValue → Option EntityId
+writer_named (Data value) = Some value.writer
+writer_named (Heartbeat value) = Some value.writer
+writer_named (Gap value) = Some value.writer
+writer_named (AckNack value) = None
+
+abbrev pub reader_named : ActBodyValue → Option EntityId
+reader_named (Data value) = Some value.reader
+reader_named (Heartbeat value) = Some value.reader
+reader_named (Gap value) = Some value.reader
+reader_named (AckNack value) = None
+
+-- the entity id of zeros names every reader (9.3.1.2 "Mapping of the EntityId_t", ENTITYID_UNKNOWN)
+abbrev pub unknown_entity : EntityId
+unknown_entity = record { 0 = 0 ∷ 0 ∷ 0 ∷ 0 ∷ [] }
+
+-- A writer speaks the DATA, HEARTBEAT and GAP of its participant that name it.
+pub record IsSpokenBy (act : ActValue) (writer : Guid) : Type 0 where
+  pub source : act.source ≡ writer.prefix
+  pub entity : writer_named act.body ≡ Some writer.entity
+
+-- A reader hears what is for everyone or for its participant, and names it or every reader.
+pub record IsHeardBy (act : ActValue) (reader : Guid) : Type 0 where
+  pub dest : (act.dest ≡ None) ⊎ (act.dest ≡ Some reader.prefix)
+  pub entity : (reader_named act.body ≡ Some unknown_entity) ⊎ (reader_named act.body ≡ Some reader.entity)
+
+-- An ACKNACK of the reader that names the writer, and its participant as the destination, answers the writer. One
+-- for everyone answers nobody.
+abbrev pub NamesPair : ActBodyValue → EntityId → EntityId → Type 0
+NamesPair (AckNack value) reader writer = (value.reader ≡ reader) × (value.writer ≡ writer)
+NamesPair (Data value) reader writer = ⊥
+NamesPair (Heartbeat value) reader writer = ⊥
+NamesPair (Gap value) reader writer = ⊥
+
+pub record IsAnswer (act : ActValue) (reader writer : Guid) : Type 0 where
+  pub source : act.source ≡ reader.prefix
+  pub dest : act.dest ≡ Some writer.prefix
+  pub entities : NamesPair act.body reader.entity writer.entity

@@ -1,0 +1,73 @@
+use crate::act::{Act, ActBody};
+use rtps_ids::{EntityId, Guid};
+
+/// The entity id that names every reader.
+const UNKNOWN: EntityId = EntityId([0; 4]);
+
+impl<'a> Act<'a> {
+    ghost use Rattle.std.specs.Prelude.{◌↔◌, ◌≡◌, IsTrue};
+    ghost use Rattle.std.specs.Option.{option_map};
+    ghost use Rattle.rtps_receiver.specs.Speech.{IsAnswer, IsHeardBy, IsSpokenBy, reader_named, writer_named};
+    ghost use Rattle.rtps_receiver.specs.Values.{act_value};
+
+    /// Whether this writer speaks the act: it is a DATA, HEARTBEAT or GAP of its participant that names it. False of
+    /// an ACKNACK.
+    pub fn spoken_by(&self, writer: Guid) -> bool
+        ensures { IsTrue result ↔ IsSpokenBy (act_value self.now) writer }
+    {
+        self.source == writer.prefix && self.writer_named() == Some(writer.entity)
+    }
+
+    /// Whether this reader hears the act: it is a DATA, HEARTBEAT or GAP for everyone or for its participant, and
+    /// names the reader or every reader. False of an ACKNACK.
+    pub fn heard_by(&self, reader: Guid) -> bool
+        ensures { IsTrue result ↔ IsHeardBy (act_value self.now) reader }
+    {
+        let for_it = match self.dest {
+            None => true,
+            Some(prefix) => prefix == reader.prefix,
+        };
+        match self.reader_named() {
+            None => false,
+            Some(entity) => for_it && (entity == UNKNOWN || entity == reader.entity),
+        }
+    }
+
+    /// Whether the act is an ACKNACK of this reader that answers this writer: its destination is the writer's
+    /// participant by name. False of anything else, and of an ACKNACK for everyone.
+    pub fn answers(&self, reader: Guid, writer: Guid) -> bool
+        ensures { IsTrue result ↔ IsAnswer (act_value self.now) reader writer }
+    {
+        let ActBody::AckNack(ack_nack) = &self.body else {
+            return false;
+        };
+        self.source == reader.prefix
+            && self.dest == Some(writer.prefix)
+            && ack_nack.reader == reader.entity
+            && ack_nack.writer == writer.entity
+    }
+
+    /// The writer that the act names, unless it is an ACKNACK.
+    fn writer_named(&self) -> Option<EntityId>
+        ensures { result ≡ writer_named (act_value self.now).body }
+    {
+        match &self.body {
+            ActBody::Data(data) => Some(data.writer),
+            ActBody::Heartbeat(heartbeat) => Some(heartbeat.writer),
+            ActBody::Gap(gap) => Some(gap.writer),
+            ActBody::AckNack(_) => None,
+        }
+    }
+
+    /// The reader that the act names, unless it is an ACKNACK.
+    fn reader_named(&self) -> Option<EntityId>
+        ensures { result ≡ reader_named (act_value self.now).body }
+    {
+        match &self.body {
+            ActBody::Data(data) => Some(data.reader),
+            ActBody::Heartbeat(heartbeat) => Some(heartbeat.reader),
+            ActBody::Gap(gap) => Some(gap.reader),
+            ActBody::AckNack(_) => None,
+        }
+    }
+}
