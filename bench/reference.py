@@ -445,29 +445,23 @@ def judge(recording, w, r):
 def verdict_by_runs(recording, w, r, bound):
     """the verdict of a recording whose numbers are all below `bound`, by trying what the reader may take"""
     said, last = speech(recording, w, r)
-    gives = [[{(n, word.payload or 'gone') for word in words for lo, hi in word.spans for n in range(lo, min(hi, bound))}] for words, _ in said]
+    gives = [{(n, word.payload or 'gone') for word in words for lo, hi in word.spans for n in range(lo, min(hi, bound))} for words, _ in said]
     # a state is how many datagrams were sent and which (number, word) are held; all that can be reached
-    states, ends = {frozenset()}, None
+    states = {frozenset()}
     for j, (words, bases) in enumerate(said):
-        claims = {n for b in bases for n in range(1, b)}
+        claims = {n for b in bases for n in range(1, min(b, bound + 1))}
         sendable = {s for s in states if claims <= {n for n, _ in s}}
         if not sendable:
-            told = {n for g in gives[:j] for n, _ in g[0]}
+            told = {n for g in gives[:j] for n, _ in g}
             return f'unfounded {j + 1} {min(n for n in claims if n not in told)}'
-        states = set()
-        for s in sendable:
-            grown = {s}
-            for item in gives[j][0]:
-                grown |= {g | {item} for g in grown}
-            states |= grown
-        # a word may also be taken later: let each state take any word told so far
-        told = {item for g in gives[:j + 1] for item in g[0]}
-        for item in told:
-            states |= {s | {item} for s in states}
+        # between two sends the reader may take any word told so far, and any number of them
+        states = sendable
+        for item in {item for g in gives[:j + 1] for item in g}:
+            states = states | {s | {item} for s in states}
     conflicts = {n for s in states for n, a in s for m, b in s if n == m and a != b and 'gone' not in (a, b)}
     if conflicts:
         return f'conflict {min(conflicts)}'
-    missing = {n for s in states for n in range(1, last + 1) if n not in {m for m, _ in s}}
+    missing = {n for s in states for n in range(1, min(last, bound) + 1) if n not in {m for m, _ in s}}
     if missing:
         return f'open {min(missing)}'
     return f'complete {last}'

@@ -1,1 +1,2 @@
+pub mod SetBits
 pub mod Sets

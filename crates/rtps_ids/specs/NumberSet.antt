@@ -83,3 +83,5 @@ pub record IsKeptSet (set : NumberSetValue) : Type 0 where
   pub end : 0 < set.base → set.base + set.count < 2 ^ 63 + 1
   pub low : set.base < 2 ^ 63
   pub eight : length set.words ≡ 8
+  -- bits past the count are clear
+  pub clear : set.words ≡ cleared_words set.count (λ i. slice_index set.words i)

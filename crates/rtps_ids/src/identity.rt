@@ -68,7 +68,7 @@ pub struct Version {
     pub minor: u8,
 }
 
-/// A time as a message carries it: seconds, and fractions of 2^-32 seconds (DDSI-RTPS 2.5, 9.3.2.1 "Time_t").
+/// A time as a message carries it: seconds, and fractions of 2^-32 seconds (DDSI-RTPS 2.5, 9.3.2 "Mapping of the Types that Appear Within Submessages or Built-in Topic Data").
 #[derive(Clone, Copy, PartialEq, Eq, Debug)]
 pub struct Stamp {
     pub seconds: u32,

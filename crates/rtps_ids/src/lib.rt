@@ -2,6 +2,7 @@
 #![tactic(auto)]
 
 mod identity;
+pub mod laws;
 mod memory;
 mod number;
 mod octets;

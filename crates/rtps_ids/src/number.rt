@@ -1,4 +1,4 @@
-ghost use Rattle.std.specs.Prelude.{◌≡◌, ◌↔◌, ◌<ℤ◌, pos, IsSome, IfSome};
+ghost use Rattle.std.specs.Prelude.{◌≡◌, ◌↔◌, ◌<ℤ◌, ◌≤ℤ◌, pos, IsSome, IfSome};
 
 use std::marker::Model;
 
@@ -36,7 +36,8 @@ impl SeqNum {
 
     /// Its value, 1 to 2^63 - 1.
     pub fn get(self) -> i64
-        ensures { result ≡ pos self }
+        ensures value { result ≡ pos self }
+        ensures positive { pos 1 ≤ℤ result }
     {
         self.value.cast_signed()
     }

@@ -150,7 +150,8 @@ fn cleared(count: u32, word: u32, i: usize) -> u32
 /// The set of this base and count, whose words are cleared already.
 #[tactic(auto, unfolding(crate::specs::NumberSet::is_bad))]
 fn set_of(base: i64, count: u32, words: [u32; 8]) -> NumberSet
-    requires { is_bad_lem base count ≡ false }
+    requires good { is_bad_lem base count ≡ false }
+    requires clear { words ≡ cleared_words count (λ i. slice_index words i) }
     ensures base { pos result.base ≡ base }
     ensures count { result.count ≡ count }
     ensures words { result.words ≡ words }

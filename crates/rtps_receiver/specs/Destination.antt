@@ -1,4 +1,4 @@
--- Which prefix names everyone. DDSI-RTPS 2.5, 8.3.8.7 "InfoDestination" and 9.3.1.1 "Mapping of the GuidPrefix_t".
+-- Which prefix names everyone. DDSI-RTPS 2.5, 8.3.8.8 "InfoDestination" and 9.3.1.1 "Mapping of the GuidPrefix_t".
 use Rattle.std.specs.Prelude.{◌==◌, Bool}
 use Rattle.std.specs.List.{list_all}
 use Rattle.rtps_ids.specs.declared.identity.GuidPrefix.{GuidPrefix}

@@ -1,5 +1,6 @@
 -- Each datagram has a reading, and only one.
-use Rattle.std.proofs.Common.{◌≡◌, ◌<◌, ◌≤◌, ◌+◌, ℕ, zero, suc, List, [], ◌∷◌, Option, Some, None, Ok, Err, length, drop, arith, refl, ap, sym, ◌∙◌, subst}
+use Rattle.std.proofs.Common.{◌≡◌, ◌<◌, ◌≤◌, ◌+◌, ℕ, zero, suc, List, [], ◌∷◌, ◌++◌, map, Option, Some, None, Ok, Err, length, drop, arith, refl, ap, sym, ◌∙◌, subst}
+use Rattle.std.specs.Prelude.{option_to_list}
 use Rattle.rtps_wire.proofs.Readings.{length-next_rest, outcomes-done, outcomes-item, outcomes-refused}
 use Rattle.rtps_wire.specs.Header.{header_fault, header_of}
 use Rattle.rtps_wire.specs.Message.{Reading, Reads, ReadsFrom, ReadsWith, body_length, fault_at, item_at, next_rest}
@@ -71,3 +72,22 @@ has_reading datagram = reads_with (header_fault datagram) datagram
 pub one_reading : (datagram : List ℕ) (reading : Reading) → Reads datagram reading → reading ≡ reading_of datagram
 unfolding reading_of
 one_reading datagram reading reads = only_with (header_fault datagram) datagram reading reads
+
+-- the outcomes are the items in order, and then the refusal
+outcomes_whole-within : (n : ℕ) (rest : List ℕ) (at : ℕ) → length rest ≤ n
+    → outcomes rest at ≡ map Ok (items_among (outcomes rest at)) ++ map Err (option_to_list (refusal_among (outcomes rest at)))
+outcomes_whole-within n [] at enough = rw (outcomes-done at) refl
+outcomes_whole-within zero (x ∷ xs) at enough = absurd (omega arith)
+outcomes_whole-within (suc n) (x ∷ xs) at enough =
+    let shorter : length (next_rest (x ∷ xs)) < length (x ∷ xs) = length-next_rest (x ∷ xs) (omega arith) in
+    by_fault (fault_at (x ∷ xs)) refl (outcomes_whole-within n (next_rest (x ∷ xs)) (at + 4 + body_length (x ∷ xs)) (omega arith))
+  where
+    by_fault : (fault : Option WireFault) → fault_at (x ∷ xs) ≡ fault
+        → outcomes (next_rest (x ∷ xs)) (at + 4 + body_length (x ∷ xs))
+          ≡ map Ok (items_among (outcomes (next_rest (x ∷ xs)) (at + 4 + body_length (x ∷ xs)))) ++ map Err (option_to_list (refusal_among (outcomes (next_rest (x ∷ xs)) (at + 4 + body_length (x ∷ xs)))))
+        → outcomes (x ∷ xs) at ≡ map Ok (items_among (outcomes (x ∷ xs) at)) ++ map Err (option_to_list (refusal_among (outcomes (x ∷ xs) at)))
+    by_fault (Some fault) is behind = rw (outcomes-refused (x ∷ xs) at fault (omega arith) is) refl
+    by_fault None is behind = rw (outcomes-item (x ∷ xs) at (omega arith) is) (ap (λ more. Ok (item_at (x ∷ xs) at) ∷ more) behind)
+
+pub outcomes_whole : (rest : List ℕ) (at : ℕ) → outcomes rest at ≡ map Ok (items_among (outcomes rest at)) ++ map Err (option_to_list (refusal_among (outcomes rest at)))
+outcomes_whole rest at = outcomes_whole-within (length rest) rest at (omega arith)

@@ -1,4 +1,4 @@
--- The header of a message. DDSI-RTPS 2.5, 8.3.7 "The RTPS Header" and 9.4.4 "Mapping of the RTPS Header".
+-- The header of a message. DDSI-RTPS 2.5, 8.3.6 "The RTPS Header" and 9.4.4 "Mapping of the RTPS Header".
 use Rattle.std.specs.Prelude.{ℕ, ◌==◌, not, nat_lt, List, [], ◌∷◌, ◌||◌, drop, length, slice_index, take, Option}
 use Rattle.rtps_wire.specs.Fault.{first_fault}
 use Rattle.rtps_wire.specs.declared.fault.WireFault.{WireFault}
@@ -6,7 +6,7 @@ use Rattle.rtps_wire.specs.declared.fault.WireFault.TheVariants.{Short, NotRtps,
 use Rattle.rtps_wire.specs.declared.header.Header.{Header}
 
 -- octets 0 to 3 are `RTPS`, 4 and 5 the version, 6 and 7 the vendor id, 8 to 19 the prefix
--- own: versions 0 and 1 are refused, since their messages are laid out otherwise; every minor version is taken
+-- own: of the versions before 2, too, no message is read, since theirs are laid out otherwise; every minor version is taken
 unfoldable pub header_fault : List ℕ → Option WireFault
 header_fault octets = first_fault (
     (Short, nat_lt (length octets) 20)

@@ -1,5 +1,5 @@
--- INFO_TS, INFO_DST and INFO_SRC. DDSI-RTPS 2.5, 8.3.8.9 "InfoTimestamp" and 9.4.5.11 "InfoTimestamp Submessage",
--- 8.3.8.7 "InfoDestination" and 9.4.5.9 "InfoDestination Submessage", 8.3.8.8 "InfoSource" and 9.4.5.10 "InfoSource
+-- INFO_TS, INFO_DST and INFO_SRC. DDSI-RTPS 2.5, 8.3.8.11 "InfoTimestamp" and 9.4.5.12 "InfoTimestamp Submessage",
+-- 8.3.8.8 "InfoDestination" and 9.4.5.9 "InfoDestination Submessage", 8.3.8.10 "InfoSource" and 9.4.5.11 "InfoSource
 -- Submessage".
 use Rattle.std.specs.Prelude.{ℕ, ◌==◌, ◌&&◌, bit_and, nat_lt, List, [], ◌∷◌, length, slice_index, take, drop, Option, Some, None, if◌then◌else◌}
 use Rattle.rtps_ids.specs.Octets.{number_of}

@@ -1,4 +1,4 @@
--- Inline QoS behind the fields of a DATA. DDSI-RTPS 2.5, 8.7.2 "Inline QoS".
+-- Inline QoS behind the fields of a DATA. DDSI-RTPS 2.5, 8.7.2 "DDS QoS Parameters".
 use Rattle.std.specs.Prelude.{◌≡◌, ℕ, List, Option, is_err, true, false, ◌&&◌}
 use Rattle.std.specs.Borrow.{Bor}
 use Rattle.std.specs.Option.{option_map}

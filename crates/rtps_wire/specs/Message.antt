@@ -43,7 +43,7 @@ body_length rest = extent_of (id_of rest) (octets_to_next_header rest) (length (
 abbrev pub body_octets : List ℕ → List ℕ
 body_octets rest = take (body_length rest) (drop 4 rest)
 
--- the octets from the next submessage on, and how many stand before it
+-- the octets from the next submessage on
 abbrev pub next_rest : List ℕ → List ℕ
 next_rest rest = drop (4 + body_length rest) rest
 

@@ -16,7 +16,7 @@ pub struct DataBody<'a> {
     pub reader: EntityId,
     pub writer: EntityId,
     pub number: SeqNum,
-    /// The parameters that go with this change alone (DDSI-RTPS 2.5, 8.7.2 "Inline QoS").
+    /// The parameters that go with this change alone (DDSI-RTPS 2.5, 8.7.2 "DDS QoS Parameters").
     pub qos: Option<ParamList<'a>>,
     pub payload: Payload<'a>,
 }
@@ -64,17 +64,17 @@ pub enum Body<'a> {
     Heartbeat(HeartbeatBody),
     AckNack(AckNackBody),
     Gap(GapBody),
-    /// The time of what follows, or none (DDSI-RTPS 2.5, 8.3.8.9 "InfoTimestamp").
+    /// The time of what follows, or none (DDSI-RTPS 2.5, 8.3.8.11 "InfoTimestamp").
     InfoTs(Option<Stamp>),
-    /// For whom what follows is (DDSI-RTPS 2.5, 8.3.8.7 "InfoDestination").
+    /// For whom what follows is (DDSI-RTPS 2.5, 8.3.8.8 "InfoDestination").
     InfoDst(GuidPrefix),
-    /// From whom what follows is (DDSI-RTPS 2.5, 8.3.8.8 "InfoSource").
+    /// From whom what follows is (DDSI-RTPS 2.5, 8.3.8.10 "InfoSource").
     InfoSrc {
         version: Version,
         vendor: Vendor,
         prefix: GuidPrefix,
     },
-    /// A submessage that is not read: PAD, those of fragments, of security, and unknown ids.
+    /// A submessage that is not read: PAD, INFO_REPLY, those of fragments and of security, and unknown ids.
     Skipped {
         id: u8,
     },

@@ -22,7 +22,7 @@ pub enum WireFault {
     BadNumber = 9,
     /// A lastSN below firstSN - 1.
     BadRange = 10,
-    /// A set that no numbers make.
+    /// A set that no numbers make, or the list of a GAP of base 0.
     BadSet = 11,
     /// An inline QoS that is no parameter list.
     BadInlineQos = 12,

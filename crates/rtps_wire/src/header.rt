@@ -6,7 +6,7 @@ use crate::fault::WireFault;
 use crate::read::fields::{prefix_at, vendor_at};
 use rtps_ids::{GuidPrefix, Vendor, Version};
 
-/// The header of a message: who sent it, and by which protocol (DDSI-RTPS 2.5, 8.3.7 "The RTPS Header").
+/// The header of a message: who sent it, and by which protocol (DDSI-RTPS 2.5, 8.3.6 "The RTPS Header").
 #[derive(Clone, Copy, PartialEq, Eq, Debug)]
 pub struct Header {
     pub version: Version,

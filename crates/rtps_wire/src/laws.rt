@@ -1,11 +1,13 @@
 //! Laws of the definitions, as contracts of functions that do nothing.
 
-ghost use Rattle.std.specs.Prelude.{◌≡◌, ℕ, List};
+ghost use Rattle.std.specs.Prelude.{◌≡◌, ◌++◌, ℕ, List, map, option_to_list, Ok, Err};
 ghost use Rattle.rtps_wire.specs.Message.{Reading, Reads};
-ghost use Rattle.rtps_wire.specs.Reading.{reading_of};
+ghost use Rattle.rtps_wire.specs.Reading.{items_among, outcomes, reading_of, refusal_among};
 
-/// Each datagram has a reading, and only one: what `Items` gives of it is all that it says.
+/// Each datagram has a reading, and only one, and what `Items` gives of it are its items in order and then the refusal
+/// that ends it, if one does.
 pub fn one_reading()
     ensures exists { (datagram : List ℕ) → Reads datagram (reading_of datagram) }
     ensures unique { (datagram : List ℕ) (reading other : Reading) → Reads datagram reading → Reads datagram other → reading ≡ other }
+    ensures order { (rest : List ℕ) (at : ℕ) → outcomes rest at ≡ map Ok (items_among (outcomes rest at)) ++ map Err (option_to_list (refusal_among (outcomes rest at))) }
 {}

@@ -7,3 +7,6 @@ returns-clause-exists c = those.has_reading
 
 pub returns-clause-unique : goal.returns-clause-unique
 returns-clause-unique c = λ datagram reading other p q. those.one_reading datagram reading p ∙ sym (those.one_reading datagram other q)
+
+pub returns-clause-order : goal.returns-clause-order
+returns-clause-order c = those.outcomes_whole

@@ -1,0 +1,92 @@
+#!/usr/bin/env python3
+"""Writes recordings to measure with.
+
+    make.py heartbeats|large|hostile|one_data|in_order|every_second|pairs FILE [MEGABYTES]
+"""
+import sys
+
+A, B = b'\xaa' * 12, b'\xbb' * 12
+NAMES = b'\0\5\0\x0c\0\0\0\5pose\0\0\0\0\0\7\0\x0c\0\0\0\5Pose\0\0\0\0'
+
+
+def header(prefix):
+    return b'RTPS\2\5\0\0' + prefix
+
+
+def data(writer, number, payload, reader=bytes(4), flags=4):
+    body = b'\0\0\0\x10' + reader + writer + number.to_bytes(8, 'big') + payload
+    return b'\x15' + bytes([flags]) + len(body).to_bytes(2, 'big') + body
+
+
+def heartbeat(writer, first, last):
+    return b'\x07\0\0\x1c' + bytes(4) + writer + first.to_bytes(8, 'big') + last.to_bytes(8, 'big') + b'\0\0\0\1'
+
+
+def ack_nack(reader, writer, base):
+    return b'\x06\0\0\x18' + reader + writer + base.to_bytes(8, 'big') + bytes(4) + b'\0\0\0\1'
+
+
+def announced(built_in, prefix, entity, more):
+    value = b'\0\2\0\0' + b'\0\x5a\0\x10' + prefix + entity + NAMES + more + b'\0\1\0\0'
+    return header(prefix) + data(built_in, 1, value)
+
+
+def to(prefix):
+    return b'\x0e\0\0\x0c' + prefix
+
+
+WRITER, READER = b'\0\0\1\3', b'\0\0\1\4'
+RELIABLE = b'\0\x1a\0\x0c\0\0\0\2' + bytes(8)
+
+
+def announcements(pairs):
+    for i in range(pairs):
+        yield announced(b'\0\0\3\xc2', A, (0x103 + 256 * i).to_bytes(4, 'big'), b'').replace(b'pose', b'po%02d' % i)
+        yield announced(b'\0\0\4\xc2', B, (0x104 + 256 * i).to_bytes(4, 'big'), RELIABLE).replace(b'pose', b'po%02d' % i)
+
+
+def samples(numbers, total, writer=WRITER, reader=READER):
+    for n in numbers:
+        yield header(A) + data(writer, n, bytes(64))
+    yield header(A) + heartbeat(writer, 1, total)
+    yield header(B) + to(A) + ack_nack(reader, writer, total + 1)
+
+
+def datagrams(kind, octets):
+    if kind == 'heartbeats':
+        one = header(A) + heartbeat(WRITER, 1, 3)
+        return (one for _ in range(min(1000000, octets // (2 * len(one) + 1))))
+    if kind == 'packed':
+        one = header(A) + heartbeat(WRITER, 1, 3) * 40
+        return (one for _ in range(octets // (2 * len(one) + 1)))
+    if kind == 'large':
+        one = header(A) + data(WRITER, 7, bytes(range(256)) * 4 + bytes(132))
+        assert len(one) == 1200, len(one)
+        return (one for _ in range(octets // (2 * len(one) + 1)))
+    if kind == 'hostile':
+        return (header(A) + b'\1\0\0\0' * 16378 + b'\0\0\0' for _ in range(octets // 131071))
+    if kind == 'one_data':
+        return (header(A) + data(WRITER, 7, bytes(65535 - 44)) for _ in range(octets // 131071))
+    total = 200000
+    if kind == 'in_order':
+        return (*announcements(1), *samples(range(1, total + 1), total))
+    if kind == 'every_second':
+        return (*announcements(1), *samples([*range(2, total + 1, 2), *range(1, total, 2)], total))
+    if kind == 'pairs':
+        sent = []
+        for i in range(20):
+            sent += samples(range(1, 10001), 10000, (0x103 + 256 * i).to_bytes(4, 'big'), (0x104 + 256 * i).to_bytes(4, 'big'))
+        return (*announcements(20), *sent)
+    raise SystemExit(__doc__)
+
+
+def main():
+    kind, path = sys.argv[1:3]
+    octets = int(sys.argv[3] if len(sys.argv) > 3 else 200) * 1000000
+    with open(path, 'wb') as f:
+        for datagram in datagrams(kind, octets):
+            f.write(datagram.hex().encode() + b'\n')
+
+
+if __name__ == '__main__':
+    main()

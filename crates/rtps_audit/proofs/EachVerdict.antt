@@ -1,0 +1,226 @@
+-- Each recording has a verdict.
+use Rattle.std.proofs.Common.{◌≡◌, ℕ, zero, suc, ◌+◌, ◌≤◌, ◌<◌, Bool, true, false, List, [], ◌∷◌, length, Option, Some, None, slice_get, refl, sym, ◌∙◌, ap, subst, arith, ◌⊎◌, inl, inr, pos}
+use Rattle.std.specs.Prelude.{Contains, ◌≢◌, Decides}
+use Rattle.std.specs.Cmp.Lexicographic.{bytes_decides}
+use Rattle.std.proofs.lemmas.Bool.{cases_lt}
+use Rattle.std.proofs.lemmas.Option.{slice_get_cases, slice_get_within}
+use Rattle.rtps_audit.specs.Delivery.{Word, PayloadValue, Datagram, Speech, Gives, Claims, greatest, last_announced}
+use Rattle.rtps_audit.specs.Delivery.PayloadValue.{Absent, Whole, Key}
+use Rattle.rtps_audit.specs.Delivery.Word.{Told, Gone}
+use Rattle.rtps_audit.specs.RunVerdict.{IsLeast, ClaimsUntold, IsVerdict}
+use Rattle.rtps_audit.specs.PlainVerdict.{IsFounded, IsSpoken, SpeaksTwo, IsClaimed, IsUnclaimed}
+use Rattle.rtps_audit.specs.EagerRun.{IsBoundedBy}
+use Rattle.rtps_audit.specs.Judge.{greatest_base}
+use Rattle.rtps_audit.specs.Laws.{EachHasAVerdict}
+use Rattle.rtps_audit.specs.declared.verdict.Verdict.{Verdict}
+use Rattle.rtps_audit.specs.declared.verdict.Verdict.TheVariants.{Unfounded, Conflict, Open, Complete}
+use Rattle.rtps_audit.proofs.FactLemmas.{below_greatest, greatest_below, Has, has_here, has_later, has_cases, has_none}
+use Rattle.rtps_audit.proofs.JudgeLemmas.{claimed_from_below, below_from_claims}
+use Rattle.rtps_audit.proofs.Verdicts.{told_or_not, from_plain}
+
+-- a fact holds or does not
+abbrev Decided : Type 0 → Type 0
+Decided P = P ⊎ (P → ⊥)
+
+-- the least number below a bound that has P, if one has
+least_search : (P : ℕ → Type 0) → ((n : ℕ) → Decided (P n)) → (bound : ℕ) → ((n : ℕ) × IsLeast P n) ⊎ ((n : ℕ) → n < bound → P n → ⊥)
+least_search P decide zero = inr (λ n lt p. omega arith)
+least_search P decide (suc b) = next (least_search P decide b) (decide b)
+  where
+    first : ((n : ℕ) → n < b → P n → ⊥) → (m : ℕ) → P m → b ≤ m
+    first none m q = elim (cases_lt m b) [ inl lt ↦ absurd (none m lt q) | inr le ↦ le ]
+
+    neither : ((n : ℕ) → n < b → P n → ⊥) → (P b → ⊥) → (n : ℕ) → n < suc b → P n → ⊥
+    neither none nor n lt p = elim (cases_lt n b) [
+      | inl below ↦ none n below p
+      | inr here ↦ let same : n ≡ b = omega arith in nor (subst P same p)
+    ]
+
+    next : ((n : ℕ) × IsLeast P n) ⊎ ((n : ℕ) → n < b → P n → ⊥) → Decided (P b) → ((n : ℕ) × IsLeast P n) ⊎ ((n : ℕ) → n < suc b → P n → ⊥)
+    next (inl found) here = inl found
+    next (inr none) (inl p) = inl (b, record { holds = p; least = first none })
+    next (inr none) (inr nor) = inr (neither none nor)
+
+claims_or_not : (speech : Speech) (j n : ℕ) → Decided (Claims speech j n)
+claims_or_not speech j zero = inr (λ claims. let positive = claims.positive in omega arith)
+claims_or_not speech j (suc m) = elim (slice_get_cases speech j).1 [
+  | inl found ↦ at found.0 found.2
+  | inr past ↦ inr (λ claims. let within = slice_get_within speech j claims.datagram claims.stands in let out = past.0 in omega arith)
+]
+  where
+    at : (d : Datagram) → slice_get speech j ≡ Some d → Decided (Claims speech j (suc m))
+    at d stands = elim (cases_lt (suc m) (greatest d.bases)) [
+      | inl lt ↦
+          let base = below_greatest (suc m) d.bases lt in
+          inl (record { datagram = d; base = base.0; stands = stands; answers = base.1; positive = omega arith; below = base.2 })
+      | inr le ↦ inr (λ claims.
+          let both : Some claims.datagram ≡ Some d = sym claims.stands ∙ stands in
+          let same : claims.datagram ≡ d = cc in
+          let among = subst (λ (x : Datagram). Contains x.bases claims.base) same claims.answers in
+          let below = greatest_below (suc m) claims.base d.bases among claims.below in
+          omega arith)
+    ]
+
+untold_or_not : (speech : Speech) (j n : ℕ) → Decided (ClaimsUntold speech j n)
+untold_or_not speech j n = elim (claims_or_not speech j n) [
+  | inl claims ↦ elim (told_or_not speech j n claims.positive) [
+    | inl told ↦ inr (λ h. h.1 told)
+    | inr untold ↦ inl (claims, untold)
+  ]
+  | inr none ↦ inr (λ h. none h.0)
+]
+
+least_untold : (speech : Speech) (j : ℕ) → ((n : ℕ) × IsLeast (ClaimsUntold speech j) n) ⊎ ((n : ℕ) → ClaimsUntold speech j n → ⊥)
+least_untold speech j = elim (least_search (ClaimsUntold speech j) (untold_or_not speech j) (greatest_base speech)) [
+  | inl found ↦ inl found
+  | inr none ↦ inr (λ n claims. none n (below_from_claims n j speech claims.0) claims)
+]
+
+unfounded_or_not : (speech : Speech) (j : ℕ) → Decided ((n : ℕ) × ClaimsUntold speech j n)
+unfounded_or_not speech j = elim (least_untold speech j) [
+  | inl found ↦ inl (found.0, found.1.holds)
+  | inr none ↦ inr (λ h. none h.0 h.1)
+]
+
+octets_same : (xs ys : List ℕ) → Decided (xs ≡ ys)
+octets_same xs ys = by_test _ refl (bytes_decides xs ys)
+  where
+    by_test : (b : Bool) → b ≡ b → Decides b (xs ≡ ys) → Decided (xs ≡ ys)
+    by_test true e decides = inl (decides.0 refl)
+    by_test false e decides = inr (λ same. let clash = decides.1 same in cc)
+
+payload_same : (x y : PayloadValue) → Decided (x ≡ y)
+payload_same Absent Absent = inl refl
+payload_same Absent (Whole ys) = inr (λ e. cc)
+payload_same Absent (Key ys) = inr (λ e. cc)
+payload_same (Whole xs) Absent = inr (λ e. cc)
+payload_same (Whole xs) (Whole ys) = elim (octets_same xs ys) [ inl e ↦ inl (ap Whole e) | inr no_same ↦ inr (λ e. no_same (whole_same xs ys e)) ]
+  where
+    whole_same : (cs ds : List ℕ) → Whole cs ≡ Whole ds → cs ≡ ds
+    whole_same cs ds e = cc
+payload_same (Whole xs) (Key ys) = inr (λ e. cc)
+payload_same (Key xs) Absent = inr (λ e. cc)
+payload_same (Key xs) (Whole ys) = inr (λ e. cc)
+payload_same (Key xs) (Key ys) = elim (octets_same xs ys) [ inl e ↦ inl (ap Key e) | inr no_same ↦ inr (λ e. no_same (key_same xs ys e)) ]
+  where
+    key_same : (cs ds : List ℕ) → Key cs ≡ Key ds → cs ≡ ds
+    key_same cs ds e = cc
+
+-- some payload with P is spoken for n by these acts
+abbrev ActsSpeak : List (ℕ → Option Word) → ℕ → (PayloadValue → Type 0) → Type 0
+ActsSpeak acts n P = (k : ℕ) × (p : PayloadValue) × Has acts k n (Told p) × P p
+
+acts_speak : (acts : List (ℕ → Option Word)) (n : ℕ) (P : PayloadValue → Type 0) → ((p : PayloadValue) → Decided (P p)) → Decided (ActsSpeak acts n P)
+acts_speak [] n P decide = inr (λ (k, p, has, h). has_none k n (Told p) has)
+acts_speak (act ∷ acts) n P decide = first (act n) refl (acts_speak acts n P decide)
+  where
+    rest_of : Decided (ActsSpeak acts n P) → ((p : PayloadValue) → act n ≡ Some (Told p) → P p → ⊥) → Decided (ActsSpeak (act ∷ acts) n P)
+    rest_of (inl (k, p, has, h)) none = inl (suc k, p, has_later act acts k n (Told p) has, h)
+    rest_of (inr never) none = inr (λ (k, p, has, h). elim (has_cases act acts k n (Told p) has) [
+      | inl here ↦ none p here h
+      | inr rest ↦ never (rest.0, p, rest.1, h)
+    ])
+
+    first : (found : Option Word) → act n ≡ found → Decided (ActsSpeak acts n P) → Decided (ActsSpeak (act ∷ acts) n P)
+    first None e rest = rest_of rest (λ p at h. let clash : None ≡ Some (Told p) = sym e ∙ at in cc)
+    first (Some Gone) e rest = rest_of rest (λ p at h. let clash : Some Gone ≡ Some (Told p) = sym e ∙ at in cc)
+    first (Some (Told q)) e rest = elim (decide q) [
+      | inl h ↦ inl (0, q, has_here act acts n (Told q) e, h)
+      | inr none ↦ rest_of rest (λ p at h. none (subst P (let both : Some (Told p) ≡ Some (Told q) = sym at ∙ e in let same : p ≡ q = cc in same) h))
+    ]
+
+-- some payload with P is spoken for n
+abbrev Speaks : Speech → ℕ → (PayloadValue → Type 0) → Type 0
+Speaks speech n P = (p : PayloadValue) × IsSpoken speech n (Told p) × P p
+
+speaks : (speech : Speech) (n : ℕ) → 1 ≤ n → (P : PayloadValue → Type 0) → ((p : PayloadValue) → Decided (P p)) → Decided (Speaks speech n P)
+speaks [] n positive P decide = inr (λ (p, spoken, h). let none = spoken.gives.stands in cc)
+speaks (d ∷ speech) n positive P decide = first (acts_speak d.acts n P decide) (speaks speech n positive P decide)
+  where
+    later : (i k : ℕ) (w : Word) → Gives speech i k n w → Gives (d ∷ speech) (suc i) k n w
+    later i k w gives = record { datagram = gives.datagram; act = gives.act; stands = gives.stands; speaks = gives.speaks; positive = gives.positive; says = gives.says }
+
+    cases : (i k : ℕ) (p : PayloadValue) → Gives (d ∷ speech) i k n (Told p) → P p → Decided (ActsSpeak d.acts n P) → (Speaks speech n P → ⊥) → (ActsSpeak d.acts n P → ⊥) → ⊥
+    cases zero k p gives h here none nor =
+        let both : Some d ≡ Some gives.datagram = gives.stands in
+        let same : gives.datagram ≡ d = cc in
+        nor (subst (λ (x : Datagram). ActsSpeak x.acts n P) same (k, p, record { act = gives.act; speaks = gives.speaks; says = gives.says }, h))
+    cases (suc i) k p gives h here none nor =
+        none (p, record { place = i; act = k; gives = record { datagram = gives.datagram; act = gives.act; stands = gives.stands; speaks = gives.speaks; positive = gives.positive; says = gives.says } }, h)
+
+    first : Decided (ActsSpeak d.acts n P) → Decided (Speaks speech n P) → Decided (Speaks (d ∷ speech) n P)
+    first (inl (k, p, has, h)) rest =
+        inl (p, record { place = 0; act = k; gives = record { datagram = d; act = has.act; stands = refl; speaks = has.speaks; positive = positive; says = has.says } }, h)
+    first (inr nor) (inl (p, spoken, h)) = inl (p, record { place = suc spoken.place; act = spoken.act; gives = later spoken.place spoken.act (Told p) spoken.gives }, h)
+    first (inr nor) (inr none) = inr (λ (p, spoken, h). cases spoken.place spoken.act p spoken.gives h (inr nor) none nor)
+
+two_or_not : (speech : Speech) (n : ℕ) → Decided (SpeaksTwo speech n)
+two_or_not speech zero = inr (λ (x, y, one, two, differ). let positive = one.gives.positive in omega arith)
+two_or_not speech (suc m) = first (speaks speech (suc m) (omega arith) (λ p. Unit {0}) (λ p. inl tt))
+  where
+    other : (p : PayloadValue) → IsSpoken speech (suc m) (Told p) → Decided (Speaks speech (suc m) (λ q. p ≢ q)) → Decided (SpeaksTwo speech (suc m))
+    other p spoken (inl (q, also, differ)) = inl (p, q, spoken, also, differ)
+    other p spoken (inr none) = inr (λ (x, y, one, two, differ). differ (sym (same x one) ∙ same y two))
+      where
+        same : (x : PayloadValue) → IsSpoken speech (suc m) (Told x) → p ≡ x
+        same x said = elim (payload_same p x) [ inl e ↦ e | inr apart ↦ absurd (none (x, said, apart)) ]
+
+    unlike : (p q : PayloadValue) → Decided (p ≢ q)
+    unlike p q = elim (payload_same p q) [ inl e ↦ inr (λ differ. differ e) | inr apart ↦ inl apart ]
+
+    first : Decided (Speaks speech (suc m) (λ p. Unit {0})) → Decided (SpeaksTwo speech (suc m))
+    first (inl (p, spoken, u)) = other p spoken (speaks speech (suc m) (omega arith) (λ q. p ≢ q) (unlike p))
+    first (inr none) = inr (λ (x, y, one, two, differ). none (x, one, tt))
+
+claimed_or_not : (speech : Speech) (n : ℕ) → 1 ≤ n → Decided (IsClaimed speech n)
+claimed_or_not speech n positive = elim (cases_lt n (greatest_base speech)) [
+  | inl lt ↦ inl (claimed_from_below n speech positive lt)
+  | inr le ↦ inr (λ claimed. let below = below_from_claims n claimed.0 speech claimed.1 in omega arith)
+]
+
+unclaimed_or_not : (speech : Speech) (n : ℕ) → Decided (IsUnclaimed speech n)
+unclaimed_or_not speech zero = inr (λ h. let positive = h.0 in omega arith)
+unclaimed_or_not speech (suc m) = elim (cases_lt (last_announced speech) (suc m)) [
+  | inl past ↦ inr (λ h. let announced = h.1 in omega arith)
+  | inr announced ↦ elim (claimed_or_not speech (suc m) (omega arith)) [
+    | inl claimed ↦ inr (λ h. h.2 claimed)
+    | inr none ↦ inl (omega arith, announced, none)
+  ]
+]
+
+-- a verdict, if each answer is founded
+founded_verdict : (speech : Speech) (bound : ℕ) → IsBoundedBy speech bound → IsFounded speech → (verdict : Verdict) × IsVerdict speech verdict
+founded_verdict speech bound bounded founded = conflict (least_search (SpeaksTwo speech) (two_or_not speech) bound)
+  where
+    last : ((n : ℕ) → ¬ SpeaksTwo speech n) → ((n : ℕ) × IsLeast (IsUnclaimed speech) n) ⊎ ((n : ℕ) → n < suc (last_announced speech) → IsUnclaimed speech n → ⊥) → (verdict : Verdict) × IsVerdict speech verdict
+    last never (inl (n, least)) = (Open (pos n), from_plain speech (Open (pos n)) (founded, never, least))
+    last never (inr none) = (Complete (pos (last_announced speech)), from_plain speech (Complete (pos (last_announced speech))) (refl, founded, never, all))
+      where
+        all : (n : ℕ) → 1 ≤ n → n ≤ last_announced speech → IsClaimed speech n
+        all n positive announced = elim (claimed_or_not speech n positive) [
+          | inl claimed ↦ claimed
+          | inr unclaimed ↦ absurd (none n (omega arith) (positive, announced, unclaimed))
+        ]
+
+    conflict : ((n : ℕ) × IsLeast (SpeaksTwo speech) n) ⊎ ((n : ℕ) → n < bound → SpeaksTwo speech n → ⊥) → (verdict : Verdict) × IsVerdict speech verdict
+    conflict (inl (n, least)) = (Conflict (pos n), from_plain speech (Conflict (pos n)) (founded, least))
+    conflict (inr none) =
+        let never : (n : ℕ) → ¬ SpeaksTwo speech n = λ n two. let (x, y, one, also, differ) = two in none n (bounded one.place one.act n (Told x) one.gives) two in
+        last never (least_search (IsUnclaimed speech) (unclaimed_or_not speech) (suc (last_announced speech)))
+
+pub each_has_a_verdict : EachHasAVerdict
+each_has_a_verdict speech bound bounded = first (least_search (λ j. (n : ℕ) × ClaimsUntold speech j n) (unfounded_or_not speech) (length speech))
+  where
+    number : (j : ℕ) → IsLeast (λ i. (n : ℕ) × ClaimsUntold speech i n) j → ((n : ℕ) × IsLeast (ClaimsUntold speech j) n) ⊎ ((n : ℕ) → ClaimsUntold speech j n → ⊥) → (verdict : Verdict) × IsVerdict speech verdict
+    number j found (inl (n, least)) = (Unfounded (j + 1) (pos n), from_plain speech (Unfounded (j + 1) (pos n)) (j, refl, found, least))
+    number j found (inr none) = absurd (none found.holds.0 found.holds.1)
+
+    founded : ((j : ℕ) → j < length speech → ((n : ℕ) × ClaimsUntold speech j n) → ⊥) → IsFounded speech
+    founded none j n claims = elim (told_or_not speech j n claims.positive) [
+      | inl told ↦ told
+      | inr untold ↦ absurd (none j (slice_get_within speech j claims.datagram claims.stands) (n, (claims, untold)))
+    ]
+
+    first : ((j : ℕ) × IsLeast (λ i. (n : ℕ) × ClaimsUntold speech i n) j) ⊎ ((j : ℕ) → j < length speech → ((n : ℕ) × ClaimsUntold speech j n) → ⊥) → (verdict : Verdict) × IsVerdict speech verdict
+    first (inl (j, found)) = number j found (least_untold speech j)
+    first (inr none) = founded_verdict speech bound bounded (founded none)

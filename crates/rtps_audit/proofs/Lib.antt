@@ -1,0 +1,14 @@
+pub mod SpanLemmas
+pub mod CoverageLemmas
+pub mod Gathered
+pub mod SampleLemmas
+pub mod OneMore
+pub mod FactLemmas
+pub mod Runs
+pub mod Sound
+pub mod Verdicts
+pub mod OneVerdict
+pub mod SameSaid
+pub mod JudgeLemmas
+pub mod Eager
+pub mod EachVerdict

@@ -1,0 +1,70 @@
+-- Two recordings that say the same have the same verdicts.
+use Rattle.std.proofs.Common.{ℕ, ◌≤◌, sym, ◌∙◌, ap, subst, pos}
+use Rattle.rtps_audit.specs.Delivery.{Word, Speech}
+use Rattle.rtps_audit.specs.Delivery.Word.{Told}
+use Rattle.rtps_audit.specs.RunVerdict.{IsTold, ClaimsUntold}
+use Rattle.rtps_audit.specs.PlainVerdict.{IsFounded, IsSpoken, SpeaksTwo, IsClaimed, IsUnclaimed, IsPlainVerdict}
+use Rattle.rtps_audit.specs.Laws.{SaysTheSame, VerdictsFollowWhatIsSaid}
+use Rattle.rtps_audit.specs.declared.verdict.Verdict.{Verdict}
+use Rattle.rtps_audit.specs.declared.verdict.Verdict.TheVariants.{Unfounded, Conflict, Open, Complete}
+use Rattle.rtps_audit.proofs.Verdicts.{to_plain, from_plain, least_same, on_natural}
+
+-- and the other way round
+turned : (one other : Speech) → SaysTheSame one other → SaysTheSame other one
+turned one other same = record {
+  counted = sym same.counted;
+  words = λ i n word. ((same.words i n word).1, (same.words i n word).0);
+  claims = λ j n. ((same.claims j n).1, (same.claims j n).0);
+  announced = sym same.announced;
+}
+
+told : (one other : Speech) → SaysTheSame one other → (j n : ℕ) → IsTold one j n → IsTold other j n
+told one other same j n is =
+    let gives = (same.words is.place n is.word).0 (is.act, is.gives) in
+    record { place = is.place; act = gives.0; word = is.word; earlier = is.earlier; gives = gives.1 }
+
+spoken : (one other : Speech) → SaysTheSame one other → (n : ℕ) (word : Word) → IsSpoken one n word → IsSpoken other n word
+spoken one other same n word is =
+    let gives = (same.words is.place n word).0 (is.act, is.gives) in
+    record { place = is.place; act = gives.0; gives = gives.1 }
+
+untold : (one other : Speech) → SaysTheSame one other → (j n : ℕ) → ClaimsUntold one j n → ClaimsUntold other j n
+untold one other same j n (claims, none) = ((same.claims j n).0 claims, λ is. none (told other one (turned one other same) j n is))
+
+founded : (one other : Speech) → SaysTheSame one other → IsFounded one → IsFounded other
+founded one other same is j n claims = told one other same j n (is j n ((same.claims j n).1 claims))
+
+two : (one other : Speech) → SaysTheSame one other → (n : ℕ) → SpeaksTwo one n → SpeaksTwo other n
+two one other same n (x, y, first, second, differ) = (x, y, spoken one other same n (Told x) first, spoken one other same n (Told y) second, differ)
+
+claimed : (one other : Speech) → SaysTheSame one other → (n : ℕ) → IsClaimed one n → IsClaimed other n
+claimed one other same n (j, claims) = (j, (same.claims j n).0 claims)
+
+unclaimed : (one other : Speech) → SaysTheSame one other → (n : ℕ) → IsUnclaimed one n → IsUnclaimed other n
+unclaimed one other same n (positive, announced, none) =
+    (positive, subst (λ last. n ≤ last) same.announced announced, λ is. none (claimed other one (turned one other same) n is))
+
+plain : (one other : Speech) (verdict : Verdict) → SaysTheSame one other → IsPlainVerdict one verdict → IsPlainVerdict other verdict
+plain one other (Unfounded datagram number) same (j, place, first, least) =
+    let back = turned one other same in (
+      j,
+      place,
+      least_same _ _ (λ i (n, claims). (n, untold one other same i n claims)) (λ i (n, claims). (n, untold other one back i n claims)) j first,
+      on_natural number _ _ (least_same _ _ (untold one other same j) (untold other one back j)) least,
+    )
+plain one other (Conflict number) same (is, least) =
+    (founded one other same is, on_natural number _ _ (least_same _ _ (two one other same) (two other one (turned one other same))) least)
+plain one other (Open number) same (is, none, least) = (
+  founded one other same is,
+  λ n differ. none n (two other one (turned one other same) n differ),
+  on_natural number _ _ (least_same _ _ (unclaimed one other same) (unclaimed other one (turned one other same))) least,
+)
+plain one other (Complete last) same (at, is, none, all) = (
+  at ∙ ap pos same.announced,
+  founded one other same is,
+  λ n differ. none n (two other one (turned one other same) n differ),
+  λ n positive announced. claimed one other same n (all n positive (subst (λ k. n ≤ k) (sym same.announced) announced)),
+)
+
+pub verdicts_follow_what_is_said : VerdictsFollowWhatIsSaid
+verdicts_follow_what_is_said one other verdict same is = from_plain other verdict (plain one other verdict same (to_plain one verdict is))

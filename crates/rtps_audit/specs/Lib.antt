@@ -1,0 +1,12 @@
+pub mod Coverage
+pub mod Spans
+pub mod PlainRanges
+pub mod Delivery
+pub mod RunVerdict
+pub mod PlainVerdict
+pub mod EagerRun
+pub mod Facts
+pub mod Samples
+pub mod Claims
+pub mod Judge
+pub mod Laws

@@ -1,0 +1,13 @@
+/// What a recording says of one writer and one reader.
+#[derive(Clone, Copy, PartialEq, Eq, Debug)]
+pub enum Verdict {
+    /// The recording is not that of a conforming reader: this datagram, counted from 1, is the first that
+    /// could not have been sent, and the number is the least that it claims and no earlier datagram tells.
+    Unfounded { datagram: u64, number: i64 },
+    /// Two different payloads were spoken for the number, the least such.
+    Conflict { number: i64 },
+    /// The reader may have missed the number, the least such from 1 to the last announced number.
+    Open { number: i64 },
+    /// The reader was told of each number from 1 to `last`, the last announced number.
+    Complete { last: i64 },
+}
