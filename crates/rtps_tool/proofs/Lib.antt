@@ -1,0 +1,5 @@
+pub mod LinesLemmas
+pub mod PiecesLemmas
+pub mod RecordingLemmas
+pub mod WordsLemmas
+pub mod ShowLemmas

@@ -1,0 +1,56 @@
+-- Facts on what `show` prints.
+use Rattle.std.proofs.Common.{◌≡◌, ℕ, zero, suc, ◌+◌, ◌<◌, List, [], ◌∷◌, ◌++◌, drop, get_or, length, Option, None, Some, Ok, Err, refl, ap, append_assoc, ◌∙◌}
+use Rattle.std.proofs.lemmas.List.{drop_more}
+use Rattle.std.proofs.lemmas.Option.{get_or_from_slice_get, none-some, slice_get-get_or, slice_get_within}
+use Rattle.std.specs.List.{slice_get}
+use Rattle.rtps_receiver.proofs.ActSteps.{gathered-one}
+use Rattle.rtps_receiver.specs.Acts.{gathered, state_at_start, state_behind}
+use Rattle.rtps_receiver.specs.declared.state.State.{State}
+use Rattle.rtps_wire.specs.Header.{header_fault, header_of}
+use Rattle.rtps_wire.specs.Reading.{Outcome, items_among, outcomes, reading_of, refusal_among}
+use Rattle.rtps_wire.specs.Values.{ItemValue}
+use Rattle.rtps_wire.specs.declared.fault.Refusal.{Refusal}
+use Rattle.rtps_wire.specs.declared.fault.WireFault.{WireFault}
+use Rattle.rtps_wire.specs.declared.header.Header.{Header}
+use Rattle.rtps_tool.specs.ShowText.{datagram_line, ending_text, item_line, outcomes_text, reading_text, refusal_line, text_from}
+
+-- the lines of a datagram whose header is read, and of one whose header is refused
+pub reading_text-opened : (number : ℕ) (datagram : List ℕ) (header : Header) (state : State) → header_fault datagram ≡ None → header ≡ header_of datagram → state ≡ state_at_start header
+    → reading_text number (reading_of datagram) ≡ datagram_line number (Some header) ++ outcomes_text state (outcomes (drop 20 datagram) 20)
+unfolding reading_of
+reading_text-opened number datagram header state fine is state_is = rw (state_is, fine, is) refl
+
+pub reading_text-refused : (number : ℕ) (datagram : List ℕ) (refusal : Refusal) → header_fault datagram ≡ Some refusal.fault → refusal.at ≡ 0
+    → reading_text number (reading_of datagram) ≡ datagram_line number None ++ refusal_line refusal
+unfolding reading_of
+reading_text-refused number datagram refusal refused place = rw (refused, place) refl
+
+-- the lines of a datagram, and those of the later ones
+pub text_from-cons : (number : ℕ) (datagram : List ℕ) (datagrams : List (List ℕ))
+    → text_from number (datagram ∷ datagrams) ≡ reading_text number (reading_of datagram) ++ text_from (number + 1) datagrams
+unfolding text_from
+text_from-cons number datagram datagrams = refl
+
+pub text_from-nil : (number : ℕ) → text_from number [] ≡ []
+unfolding text_from
+text_from-nil number = refl
+
+-- the lines from a datagram on
+pub text_from-drop : (datagrams : List (List ℕ)) (i : ℕ) (octets : List ℕ) → slice_get datagrams i ≡ Some octets
+    → text_from (i + 1) (drop i datagrams) ≡ reading_text (i + 1) (reading_of octets) ++ text_from (i + 1 + 1) (drop (i + 1) datagrams)
+text_from-drop datagrams i octets found =
+    let within = slice_get_within datagrams i octets found in
+    let is : get_or datagrams i octets ≡ octets = get_or_from_slice_get datagrams i octets octets found in
+    ap (text_from (i + 1)) (drop_more datagrams i octets within) ∙ text_from-cons (i + 1) (get_or datagrams i octets) (drop (i + 1) datagrams)
+    ∙ ap (λ first. reading_text (i + 1) (reading_of first) ++ text_from (i + 1 + 1) (drop (i + 1) datagrams)) is
+
+-- a datagram within the recording is found
+pub not_none_within : (datagrams : List (List ℕ)) (i : ℕ) → i < length datagrams → None ≡ slice_get datagrams i → ⊥
+not_none_within datagrams i within none = none-some _ (none ∙ slice_get-get_or datagrams i [] within)
+
+-- the line of an item, and those of the later ones in the state behind it
+pub outcomes_text-item : (state : State) (item : ItemValue) (later : List Outcome)
+    → outcomes_text state (Ok item ∷ later) ≡ item_line state item ++ outcomes_text (state_behind state (item ∷ [])) later
+outcomes_text-item state item later =
+    ap (λ lines. (item_line state item ++ lines) ++ ending_text (refusal_among later)) (gathered-one item_line state item (items_among later))
+    ∙ append_assoc (item_line state item) (gathered item_line (state_behind state (item ∷ [])) [] (items_among later)) (ending_text (refusal_among later))

@@ -1,0 +1,13 @@
+use Rattle.std.proofs.Common.{◌≡◌, ◌∙◌, true, ap, ap₂}
+use Rattle.std.proofs.lemmas.Result.{IfOk-weaker}
+use Rattle.clap.specs.Words.{App, app_of, with_subcommand}
+use Rattle.clap.specs.Simple.{app_of_fields, on_top}
+use Rattle.rtps_tool.specs.Words.{bare_program}
+use Rattle.rtps_tool.proofs.command.program.Goals as goal
+
+pub returns : goal.returns
+returns c =
+    let about_is = ap app_of_fields c.after_help.ensures ∙ ap app_of_fields c.about.ensures ∙ c.new.ensures.app in
+    let bare_is : app_of c.subcommand_required.result ≡ bare_program = ap app_of_fields c.subcommand_required.ensures ∙ ap (on_top (λ s. record s { subcommand_required = true })) about_is in
+    let show_is = ap (λ (a : App). a.top) c.in_ok-show.ensures.app in
+    IfOk-weaker c.subcommand.result _ _ (λ command added. added.shape c.in_ok-show.ensures.local ∙ ap₂ with_subcommand bare_is show_is) c.subcommand.ensures

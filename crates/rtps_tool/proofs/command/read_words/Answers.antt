@@ -1,0 +1,41 @@
+use Rattle.std.proofs.Common.{◌≡◌, ◌∙◌, sym, refl, true, ap, subst, map, Bor, List, ℕ, IfErr, rules}
+use Rattle.std.proofs.lemmas.Option.{MatchOption-at_some, MatchOption-at_none}
+use Rattle.std.proofs.lemmas.Result.{err_from_is_err_and}
+use Rattle.clap.specs.Words.{App, Text, is_simple, subcommand_of, subcommand_rows_of, takes}
+use Rattle.clap.specs.declared.parser.matches.ArgMatches.{ArgMatches}
+use Rattle.clap.proofs.OnLiterals.{clap_on_literals}
+use Rattle.rtps_tool.specs.Words.{program, IsChoice, word_fault_by}
+use Rattle.rtps_tool.proofs.command.read_words.Goals as goal
+
+-- the program's command line is one of which the definition gives the matches
+is_simple-program : is_simple program ≡ true
+unfolding clap_on_literals
+is_simple-program = refl
+
+pub returns-in_err-matches-clause-taken : goal.returns-in_err-matches-clause-taken
+returns-in_err-matches-clause-taken c =
+    let words = map (λ (word : Bor (List ℕ)). word.now) c.args.words.now in
+    let p = err_from_is_err_and c.from_residual-in_err-matches.result c.from_residual-in_err-matches.ensures.1 in
+    let made = c.in_ok-program.ensures in
+    rw p.1 (λ taken choice is. p.2 ∙ ap (λ kind. word_fault_by kind c.in_err-matches.field-0.0) (c.in_err-matches.ensures.passes (ap (λ (a : App). takes a words) made ∙ taken)))
+
+pub returns-in_err-choice-clause-taken : goal.returns-in_err-choice-clause-taken
+returns-in_err-choice-clause-taken c =
+    let p = err_from_is_err_and c.from_residual-in_err-choice.result c.from_residual-in_err-choice.ensures.1 in
+    rw p.1 (λ taken choice is. p.2)
+
+pub returns-in-Some-clause-chosen : goal.returns-in-Some-clause-chosen
+returns-in-Some-clause-chosen c =
+    let made = c.in_ok-program.ensures in
+    let found = c.in_ok-matches.ensures.ok.2 (ap is_simple made ∙ is_simple-program) in
+    let words = map (λ (word : Bor (List ℕ)). word.now) c.args.words.now in
+    subst (λ found. IsChoice found c.in-Some.choice) (found.1 ∙ ap (λ (a : App). subcommand_of a words) made)
+    (MatchOption-at_some _ _ c.in-Some.choice c.in-Some.is c.in_ok-choice.ensures)
+
+pub returns-clause-taken : goal.returns-clause-taken
+returns-clause-taken c =
+    let made = c.in_ok-program.ensures in
+    let found = c.in_ok-matches.ensures.ok.2 (ap is_simple made ∙ is_simple-program) in
+    let words = map (λ (word : Bor (List ℕ)). word.now) c.args.words.now in
+    let none = MatchOption-at_none _ _ c.in-None.is c.in_ok-choice.ensures in
+    λ taken choice is. absurd (none choice (subst (λ found. IsChoice found choice) (sym (found.1 ∙ ap (λ (a : App). subcommand_of a words) made)) is))

@@ -1,0 +1,11 @@
+-- What a call answers, against what a definition gives.
+use Rattle.std.specs.Prelude.{ℕ, ◌≡◌, List, Result, Ok, Err, MatchResult}
+use Rattle.rtps_tool.specs.declared.faults.RecFault.{RecFault}
+use Rattle.rtps_tool.specs.declared.faults.RecFault.TheVariants.{BadHex, TooLong, TooMany, Memory}
+
+-- the definition gives this fault, but for want of memory, which no definition gives
+abbrev pub IsFaultOf : {X : Type 0} → Result X RecFault → RecFault → Type 0
+IsFaultOf defined (BadHex line) = defined ≡ Err (BadHex line)
+IsFaultOf defined (TooLong line) = defined ≡ Err (TooLong line)
+IsFaultOf defined TooMany = defined ≡ Err TooMany
+IsFaultOf defined Memory = Unit {0}

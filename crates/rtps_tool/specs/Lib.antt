@@ -1,0 +1,9 @@
+pub mod Answers
+pub mod Lines
+pub mod Places
+pub mod RecordingText
+pub mod Runs
+pub mod RunFaults
+pub mod Statuses
+pub mod Words
+pub mod ShowText

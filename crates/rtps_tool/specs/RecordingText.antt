@@ -1,0 +1,48 @@
+-- The recording that a text stands for, or its first fault.
+-- own: one datagram a line, in hexadecimal digits of either case, with comments; the limits are this project's.
+use Rattle.std.specs.Prelude.{ℕ, ◌^◌, ◌==◌, ◌&&◌, nat_le, nat_lt, not, Bool, if◌then◌else◌, List, [], ◌∷◌, length, slice_index, map, filter, Option, Some, None, Result, Ok, Err, is_err}
+use Rattle.std.specs.List.{enumerate_from, filter_map}
+use Rattle.std.specs.Result.{result_unwrap_or}
+use Rattle.hex.specs.Hex.{decode_of}
+use Rattle.rtps_tool.specs.Lines.{lines_of}
+use Rattle.rtps_tool.specs.declared.faults.RecFault.{RecFault}
+use Rattle.rtps_tool.specs.declared.faults.RecFault.TheVariants.{BadHex, TooLong, TooMany}
+
+-- an empty line stands for no datagram, nor does one that begins with # (35), whatever follows
+abbrev pub is_datagram_line : List ℕ → Bool
+is_datagram_line line = nat_lt 0 (length line) && not (slice_index line 0 == 35)
+
+-- the lines that stand for datagrams, each with its number: the first of all lines has the number given
+abbrev pub datagram_lines : ℕ → List (List ℕ) → List (ℕ × List ℕ)
+datagram_lines number lines = filter (λ line. is_datagram_line line.1) (enumerate_from number lines)
+
+-- what is wrong with a datagram line of this number that comes after so many others: a recording has at most
+-- 1,000,000 datagrams, and a datagram at most 65,535 octets of two digits each
+abbrev pub line_fault : ℕ → ℕ → List ℕ → Option RecFault
+line_fault before number digits =
+    if nat_le 1000000 before then Some TooMany
+    else if nat_lt 131070 (length digits) then Some (TooLong number)
+    else if is_err (decode_of digits) then Some (BadHex number)
+    else None
+
+-- all that is wrong with datagram lines that come after so many others, in their order
+abbrev pub line_faults : ℕ → List (ℕ × List ℕ) → List RecFault
+line_faults before lines = filter_map (λ row. line_fault row.0 row.1.0 row.1.1) (enumerate_from before lines)
+
+-- the octets that hexadecimal digits stand for
+abbrev pub octets_of : List ℕ → List ℕ
+octets_of digits = result_unwrap_or (decode_of digits) []
+
+-- the first of these faults, or the datagrams where there is none
+abbrev pub unless_faulty : List RecFault → List (List ℕ) → Result (List (List ℕ)) RecFault
+unless_faulty [] datagrams = Ok datagrams
+unless_faulty (fault ∷ later) datagrams = Err fault
+
+-- the datagrams of lines, of which the first has this number and so many datagrams come before; or their first fault
+unfoldable pub recording_of_lines : ℕ → ℕ → List (List ℕ) → Result (List (List ℕ)) RecFault
+recording_of_lines number before lines =
+    unless_faulty (line_faults before (datagram_lines number lines)) (map (λ line. octets_of line.1) (datagram_lines number lines))
+
+-- the datagrams of a text in their order, or its first fault: a text has at most 2^30 octets
+abbrev pub recording_of : List ℕ → Result (List (List ℕ)) RecFault
+recording_of text = if nat_lt (2 ^ 30) (length text) then Err TooMany else recording_of_lines 1 0 (lines_of text)

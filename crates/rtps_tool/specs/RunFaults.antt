@@ -1,0 +1,12 @@
+-- Faults of recordings as faults of runs.
+use Rattle.rtps_tool.specs.declared.faults.RecFault.{RecFault}
+use Rattle.rtps_tool.specs.declared.faults.RecFault.TheVariants.{BadHex, TooLong, TooMany, Memory}
+use Rattle.rtps_tool.specs.declared.faults.RunFault.{RunFault}
+use Rattle.rtps_tool.specs.declared.faults.RunFault.TheVariants.{Recording, Memory as RunMemory}
+
+-- want of memory is one fault, wherever it was met
+abbrev pub run_fault_of : RecFault → RunFault
+run_fault_of (BadHex line) = Recording (BadHex line)
+run_fault_of (TooLong line) = Recording (TooLong line)
+run_fault_of TooMany = Recording TooMany
+run_fault_of Memory = RunMemory

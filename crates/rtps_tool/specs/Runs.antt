@@ -1,0 +1,54 @@
+-- What a run does to the reader and the writer that it is given, where their octets are known.
+use Rattle.std.specs.Prelude.{ℕ, ◌≡◌, ◌≢◌, ◌^◌, ◌<◌, ◌≤◌, List, length, take, Option, Result, Ok, Err}
+use Rattle.std.specs.Io.KnownBytes.{Appends, Consumes, Keeps, IsAtEnd}
+use Rattle.rtps_tool.specs.RecordingText.{recording_of}
+use Rattle.rtps_tool.specs.declared.faults.RecFault.{RecFault}
+use Rattle.rtps_tool.specs.declared.faults.RecFault.TheVariants.{Memory as RecMemory}
+use Rattle.rtps_tool.specs.declared.faults.RunFault.{RunFault}
+use Rattle.rtps_tool.specs.declared.faults.RunFault.TheVariants.{Recording, Input, Output, Memory}
+use Rattle.rtps_tool.specs.declared.faults.Ending.{Ending}
+
+-- these octets were read: all that the reader had, or more of it than a recording's text may have
+pub record Reads (old new : Option (List ℕ)) (text : List ℕ) : Type 0 where
+  pub taken : Consumes old new text
+  pub whole : length text ≤ 2 ^ 30 → IsAtEnd new
+
+-- these datagrams are the recording of all that the reader had
+pub record ReadsRecording (old new : Option (List ℕ)) (datagrams : List (List ℕ)) : Type 0 where
+  pub text : List ℕ
+  pub taken : Consumes old new text
+  pub whole : IsAtEnd new
+  pub recording : recording_of text ≡ Ok datagrams
+
+-- this is the fault of what was read: never want of memory, which is a fault of the run
+pub record ReadsFault (old new : Option (List ℕ)) (fault : RecFault) : Type 0 where
+  pub text : List ℕ
+  pub reads : Reads old new text
+  pub faulty : recording_of text ≡ Err fault
+  pub readable : fault ≢ RecMemory
+
+-- a run fails so before it writes anything
+abbrev pub FailsReading : (old new : Option (List ℕ)) → RunFault → Type 0
+FailsReading old new (Recording fault) = ReadsFault old new fault
+FailsReading old new Input = Unit {0}
+FailsReading old new (Output written) = ⊥
+FailsReading old new Memory = Unit {0}
+
+-- so many octets of this text were written, and the rest was not
+abbrev pub FailsWriting : (old new : Option (List ℕ)) → List ℕ → RunFault → Type 0
+FailsWriting old new text (Recording fault) = ⊥
+FailsWriting old new text Input = ⊥
+FailsWriting old new text (Output written) = (written < length text) × Appends old new (take written text)
+FailsWriting old new text Memory = ⊥
+
+-- A run that writes a text of the datagrams that it reads, and ends as they tell; `Answers` says which texts and ends
+-- those are. The reader before and after it, the writer before and after it, and what the run answers.
+abbrev pub Runs : (List (List ℕ) → List ℕ → Ending → Type 0) → (unread left held holds : Option (List ℕ)) → Result Ending RunFault → Type 0
+Runs Answers unread left held holds (Ok ending) =
+    (datagrams : List (List ℕ)) × (text : List ℕ) × ReadsRecording unread left datagrams × Answers datagrams text ending × Appends held holds text
+Runs Answers unread left held holds (Err (Recording fault)) = ReadsFault unread left fault × Keeps held holds
+Runs Answers unread left held holds (Err Input) = Keeps held holds
+Runs Answers unread left held holds (Err (Output written)) =
+    (datagrams : List (List ℕ)) × (text : List ℕ) × (ending : Ending) × ReadsRecording unread left datagrams × Answers datagrams text ending
+    × FailsWriting held holds text (Output written)
+Runs Answers unread left held holds (Err Memory) = Keeps held holds

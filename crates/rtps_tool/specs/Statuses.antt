@@ -1,0 +1,19 @@
+-- The status that a run ends the program with.
+-- own: 0 where all is well, 1 where an audit found something, 2 where what was given is refused, 3 where the system failed.
+use Rattle.std.specs.Prelude.{ℕ, Result, Ok, Err}
+use Rattle.rtps_tool.specs.declared.faults.RecFault.TheVariants.{BadHex, TooLong, TooMany, Memory}
+use Rattle.rtps_tool.specs.declared.faults.Ending.{Ending}
+use Rattle.rtps_tool.specs.declared.faults.Ending.TheVariants.{Clean, Unclean}
+use Rattle.rtps_tool.specs.declared.faults.RunFault.{RunFault}
+use Rattle.rtps_tool.specs.declared.faults.RunFault.TheVariants.{Recording, Input, Output, Memory as RunMemory}
+
+abbrev pub status_of : Result Ending RunFault → ℕ
+status_of (Ok Clean) = 0
+status_of (Ok Unclean) = 1
+status_of (Err (Recording (BadHex line))) = 2
+status_of (Err (Recording (TooLong line))) = 2
+status_of (Err (Recording TooMany)) = 2
+status_of (Err (Recording Memory)) = 3
+status_of (Err Input) = 3
+status_of (Err (Output written)) = 3
+status_of (Err RunMemory) = 3

@@ -1,0 +1,56 @@
+-- The words of the command line, as `clap` reads them.
+use Rattle.std.specs.Prelude.{◌≡◌, ◌≢◌, codes, true, List, [], Option, Some, unwrap_or}
+use Rattle.clap.specs.Words.{App, Row, Rule, Text, first_of, new_app, new_rule, with_rule, with_subcommand}
+use Rattle.clap.specs.declared.builder.action.ArgAction.TheVariants.{Set}
+use Rattle.clap.specs.declared.error.Error.{Error}
+use Rattle.clap.specs.declared.error.kind.ErrorKind.{ErrorKind}
+use Rattle.clap.specs.declared.error.kind.ErrorKind.TheVariants.{DisplayHelp, OutOfMemory}
+use Rattle.clap.specs.Words.{kind_of}
+use Rattle.std.specs.String.{string_bytes}
+use Rattle.rtps_tool.specs.declared.command.Choice.{Choice}
+use Rattle.rtps_tool.specs.declared.command.Choice.TheVariants.{Show}
+use Rattle.rtps_tool.specs.declared.command.WordFault.{WordFault}
+use Rattle.rtps_tool.specs.declared.command.WordFault.TheVariants.{Refused, Help, Memory}
+
+-- a file's name, or `-` for standard input, must be given
+abbrev pub file_rule : Rule
+file_rule = record (new_rule (codes "FILE")) { action = Some Set; required = true }
+
+-- a subcommand that reads a file
+abbrev pub reading_app : Text → App
+reading_app name = with_rule (new_app name) file_rule
+
+-- a program that wants a subcommand
+abbrev pub bare_program : App
+bare_program = record (new_app (codes "rtps-audit")) { top = record (new_app (codes "rtps-audit")).top { subcommand_required = true } }
+
+abbrev pub program : App
+program = with_subcommand bare_program (reading_app (codes "show")).top
+
+-- the subcommand that was chosen
+abbrev pub subcommand_name : Choice → Text
+subcommand_name (Show file) = codes "show"
+
+-- the file that was chosen
+abbrev pub file_name : Choice → Text
+file_name (Show file) = string_bytes file
+
+-- the choice has the name of the subcommand that was found, and its FILE, which is empty where none was given
+abbrev pub IsChoice : Option (Text × List Row) → Choice → Type 0
+IsChoice found choice =
+    (rows : List Row) × (found ≡ Some (subcommand_name choice, rows)) × (file_name choice ≡ unwrap_or (first_of (codes "FILE") rows) [])
+
+-- help is an answer, want of memory has no text, and any other error of `clap` refuses the words
+abbrev pub word_fault_by : ErrorKind → Error → WordFault
+word_fault_by OutOfMemory error = Memory
+word_fault_by DisplayHelp error = Help error
+word_fault_by kind error = Refused error
+
+abbrev pub word_fault_of : Error → WordFault
+word_fault_of error = word_fault_by (kind_of error) error
+
+-- help is an answer of its own, and so is want of memory
+abbrev pub HasItsKind : WordFault → Type 0
+HasItsKind (Refused error) = (kind_of error ≢ DisplayHelp) × (kind_of error ≢ OutOfMemory)
+HasItsKind (Help error) = kind_of error ≡ DisplayHelp
+HasItsKind Memory = Unit {0}

@@ -1,0 +1,131 @@
+ghost use Rattle.std.specs.Prelude.{◌≡◌, true, false, IfOk, IfErr, MatchOption, map};
+ghost use Rattle.clap.specs.Words.{app_of, subcommand_of, subcommand_rows_of, takes};
+ghost use Rattle.clap.specs.declared.builder.command.Command.TheViews.{out-Command};
+ghost use Rattle.rtps_tool.specs.Words.{program as program_app, reading_app, IsChoice, HasItsKind};
+
+use clap::error::ErrorKind;
+use clap::{Arg, ArgAction, ArgMatches, Command};
+use std::alloc::{AllocError, Global};
+
+/// What the words ask for. A FILE of `-` is standard input; where `clap` takes words that give none, it is empty.
+#[derive(Debug, Drop)]
+pub enum Choice {
+    /// Show each datagram and its submessages.
+    Show { file: String },
+}
+
+/// Why the words ask for nothing that can be run.
+#[derive(Debug, Drop)]
+pub enum WordFault {
+    /// They are refused, with a text for standard error.
+    Refused(clap::Error),
+    /// They ask for help, with a text for standard output.
+    Help(clap::Error),
+    /// There was no memory to read them.
+    Memory,
+}
+
+impl From<AllocError> for WordFault {
+    ghost use Rattle.rtps_tool.specs.declared.command.WordFault.TheVariants.{Memory};
+
+    ghost from_gives = { λ _ fault. fault ≡ Memory };
+
+    fn from(_error: AllocError) -> WordFault {
+        WordFault::Memory
+    }
+}
+
+impl From<clap::Error> for WordFault {
+    ghost use Rattle.rtps_tool.specs.Words.{word_fault_of};
+
+    ghost from_gives = { λ error fault. fault ≡ word_fault_of error };
+
+    fn from(error: clap::Error) -> WordFault {
+        match error.kind() {
+            ErrorKind::OutOfMemory => WordFault::Memory,
+            ErrorKind::DisplayHelp => WordFault::Help(error),
+            _ => WordFault::Refused(error),
+        }
+    }
+}
+
+const FILE_HELP: &str =
+    "A recording: one datagram a line, in hexadecimal digits; - is standard input";
+
+const STATUSES: &str =
+    "Status: 0 clean, 1 not every pair is complete, 2 the arguments or the recording are refused, \
+    3 input, output or memory failed";
+
+// A subcommand that reads a FILE.
+fn reading_subcommand<'a>(
+    alloc: Global,
+    name: &'a str,
+    about: &'a str,
+) -> Result<Command<'a>, AllocError>
+    ensures app { IfOk result (λ command. app_of command ≡ reading_app name.now) }
+    ensures local { IfOk result (λ command. (out-Command command).has_globals ≡ false) }
+{
+    let file = Arg::new(alloc, "FILE")
+        .required(true)
+        .action(ArgAction::Set)
+        .help(FILE_HELP);
+    Command::new(alloc, name)
+        .about(about)
+        .after_help(STATUSES)
+        .arg(file)
+}
+
+// The program's command line.
+fn program<'a>(alloc: Global) -> Result<Command<'a>, AllocError>
+    ensures { IfOk result (λ command. app_of command ≡ program_app) }
+{
+    let about = "Shows each datagram of a recording and its submessages";
+    let show = reading_subcommand(alloc, "show", about)?;
+    Command::new(alloc, "rtps-audit")
+        .about("Shows recordings of RTPS datagrams")
+        .after_help(STATUSES)
+        .subcommand_required(true)
+        .subcommand(show)
+}
+
+// What the matches choose; None where they have no subcommand that can be chosen.
+fn choice_of(alloc: Global, matches: &ArgMatches) -> Result<Option<Choice>, AllocError>
+    ensures { IfOk result (λ choice. MatchOption choice
+        ((chosen : Choice) → ¬ IsChoice (subcommand_rows_of matches.now) chosen)
+        (IsChoice (subcommand_rows_of matches.now))) }
+{
+    let Some(show) = matches.subcommand_matches("show") else {
+        return Ok(None);
+    };
+    let file = String::from_str(alloc, show.get_str("FILE").unwrap_or(""))?;
+    Ok(Some(Choice::Show { file }))
+}
+
+/// Reads the words of the command line, of which the first is the program's name.
+pub fn read_words<'a>(alloc: Global, words: &'a [&'a str]) -> Result<Choice, WordFault>
+    // The subcommand and the FILE are those of the matches that `clap` defines for the words.
+    ensures chosen { IfOk result (IsChoice (subcommand_of program_app (map (λ word. word.now) words.now))) }
+
+    // Words that `clap` takes and that name a subcommand are refused for want of memory alone.
+    ensures taken { IfErr result (λ fault. takes program_app (map (λ word. word.now) words.now) ≡ true
+        → (choice : Choice) → IsChoice (subcommand_of program_app (map (λ word. word.now) words.now)) choice
+        → fault ≡ WordFault.Memory) }
+    ensures kind { IfErr result HasItsKind }
+{
+    let mut program = program(alloc)?;
+    let matches = program.try_get_matches_from_mut(words)?;
+    match choice_of(alloc, &matches)? {
+        Some(choice) => Ok(choice),
+        None => Err(no_such_subcommand(&mut program)),
+    }
+}
+
+// What refuses a subcommand that `clap` takes and the program does not have.
+fn no_such_subcommand(program: &mut Command) -> WordFault
+    ensures { HasItsKind result }
+{
+    match program.error(ErrorKind::InvalidSubcommand, "no such subcommand") {
+        Ok(error) => WordFault::Refused(error),
+        Err(_) => WordFault::Memory,
+    }
+}

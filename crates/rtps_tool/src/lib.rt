@@ -1,0 +1,23 @@
+//! Texts of `rtps-audit`: recordings that are read, what is shown of them, and how a run ends.
+#![tactic(auto)]
+
+mod command;
+mod datagrams;
+mod faults;
+mod hexadecimal;
+mod item_lines;
+mod lines;
+mod outcome;
+mod run;
+mod show;
+mod streams;
+#[cfg(test)]
+mod tests;
+mod words;
+
+pub use command::{Choice, WordFault, read_words};
+pub use datagrams::Recording;
+pub use faults::{Ending, RecFault, RunFault};
+pub use lines::read_recording;
+pub use outcome::{status, write_fault};
+pub use run::run_show;

@@ -1,0 +1,110 @@
+ghost use Rattle.std.specs.Prelude.{◌≡◌, ◌==◌, ◌<◌, ◌∷◌, ◌++◌, [], length, ℕ, List, Ok, MatchResult};
+ghost use Rattle.std.specs.List.{position};
+ghost use Rattle.std.specs.Str.Lines.{strip_carriage_return};
+ghost use Rattle.rtps_tool.specs.Answers.{IsFaultOf};
+ghost use Rattle.rtps_tool.specs.Lines.{lines_of, is_line_feed};
+ghost use Rattle.rtps_tool.specs.RecordingText.{is_datagram_line as is_datagram_line_lem, recording_of, recording_of_lines};
+
+use crate::datagrams::Recording;
+use crate::faults::RecFault;
+use std::alloc::Global;
+
+// The most octets of a text.
+pub(crate) const TEXT_MAX: usize = 1 << 30;
+
+// The most datagrams of a recording.
+const DATAGRAMS_MAX: usize = 1_000_000;
+
+// The most digits of a datagram: two for each of 65,535 octets, as UDP carries no more.
+const DIGITS_MAX: usize = 131_070;
+
+// The place of the first line feed.
+fn line_end(text: &[u8]) -> Option<usize>
+    ensures { result ≡ position is_line_feed text.now }
+{
+    text.iter().position(|b| *b == b'\n')
+}
+
+// The line without the one carriage return at its end, if it has one.
+fn without_return(line: &[u8]) -> &[u8]
+    ensures { result.now ≡ strip_carriage_return line.now }
+{
+    match line {
+        [front @ .., b'\r'] => front,
+        _ => line,
+    }
+}
+
+// The first line of a text that has one, and the text behind it.
+fn first_line(text: &[u8]) -> (&[u8], &[u8])
+    requires { 0 < length text.now }
+    ensures lines { lines_of text.now ≡ result.0.now ∷ lines_of result.1.now }
+    ensures shorter { length result.1.now < length text.now }
+{
+    match line_end(text) {
+        Some(end) => (without_return(&text[..end]), &text[end + 1..]),
+        None => (without_return(text), &text[text.len()..]),
+    }
+}
+
+/// Reads a recording: one datagram a line, in hexadecimal digits of either case. Lines end at LF, the last LF may lack,
+/// and one CR at the end of a line is dropped. Empty lines and lines that begin with `#` are skipped.
+///
+/// An `Err` is the first fault of the text, or [`RecFault::Memory`], which may come before any other.
+pub fn read_recording(alloc: Global, text: &[u8]) -> Result<Recording, RecFault>
+    ensures { MatchResult result (λ recording. recording_of text.now ≡ Ok recording) (IsFaultOf (recording_of text.now)) }
+{
+    if text.len() > TEXT_MAX {
+        return Err(RecFault::TooMany);
+    }
+    let most = (text.len() / 3 + 1).min(DATAGRAMS_MAX);
+    let mut recording = Recording::with_room(alloc, text.len() / 2, most)?;
+    read_lines(&mut recording, text)?;
+    Ok(recording)
+}
+
+// Appends the datagrams of a text to a recording that has none.
+fn read_lines(recording: &mut Recording, text: &[u8]) -> Result<(), RecFault>
+    requires { recording.old ≡ [] }
+    ensures { MatchResult result
+        (λ _. recording_of_lines 1 0 (lines_of text.now) ≡ Ok recording.new)
+        (IsFaultOf (recording_of_lines 1 0 (lines_of text.now))) }
+{
+    let mut rest = text;
+    let mut number = 0;
+    'lines: while !rest.is_empty() {
+        let (line, behind) = first_line(rest);
+        rest = behind;
+        number += 1;
+        read_line(recording, number, line)?;
+    }
+    Ok(())
+}
+
+// Appends the datagram that a line stands for, if it stands for one.
+fn read_line(recording: &mut Recording, number: u64, line: &[u8]) -> Result<(), RecFault>
+    ensures { let defined = recording_of_lines number (length recording.old) (line.now ∷ []) in MatchResult result
+        (λ _. (found : List (List ℕ)) × (defined ≡ Ok found) × (recording.new ≡ recording.old ++ found))
+        (IsFaultOf defined) }
+{
+    if !is_datagram_line(line) {
+        return Ok(());
+    }
+    if recording.len() >= DATAGRAMS_MAX {
+        return Err(RecFault::TooMany);
+    }
+    if line.len() > DIGITS_MAX {
+        return Err(RecFault::TooLong { line: number });
+    }
+    if !recording.push_hex(line)? {
+        return Err(RecFault::BadHex { line: number });
+    }
+    Ok(())
+}
+
+// Whether a line stands for a datagram.
+fn is_datagram_line(line: &[u8]) -> bool
+    ensures { result ≡ is_datagram_line_lem line.now }
+{
+    !line.is_empty() && line[0] != b'#'
+}
