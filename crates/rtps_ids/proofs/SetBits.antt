@@ -1,5 +1,5 @@
 -- The bits of the words of a set.
-use Rattle.std.proofs.Common.{◌≡◌, ◌<◌, ◌≤◌, ◌+◌, ◌-◌, ◌*◌, ◌/◌, ◌%◌, ◌^◌, ℕ, zero, suc, List, Bool, true, false, get_or, min, refl, ap, subst, sym, ◌∙◌, arith}
+use Rattle.std.proofs.Common.{◌≡◌, ◌<◌, ◌≤◌, ◌+◌, ◌-◌, ◌*◌, ◌/◌, ◌%◌, ◌^◌, ℕ, zero, List, Bool, true, false, refl, ap, subst, sym, ◌∙◌, arith}
 use Rattle.std.specs.Prelude.{nat_lt, slice_index, map}
 use Rattle.std.specs.Int.{bit_at}
 use Rattle.std.specs.List.{range_with_len}
@@ -84,5 +84,6 @@ unfolding cleared_words
 cleared_words-twice count word =
     each_word count word (λ i. cleared count (slice_index (cleared_words count word) i) i)
     (λ j few. sym (ap (λ w. cleared count w j) (word-cleared_words count j word few) ∙ cleared-twice count (word j) j))
+
 pub clear_as_made : (count : ℕ) (word : ℕ → ℕ) (words : List ℕ) → words ≡ cleared_words count word → words ≡ cleared_words count (λ i. slice_index words i)
 clear_as_made count word words made = subst (λ (ws : List ℕ). ws ≡ cleared_words count (λ i. slice_index ws i)) (sym made) (cleared_words-twice count word)

@@ -1,11 +1,10 @@
 -- What each answer of `NumberSet::read` says of the octets.
-use Rattle.std.proofs.Common.{◌≡◌, ◌<◌, ◌≤◌, List, ℕ, zero, suc, ℤ, pos, negsuc, Bool, true, false, Option, Some, None, length, arith, refl}
+use Rattle.std.proofs.Common.{◌≡◌, ◌<◌, ◌≤◌, List, ℕ, zero, suc, ℤ, pos, negsuc, true, false, Some, None, length, arith, refl}
 use Rattle.std.specs.Prelude.{int_le}
 use Rattle.std.specs.Int.RustNames.{unsigned_abs}
 use Rattle.std.proofs.lemmas.Bool.Decides.{nat_tests}
 use Rattle.rtps_ids.specs.NumberSet.{is_bad, octets_of_count, set_fault, spelled_base, spelled_count}
 use Rattle.rtps_ids.specs.declared.order.Order.{Order}
-use Rattle.rtps_ids.specs.declared.set.SetFault.{SetFault}
 use Rattle.rtps_ids.specs.declared.set.SetFault.TheVariants.{BadSet, CutWords}
 
 -- the octets hold a count, and the set is bad

@@ -1,6 +1,6 @@
 -- Sets of sequence numbers. DDSI-RTPS 2.5, 8.3.5.5 "SequenceNumberSet" and 9.4.2.6 "SequenceNumberSet": a base, how
 -- many numbers from the base on have a bit, and words of 32 bits, the bit of the base highest in the first.
-use Rattle.std.specs.Prelude.{ℕ, ℤ, pos, ◌+◌, ◌-◌, ◌*◌, ◌/◌, ◌%◌, ◌^◌, ◌+ℤ◌, ◌<◌, ◌≡◌, ◌==◌, ◌||◌, ◌&&◌, int_lt, nat_lt, nat_eq, not, Bool, if◌then◌else◌, List, [], ◌∷◌, drop, length, map, min, slice_index, Option, Some, None}
+use Rattle.std.specs.Prelude.{ℕ, ℤ, pos, ◌+◌, ◌-◌, ◌*◌, ◌/◌, ◌%◌, ◌^◌, ◌+ℤ◌, ◌<◌, ◌≡◌, ◌||◌, ◌&&◌, int_lt, nat_lt, Bool, if◌then◌else◌, List, drop, length, map, min, slice_index, Option, Some, None}
 use Rattle.std.specs.Int.{bit_at}
 use Rattle.std.specs.Int.RustNames.{unsigned_abs}
 use Rattle.std.specs.List.{range_with_len}

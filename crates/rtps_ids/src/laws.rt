@@ -10,5 +10,4 @@ ghost use Rattle.rtps_ids.specs.NumberSet.{bit_of, cleared_words};
 pub fn bits_up_to_the_count_are_kept()
     ensures kept { (count i : ℕ) (word : ℕ → ℕ) → i < count → i < 256 → bit_of (cleared_words count word) i ≡ bit_at (word (i / 32)) (31 - i % 32) }
     ensures clear { (count i : ℕ) (word : ℕ → ℕ) → i < 256 → (i < count → ⊥) → bit_of (cleared_words count word) i ≡ 0 }
-{
-}
+{}

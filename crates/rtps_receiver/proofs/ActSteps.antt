@@ -1,8 +1,7 @@
 -- The acts that are left, one item at a time.
-use Rattle.std.proofs.Common.{◌≡◌, ℕ, List, [], ◌∷◌, ◌++◌, map, Option, Some, None, Ok, Err, drop, refl, ap, sym, ◌∙◌, append_assoc, unwrap_or}
-use Rattle.std.specs.Prelude.{option_to_list}
+use Rattle.std.proofs.Common.{◌≡◌, ℕ, List, [], ◌∷◌, ◌++◌, Option, Some, None, Ok, Err, drop, refl, ap, sym, ◌∙◌, append_assoc, unwrap_or}
 use Rattle.rtps_wire.proofs.Readings.{reading_opened, refusal-last}
-use Rattle.rtps_wire.specs.Reading.{Outcome, Unread, items_among, outcomes, outcomes_left, reading_of, refusal_among}
+use Rattle.rtps_wire.specs.Reading.{Outcome, Unread, items_among, outcomes_left, reading_of, refusal_among}
 use Rattle.rtps_wire.specs.Header.{header_fault, header_of}
 use Rattle.rtps_wire.specs.Values.{BodyValue, ItemValue}
 use Rattle.rtps_wire.specs.Values.BodyValue.{Data, Heartbeat, AckNack, Gap, InfoTs, InfoDst, InfoSrc, Skipped}
@@ -11,7 +10,7 @@ use Rattle.rtps_wire.specs.declared.header.Header.{Header}
 use Rattle.rtps_ids.specs.declared.identity.GuidPrefix.{GuidPrefix}
 use Rattle.rtps_ids.specs.declared.identity.Stamp.{Stamp}
 use Rattle.rtps_receiver.specs.Acts.{ActOutcome, Awaited, act_at, act_body, acts_behind, acts_in, acts_left, acts_of, acts_then, gathered, last_said, later, says_destination, says_source, says_time, state_at_start, state_behind}
-use Rattle.rtps_receiver.specs.Values.{ActBodyValue, ActValue}
+use Rattle.rtps_receiver.specs.Values.{ActBodyValue}
 use Rattle.rtps_receiver.specs.declared.state.State.{State}
 
 later-assoc : {X : Type 0} (x y z : Option X) → later x (later y z) ≡ later (later x y) z

@@ -5,7 +5,7 @@ use Rattle.rtps_ids.specs.declared.identity.GuidPrefix.{GuidPrefix}
 use Rattle.rtps_ids.specs.declared.identity.Stamp.{Stamp}
 use Rattle.rtps_ids.specs.declared.order.Order.{Order}
 use Rattle.rtps_wire.specs.Message.{Reading}
-use Rattle.rtps_wire.specs.Reading.{Outcome, Unread, items_among, outcomes_left, refusal_among}
+use Rattle.rtps_wire.specs.Reading.{Unread, items_among, outcomes_left, refusal_among}
 use Rattle.rtps_wire.specs.Values.{BodyValue, ItemValue}
 use Rattle.rtps_wire.specs.Values.BodyValue.{Data, Heartbeat, AckNack, Gap, InfoTs, InfoDst, InfoSrc}
 use Rattle.rtps_wire.specs.declared.fault.Refusal.{Refusal}

@@ -1,6 +1,6 @@
 -- Who speaks an act, who hears it, and whom an ACKNACK answers. DDSI-RTPS 2.5, 8.3.4 "The RTPS Message Receiver",
 -- 8.3.8.1 "AckNack", 8.3.8.2 "Data", 8.3.8.4 "Gap" and 8.3.8.6 "Heartbeat".
-use Rattle.std.specs.Prelude.{ℕ, ◌≡◌, List, ◌∷◌, [], replicate, Option, Some, None}
+use Rattle.std.specs.Prelude.{◌≡◌, ◌∷◌, [], Option, Some, None}
 use Rattle.std.specs.Prelude.{◌⊎◌}
 use Rattle.rtps_ids.specs.declared.identity.EntityId.{EntityId}
 use Rattle.rtps_ids.specs.declared.identity.Guid.{Guid}

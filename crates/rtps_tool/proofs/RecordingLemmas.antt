@@ -1,7 +1,7 @@
 -- Facts on recordings, line by line.
-use Rattle.std.proofs.Common.{◌≡◌, ℕ, ◌+◌, true, false, Bool, List, [], ◌∷◌, ◌++◌, length, Option, None, Some, Result, Ok, Err, refl, sym, ap, ◌∙◌, arith, ◌⊎◌, inl, inr, add-zero}
+use Rattle.std.proofs.Common.{◌≡◌, ℕ, ◌+◌, true, false, Bool, List, [], ◌∷◌, ◌++◌, length, Option, None, Some, Result, Ok, Err, refl, sym, ap, ◌∙◌, ◌⊎◌, inl, inr, add-zero}
 use Rattle.std.proofs.lemmas.List.{append_assoc, append-nil, length-append, nil_from_length}
-use Rattle.rtps_tool.specs.RecordingText.{recording_of_lines, is_datagram_line, line_fault, octets_of, unless_faulty, line_faults, datagram_lines}
+use Rattle.rtps_tool.specs.RecordingText.{recording_of_lines, is_datagram_line, line_fault, octets_of, unless_faulty}
 use Rattle.rtps_tool.specs.declared.faults.RecFault.{RecFault}
 use Rattle.rtps_tool.specs.declared.faults.RecFault.TheVariants.{BadHex, TooLong, TooMany, Memory}
 use Rattle.rtps_tool.specs.Answers.{IsFaultOf}

@@ -1,5 +1,5 @@
 -- Facts on what `show` prints.
-use Rattle.std.proofs.Common.{◌≡◌, ℕ, zero, suc, ◌+◌, ◌<◌, List, [], ◌∷◌, ◌++◌, drop, get_or, length, Option, None, Some, Ok, Err, refl, ap, append_assoc, ◌∙◌}
+use Rattle.std.proofs.Common.{◌≡◌, ℕ, ◌+◌, ◌<◌, List, [], ◌∷◌, ◌++◌, drop, get_or, length, None, Some, Ok, refl, ap, append_assoc, ◌∙◌}
 use Rattle.std.proofs.lemmas.List.{drop_more}
 use Rattle.std.proofs.lemmas.Option.{get_or_from_slice_get, none-some, slice_get-get_or, slice_get_within}
 use Rattle.std.specs.List.{slice_get}
@@ -10,7 +10,6 @@ use Rattle.rtps_wire.specs.Header.{header_fault, header_of}
 use Rattle.rtps_wire.specs.Reading.{Outcome, items_among, outcomes, reading_of, refusal_among}
 use Rattle.rtps_wire.specs.Values.{ItemValue}
 use Rattle.rtps_wire.specs.declared.fault.Refusal.{Refusal}
-use Rattle.rtps_wire.specs.declared.fault.WireFault.{WireFault}
 use Rattle.rtps_wire.specs.declared.header.Header.{Header}
 use Rattle.rtps_tool.specs.ShowText.{datagram_line, ending_text, item_line, outcomes_text, reading_text, refusal_line, text_from}
 

@@ -1,5 +1,5 @@
 -- Facts on what `clap` found.
-use Rattle.std.proofs.Common.{◌≡◌, List, ℕ, Option, None, Some, refl, ap, unwrap_or}
+use Rattle.std.proofs.Common.{◌≡◌, Option, None, Some, refl, ap, unwrap_or}
 use Rattle.std.specs.Option.{option_map}
 use Rattle.std.proofs.lemmas.Option.{same_Some, none-some, some_pair_parts}
 

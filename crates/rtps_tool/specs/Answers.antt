@@ -1,5 +1,5 @@
 -- What a call answers, against what a definition gives.
-use Rattle.std.specs.Prelude.{ℕ, ◌≡◌, List, Result, Ok, Err, MatchResult}
+use Rattle.std.specs.Prelude.{◌≡◌, Result, Err}
 use Rattle.rtps_tool.specs.declared.faults.RecFault.{RecFault}
 use Rattle.rtps_tool.specs.declared.faults.RecFault.TheVariants.{BadHex, TooLong, TooMany, Memory}
 

@@ -7,7 +7,6 @@ use Rattle.std.specs.Int.{to_be_bytes, w32}
 use Rattle.std.specs.List.{enumerate_from, flat_map, range_with_len}
 use Rattle.hex.specs.Hex.{encode_lower}
 use Rattle.rtps_ids.specs.NumberSet.{NumberSetValue}
-use Rattle.rtps_ids.specs.declared.identity.EntityId.{EntityId}
 use Rattle.rtps_ids.specs.declared.identity.GuidPrefix.{GuidPrefix}
 use Rattle.rtps_ids.specs.declared.identity.Stamp.{Stamp}
 use Rattle.rtps_ids.specs.declared.identity.Vendor.{Vendor}

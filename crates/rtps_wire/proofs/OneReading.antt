@@ -1,8 +1,8 @@
 -- Each datagram has a reading, and only one.
-use Rattle.std.proofs.Common.{◌≡◌, ◌<◌, ◌≤◌, ◌+◌, ℕ, zero, suc, List, [], ◌∷◌, ◌++◌, map, Option, Some, None, Ok, Err, length, drop, arith, refl, ap, sym, ◌∙◌, subst}
+use Rattle.std.proofs.Common.{◌≡◌, ◌<◌, ◌≤◌, ◌+◌, ℕ, zero, suc, List, [], ◌∷◌, ◌++◌, map, Option, Some, None, Ok, Err, length, drop, arith, refl, ap, ◌∙◌}
 use Rattle.std.specs.Prelude.{option_to_list}
 use Rattle.rtps_wire.proofs.Readings.{length-next_rest, outcomes-done, outcomes-item, outcomes-refused}
-use Rattle.rtps_wire.specs.Header.{header_fault, header_of}
+use Rattle.rtps_wire.specs.Header.{header_fault}
 use Rattle.rtps_wire.specs.Message.{Reading, Reads, ReadsFrom, ReadsWith, body_length, fault_at, item_at, next_rest}
 use Rattle.rtps_wire.specs.Reading.{Outcome, items_among, outcomes, reading_of, reading_with, refusal_among}
 use Rattle.rtps_wire.specs.Values.{ItemValue}
@@ -84,7 +84,7 @@ outcomes_whole-within (suc n) (x ∷ xs) at enough =
   where
     by_fault : (fault : Option WireFault) → fault_at (x ∷ xs) ≡ fault
         → outcomes (next_rest (x ∷ xs)) (at + 4 + body_length (x ∷ xs))
-          ≡ map Ok (items_among (outcomes (next_rest (x ∷ xs)) (at + 4 + body_length (x ∷ xs)))) ++ map Err (option_to_list (refusal_among (outcomes (next_rest (x ∷ xs)) (at + 4 + body_length (x ∷ xs)))))
+        ≡ map Ok (items_among (outcomes (next_rest (x ∷ xs)) (at + 4 + body_length (x ∷ xs)))) ++ map Err (option_to_list (refusal_among (outcomes (next_rest (x ∷ xs)) (at + 4 + body_length (x ∷ xs)))))
         → outcomes (x ∷ xs) at ≡ map Ok (items_among (outcomes (x ∷ xs) at)) ++ map Err (option_to_list (refusal_among (outcomes (x ∷ xs) at)))
     by_fault (Some fault) is behind = rw (outcomes-refused (x ∷ xs) at fault (omega arith) is) refl
     by_fault None is behind = rw (outcomes-item (x ∷ xs) at (omega arith) is) (ap (λ more. Ok (item_at (x ∷ xs) at) ∷ more) behind)

@@ -1,5 +1,5 @@
 -- What the answer of `NumberSet::read` says of a set as a field of a body.
-use Rattle.std.proofs.Common.{◌≡◌, ◌<◌, ◌≤◌, List, ℕ, Bool, true, false, Option, Some, None, length, drop, arith, refl, ap, sym, ◌∙◌}
+use Rattle.std.proofs.Common.{◌≡◌, ◌≤◌, List, ℕ, false, Some, None, length, drop, arith, refl, ap, ◌∙◌}
 use Rattle.std.specs.Prelude.{◌+◌, pos, int_le}
 use Rattle.std.specs.Int.RustNames.{unsigned_abs}
 use Rattle.std.proofs.lemmas.Bool.Decides.{nat_tests}

@@ -1,5 +1,5 @@
 -- DATA. DDSI-RTPS 2.5, 8.3.8.2 "Data" and 9.4.5.4 "Data Submessage".
-use Rattle.std.specs.Prelude.{ℕ, ℤ, ◌+◌, ◌==◌, ◌&&◌, ◌||◌, bit_and, not, pos, int_le, nat_lt, Bool, List, [], ◌∷◌, length, take, drop, is_err, Option, Some, None, if◌then◌else◌}
+use Rattle.std.specs.Prelude.{ℕ, ℤ, ◌+◌, ◌==◌, ◌&&◌, ◌||◌, bit_and, pos, int_le, nat_lt, Bool, List, [], ◌∷◌, length, take, drop, is_err, Option, Some, None, if◌then◌else◌}
 use Rattle.std.specs.Int.RustNames.{unsigned_abs}
 use Rattle.std.specs.Result.{result_unwrap_or}
 use Rattle.rtps_ids.specs.Octets.{number_of, sequence_number_of}

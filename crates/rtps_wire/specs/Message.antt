@@ -1,6 +1,6 @@
 -- A message: a header, and then submessages. DDSI-RTPS 2.5, 8.3.3 "The Overall Structure of an RTPS Message", 8.3.4.1
 -- "Rules Followed By The Message Receiver" and 9.4.5.1 "Submessage Header".
-use Rattle.std.specs.Prelude.{ℕ, ◌+◌, ◌≡◌, ◌==◌, ◌<◌, ◌||◌, bit_and, nat_lt, Bool, List, [], ◌∷◌, length, take, drop, slice_index, Option, Some, None, if◌then◌else◌}
+use Rattle.std.specs.Prelude.{ℕ, ◌+◌, ◌≡◌, ◌==◌, ◌<◌, ◌||◌, bit_and, nat_lt, List, [], ◌∷◌, length, take, drop, slice_index, Option, Some, None, if◌then◌else◌}
 use Rattle.rtps_ids.specs.Octets.{number_of}
 use Rattle.rtps_ids.specs.declared.order.Order.{Order}
 use Rattle.rtps_ids.specs.declared.order.Order.TheVariants.{Big, Little}

@@ -1,5 +1,5 @@
 -- A sequence number set as a field of a body. DDSI-RTPS 2.5, 9.4.2.6 "SequenceNumberSet".
-use Rattle.std.specs.Prelude.{ℕ, ◌≡◌, ◌≤◌, nat_lt, false, List, [], ◌∷◌, length, Option, Some}
+use Rattle.std.specs.Prelude.{ℕ, ◌≡◌, ◌≤◌, nat_lt, false, List, [], ◌∷◌, length, Some}
 use Rattle.rtps_ids.specs.NumberSet.{NumberSetValue, is_bad, octets_of_count, spelled_base, spelled_count, spelled_set}
 use Rattle.rtps_ids.specs.declared.order.Order.{Order}
 use Rattle.rtps_wire.specs.Fault.{first_fault}

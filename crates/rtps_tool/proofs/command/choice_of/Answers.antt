@@ -1,9 +1,9 @@
 use Rattle.std.proofs.Common.{◌≡◌, ◌∙◌, ap, codes, Some, refl, unwrap_or, [], List, ℕ, Bor}
 use Rattle.std.proofs.lemmas.Bool.{false≢true}
-use Rattle.clap.specs.Words.{found_of, rows_of, subcommand_name_of, first_of, subcommand_rows_of}
+use Rattle.clap.specs.Words.{found_of, rows_of, subcommand_name_of}
 use Rattle.clap.proofs.WalkLemmas.{first_value-rows}
 use Rattle.rtps_tool.proofs.WordsLemmas.{option_map-named_rows, option_map-name, unwrap_or-view}
-use Rattle.rtps_tool.specs.Words.{subcommand_name, IsChoice}
+use Rattle.rtps_tool.specs.Words.{subcommand_name}
 use Rattle.rtps_tool.specs.declared.command.Choice.{Choice}
 use Rattle.rtps_tool.specs.declared.command.Choice.TheVariants.{Show}
 use Rattle.rtps_tool.proofs.command.choice_of.Goals as goal

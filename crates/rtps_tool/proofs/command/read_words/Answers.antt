@@ -1,8 +1,7 @@
-use Rattle.std.proofs.Common.{◌≡◌, ◌∙◌, sym, refl, true, ap, subst, map, Bor, List, ℕ, IfErr, rules}
+use Rattle.std.proofs.Common.{◌≡◌, ◌∙◌, sym, refl, true, ap, subst, map, Bor, List, ℕ}
 use Rattle.std.proofs.lemmas.Option.{MatchOption-at_some, MatchOption-at_none}
 use Rattle.std.proofs.lemmas.Result.{err_from_is_err_and}
-use Rattle.clap.specs.Words.{App, Text, is_simple, subcommand_of, subcommand_rows_of, takes}
-use Rattle.clap.specs.declared.parser.matches.ArgMatches.{ArgMatches}
+use Rattle.clap.specs.Words.{App, is_simple, subcommand_of, takes}
 use Rattle.clap.proofs.OnLiterals.{clap_on_literals}
 use Rattle.rtps_tool.specs.Words.{program, IsChoice, word_fault_by}
 use Rattle.rtps_tool.proofs.command.read_words.Goals as goal

@@ -1,9 +1,8 @@
-use Rattle.std.proofs.Common.{◌≡◌, ◌-◌, ◌+◌, ℕ, ◌∷◌, [], length, take, drop, sym, ap, ◌∙◌, add-one, arith, map}
-use Rattle.std.specs.List.{position}
+use Rattle.std.proofs.Common.{◌+◌, length, sym, ap, ◌∙◌, add-one, arith, map}
 use Rattle.std.specs.Str.Lines.{strip_carriage_return}
 use Rattle.std.proofs.lemmas.List.Quantifiers.{position-Some}
 use Rattle.std.proofs.lemmas.List.{take_rest, drop_all}
-use Rattle.rtps_tool.specs.Lines.{is_line_feed, parts_of}
+use Rattle.rtps_tool.specs.Lines.{is_line_feed}
 use Rattle.rtps_tool.proofs.LinesLemmas.{parts_of-cut, lines_of-whole}
 use Rattle.rtps_tool.proofs.lines.first_line.Goals as goal
 

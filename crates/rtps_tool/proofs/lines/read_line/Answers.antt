@@ -1,4 +1,4 @@
-use Rattle.std.proofs.Common.{◌≡◌, ◌∷◌, [], length, Some, None, true, false, sym, ◌∙◌, ap, refl, rules, tests, arith}
+use Rattle.std.proofs.Common.{◌≡◌, ◌∷◌, [], length, Some, None, false, sym, ◌∙◌, ap, arith}
 use Rattle.std.proofs.lemmas.List.{append-nil}
 use Rattle.std.proofs.lemmas.Bool.Decides.{nat_tests}
 use Rattle.rtps_tool.proofs.RecordingLemmas.{recording_of_lines-nil, recording_of_lines-skipped, recording_of_lines-faulty, recording_of_lines-taken, with_front}

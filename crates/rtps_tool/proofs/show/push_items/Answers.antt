@@ -2,7 +2,7 @@ use Rattle.std.proofs.Common.{◌≡◌, ◌∷◌, [], ◌++◌, ◌∙◌, ap,
 use Rattle.std.proofs.lemmas.List.{append-nil}
 use Rattle.std.specs.String.{string_bytes}
 use Rattle.rtps_wire.specs.Reading.{Outcome, outcome_value, outcomes_left}
-use Rattle.rtps_tool.specs.ShowText.{item_line, outcomes_text, refusal_line}
+use Rattle.rtps_tool.specs.ShowText.{item_line, outcomes_text}
 use Rattle.rtps_receiver.specs.Acts.{state_behind}
 use Rattle.rtps_tool.proofs.ShowLemmas.{outcomes_text-item}
 use Rattle.rtps_wire.proofs.Readings.{refusal-last}

@@ -1,6 +1,5 @@
-use Rattle.std.proofs.Common.{◌≡◌, ◌∷◌, ◌<◌, [], Ok, Err, List, arith, ap, length, sym, ◌∙◌}
-use Rattle.rtps_wire.specs.Reading.{Outcome, outcome_value, outcomes_left}
-use Rattle.rtps_wire.specs.Values.{item_value}
+use Rattle.std.proofs.Common.{◌∷◌, Ok, arith, ap, length, sym, ◌∙◌}
+use Rattle.rtps_wire.specs.Reading.{outcome_value, outcomes_left}
 use Rattle.rtps_receiver.proofs.ActSteps.{acts_left-act, acts_left-done, acts_left-heard, acts_left-refused}
 use Rattle.rtps_receiver.specs.Acts.{acts_left}
 use Rattle.rtps_receiver.proofs.receiver.ActsIterator.next.Goals as goal

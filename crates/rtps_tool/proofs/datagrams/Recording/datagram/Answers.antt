@@ -1,5 +1,4 @@
 use Rattle.std.proofs.Common.{sym, refl, add-one, arith}
-use Rattle.std.specs.Prelude.{slice_range}
 use Rattle.std.proofs.lemmas.List.{get_or_read}
 use Rattle.std.proofs.lemmas.Option.{slice_get_past}
 use Rattle.rtps_tool.proofs.PiecesLemmas.{length-pieces, slice_get-pieces}

@@ -1,5 +1,4 @@
-use Rattle.std.proofs.Common.{arith, ap}
-use Rattle.std.specs.Prelude.{length}
+use Rattle.std.proofs.Common.{arith}
 use Rattle.rtps_tool.proofs.PiecesLemmas.{length-pieces}
 use Rattle.rtps_tool.proofs.datagrams.Recording.len.Goals as goal
 

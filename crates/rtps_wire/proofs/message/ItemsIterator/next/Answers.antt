@@ -1,4 +1,4 @@
-use Rattle.std.proofs.Common.{◌≡◌, ◌<◌, ◌∙◌, ℕ, [], ap, arith, length, refl}
+use Rattle.std.proofs.Common.{◌≡◌, ◌<◌, ap, arith, length, refl}
 use Rattle.std.proofs.lemmas.Bool.Decides.{nat_tests}
 use Rattle.rtps_wire.proofs.Readings.{outcomes-done, outcomes-empty, outcomes-refused, outcomes-taken}
 use Rattle.rtps_wire.proofs.message.ItemsIterator.next.Goals as goal

@@ -1,4 +1,3 @@
-use Rattle.std.proofs.Common.{arith}
 use Rattle.std.proofs.lemmas.Result.{err_from_is_err_and}
 use Rattle.rtps_wire.proofs.SetFields.{list_fault-lacking, list_fault-positive}
 use Rattle.rtps_wire.proofs.read.gap.list.Goals as goal
