@@ -4,8 +4,9 @@ use Rattle.std.specs.Prelude.{Contains, ◌≢◌, Decides}
 use Rattle.std.specs.Cmp.Lexicographic.{bytes_decides}
 use Rattle.std.proofs.lemmas.Bool.{cases_lt}
 use Rattle.std.proofs.lemmas.Option.{slice_get_cases, slice_get_within}
-use Rattle.rtps_audit.specs.Delivery.{Word, PayloadValue, Datagram, Speech, Gives, Claims, greatest, last_announced}
-use Rattle.rtps_audit.specs.Delivery.PayloadValue.{Absent, Whole, Key}
+use Rattle.rtps_wire.specs.Values.{PayloadValue}
+use Rattle.rtps_audit.specs.Delivery.{Word, Datagram, Speech, Gives, Claims, greatest, last_announced}
+use Rattle.rtps_wire.specs.Values.PayloadValue.{Absent, Whole, Key}
 use Rattle.rtps_audit.specs.Delivery.Word.{Told, Gone}
 use Rattle.rtps_audit.specs.RunVerdict.{IsLeast, ClaimsUntold, IsVerdict}
 use Rattle.rtps_audit.specs.PlainVerdict.{IsFounded, IsSpoken, SpeaksTwo, IsClaimed, IsUnclaimed}
@@ -89,7 +90,7 @@ octets_same xs ys = by_test _ refl (bytes_decides xs ys)
     by_test true e decides = inl (decides.0 refl)
     by_test false e decides = inr (λ same. let clash = decides.1 same in cc)
 
-payload_same : (x y : PayloadValue) → Decided (x ≡ y)
+pub payload_same : (x y : PayloadValue) → Decided (x ≡ y)
 payload_same Absent Absent = inl refl
 payload_same Absent (Whole ys) = inr (λ e. cc)
 payload_same Absent (Key ys) = inr (λ e. cc)

@@ -5,9 +5,10 @@ use Rattle.std.specs.List.{list_any, filter_map}
 use Rattle.std.proofs.lemmas.List.Elements.{All-head, All-tail, Contains-append_left, Contains-append_right, Contains-append_cases, Contains-push}
 use Rattle.std.proofs.lemmas.Bool.Decides.{nat_tests}
 use Rattle.std.proofs.lemmas.Bool.{cases_lt}
-use Rattle.rtps_audit.specs.Delivery.{Word, PayloadValue, greatest}
+use Rattle.rtps_wire.specs.Values.{PayloadValue, payload_value}
+use Rattle.rtps_audit.specs.Delivery.{Word, greatest}
 use Rattle.rtps_audit.specs.Delivery.Word.{Told as told, Gone as gone}
-use Rattle.rtps_audit.specs.Facts.{payload_of, act_of, said, tells, IsInRange}
+use Rattle.rtps_audit.specs.Facts.{act_of, said, tells, IsInRange}
 use Rattle.rtps_audit.specs.Samples.{IsKept, sample_of}
 use Rattle.rtps_audit.specs.declared.fact.Fact.{Fact}
 use Rattle.rtps_audit.specs.declared.fact.Fact.TheVariants.{Told, Gone, Claimed, Announced}
@@ -64,7 +65,7 @@ later act facts n (k, word, has) = (suc k, word, has_later act (filter_map act_o
 has_from_tells : (n : ℕ) (facts : List Fact) → list_any (tells n) facts ≡ true → HasSome facts n
 has_from_tells n [] e = cc
 has_from_tells n (Told number payload ∷ facts) e = elim (or_cases (n == number) _ e) [
-  | inl here ↦ (0, told (payload_of payload), has_here _ (filter_map act_of facts) n _ (if_some (n == number) (told (payload_of payload)) here))
+  | inl here ↦ (0, told (payload_value payload), has_here _ (filter_map act_of facts) n _ (if_some (n == number) (told (payload_value payload)) here))
   | inr rest ↦ later _ facts n (has_from_tells n facts rest)
 ]
 has_from_tells n (Gone first last ∷ facts) e = elim (or_cases (nat_le first n && nat_le n last) _ e) [
@@ -77,7 +78,7 @@ has_from_tells n (Announced number ∷ facts) e = has_from_tells n facts e
 tells_from_has : (n k : ℕ) (word : Word) (facts : List Fact) → Has (filter_map act_of facts) k n word → list_any (tells n) facts ≡ true
 tells_from_has n k word [] has = absurd (has_none k n word has)
 tells_from_has n k word (Told number payload ∷ facts) has = elim (has_cases _ (filter_map act_of facts) k n word has) [
-  | inl here ↦ or_left (n == number) _ (some_if (n == number) (told (payload_of payload)) word here).0
+  | inl here ↦ or_left (n == number) _ (some_if (n == number) (told (payload_value payload)) word here).0
   | inr rest ↦ or_right (n == number) _ (tells_from_has n rest.0 word facts rest.1)
 ]
 tells_from_has n k word (Gone first last ∷ facts) has = elim (has_cases _ (filter_map act_of facts) k n word has) [
@@ -145,8 +146,8 @@ has_from_kept n p (Told number payload ∷ facts) kept = elim (Contains-append_c
     first : sample ≡ kept.sample → (k : ℕ) × Has (filter_map act_of (Told number payload ∷ facts)) k n (told p)
     first same =
         let at : number ≡ n = ap (λ (s : Sample). s.number) same ∙ kept.number in
-        let value : payload_of payload ≡ p = ap (λ (s : Sample). payload_of s.payload) same ∙ kept.value in
-        (0, has_here _ (filter_map act_of facts) n (told p) (if_some (n == number) (told (payload_of payload)) (eqb_refl n number at) ∙ ap (λ v. Some (told v)) value))
+        let value : payload_value payload ≡ p = ap (λ (s : Sample). payload_value s.payload) same ∙ kept.value in
+        (0, has_here _ (filter_map act_of facts) n (told p) (if_some (n == number) (told (payload_value payload)) (eqb_refl n number at) ∙ ap (λ v. Some (told v)) value))
 has_from_kept n p (Gone first last ∷ facts) kept = payload_later _ facts n p (has_from_kept n p facts kept)
 has_from_kept n p (Claimed base ∷ facts) kept = has_from_kept n p facts kept
 has_from_kept n p (Announced number ∷ facts) kept = has_from_kept n p facts kept
@@ -154,16 +155,16 @@ has_from_kept n p (Announced number ∷ facts) kept = has_from_kept n p facts ke
 kept_from_has : (n k : ℕ) (p : PayloadValue) (facts : List Fact) → Has (filter_map act_of facts) k n (told p) → IsKept (filter_map sample_of facts) n p
 kept_from_has n k p [] has = absurd (has_none k n (told p) has)
 kept_from_has n k p (Told number payload ∷ facts) has = elim (has_cases _ (filter_map act_of facts) k n (told p) has) [
-  | inl here ↦ first (some_if (n == number) (told (payload_of payload)) (told p) here)
+  | inl here ↦ first (some_if (n == number) (told (payload_value payload)) (told p) here)
   | inr rest ↦ kept_later _ (filter_map sample_of facts) n p (kept_from_has n rest.0 p facts rest.1)
 ]
   where
-    first : ((n == number) ≡ true) × (told (payload_of payload) ≡ told p) → IsKept (filter_map sample_of (Told number payload ∷ facts)) n p
+    first : ((n == number) ≡ true) × (told (payload_value payload) ≡ told p) → IsKept (filter_map sample_of (Told number payload ∷ facts)) n p
     first (at, same) = record {
       sample = record { number = number; payload = payload };
       among = (0, omega arith, refl);
       number = eqb_same n number at;
-      value = told_same (payload_of payload) p same;
+      value = told_same (payload_value payload) p same;
     }
 kept_from_has n k p (Gone first last ∷ facts) has = elim (has_cases _ (filter_map act_of facts) k n (told p) has) [
   | inl here ↦ absurd (let same = (some_if (nat_le first n && nat_le n last) gone (told p) here).1 in cc)

@@ -29,7 +29,7 @@ pub greatest_step : {X : Type 0} (h : X → Option ℕ) (xs : List X) (i : ℕ) 
     → so_far ≡ greatest (filter_map h (take i xs)) → one ≡ unwrap_or (h (get_or xs i d)) 0 → result ≡ max so_far one → result ≡ greatest (filter_map h (take (i + 1) xs))
 greatest_step h xs i d so_far one result lt e f g = let more = greatest_more h xs i d lt in omega arith
 
-cons_option-nil : {X : Type 0} (o : Option X) → cons_option o [] ≡ option_to_list o
+pub cons_option-nil : {X : Type 0} (o : Option X) → cons_option o [] ≡ option_to_list o
 cons_option-nil None = refl
 cons_option-nil (Some x) = refl
 

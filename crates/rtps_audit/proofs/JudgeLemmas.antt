@@ -7,7 +7,8 @@ use Rattle.std.proofs.lemmas.Bool.Decides.{nat_tests}
 use Rattle.std.proofs.lemmas.Option.{slice_get_within}
 use Rattle.std.proofs.lemmas.Bool.{cases_lt}
 use Rattle.rtps_audit.specs.Coverage.{IsFront}
-use Rattle.rtps_audit.specs.Delivery.{PayloadValue, Datagram, Speech, Claims, greatest, last_announced}
+use Rattle.rtps_wire.specs.Values.{PayloadValue}
+use Rattle.rtps_audit.specs.Delivery.{Datagram, Speech, Claims, greatest, last_announced}
 use Rattle.rtps_audit.specs.Delivery.Word.{Told}
 use Rattle.rtps_audit.specs.RunVerdict.{IsLeast, IsTold, ClaimsUntold, IsVerdict}
 use Rattle.rtps_audit.specs.PlainVerdict.{IsFounded, IsSpoken, SpeaksTwo, IsClaimed, IsUnclaimed, IsPlainVerdict}
@@ -17,7 +18,7 @@ use Rattle.rtps_audit.specs.Claims.{FindsUntold}
 use Rattle.rtps_audit.specs.Judge.{Knows, greatest_base}
 use Rattle.rtps_audit.specs.declared.fact.Fact.{Fact}
 use Rattle.rtps_audit.specs.declared.claims.Untold.{Untold}
-use Rattle.rtps_audit.specs.declared.judge.Judge.{Judge}
+use Rattle.rtps_audit.specs.declared.judge_state.Judge.{Judge}
 use Rattle.rtps_audit.specs.declared.verdict.Verdict.TheVariants.{Unfounded, Conflict, Open, Complete}
 use Rattle.rtps_audit.proofs.OneMore.{ClaimsIn, length_more, claims_last, claims_cases, told_before, told_back, told_by_all, told_by_one, spoken_by_all, spoken_by_one, greatest_base_more, last_announced_more, untold_before, untold_cases}
 use Rattle.rtps_audit.proofs.FactLemmas.{or_cases, or_left, or_right, Tells-said, tells_from_said, Says-said, kept_from_said, kept_left, kept_right, kept_cases, below_greatest, greatest_below}

@@ -4,6 +4,8 @@ pub mod Gathered
 pub mod SampleLemmas
 pub mod OneMore
 pub mod FactLemmas
+pub mod SpeechTests
+pub mod NotedLemmas
 pub mod Runs
 pub mod Sound
 pub mod Verdicts
@@ -12,3 +14,6 @@ pub mod SameSaid
 pub mod JudgeLemmas
 pub mod Eager
 pub mod EachVerdict
+pub mod SameDatagram
+pub mod DeliveredLemmas
+pub mod RecordingActs

@@ -10,7 +10,7 @@ use Rattle.rtps_audit.specs.declared.verdict.Verdict.TheVariants.{Unfounded, Con
 use Rattle.rtps_audit.proofs.Verdicts.{to_plain, from_plain, least_same, on_natural}
 
 -- and the other way round
-turned : (one other : Speech) → SaysTheSame one other → SaysTheSame other one
+pub turned : (one other : Speech) → SaysTheSame one other → SaysTheSame other one
 turned one other same = record {
   counted = sym same.counted;
   words = λ i n word. ((same.words i n word).1, (same.words i n word).0);
@@ -18,12 +18,12 @@ turned one other same = record {
   announced = sym same.announced;
 }
 
-told : (one other : Speech) → SaysTheSame one other → (j n : ℕ) → IsTold one j n → IsTold other j n
+pub told : (one other : Speech) → SaysTheSame one other → (j n : ℕ) → IsTold one j n → IsTold other j n
 told one other same j n is =
     let gives = (same.words is.place n is.word).0 (is.act, is.gives) in
     record { place = is.place; act = gives.0; word = is.word; earlier = is.earlier; gives = gives.1 }
 
-spoken : (one other : Speech) → SaysTheSame one other → (n : ℕ) (word : Word) → IsSpoken one n word → IsSpoken other n word
+pub spoken : (one other : Speech) → SaysTheSame one other → (n : ℕ) (word : Word) → IsSpoken one n word → IsSpoken other n word
 spoken one other same n word is =
     let gives = (same.words is.place n word).0 (is.act, is.gives) in
     record { place = is.place; act = gives.0; gives = gives.1 }
@@ -31,7 +31,7 @@ spoken one other same n word is =
 untold : (one other : Speech) → SaysTheSame one other → (j n : ℕ) → ClaimsUntold one j n → ClaimsUntold other j n
 untold one other same j n (claims, none) = ((same.claims j n).0 claims, λ is. none (told other one (turned one other same) j n is))
 
-founded : (one other : Speech) → SaysTheSame one other → IsFounded one → IsFounded other
+pub founded : (one other : Speech) → SaysTheSame one other → IsFounded one → IsFounded other
 founded one other same is j n claims = told one other same j n (is j n ((same.claims j n).1 claims))
 
 two : (one other : Speech) → SaysTheSame one other → (n : ℕ) → SpeaksTwo one n → SpeaksTwo other n
@@ -44,7 +44,7 @@ unclaimed : (one other : Speech) → SaysTheSame one other → (n : ℕ) → IsU
 unclaimed one other same n (positive, announced, none) =
     (positive, subst (λ last. n ≤ last) same.announced announced, λ is. none (claimed other one (turned one other same) n is))
 
-plain : (one other : Speech) (verdict : Verdict) → SaysTheSame one other → IsPlainVerdict one verdict → IsPlainVerdict other verdict
+pub plain : (one other : Speech) (verdict : Verdict) → SaysTheSame one other → IsPlainVerdict one verdict → IsPlainVerdict other verdict
 plain one other (Unfounded datagram number) same (j, place, first, least) =
     let back = turned one other same in (
       j,

@@ -6,8 +6,7 @@ use Rattle.std.specs.List.Sorted.{IsNonDecreasingBy, IsPermutation}
 use Rattle.std.proofs.lemmas.List.Sorted.{Contains-permutation, IsPermutation-sym}
 use Rattle.std.proofs.lemmas.List.{get_or_default}
 use Rattle.std.proofs.lemmas.Bool.{cases_lt}
-use Rattle.rtps_audit.specs.Delivery.{PayloadValue}
-use Rattle.rtps_audit.specs.Facts.{payload_of}
+use Rattle.rtps_wire.specs.Values.{PayloadValue, payload_value}
 use Rattle.rtps_audit.specs.RunVerdict.{IsLeast}
 use Rattle.rtps_audit.specs.Samples.{IsKept, KeepsTwo, Agrees, number_of}
 use Rattle.rtps_audit.specs.declared.sample.Sample.{Sample}
@@ -17,7 +16,7 @@ abbrev number_at : List Sample → Sample → ℕ → ℕ
 number_at xs d k = number_of (get_or xs k d)
 
 abbrev payload_at : List Sample → Sample → ℕ → PayloadValue
-payload_at xs d k = payload_of (get_or xs k d).payload
+payload_at xs d k = payload_value (get_or xs k d).payload
 
 -- where neighbours agree below a place, any two samples of one number do
 agree : (xs : List Sample) (d : Sample) (high : ℕ) → high ≤ length xs → IsNonDecreasingBy number_of xs → AllAdjacentBelow Agrees xs high
@@ -49,7 +48,7 @@ apart xs high n within sorted adjacent x y one two differ le lt =
     let second : get_or xs j d ≡ two.sample = get_or_default xs j d two.sample two.among.1 ∙ two.among.2 in
     let same : number_at xs d i ≡ number_at xs d j = ap number_of first ∙ one.number ∙ sym two.number ∙ sym (ap number_of second) in
     let equal = agree xs d high within sorted adjacent i j le lt same in
-    differ (sym one.value ∙ sym (ap (λ (s : Sample). payload_of s.payload) first) ∙ equal ∙ ap (λ (s : Sample). payload_of s.payload) second ∙ two.value)
+    differ (sym one.value ∙ sym (ap (λ (s : Sample). payload_value s.payload) first) ∙ equal ∙ ap (λ (s : Sample). payload_value s.payload) second ∙ two.value)
 
 none_below : (xs : List Sample) (high n : ℕ) → high ≤ length xs → IsNonDecreasingBy number_of xs → AllAdjacentBelow Agrees xs high
     → (x y : PayloadValue) (one : IsKept xs n x) (two : IsKept xs n y) → x ≢ y → one.among.0 < high → two.among.0 < high → ⊥

@@ -1,12 +1,7 @@
 -- Delivery of one writer's numbers to one reader. DDSI-RTPS 2.5, 8.4 "Behavior Module", and 8.3.8.1 "AckNack",
 -- 8.3.8.2 "Data", 8.3.8.4 "Gap" and 8.3.8.6 "Heartbeat", which say what each submessage tells.
 use Rattle.std.specs.Prelude.{ℕ, suc, ◌<◌, ◌≤◌, ◌≡◌, List, [], ◌∷◌, ◌++◌, length, max, Option, Some, slice_get, Contains}
-
--- the payload of a change: none, a whole one, or a key alone
-pub data PayloadValue : Type 0 where
-  Absent : PayloadValue
-  Whole : (octets : List ℕ) → PayloadValue
-  Key : (octets : List ℕ) → PayloadValue
+use Rattle.rtps_wire.specs.Values.{PayloadValue}
 
 -- what a reader may be told of a number: its payload, or that it will not come
 pub data Word : Type 0 where

@@ -1,23 +1,15 @@
 -- What the facts of one datagram say.
 use Rattle.std.specs.Prelude.{ℕ, Bool, false, ◌≡◌, ◌-◌, ◌||◌, ◌≤◌, ◌<◌, ◌^◌, ◌&&◌, ◌==◌, nat_le, if◌then◌else◌, List, Option, Some, None}
 use Rattle.std.specs.List.{filter_map}
-use Rattle.rtps_audit.specs.Delivery.{PayloadValue, Word, Datagram}
-use Rattle.rtps_audit.specs.Delivery.PayloadValue.{Absent as absent, Whole as whole, Key as key}
+use Rattle.rtps_wire.specs.Values.{payload_value}
+use Rattle.rtps_audit.specs.Delivery.{Word, Datagram}
 use Rattle.rtps_audit.specs.Delivery.Word.{Told as told, Gone as gone}
-use Rattle.rtps_audit.specs.declared.fact.Payload.{Payload}
-use Rattle.rtps_audit.specs.declared.fact.Payload.TheVariants.{Absent, Whole, Key}
 use Rattle.rtps_audit.specs.declared.fact.Fact.{Fact}
 use Rattle.rtps_audit.specs.declared.fact.Fact.TheVariants.{Told, Gone, Claimed, Announced}
 
--- a payload, with octets in place of a slice
-abbrev pub payload_of : Payload → PayloadValue
-payload_of Absent = absent
-payload_of (Whole octets) = whole octets.now
-payload_of (Key octets) = key octets.now
-
 -- the words that a fact has for numbers, if it tells any
 abbrev pub act_of : Fact → Option (ℕ → Option Word)
-act_of (Told number payload) = Some (λ n. if n == number then Some (told (payload_of payload)) else None)
+act_of (Told number payload) = Some (λ n. if n == number then Some (told (payload_value payload)) else None)
 act_of (Gone first last) = Some (λ n. if nat_le first n && nat_le n last then Some gone else None)
 act_of (Claimed base) = None
 act_of (Announced number) = None

@@ -1,11 +1,12 @@
 -- What a judge knows of the datagrams that it noted.
 use Rattle.std.specs.Prelude.{ℕ, Bool, true, ◌≡◌, ◌≤◌, ◌<◌, ◌-◌, ◌^◌, ◌↔◌, max, [], ◌∷◌, length, MatchOption}
-use Rattle.rtps_audit.specs.Delivery.{PayloadValue, Speech, greatest, last_announced}
+use Rattle.rtps_wire.specs.Values.{PayloadValue}
+use Rattle.rtps_audit.specs.Delivery.{Speech, greatest, last_announced}
 use Rattle.rtps_audit.specs.Delivery.Word.{Told}
 use Rattle.rtps_audit.specs.RunVerdict.{IsTold}
 use Rattle.rtps_audit.specs.PlainVerdict.{IsFounded, IsSpoken, IsPlainVerdict}
 use Rattle.rtps_audit.specs.Samples.{IsKept}
-use Rattle.rtps_audit.specs.declared.judge.Judge.{Judge}
+use Rattle.rtps_audit.specs.declared.judge_state.Judge.{Judge}
 use Rattle.rtps_audit.specs.declared.verdict.Verdict.TheVariants.{Unfounded}
 
 -- the greatest base of an answer, or 0

@@ -1,6 +1,7 @@
 -- The same verdict by conditions on the recording alone, with no run in them.
 use Rattle.std.specs.Prelude.{ℕ, ◌≤◌, ◌+◌, ◌≡◌, ◌≢◌, pos}
-use Rattle.rtps_audit.specs.Delivery.{Word, Speech, PayloadValue, Gives, Claims, last_announced}
+use Rattle.rtps_wire.specs.Values.{PayloadValue}
+use Rattle.rtps_audit.specs.Delivery.{Word, Speech, Gives, Claims, last_announced}
 use Rattle.rtps_audit.specs.Delivery.Word.{Told}
 use Rattle.rtps_audit.specs.RunVerdict.{IsLeast, OnNatural, IsTold, ClaimsUntold}
 use Rattle.rtps_audit.specs.declared.verdict.Verdict.{Verdict}

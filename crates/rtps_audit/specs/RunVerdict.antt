@@ -1,6 +1,7 @@
 -- The verdict on a recording by all its runs.
 use Rattle.std.specs.Prelude.{ℕ, ◌<◌, ◌≤◌, ◌+◌, ◌≡◌, ◌≢◌, ℤ, pos, negsuc, length, Contains}
-use Rattle.rtps_audit.specs.Delivery.{Word, Speech, State, PayloadValue, Gives, Claims, Holds, IsReached, Ends, HasRun, last_announced}
+use Rattle.rtps_wire.specs.Values.{PayloadValue}
+use Rattle.rtps_audit.specs.Delivery.{Word, Speech, State, Gives, Claims, Holds, IsReached, Ends, HasRun, last_announced}
 use Rattle.rtps_audit.specs.Delivery.Word.{Told}
 use Rattle.rtps_audit.specs.declared.verdict.Verdict.{Verdict}
 use Rattle.rtps_audit.specs.declared.verdict.Verdict.TheVariants.{Unfounded, Conflict, Open, Complete}

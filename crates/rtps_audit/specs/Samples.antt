@@ -1,7 +1,6 @@
 -- Payloads that are kept by number.
 use Rattle.std.specs.Prelude.{ℕ, ◌<◌, ◌^◌, ◌≡◌, ◌≢◌, List, Option, Some, None, Contains}
-use Rattle.rtps_audit.specs.Delivery.{PayloadValue}
-use Rattle.rtps_audit.specs.Facts.{payload_of}
+use Rattle.rtps_wire.specs.Values.{PayloadValue, payload_value}
 use Rattle.rtps_audit.specs.declared.fact.Fact.{Fact}
 use Rattle.rtps_audit.specs.declared.fact.Fact.TheVariants.{Told, Gone, Claimed, Announced}
 use Rattle.rtps_audit.specs.declared.sample.Sample.{Sample}
@@ -22,7 +21,7 @@ pub record IsKept (samples : List Sample) (n : ℕ) (payload : PayloadValue) : T
   pub sample : Sample
   pub among : Contains samples sample
   pub number : sample.number ≡ n
-  pub value : payload_of sample.payload ≡ payload
+  pub value : payload_value sample.payload ≡ payload
 
 -- two different payloads are kept for the number
 abbrev pub KeepsTwo : List Sample → ℕ → Type 0
@@ -30,7 +29,7 @@ KeepsTwo samples n = (x : PayloadValue) × (y : PayloadValue) × IsKept samples 
 
 -- samples of one number have one payload
 abbrev pub Agrees : Sample → Sample → Type 0
-Agrees x y = x.number ≡ y.number → payload_of x.payload ≡ payload_of y.payload
+Agrees x y = x.number ≡ y.number → payload_value x.payload ≡ payload_value y.payload
 
 abbrev pub number_of : Sample → ℕ
 number_of sample = sample.number

@@ -1,13 +1,7 @@
 ghost use Rattle.std.specs.Prelude.{◌≡◌, ◌↔◌, IsTrue};
-ghost use Rattle.rtps_audit.specs.Facts.{payload_of};
+ghost use Rattle.rtps_wire.specs.Values.{payload_value};
 
-/// The payload of a change: none, a whole one, or a key alone.
-#[derive(Clone, Copy, Debug)]
-pub(crate) enum Payload<'a> {
-    Absent,
-    Whole(&'a [u8]),
-    Key(&'a [u8]),
-}
+use rtps_wire::Payload;
 
 /// What an act says of a writer and a reader, in one part of several.
 #[derive(Clone, Copy, Debug)]
@@ -24,7 +18,7 @@ pub(crate) enum Fact<'a> {
 
 /// Whether two payloads are equal in kind and octets.
 pub(crate) fn is_same_payload(one: Payload<'_>, other: Payload<'_>) -> bool
-    ensures { IsTrue result ↔ (payload_of one.entry ≡ payload_of other.entry) }
+    ensures { IsTrue result ↔ (payload_value one.entry ≡ payload_value other.entry) }
 {
     match (one, other) {
         (Payload::Absent, Payload::Absent) => true,

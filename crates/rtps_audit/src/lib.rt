@@ -2,16 +2,26 @@
 //! (DDSI-RTPS 2.5, 8.4 "RTPS Behavior Specification").
 #![tactic(auto)]
 
+mod auditing;
 mod claims;
+mod counting;
 mod coverage;
 mod fact;
-mod judge;
+mod judge_state;
+mod judging;
 pub mod laws;
 mod plain_ranges;
+mod report;
+mod said;
 mod sample;
+#[cfg(test)]
+mod tests;
 mod verdict;
 mod words;
 
+pub use auditing::audit;
 pub use coverage::Coverage;
+pub use judging::{judge, judge_by};
 pub use plain_ranges::PlainRanges;
+pub use report::{Counts, Report, Row};
 pub use verdict::Verdict;

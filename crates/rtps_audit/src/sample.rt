@@ -3,7 +3,8 @@ ghost use Rattle.std.specs.List.Sorted.{IsNonDecreasingBy};
 ghost use Rattle.rtps_audit.specs.RunVerdict.{IsLeast};
 ghost use Rattle.rtps_audit.specs.Samples.{KeepsTwo, number_of};
 
-use crate::fact::{Payload, is_same_payload};
+use crate::fact::is_same_payload;
+use rtps_wire::Payload;
 
 /// A number and a payload that was spoken for it.
 #[derive(Clone, Copy, Debug)]

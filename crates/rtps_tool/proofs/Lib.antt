@@ -1,4 +1,5 @@
 pub mod LinesLemmas
+pub mod ListLemmas
 pub mod PiecesLemmas
 pub mod RecordingLemmas
 pub mod WordsLemmas

@@ -1,5 +1,6 @@
 pub mod Answers
 pub mod Lines
+pub mod ListText
 pub mod Places
 pub mod RecordingText
 pub mod Runs

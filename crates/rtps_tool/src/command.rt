@@ -1,5 +1,6 @@
-ghost use Rattle.std.specs.Prelude.{◌≡◌, true, false, IfOk, IfErr, MatchOption, map};
-ghost use Rattle.clap.specs.Words.{app_of, subcommand_of, subcommand_rows_of, takes};
+ghost use Rattle.std.specs.Prelude.{◌≡◌, true, false, codes, IfOk, IfErr, List, [], MatchOption, map, unwrap_or};
+ghost use Rattle.std.specs.String.{string_bytes};
+ghost use Rattle.clap.specs.Words.{app_of, first_of, found_of, rows_of, subcommand_of, subcommand_rows_of, takes};
 ghost use Rattle.clap.specs.declared.builder.command.Command.TheViews.{out-Command};
 ghost use Rattle.rtps_tool.specs.Words.{program as program_app, reading_app, IsChoice, HasItsKind};
 
@@ -12,6 +13,8 @@ use std::alloc::{AllocError, Global};
 pub enum Choice {
     /// Show each datagram and its submessages.
     Show { file: String },
+    /// List participants, endpoints and the pairs that match.
+    List { file: String },
 }
 
 /// Why the words ask for nothing that can be run.
@@ -79,13 +82,23 @@ fn reading_subcommand<'a>(
 fn program<'a>(alloc: Global) -> Result<Command<'a>, AllocError>
     ensures { IfOk result (λ command. app_of command ≡ program_app) }
 {
-    let about = "Shows each datagram of a recording and its submessages";
-    let show = reading_subcommand(alloc, "show", about)?;
+    let shows = "Shows each datagram of a recording and its submessages";
+    let lists = "Lists participants, endpoints and pairs of writers and readers that match";
+    let show = reading_subcommand(alloc, "show", shows)?;
+    let list = reading_subcommand(alloc, "list", lists)?;
     Command::new(alloc, "rtps-audit")
-        .about("Shows recordings of RTPS datagrams")
+        .about("Shows recordings of RTPS datagrams, and what discovery tells in them")
         .after_help(STATUSES)
         .subcommand_required(true)
-        .subcommand(show)
+        .subcommand(show)?
+        .subcommand(list)
+}
+
+// The FILE of a subcommand; empty where it has none.
+fn file_of(alloc: Global, found: &ArgMatches) -> Result<String, AllocError>
+    ensures { IfOk result (λ file. string_bytes file ≡ unwrap_or (first_of (codes "FILE") (rows_of (found_of found.now))) []) }
+{
+    String::from_str(alloc, found.get_str("FILE").unwrap_or(""))
 }
 
 // What the matches choose; None where they have no subcommand that can be chosen.
@@ -94,11 +107,15 @@ fn choice_of(alloc: Global, matches: &ArgMatches) -> Result<Option<Choice>, Allo
         ((chosen : Choice) → ¬ IsChoice (subcommand_rows_of matches.now) chosen)
         (IsChoice (subcommand_rows_of matches.now))) }
 {
-    let Some(show) = matches.subcommand_matches("show") else {
-        return Ok(None);
-    };
-    let file = String::from_str(alloc, show.get_str("FILE").unwrap_or(""))?;
-    Ok(Some(Choice::Show { file }))
+    if let Some(show) = matches.subcommand_matches("show") {
+        let file = file_of(alloc, show)?;
+        return Ok(Some(Choice::Show { file }));
+    }
+    if let Some(list) = matches.subcommand_matches("list") {
+        let file = file_of(alloc, list)?;
+        return Ok(Some(Choice::List { file }));
+    }
+    Ok(None)
 }
 
 /// Reads the words of the command line, of which the first is the program's name.

@@ -1,5 +1,6 @@
 ghost use Rattle.std.specs.Prelude.{◌≡◌};
 
+use rtps_ids::Memory;
 use std::alloc::{AllocError, AllocFailed};
 use thiserror::Error;
 
@@ -85,6 +86,16 @@ impl From<AllocError> for RunFault {
     ghost from_gives = { λ _ fault. fault ≡ Memory };
 
     fn from(_error: AllocError) -> RunFault {
+        RunFault::Memory
+    }
+}
+
+impl From<Memory> for RunFault {
+    ghost use Rattle.rtps_tool.specs.declared.faults.RunFault.TheVariants.{Memory};
+
+    ghost from_gives = { λ _ fault. fault ≡ Memory };
+
+    fn from(_error: Memory) -> RunFault {
         RunFault::Memory
     }
 }

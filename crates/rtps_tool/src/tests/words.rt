@@ -57,17 +57,28 @@ fn a_line_that_cannot_be_written_is_told(rt: HostRuntime) {
     assert!(rt; !write_fault(&RunFault::Input, &mut room.as_mut_slice()));
 }
 
+// The subcommand and the FILE that the words choose, or why they choose none.
+fn chosen_of(alloc: Global, words: &[&str]) -> Result<(&'static str, String), WordFault> {
+    Ok(match read_words(alloc, words)? {
+        Choice::Show { file } => ("show", file),
+        Choice::List { file } => ("list", file),
+    })
+}
+
 #[test]
-fn show_is_chosen_with_its_file(rt: HostRuntime) -> Result<(), Fail> {
+fn a_subcommand_is_chosen_with_its_file(rt: HostRuntime) -> Result<(), Fail> {
     let alloc = rt.alloc();
-    for name in ["-", "a file.rec", "--"] {
-        let words = ["rtps-audit", "show", "--", name];
-        let Choice::Show { file } = read_words(alloc, &words).expect(&rt, "a choice");
-        assert_eq!(rt; file.as_str(), name);
+    for subcommand in ["show", "list"] {
+        for name in ["-", "a file.rec", "--"] {
+            let words = ["rtps-audit", subcommand, "--", name];
+            let (chosen, file) = chosen_of(alloc, &words).expect(&rt, "a choice");
+            assert_eq!(rt; chosen, subcommand);
+            assert_eq!(rt; file.as_str(), name);
+        }
+        let words = ["rtps-audit", subcommand, "-"];
+        let (_, file) = chosen_of(alloc, &words).expect(&rt, "a choice");
+        assert_eq!(rt; file.as_str(), "-");
     }
-    let words = ["rtps-audit", "show", "-"];
-    let Choice::Show { file } = read_words(alloc, &words).expect(&rt, "a choice");
-    assert_eq!(rt; file.as_str(), "-");
     Ok(())
 }
 
@@ -95,6 +106,7 @@ fn other_words_are_refused(rt: HostRuntime) {
     assert!(rt; are_refused(alloc, &["rtps-audit"]));
     assert!(rt; are_refused(alloc, &["rtps-audit", "shows", "-"]));
     assert!(rt; are_refused(alloc, &["rtps-audit", "show"]));
+    assert!(rt; are_refused(alloc, &["rtps-audit", "list"]));
     assert!(rt; are_refused(alloc, &["rtps-audit", "show", "a", "b"]));
     assert!(rt; are_refused(alloc, &["rtps-audit", "show", "--all", "-"]));
 }

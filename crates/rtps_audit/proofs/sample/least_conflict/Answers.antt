@@ -1,5 +1,5 @@
 use Rattle.std.proofs.Common.{arith, rules}
-use Rattle.rtps_audit.specs.declared.fact.Payload.TheVariants.{Absent}
+use Rattle.rtps_wire.specs.declared.body.Payload.TheVariants.{Absent}
 use Rattle.rtps_audit.proofs.SampleLemmas.{no_two, least_two_at}
 use Rattle.rtps_audit.proofs.sample.least_conflict.Goals as goal
 

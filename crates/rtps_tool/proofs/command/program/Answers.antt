@@ -10,4 +10,6 @@ returns c =
     let about_is = ap app_of_fields c.after_help.ensures ∙ ap app_of_fields c.about.ensures ∙ c.new.ensures.app in
     let bare_is : app_of c.subcommand_required.result ≡ bare_program = ap app_of_fields c.subcommand_required.ensures ∙ ap (on_top (λ s. record s { subcommand_required = true })) about_is in
     let show_is = ap (λ (a : App). a.top) c.in_ok-show.ensures.app in
-    IfOk-weaker c.subcommand.result _ _ (λ command added. added.shape c.in_ok-show.ensures.local ∙ ap₂ with_subcommand bare_is show_is) c.subcommand.ensures
+    let list_is = ap (λ (a : App). a.top) c.in_ok-list.ensures.app in
+    let one_is = c.in_ok-subcommand.ensures.shape c.in_ok-show.ensures.local ∙ ap₂ with_subcommand bare_is show_is in
+    IfOk-weaker c.subcommand-2.result _ _ (λ command added. added.shape c.in_ok-list.ensures.local ∙ ap₂ with_subcommand one_is list_is) c.subcommand-2.ensures

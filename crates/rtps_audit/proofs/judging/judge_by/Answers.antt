@@ -1,0 +1,8 @@
+use Rattle.rtps_audit.proofs.DeliveredLemmas.{complete_where, complete_if_plain}
+use Rattle.rtps_audit.proofs.judging.judge_by.Goals as goal
+
+pub returns-clause-complete : goal.returns-clause-complete
+returns-clause-complete g c = complete_where _ _ c.in_ok-verdict.ensures
+
+pub returns-clause-plain : goal.returns-clause-plain
+returns-clause-plain g c = complete_if_plain _ _ c.in_ok-verdict.ensures

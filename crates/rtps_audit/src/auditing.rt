@@ -1,0 +1,104 @@
+ghost use Rattle.std.specs.Prelude.{ℤ, ◌≡◌, ◌↔◌, ◌++◌, List, map, All, IfOk, OnOk};
+ghost use Rattle.rtps_receiver.specs.Acts.{acts_left, acts_of};
+ghost use Rattle.rtps_receiver.specs.Values.{ActValue};
+ghost use Rattle.rtps_wire.specs.Reading.{reading_of};
+ghost use Rattle.rtps_discovery.specs.Directory.{IsMapOf};
+ghost use Rattle.rtps_audit.specs.Delivered.{IsDelivered};
+ghost use Rattle.rtps_audit.specs.Noted.{acts_among};
+ghost use Rattle.rtps_audit.specs.Report.{IsJudged, IsReport, acts_in};
+ghost use Rattle.rtps_audit.specs.Speech.{speech_of};
+
+use crate::counting::counts_in;
+use crate::judging::judge;
+use crate::report::{Report, Row};
+use crate::verdict::Verdict;
+use rtps_discovery::{Directory, Pair};
+use rtps_ids::Memory;
+use rtps_receiver::Acts;
+use std::alloc::Global;
+
+/// Notes what is still to come of a datagram.
+fn note_acts<'a>(directory: &mut Directory<'a>, acts: Acts<'a>) -> Result<(), Memory>
+    ensures { OnOk result ((before : List ActValue) → IsMapOf before directory.old
+        → IsMapOf (before ++ acts_among (acts_left acts.entry)) directory.new) }
+{
+    for outcome in acts {
+        match outcome {
+            Ok(act) => {
+                let _ = directory.note(&act)?;
+            }
+            Err(_) => {}
+        }
+    }
+    Ok(())
+}
+
+/// Notes a datagram.
+fn note_datagram<'a>(directory: &mut Directory<'a>, datagram: &'a [u8]) -> Result<(), Memory>
+    ensures { OnOk result ((before : List ActValue) → IsMapOf before directory.old
+        → IsMapOf (before ++ acts_of (reading_of datagram.now)) directory.new) }
+{
+    match Acts::open(datagram) {
+        Ok(acts) => note_acts(directory, acts)?,
+        Err(_) => {}
+    }
+    Ok(())
+}
+
+/// What a recording announces.
+fn directory_of<'a>(alloc: Global, recording: &[&'a [u8]]) -> Result<Directory<'a>, Memory>
+    ensures { IfOk result (IsMapOf (acts_in (map (λ datagram. datagram.now) recording.now))) }
+{
+    let mut directory = Directory::new(alloc);
+    for datagram in recording {
+        note_datagram(&mut directory, datagram)?;
+    }
+    Ok(directory)
+}
+
+/// Judges each of these pairs.
+fn rows_of(alloc: Global, recording: &[&[u8]], pairs: &[Pair]) -> Result<Vec<Row>, Memory>
+    ensures pairs { IfOk result (λ rows. map (λ row. row.pair) rows.items ≡ pairs.now) }
+    ensures judged { IfOk result (λ rows.
+        All (IsJudged (map (λ datagram. datagram.now) recording.now)) rows.items) }
+{
+    let mut rows = Vec::new(alloc);
+    for pair in pairs {
+        let verdict = judge(alloc, recording, *pair)?;
+        rows.push(Row {
+            pair: *pair,
+            verdict,
+        })?;
+    }
+    Ok(rows)
+}
+
+/// Audits a recording, any datagrams, well formed or not.
+///
+/// It reports exactly the matched reliable pairs, and reports a pair complete exactly where a run exists and every run
+/// of a conforming reader over a losing, repeating, reordering network, whose sent datagrams are exactly the
+/// recording, ends with each number announced by the writer received with its one recorded payload or told gone by
+/// GAP or HEARTBEAT. The other verdicts are exact too, each with its numbers.
+///
+/// What a row says of a test rests on these premises:
+/// - the recording holds all datagrams that were sent, no others, in the order of sending;
+/// - the reader acknowledges a number only when it has a word for it: its payload, or that it will not come;
+/// - it learns of numbers by DATA, GAP and HEARTBEAT alone;
+/// - memory was found: the answer is `Ok`.
+///
+/// Nothing is assumed of the writer.
+pub fn audit(alloc: Global, recording: &[&[u8]]) -> Result<Report, Memory>
+    // The rows are of the matched reliable pairs in order, each with its verdict, and the six counts are exact.
+    ensures report { IfOk result (IsReport (map (λ datagram. datagram.now) recording.now)) }
+
+    // A row is complete exactly where every run delivers.
+    ensures complete { let octets = map (λ datagram. datagram.now) recording.now in
+        IfOk result (λ report. All (λ row. (last : ℤ) → (row.verdict ≡ Verdict.Complete last)
+        ↔ IsDelivered (speech_of row.pair.writer row.pair.reader octets) last) report.rows.items) }
+{
+    let directory = directory_of(alloc, recording)?;
+    let pairs = directory.pairs()?;
+    let rows = rows_of(alloc, recording, &pairs)?;
+    let counts = counts_in(recording, directory.unsettled() as u64);
+    Ok(Report { rows, counts })
+}

@@ -1,0 +1,70 @@
+ghost use Rattle.std.specs.Prelude.{ℤ, ◌≡◌, ◌↔◌, pos, map, IfOk};
+ghost use Rattle.rtps_audit.specs.Delivered.{IsDelivered, IsPlain};
+ghost use Rattle.rtps_audit.specs.Delivery.{last_announced};
+ghost use Rattle.rtps_audit.specs.RunVerdict.{IsVerdict};
+ghost use Rattle.rtps_audit.specs.Speech.{speech_of};
+
+use crate::coverage::Coverage;
+use crate::judge_state::Judge;
+use crate::plain_ranges::PlainRanges;
+use crate::said::push_datagram;
+use crate::verdict::Verdict;
+use rtps_discovery::Pair;
+use rtps_ids::{Guid, Memory};
+use std::alloc::Global;
+
+/// The verdict on a writer and a reader, datagram by datagram.
+fn judged<C: Coverage>(
+    alloc: Global,
+    recording: &[&[u8]],
+    writer: Guid,
+    reader: Guid,
+) -> Result<Verdict, Memory>
+    ensures { IfOk result (IsVerdict
+        (speech_of writer reader (map (λ datagram. datagram.now) recording.now))) }
+{
+    let mut judge = Judge::<C>::new(alloc);
+    let mut facts = Vec::new(alloc);
+    for datagram in recording {
+        facts.clear();
+        push_datagram(&mut facts, datagram, writer, reader)?;
+        judge.note(&facts)?;
+    }
+    Ok(judge.verdict())
+}
+
+/// Judges what a recording says of a writer and a reader, any two GUIDs, with the covered numbers in a set of this
+/// kind. The recording is the datagrams in the order of sending.
+pub fn judge_by<C: Coverage>(
+    alloc: Global,
+    recording: &[&[u8]],
+    pair: Pair,
+) -> Result<Verdict, Memory>
+    // Each verdict is answered exactly where all runs give it, with its numbers.
+    ensures verdict { IfOk result (IsVerdict
+        (speech_of pair.writer pair.reader (map (λ datagram. datagram.now) recording.now))) }
+
+    // Complete is answered exactly where every run delivers.
+    ensures complete { let speech = speech_of pair.writer pair.reader (map (λ datagram. datagram.now) recording.now) in
+        IfOk result (λ verdict. (last : ℤ) → (verdict ≡ Verdict.Complete last) ↔ IsDelivered speech last) }
+
+    // The plain condition is enough for it.
+    ensures plain { let speech = speech_of pair.writer pair.reader (map (λ datagram. datagram.now) recording.now) in
+        IfOk result (λ verdict. IsPlain speech → verdict ≡ Verdict.Complete (pos (last_announced speech))) }
+{
+    let verdict = judged::<C>(alloc, recording, pair.writer, pair.reader)?;
+    Ok(verdict)
+}
+
+/// Judges what a recording says of a writer and a reader, any two GUIDs. The recording is the datagrams in the order
+/// of sending.
+pub fn judge(alloc: Global, recording: &[&[u8]], pair: Pair) -> Result<Verdict, Memory>
+    ensures verdict { IfOk result (IsVerdict
+        (speech_of pair.writer pair.reader (map (λ datagram. datagram.now) recording.now))) }
+    ensures complete { let speech = speech_of pair.writer pair.reader (map (λ datagram. datagram.now) recording.now) in
+        IfOk result (λ verdict. (last : ℤ) → (verdict ≡ Verdict.Complete last) ↔ IsDelivered speech last) }
+    ensures plain { let speech = speech_of pair.writer pair.reader (map (λ datagram. datagram.now) recording.now) in
+        IfOk result (λ verdict. IsPlain speech → verdict ≡ Verdict.Complete (pos (last_announced speech))) }
+{
+    judge_by::<PlainRanges>(alloc, recording, pair)
+}

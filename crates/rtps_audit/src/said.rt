@@ -1,0 +1,218 @@
+ghost use Rattle.std.specs.Prelude.{ℕ, ◌≡◌, ◌+◌, ◌<◌, ◌^◌, ◌++◌, [], ◌∷◌, List, None, OnOk, IfSome};
+ghost use Rattle.std.specs.Option.{option_to_list};
+ghost use Rattle.rtps_wire.specs.Reading.{reading_of};
+ghost use Rattle.rtps_receiver.specs.Acts.{acts_left, acts_of};
+ghost use Rattle.rtps_receiver.specs.Values.{ActValue, act_body_value, act_value};
+ghost use Rattle.rtps_receiver.specs.Values.ActBodyValue.{Gap};
+ghost use Rattle.rtps_audit.specs.Speech.{announced_for, announced_of_body, base_for, base_of_body, is_answer, is_below_list, is_heard_by, is_spoken_by, word_for, word_of};
+ghost use Rattle.rtps_audit.specs.Noted.{Adds, StandFor, acts_among, gone_where, is_bit};
+
+use crate::fact::Fact;
+use rtps_ids::{Guid, Memory, NumberSet};
+use rtps_receiver::{Act, ActBody, Acts};
+use rtps_wire::GapBody;
+
+/// The base of an ACKNACK.
+fn base_in(body: &ActBody<'_>) -> Option<u64>
+    ensures value { result ≡ base_of_body (act_body_value body.now) }
+    ensures in_range { IfSome result (λ base. base < 2 ^ 63) }
+{
+    match body {
+        ActBody::AckNack(ack_nack) => Some(ack_nack.set.base().cast_unsigned()),
+        ActBody::Data(_) | ActBody::Heartbeat(_) | ActBody::Gap(_) => None,
+    }
+}
+
+/// The number that a DATA or a HEARTBEAT announces.
+fn number_in(body: &ActBody<'_>) -> Option<u64>
+    ensures value { result ≡ announced_of_body (act_body_value body.now) }
+    ensures in_range { IfSome result (λ number. number < 2 ^ 63) }
+{
+    match body {
+        ActBody::Data(data) => Some(data.number.get().cast_unsigned()),
+        ActBody::Heartbeat(heartbeat) => Some(heartbeat.last.max(0).cast_unsigned()),
+        ActBody::AckNack(_) | ActBody::Gap(_) => None,
+    }
+}
+
+/// Whether an act answers, as a test.
+fn is_answered(act: &Act<'_>, writer: Guid, reader: Guid) -> bool
+    ensures { result ≡ is_answer (act_value act.now) reader writer }
+{
+    act.answers(reader, writer)
+}
+
+/// Whether an act is spoken by the writer, as a test.
+fn is_spoken(act: &Act<'_>, writer: Guid) -> bool
+    ensures { result ≡ is_spoken_by (act_value act.now) writer }
+{
+    act.spoken_by(writer)
+}
+
+/// Whether an act is heard by the reader, as a test.
+fn is_heard(act: &Act<'_>, reader: Guid) -> bool
+    ensures { result ≡ is_heard_by (act_value act.now) reader }
+{
+    act.heard_by(reader)
+}
+
+/// What the reader claims by an act.
+fn push_claim<'a>(
+    facts: &mut Vec<Fact<'a>>,
+    act: &Act<'_>,
+    writer: Guid,
+    reader: Guid,
+) -> Result<(), Memory>
+    ensures { OnOk result (Adds facts.old.items facts.new.items
+        (option_to_list (base_for writer reader (act_value act.now))) [] (λ n. None)) }
+{
+    if !is_answered(act, writer, reader) {
+        return Ok(());
+    }
+    if let Some(base) = base_in(&act.body) {
+        facts.push(Fact::Claimed { base })?;
+    }
+    Ok(())
+}
+
+/// What the writer announces by an act.
+fn push_number<'a>(facts: &mut Vec<Fact<'a>>, act: &Act<'_>, writer: Guid) -> Result<(), Memory>
+    ensures { OnOk result (Adds facts.old.items facts.new.items
+        [] (option_to_list (announced_for writer (act_value act.now))) (λ n. None)) }
+{
+    if !is_spoken(act, writer) {
+        return Ok(());
+    }
+    if let Some(number) = number_in(&act.body) {
+        facts.push(Fact::Announced { number })?;
+    }
+    Ok(())
+}
+
+/// The number of one bit, where it is in the set.
+fn push_bit<'a>(facts: &mut Vec<Fact<'a>>, set: &NumberSet, bit: u32) -> Result<(), Memory>
+    ensures { OnOk result (Adds facts.old.items facts.new.items [] [] (gone_where (is_bit set.now bit))) }
+{
+    let number = set.base().cast_unsigned() + u64::from(bit);
+    if set.contains(number.cast_signed()) {
+        facts.push(Fact::Gone {
+            first: number,
+            last: number,
+        })?;
+    }
+    Ok(())
+}
+
+/// The numbers from the start of a GAP on and below the base of its list.
+fn push_range<'a>(facts: &mut Vec<Fact<'a>>, gap: &GapBody) -> Result<(), Memory>
+    ensures { OnOk result (Adds facts.old.items facts.new.items [] []
+        (gone_where (is_below_list gap.now))) }
+{
+    facts.push(Fact::Gone {
+        first: gap.start.get().cast_unsigned(),
+        last: gap.list.base().cast_unsigned().saturating_sub(1),
+    })?;
+    Ok(())
+}
+
+/// The numbers of a GAP. A set has 256 numbers at most.
+fn push_gap<'a>(facts: &mut Vec<Fact<'a>>, gap: &GapBody) -> Result<(), Memory>
+    ensures { OnOk result (Adds facts.old.items facts.new.items [] [] (word_of (Gap gap.now))) }
+{
+    push_range(facts, gap)?;
+    for bit in 0..gap.list.count() {
+        push_bit(facts, &gap.list, bit)?;
+    }
+    Ok(())
+}
+
+/// The words of an act.
+fn push_words<'a>(facts: &mut Vec<Fact<'a>>, body: &ActBody<'a>) -> Result<(), Memory>
+    ensures { OnOk result (Adds facts.old.items facts.new.items [] [] (word_of (act_body_value body.now))) }
+{
+    match body {
+        ActBody::Data(data) => {
+            facts.push(Fact::Told {
+                number: data.number.get().cast_unsigned(),
+                payload: data.payload,
+            })?;
+            Ok(())
+        }
+        ActBody::Heartbeat(heartbeat) => {
+            facts.push(Fact::Gone {
+                first: 1,
+                last: heartbeat.first.get().cast_unsigned() - 1,
+            })?;
+            Ok(())
+        }
+        ActBody::Gap(gap) => push_gap(facts, gap),
+        ActBody::AckNack(_) => Ok(()),
+    }
+}
+
+/// The words that the reader hears from the writer by an act.
+fn push_heard<'a>(
+    facts: &mut Vec<Fact<'a>>,
+    act: &Act<'a>,
+    writer: Guid,
+    reader: Guid,
+) -> Result<(), Memory>
+    ensures { OnOk result (Adds facts.old.items facts.new.items [] [] (word_for writer reader (act_value act.now))) }
+{
+    if is_spoken(act, writer) && is_heard(act, reader) {
+        push_words(facts, &act.body)?;
+    }
+    Ok(())
+}
+
+/// The facts of one act more.
+fn push_act<'a>(
+    facts: &mut Vec<Fact<'a>>,
+    act: &Act<'a>,
+    writer: Guid,
+    reader: Guid,
+) -> Result<(), Memory>
+    ensures { OnOk result ((acts : List ActValue) → StandFor writer reader facts.old.items acts
+        → StandFor writer reader facts.new.items (acts ++ act_value act.now ∷ [])) }
+{
+    push_claim(facts, act, writer, reader)?;
+    push_number(facts, act, writer)?;
+    push_heard(facts, act, writer, reader)?;
+    Ok(())
+}
+
+/// The facts of what is still to come of a datagram.
+fn push_acts<'a>(
+    facts: &mut Vec<Fact<'a>>,
+    acts: Acts<'a>,
+    writer: Guid,
+    reader: Guid,
+) -> Result<(), Memory>
+    requires { facts.old.items ≡ [] }
+    ensures { OnOk result (StandFor writer reader facts.new.items (acts_among (acts_left acts.entry))) }
+{
+    for outcome in acts {
+        match outcome {
+            Ok(act) => push_act(facts, &act, writer, reader)?,
+            Err(_) => {}
+        }
+    }
+    Ok(())
+}
+
+/// The facts of one datagram, which say of the writer and the reader what its acts say.
+pub(crate) fn push_datagram<'a>(
+    facts: &mut Vec<Fact<'a>>,
+    datagram: &'a [u8],
+    writer: Guid,
+    reader: Guid,
+) -> Result<(), Memory>
+    requires { facts.old.items ≡ [] }
+    ensures { OnOk result (StandFor writer reader facts.new.items (acts_of (reading_of datagram.now))) }
+{
+    match Acts::open(datagram) {
+        Ok(acts) => push_acts(facts, acts, writer, reader)?,
+        Err(_) => {}
+    }
+    Ok(())
+}

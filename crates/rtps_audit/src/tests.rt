@@ -1,0 +1,342 @@
+use crate::{Counts, Report, Verdict, audit, judge};
+use rtps_discovery::Pair;
+use rtps_ids::{EntityId, Guid, GuidPrefix};
+use std::alloc::{AllocError, Global};
+use std::test::Fail;
+
+/// The header of a message of the writer's participant.
+const HEADER_A: [u8; 20] = *b"\
+    \x52\x54\x50\x53\x02\x05\x00\x00\xaa\xaa\xaa\xaa\xaa\xaa\xaa\xaa\
+    \xaa\xaa\xaa\xaa";
+
+/// The header of a message of the reader's participant.
+const HEADER_B: [u8; 20] = *b"\
+    \x52\x54\x50\x53\x02\x05\x00\x00\xbb\xbb\xbb\xbb\xbb\xbb\xbb\xbb\
+    \xbb\xbb\xbb\xbb";
+
+/// An INFO_DST that names the writer's participant.
+const TO_A: [u8; 16] = *b"\
+    \x0e\x00\x00\x0c\xaa\xaa\xaa\xaa\xaa\xaa\xaa\xaa\xaa\xaa\xaa\xaa";
+
+/// An INFO_DST that names a third participant.
+const TO_C: [u8; 16] = *b"\
+    \x0e\x00\x00\x0c\xcc\xcc\xcc\xcc\xcc\xcc\xcc\xcc\xcc\xcc\xcc\xcc";
+
+/// An INFO_DST that names everyone.
+const TO_ALL: [u8; 16] = *b"\
+    \x0e\x00\x00\x0c\x00\x00\x00\x00\x00\x00\x00\x00\x00\x00\x00\x00";
+
+/// The announcement of a writer.
+const WRITER_W: [u8; 84] = *b"\
+    \x15\x04\x00\x50\x00\x00\x00\x10\x00\x00\x00\x00\x00\x00\x03\xc2\
+    \x00\x00\x00\x00\x00\x00\x00\x01\x00\x02\x00\x00\x00\x5a\x00\x10\
+    \xaa\xaa\xaa\xaa\xaa\xaa\xaa\xaa\xaa\xaa\xaa\xaa\x00\x00\x01\x03\
+    \x00\x05\x00\x0c\x00\x00\x00\x05\x70\x6f\x73\x65\x00\x00\x00\x00\
+    \x00\x07\x00\x0c\x00\x00\x00\x05\x50\x6f\x73\x65\x00\x00\x00\x00\
+    \x00\x01\x00\x00";
+
+/// The announcement of a RELIABLE reader.
+const READER_R: [u8; 100] = *b"\
+    \x15\x04\x00\x60\x00\x00\x00\x10\x00\x00\x00\x00\x00\x00\x04\xc2\
+    \x00\x00\x00\x00\x00\x00\x00\x01\x00\x02\x00\x00\x00\x5a\x00\x10\
+    \xbb\xbb\xbb\xbb\xbb\xbb\xbb\xbb\xbb\xbb\xbb\xbb\x00\x00\x01\x04\
+    \x00\x05\x00\x0c\x00\x00\x00\x05\x70\x6f\x73\x65\x00\x00\x00\x00\
+    \x00\x07\x00\x0c\x00\x00\x00\x05\x50\x6f\x73\x65\x00\x00\x00\x00\
+    \x00\x1a\x00\x0c\x00\x00\x00\x02\x00\x00\x00\x00\x00\x00\x00\x00\
+    \x00\x01\x00\x00";
+
+/// Another announcement of the reader, with another durability.
+const READER_R_OTHER: [u8; 108] = *b"\
+    \x15\x04\x00\x68\x00\x00\x00\x10\x00\x00\x00\x00\x00\x00\x04\xc2\
+    \x00\x00\x00\x00\x00\x00\x00\x02\x00\x02\x00\x00\x00\x5a\x00\x10\
+    \xbb\xbb\xbb\xbb\xbb\xbb\xbb\xbb\xbb\xbb\xbb\xbb\x00\x00\x01\x04\
+    \x00\x05\x00\x0c\x00\x00\x00\x05\x70\x6f\x73\x65\x00\x00\x00\x00\
+    \x00\x07\x00\x0c\x00\x00\x00\x05\x50\x6f\x73\x65\x00\x00\x00\x00\
+    \x00\x1a\x00\x0c\x00\x00\x00\x02\x00\x00\x00\x00\x00\x00\x00\x00\
+    \x00\x1d\x00\x04\x00\x00\x00\x01\x00\x01\x00\x00";
+
+/// A HEARTBEAT of numbers 1 to 3.
+const HEARTBEAT_1_TO_3: [u8; 32] = *b"\
+    \x07\x00\x00\x1c\x00\x00\x00\x00\x00\x00\x01\x03\x00\x00\x00\x00\
+    \x00\x00\x00\x01\x00\x00\x00\x00\x00\x00\x00\x03\x00\x00\x00\x01";
+
+/// A HEARTBEAT of numbers 4 and 5.
+const HEARTBEAT_4_TO_5: [u8; 32] = *b"\
+    \x07\x00\x00\x1c\x00\x00\x00\x00\x00\x00\x01\x03\x00\x00\x00\x00\
+    \x00\x00\x00\x04\x00\x00\x00\x00\x00\x00\x00\x05\x00\x00\x00\x01";
+
+/// A HEARTBEAT of numbers 3 to 1, which is refused.
+const HEARTBEAT_BAD: [u8; 32] = *b"\
+    \x07\x00\x00\x1c\x00\x00\x00\x00\x00\x00\x01\x03\x00\x00\x00\x00\
+    \x00\x00\x00\x03\x00\x00\x00\x00\x00\x00\x00\x01\x00\x00\x00\x01";
+
+/// A GAP of the numbers 2, 3, 4 and 6.
+const GAP_2_TO_4_AND_6: [u8; 36] = *b"\
+    \x08\x00\x00\x20\x00\x00\x00\x00\x00\x00\x01\x03\x00\x00\x00\x00\
+    \x00\x00\x00\x02\x00\x00\x00\x00\x00\x00\x00\x05\x00\x00\x00\x02\
+    \x40\x00\x00\x00";
+
+/// A DATA_FRAG.
+const FRAGMENT: [u8; 8] = *b"\
+    \x16\x00\x00\x04\x00\x00\x00\x00";
+
+/// A submessage of an unknown id.
+const UNKNOWN: [u8; 12] = *b"\
+    \x80\x00\x00\x08\x00\x11\x22\x33\x44\x55\x66\x77";
+
+/// A piece of a datagram. A header begins the next one.
+#[derive(Clone, Copy)]
+enum Piece {
+    HeaderA,
+    HeaderB,
+    ToA,
+    ToC,
+    ToAll,
+    WriterW,
+    ReaderR,
+    ReaderROther,
+    Heartbeat1To3,
+    Heartbeat4To5,
+    HeartbeatBad,
+    Gap2To4And6,
+    Fragment,
+    Unknown,
+    /// The number, and the last octet of the payload.
+    Data(u8, u8),
+    /// The base.
+    AckNack(u8),
+}
+
+use Piece::{
+    AckNack, Data, Fragment, Gap2To4And6, HeaderA, HeaderB, Heartbeat1To3, Heartbeat4To5,
+    HeartbeatBad, ReaderR, ReaderROther, ToA, ToAll, ToC, Unknown, WriterW,
+};
+
+fn push_data(datagram: &mut Vec<u8>, number: u8, last: u8) -> Result<(), AllocError> {
+    let mut piece =
+        *b"\x15\x04\x00\x1c\x00\x00\x00\x10\x00\x00\x00\x00\x00\x00\x01\x03\x00\x00\x00\x00\x00\x00\x00\x00\x00\x00\x00\x00\x00\x00\x00\x00";
+    piece[23] = number;
+    piece[31] = last;
+    datagram.extend_from_slice(&piece)
+}
+
+fn push_ack_nack(datagram: &mut Vec<u8>, base: u8) -> Result<(), AllocError> {
+    let mut piece =
+        *b"\x06\x00\x00\x18\x00\x00\x01\x04\x00\x00\x01\x03\x00\x00\x00\x00\x00\x00\x00\x00\x00\x00\x00\x00\x00\x00\x00\x01";
+    piece[19] = base;
+    datagram.extend_from_slice(&piece)
+}
+
+fn push_piece(datagram: &mut Vec<u8>, piece: Piece) -> Result<(), AllocError> {
+    match piece {
+        HeaderA => datagram.extend_from_slice(&HEADER_A),
+        HeaderB => datagram.extend_from_slice(&HEADER_B),
+        ToA => datagram.extend_from_slice(&TO_A),
+        ToC => datagram.extend_from_slice(&TO_C),
+        ToAll => datagram.extend_from_slice(&TO_ALL),
+        WriterW => datagram.extend_from_slice(&WRITER_W),
+        ReaderR => datagram.extend_from_slice(&READER_R),
+        ReaderROther => datagram.extend_from_slice(&READER_R_OTHER),
+        Heartbeat1To3 => datagram.extend_from_slice(&HEARTBEAT_1_TO_3),
+        Heartbeat4To5 => datagram.extend_from_slice(&HEARTBEAT_4_TO_5),
+        HeartbeatBad => datagram.extend_from_slice(&HEARTBEAT_BAD),
+        Gap2To4And6 => datagram.extend_from_slice(&GAP_2_TO_4_AND_6),
+        Fragment => datagram.extend_from_slice(&FRAGMENT),
+        Unknown => datagram.extend_from_slice(&UNKNOWN),
+        Data(number, last) => push_data(datagram, number, last),
+        AckNack(base) => push_ack_nack(datagram, base),
+    }
+}
+
+fn push_all(
+    alloc: Global,
+    datagrams: &mut Vec<Vec<u8>>,
+    pieces: &[Piece],
+) -> Result<(), AllocError> {
+    for piece in pieces {
+        if matches!(piece, HeaderA | HeaderB) {
+            datagrams.push(Vec::new(alloc))?;
+        }
+        if let Some(datagram) = datagrams.last_mut() {
+            push_piece(datagram, *piece)?;
+        }
+    }
+    Ok(())
+}
+
+/// The audit of a recording of the announcements of the pair and then these pieces.
+fn audited(alloc: Global, pieces: &[Piece]) -> Result<Report, Fail> {
+    let mut datagrams = Vec::new(alloc);
+    push_all(alloc, &mut datagrams, &[HeaderA, WriterW, HeaderB, ReaderR])?;
+    push_all(alloc, &mut datagrams, pieces)?;
+    let mut slices: Vec<&[u8]> = Vec::new(alloc);
+    for datagram in &datagrams {
+        slices.push(datagram.as_slice())?;
+    }
+    Ok(audit(alloc, &slices)?)
+}
+
+/// The verdict of the one pair.
+fn verdict_of(alloc: Global, pieces: &[Piece]) -> Result<Verdict, Fail> {
+    let report = audited(alloc, pieces)?;
+    match report.rows.as_slice() {
+        [row] => Ok(row.verdict),
+        _ => Err("one row".into()),
+    }
+}
+
+fn pair() -> Pair {
+    Pair {
+        writer: Guid {
+            prefix: GuidPrefix([0xaa; 12]),
+            entity: EntityId([0, 0, 1, 3]),
+        },
+        reader: Guid {
+            prefix: GuidPrefix([0xbb; 12]),
+            entity: EntityId([0, 0, 1, 4]),
+        },
+    }
+}
+
+#[test]
+fn samples_that_were_all_acknowledged_are_complete(rt: HostRuntime) -> Result<(), Fail> {
+    let report = audited(
+        rt.alloc(),
+        &[
+            HeaderA,
+            Data(1, 1),
+            HeaderA,
+            Data(2, 2),
+            HeaderA,
+            Data(3, 3),
+            Heartbeat1To3,
+            HeaderB,
+            ToA,
+            AckNack(4),
+        ],
+    )?;
+    assert_eq!(rt; report.rows.len(), 1);
+    assert!(rt;
+        report.rows.iter().all(|row| row.pair == pair()
+            && row.verdict == Verdict::Complete { last: 3 })
+    );
+    let counts = Counts {
+        datagrams: 6,
+        refused: 0,
+        skipped: 0,
+        fragments: 0,
+        undirected: 0,
+        unsettled: 0,
+    };
+    assert_eq!(rt; report.counts, counts);
+    Ok(())
+}
+
+#[test]
+fn verdicts_of_recordings(rt: HostRuntime) -> Result<(), Fail> {
+    let alloc = rt.alloc();
+    let conflict = [
+        HeaderA,
+        Data(1, 1),
+        Data(2, 2),
+        HeaderA,
+        Data(2, 9),
+        HeaderB,
+        ToA,
+        AckNack(3),
+    ];
+    assert_eq!(rt;
+        verdict_of(alloc, &conflict)?,
+        Verdict::Conflict { number: 2 }
+    );
+    let early = [
+        HeaderA,
+        Data(1, 1),
+        Data(2, 2),
+        HeaderB,
+        ToA,
+        AckNack(4),
+        HeaderA,
+        Data(3, 3),
+    ];
+    let unfounded = Verdict::Unfounded {
+        datagram: 4,
+        number: 3,
+    };
+    assert_eq!(rt; verdict_of(alloc, &early)?, unfounded);
+    let gap = [
+        HeaderA,
+        Data(1, 1),
+        Gap2To4And6,
+        Data(5, 5),
+        HeaderB,
+        ToA,
+        AckNack(7),
+    ];
+    assert_eq!(rt; verdict_of(alloc, &gap)?, Verdict::Complete { last: 5 });
+    let late = [
+        HeaderA,
+        Heartbeat4To5,
+        Data(4, 4),
+        Data(5, 5),
+        HeaderB,
+        ToA,
+        AckNack(6),
+    ];
+    assert_eq!(rt; verdict_of(alloc, &late)?, Verdict::Complete { last: 5 });
+    let elsewhere = [
+        HeaderA,
+        Data(1, 1),
+        ToC,
+        Data(2, 2),
+        ToAll,
+        Data(3, 3),
+        HeaderB,
+        ToA,
+        AckNack(4),
+    ];
+    let unfounded = Verdict::Unfounded {
+        datagram: 4,
+        number: 2,
+    };
+    assert_eq!(rt; verdict_of(alloc, &elsewhere)?, unfounded);
+    Ok(())
+}
+
+#[test]
+fn what_is_counted(rt: HostRuntime) -> Result<(), Fail> {
+    let report = audited(
+        rt.alloc(),
+        &[
+            HeaderA,
+            Data(1, 1),
+            Unknown,
+            HeartbeatBad,
+            Data(2, 2),
+            HeaderA,
+            Fragment,
+            HeaderB,
+            AckNack(2),
+            HeaderB,
+            ReaderROther,
+        ],
+    )?;
+    assert_eq!(rt; report.rows.len(), 0);
+    let counts = Counts {
+        datagrams: 6,
+        refused: 1,
+        skipped: 1,
+        fragments: 1,
+        undirected: 1,
+        unsettled: 1,
+    };
+    assert_eq!(rt; report.counts, counts);
+    Ok(())
+}
+
+#[test]
+fn a_pair_of_any_two_guids_is_judged(rt: HostRuntime) -> Result<(), Fail> {
+    let alloc = rt.alloc();
+    assert_eq!(rt; judge(alloc, &[], pair())?, Verdict::Complete { last: 0 });
+    Ok(())
+}

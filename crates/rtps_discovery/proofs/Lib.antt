@@ -1,0 +1,16 @@
+pub mod FieldsFound
+pub mod GuidLaws
+pub mod Participants
+pub mod Entries
+pub mod Same
+pub mod MapSteps
+pub mod Matched
+pub mod Slices
+pub mod Topics
+pub mod Listing
+pub mod Members
+pub mod SortedEntries
+pub mod MapLaws
+pub mod ListingLaws
+pub mod EachHasAMap
+pub mod Told

@@ -1,0 +1,151 @@
+-- What a payload announces, or the first fault that it has. DDSI-RTPS 2.5, 8.5 "Discovery Module", 9.6 "Mapping of the
+-- RTPS Protocol" (ids of parameters) and 10 "Serialized Payload Representation".
+use Rattle.std.specs.Prelude.{ℕ, ◌≡◌, ◌==◌, ◌&&◌, ◌||◌, nat_lt, Bool, if◌then◌else◌, List, [], ◌∷◌, length, drop, replicate, slice_index, is_err, Option, Some, None, is_none, unwrap_or, option_and_then, Result, Ok, Err}
+use Rattle.rtps_ids.specs.declared.identity.Guid.{Guid}
+use Rattle.rtps_ids.specs.declared.order.Order.{Order}
+use Rattle.rtps_ids.specs.declared.order.Order.TheVariants.{Big, Little}
+use Rattle.rtps_params.specs.Grammar.{Pairs}
+use Rattle.rtps_params.specs.Reading.{first_value, list_end, pairs_of}
+use Rattle.rtps_params.specs.Values.{guid_of, text_of, u32_of}
+use Rattle.rtps_discovery.specs.Endpoint.{EndpointValue}
+use Rattle.rtps_discovery.specs.declared.endpoint.Durability.{Durability}
+use Rattle.rtps_discovery.specs.declared.endpoint.Durability.TheVariants.{Volatile, TransientLocal, Transient, Persistent}
+use Rattle.rtps_discovery.specs.declared.endpoint.Reliability.{Reliability}
+use Rattle.rtps_discovery.specs.declared.endpoint.Reliability.TheVariants.{BestEffort, Reliable}
+use Rattle.rtps_discovery.specs.declared.endpoint.Side.{Side}
+use Rattle.rtps_discovery.specs.declared.endpoint.Side.TheVariants.{Writer, Reader}
+use Rattle.rtps_discovery.specs.declared.fault.NoticeFault.{NoticeFault}
+use Rattle.rtps_discovery.specs.declared.fault.NoticeFault.TheVariants as fault
+
+-- the first fault whose condition holds, or else the value
+abbrev pub unless_fault : {X : Type 0} → List (NoticeFault × Bool) → X → Result X NoticeFault
+unless_fault [] value = Ok value
+unless_fault (row ∷ rows) value = if row.1 then Err row.0 else unless_fault rows value
+
+-- what the value says, or the fault that comes before it
+abbrev pub or_fault : {X Y : Type 0} → Result X NoticeFault → (X → Result Y NoticeFault) → Result Y NoticeFault
+or_fault (Ok value) says = says value
+or_fault (Err fault) says = Err fault
+
+-- the parameters of a payload, and the order of the numbers in their values
+pub record Fields : Type 0 where
+  pub order : Order
+  pub pairs : Pairs
+
+-- the first two octets name the representation: 00 02 is PL_CDR_BE, and 00 03 PL_CDR_LE
+abbrev pub order_of : List ℕ → Option Order
+order_of payload =
+    if slice_index payload 0 == 0 && (slice_index payload 1 == 2) then Some Big
+    else if slice_index payload 0 == 0 && (slice_index payload 1 == 3) then Some Little
+    else None
+
+abbrev pub payload_order : List ℕ → Order
+payload_order payload = unwrap_or (order_of payload) Big
+
+-- the list begins behind the representation and two octets of options (own: these are ignored, since neither
+-- representation has any)
+abbrev pub list_part : List ℕ → List ℕ
+list_part payload = drop 4 payload
+
+unfoldable pub fields_of : List ℕ → Result Fields NoticeFault
+fields_of payload =
+    unless_fault (
+    (fault.CutRepresentation, nat_lt (length payload) 4)
+    ∷ (fault.Representation, is_none (order_of payload))
+    ∷ (fault.List, is_err (list_end (payload_order payload) (list_part payload)))
+    ∷ [])
+    (record { order = payload_order payload; pairs = pairs_of (payload_order payload) (list_part payload) })
+
+-- the value of the first parameter of this id (own: of two parameters of one id the first counts)
+abbrev pub field : ℕ → Fields → Option (List ℕ)
+field pid fields = first_value pid fields.pairs
+
+abbrev pub guid_field : ℕ → Fields → Option Guid
+guid_field pid fields = option_and_then guid_of (field pid fields)
+
+abbrev pub text_field : ℕ → Fields → Option (List ℕ)
+text_field pid fields = option_and_then (text_of fields.order) (field pid fields)
+
+-- what the first four octets of a value tell, or the default where there is no such parameter
+abbrev pub kind_in : {X : Type 0} → Order → (ℕ → Option X) → X → Option (List ℕ) → Option X
+kind_in order of_kind default None = Some default
+kind_in order of_kind default (Some value) = option_and_then of_kind (u32_of order value)
+
+abbrev pub kind_field : {X : Type 0} → ℕ → (ℕ → Option X) → X → Fields → Option X
+kind_field pid of_kind default fields = kind_in fields.order of_kind default (field pid fields)
+
+-- the parameters that are read: PID_PARTICIPANT_GUID 0x0050, PID_ENDPOINT_GUID 0x005a,
+-- PID_TOPIC_NAME 0x0005, PID_TYPE_NAME 0x0007, PID_RELIABILITY 0x001a, PID_DURABILITY 0x001d
+abbrev pub participant_guid : Fields → Option Guid
+participant_guid = guid_field 0x0050
+
+abbrev pub endpoint_guid : Fields → Option Guid
+endpoint_guid = guid_field 0x005a
+
+abbrev pub topic_of : Fields → Option (List ℕ)
+topic_of = text_field 0x0005
+
+abbrev pub type_name_of : Fields → Option (List ℕ)
+type_name_of = text_field 0x0007
+
+abbrev pub reliability_of_kind : ℕ → Option Reliability
+reliability_of_kind kind = if kind == 1 then Some BestEffort else if kind == 2 then Some Reliable else None
+
+-- own: a reliability that is not told is the default of DDS, RELIABLE for a writer and BEST_EFFORT for a reader
+abbrev pub default_reliability : Side → Reliability
+default_reliability Writer = Reliable
+default_reliability Reader = BestEffort
+
+abbrev pub reliability_of : Side → Fields → Option Reliability
+reliability_of side = kind_field 0x001a reliability_of_kind (default_reliability side)
+
+abbrev pub durability_of_kind : ℕ → Option Durability
+durability_of_kind kind =
+    if kind == 0 then Some Volatile
+    else if kind == 1 then Some TransientLocal
+    else if kind == 2 then Some Transient
+    else if kind == 3 then Some Persistent
+    else None
+
+-- own: a durability that is not told is the default of DDS, VOLATILE
+abbrev pub durability_of : Fields → Option Durability
+durability_of = kind_field 0x001d durability_of_kind Volatile
+
+-- what stands in a value that nobody reads, since there is a fault: GUID_UNKNOWN
+abbrev pub unknown_guid : Guid
+unknown_guid = record { prefix = record { 0 = replicate 12 0 }; entity = record { 0 = replicate 4 0 } }
+
+unfoldable pub participant_in : Fields → Result Guid NoticeFault
+participant_in fields = unless_fault ((fault.NoGuid, is_none (participant_guid fields)) ∷ []) (unwrap_or (participant_guid fields) unknown_guid)
+
+-- the participant that a payload announces, or its first fault
+abbrev pub participant_of : List ℕ → Result Guid NoticeFault
+participant_of payload = or_fault (fields_of payload) participant_in
+
+unfoldable pub endpoint_in : Side → Fields → Result EndpointValue NoticeFault
+endpoint_in side fields =
+    unless_fault (
+    (fault.NoGuid, is_none (endpoint_guid fields))
+    ∷ (fault.NoTopic, is_none (field 0x0005 fields))
+    ∷ (fault.NoType, is_none (field 0x0007 fields))
+    ∷ (fault.BadText, is_none (topic_of fields) || is_none (type_name_of fields))
+    ∷ (fault.BadReliability, is_none (reliability_of side fields))
+    ∷ (fault.BadDurability, is_none (durability_of fields))
+    ∷ [])
+    (record {
+      guid = unwrap_or (endpoint_guid fields) unknown_guid;
+      side = side;
+      topic = unwrap_or (topic_of fields) [];
+      type_name = unwrap_or (type_name_of fields) [];
+      reliability = unwrap_or (reliability_of side fields) BestEffort;
+      durability = unwrap_or (durability_of fields) Volatile;
+    })
+
+-- the endpoint that a payload announces, or its first fault
+abbrev pub endpoint_of : Side → List ℕ → Result EndpointValue NoticeFault
+endpoint_of side payload = or_fault (fields_of payload) (endpoint_in side)
+
+-- a reader answers what is said, its value by way of `view`
+abbrev pub Answers : {X Y : Type 0} → (X → Y) → Result X NoticeFault → Result Y NoticeFault → Type 0
+Answers view (Ok x) said = said ≡ Ok (view x)
+Answers view (Err fault) said = said ≡ Err fault

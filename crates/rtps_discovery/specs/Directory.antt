@@ -1,0 +1,71 @@
+-- The map of a list of acts. own: announcements of one GUID that disagree cannot all be true, and the order in which a
+-- recording has them says nothing, so such a GUID stands as unsettled, and the map is the same in whatever order the
+-- acts come.
+use Rattle.std.specs.Prelude.{◌≡◌, ◌≢◌, ◌↔◌, List, Contains, Option, Some, None}
+use Rattle.std.specs.List.Sorted.{IsStrictlySortedBy}
+use Rattle.std.specs.List.{filter, filter_map}
+use Rattle.std.specs.Map.{keys_of, lookup}
+use Rattle.std.specs.BTreeMap.{is_at}
+use Rattle.std.specs.Option.{is_none}
+use Rattle.rtps_ids.specs.declared.identity.Guid.{Guid}
+use Rattle.rtps_receiver.specs.Values.{ActValue}
+use Rattle.rtps_discovery.specs.Endpoint.{EndpointValue}
+use Rattle.rtps_discovery.specs.GuidOrder.{guid_cmp}
+use Rattle.rtps_discovery.specs.Notice.{endpoints_among, participants_among}
+
+-- beside a GUID, its one announcement, or None where its announcements disagree
+abbrev pub Entries : Type 0
+Entries = List (Guid × Option EndpointValue)
+
+-- the participants, and the endpoints, each in the order of their GUIDs
+pub record DirectoryValue : Type 0 where
+  pub participants : List Guid
+  pub endpoints : Entries
+
+-- what is beside this GUID
+abbrev pub entry_at : Entries → Guid → Option (Option EndpointValue)
+entry_at entries guid = lookup (is_at (guid_cmp guid)) entries
+
+-- an endpoint that is announced, and of whose GUID nothing else is: all its announcements are equal in the six fields
+pub record IsSettled (announced : List EndpointValue) (endpoint : EndpointValue) : Type 0 where
+  pub is_announced : Contains announced endpoint
+  pub alone : (other : EndpointValue) → Contains announced other → other.guid ≡ endpoint.guid → other ≡ endpoint
+
+-- a GUID of which two announcements differ
+pub record IsUnsettled (announced : List EndpointValue) (guid : Guid) : Type 0 where
+  pub one : EndpointValue
+  pub other : EndpointValue
+  pub one_announced : Contains announced one
+  pub other_announced : Contains announced other
+  pub one_of : one.guid ≡ guid
+  pub other_of : other.guid ≡ guid
+  pub differ : one ≢ other
+
+-- what is beside a GUID: nothing where no announcement is of it
+abbrev pub IsEntry : List EndpointValue → Guid → Option (Option EndpointValue) → Type 0
+IsEntry announced guid None = (endpoint : EndpointValue) → Contains announced endpoint → endpoint.guid ≢ guid
+IsEntry announced guid (Some (Some endpoint)) = (endpoint.guid ≡ guid) × IsSettled announced endpoint
+IsEntry announced guid (Some None) = IsUnsettled announced guid
+
+-- the GUIDs that are announced, in order, each once
+pub record AreParticipants (announced participants : List Guid) : Type 0 where
+  pub in_order : IsStrictlySortedBy guid_cmp participants
+  pub announced_alone : (guid : Guid) → Contains participants guid ↔ Contains announced guid
+
+-- an entry for each GUID that is announced, in order
+pub record AreEntries (announced : List EndpointValue) (entries : Entries) : Type 0 where
+  pub in_order : IsStrictlySortedBy guid_cmp (keys_of entries)
+  pub each : (guid : Guid) → IsEntry announced guid (entry_at entries guid)
+
+-- the map of a list of acts; a participant's GUID and an endpoint's are kept apart
+pub record IsMapOf (acts : List ActValue) (map : DirectoryValue) : Type 0 where
+  pub participants : AreParticipants (participants_among acts) map.participants
+  pub endpoints : AreEntries (endpoints_among acts) map.endpoints
+
+-- the endpoints whose announcements agree, in the order of their GUIDs
+abbrev pub settled_in : Entries → List EndpointValue
+settled_in entries = filter_map (λ entry. entry.1) entries
+
+-- the GUIDs whose announcements disagree, in order
+abbrev pub unsettled_in : Entries → List Guid
+unsettled_in entries = keys_of (filter (λ entry. is_none entry.1) entries)

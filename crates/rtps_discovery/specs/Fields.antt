@@ -1,0 +1,7 @@
+-- What a parameter list of the code says.
+use Rattle.rtps_params.specs.Shown.{list_order, list_pairs}
+use Rattle.rtps_params.specs.declared.list.ParamList.{ParamList}
+use Rattle.rtps_discovery.specs.Announcement.{Fields}
+
+abbrev pub fields_value : ParamList → Fields
+fields_value list = record { order = list_order list; pairs = list_pairs list }

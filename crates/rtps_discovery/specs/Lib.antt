@@ -1,0 +1,11 @@
+pub mod Announcement
+pub mod Directory
+pub mod Endpoint
+pub mod Fields
+pub mod GuidOrder
+pub mod Kept
+pub mod Listings
+pub mod Matching
+pub mod Notice
+pub mod TopicIndex
+pub mod Told

@@ -1,0 +1,73 @@
+-- Which writers and readers match. DDSI-RTPS 2.5, 8.5.4 "The Simple Endpoint Discovery Protocol", and DDS 1.4, 2.2.3
+-- "Supported QoS": a reader asks for no more than the writer offers.
+use Rattle.std.specs.Prelude.{ℕ, ◌≡◌, ◌≤◌, nat_le, nat_eq, Bool, true, false, ◌&&◌, List, filter, flat_map, map}
+use Rattle.std.specs.Cmp.Lexicographic.{pointwise}
+use Rattle.rtps_discovery.specs.Endpoint.{EndpointValue}
+use Rattle.rtps_discovery.specs.declared.endpoint.Durability.{Durability}
+use Rattle.rtps_discovery.specs.declared.endpoint.Durability.TheVariants.{Volatile, TransientLocal, Transient, Persistent}
+use Rattle.rtps_discovery.specs.declared.endpoint.Reliability.{Reliability}
+use Rattle.rtps_discovery.specs.declared.endpoint.Reliability.TheVariants.{BestEffort, Reliable}
+use Rattle.rtps_discovery.specs.declared.endpoint.Side.{Side}
+use Rattle.rtps_discovery.specs.declared.endpoint.Side.TheVariants.{Writer, Reader}
+use Rattle.rtps_discovery.specs.declared.matching.Match.{Match}
+use Rattle.rtps_discovery.specs.declared.matching.Pair.{Pair}
+
+-- how strong a reliability is, and a durability
+abbrev pub reliability_rank : Reliability → ℕ
+reliability_rank BestEffort = 0
+reliability_rank Reliable = 1
+
+abbrev pub durability_rank : Durability → ℕ
+durability_rank Volatile = 0
+durability_rank TransientLocal = 1
+durability_rank Transient = 2
+durability_rank Persistent = 3
+
+-- own: these four alone decide; partitions and the other policies take no part
+pub record Matches (writer reader : EndpointValue) : Type 0 where
+  pub is_writer : writer.side ≡ Writer
+  pub is_reader : reader.side ≡ Reader
+  pub one_topic : writer.topic ≡ reader.topic
+  pub one_type : writer.type_name ≡ reader.type_name
+  pub reliable_enough : reliability_rank reader.reliability ≤ reliability_rank writer.reliability
+  pub durable_enough : durability_rank reader.durability ≤ durability_rank writer.durability
+
+-- the same as a test
+abbrev pub is_writer : Side → Bool
+is_writer Writer = true
+is_writer Reader = false
+
+abbrev pub is_reader : Side → Bool
+is_reader Writer = false
+is_reader Reader = true
+
+unfoldable pub is_match : EndpointValue → EndpointValue → Bool
+is_match writer reader =
+    is_writer writer.side && (is_reader reader.side
+    && (pointwise nat_eq writer.topic reader.topic && (pointwise nat_eq writer.type_name reader.type_name
+    && (nat_le (reliability_rank reader.reliability) (reliability_rank writer.reliability)
+    && nat_le (durability_rank reader.durability) (durability_rank writer.durability)))))
+
+-- a writer and a reader that match; their pair is reliable where both are
+abbrev pub is_reliable : Reliability → Bool
+is_reliable BestEffort = false
+is_reliable Reliable = true
+
+abbrev pub match_of : EndpointValue → EndpointValue → Match
+match_of writer reader =
+    record {
+      pair = record { writer = writer.guid; reader = reader.guid };
+      reliable = is_reliable writer.reliability && is_reliable reader.reliability;
+    }
+
+-- the matches of a writer among endpoints, in their order
+abbrev pub matches_of : EndpointValue → List EndpointValue → List Match
+matches_of writer endpoints = map (match_of writer) (filter (is_match writer) endpoints)
+
+-- the matches among endpoints: each of them beside each, in order
+abbrev pub matches_among : List EndpointValue → List Match
+matches_among endpoints = flat_map (λ writer. matches_of writer endpoints) endpoints
+
+-- the pairs of those in which both are reliable
+abbrev pub reliable_pairs : List Match → List Pair
+reliable_pairs matches = map (λ found. found.pair) (filter (λ found. found.reliable) matches)

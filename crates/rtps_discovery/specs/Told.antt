@@ -1,0 +1,13 @@
+-- What the parameters of a payload tell of an endpoint, field by field.
+use Rattle.std.specs.Prelude.{◌≡◌, Some}
+use Rattle.rtps_discovery.specs.Announcement.{Fields, durability_of, endpoint_guid, reliability_of, topic_of, type_name_of}
+use Rattle.rtps_discovery.specs.Endpoint.{EndpointValue}
+use Rattle.rtps_discovery.specs.declared.endpoint.Side.{Side}
+
+pub record IsToldBy (side : Side) (fields : Fields) (endpoint : EndpointValue) : Type 0 where
+  pub of_guid : endpoint_guid fields ≡ Some endpoint.guid
+  pub of_side : endpoint.side ≡ side
+  pub of_topic : topic_of fields ≡ Some endpoint.topic
+  pub of_type : type_name_of fields ≡ Some endpoint.type_name
+  pub of_reliability : reliability_of side fields ≡ Some endpoint.reliability
+  pub of_durability : durability_of fields ≡ Some endpoint.durability

@@ -1,0 +1,140 @@
+ghost use Rattle.std.specs.Prelude.{◌≡◌, ◌≤◌, length, option_copied};
+ghost use Rattle.rtps_discovery.specs.Announcement.{Answers, durability_of as durability_of_lem, endpoint_in, endpoint_of, fields_of as fields_of_lem, guid_field, order_of, participant_in, participant_of, reliability_of as reliability_of_lem};
+ghost use Rattle.rtps_discovery.specs.Endpoint.{endpoint_value};
+ghost use Rattle.rtps_discovery.specs.Fields.{fields_value};
+
+use crate::endpoint::{Durability, Endpoint, Reliability, Side};
+use crate::fault::NoticeFault;
+use rtps_ids::{Guid, Order};
+use rtps_params::{ParamList, read_guid, read_text, read_u32};
+
+/// The ids of the parameters that are read (DDSI-RTPS 2.5, 9.6 "Mapping of the RTPS Protocol").
+const TOPIC_NAME: u16 = 0x0005;
+
+const TYPE_NAME: u16 = 0x0007;
+
+const RELIABILITY: u16 = 0x001a;
+
+const DURABILITY: u16 = 0x001d;
+
+const PARTICIPANT_GUID: u16 = 0x0050;
+
+const ENDPOINT_GUID: u16 = 0x005a;
+
+/// The GUID of the participant that a payload announces, or the payload's first fault.
+#[tactic(auto, unfolding(crate::specs::Announcement::participant_in))]
+pub fn read_participant(payload: &[u8]) -> Result<Guid, NoticeFault>
+    ensures { Answers (λ guid. guid) result (participant_of payload.now) }
+{
+    match fields_of(payload) {
+        Ok(list) => guid_of(&list, PARTICIPANT_GUID).ok_or(NoticeFault::NoGuid),
+        Err(fault) => Err(fault),
+    }
+}
+
+/// The endpoint of this side that a payload announces, or the payload's first fault.
+pub fn read_endpoint(payload: &[u8], side: Side) -> Result<Endpoint<'_>, NoticeFault>
+    ensures { Answers endpoint_value result (endpoint_of side payload.now) }
+{
+    match fields_of(payload) {
+        Ok(list) => endpoint_of(&list, side),
+        Err(fault) => Err(fault),
+    }
+}
+
+/// The list of a payload: behind two octets of representation and two of options, in the order that the representation
+/// names (DDSI-RTPS 2.5, 10 "Serialized Payload Representation"). What follows its sentinel is ignored.
+#[tactic(auto, unfolding(crate::specs::Announcement::fields_of))]
+fn fields_of(payload: &[u8]) -> Result<ParamList<'_>, NoticeFault>
+    ensures { Answers fields_value result (fields_of_lem payload.now) }
+{
+    if payload.len() < 4 {
+        return Err(NoticeFault::CutRepresentation);
+    }
+    let Some(order) = payload_order(payload) else {
+        return Err(NoticeFault::Representation);
+    };
+    match ParamList::read(&payload[4..], order) {
+        Ok((list, _)) => Ok(list),
+        Err(_) => Err(NoticeFault::List),
+    }
+}
+
+/// The order that a payload's representation names, if it is one of parameter lists.
+fn payload_order(payload: &[u8]) -> Option<Order>
+    requires { 4 ≤ length payload.now }
+    ensures { result ≡ order_of payload.now }
+{
+    if payload[0] == 0 && payload[1] == 2 {
+        Some(Order::Big)
+    } else if payload[0] == 0 && payload[1] == 3 {
+        Some(Order::Little)
+    } else {
+        None
+    }
+}
+
+/// The endpoint that a list tells of.
+#[tactic(auto, unfolding(crate::specs::Announcement::endpoint_in))]
+fn endpoint_of<'a>(list: &ParamList<'a>, side: Side) -> Result<Endpoint<'a>, NoticeFault>
+    ensures { Answers endpoint_value result (endpoint_in side (fields_value list.now)) }
+{
+    let guid = guid_of(list, ENDPOINT_GUID).ok_or(NoticeFault::NoGuid)?;
+    let topic = list.first(TOPIC_NAME).ok_or(NoticeFault::NoTopic)?;
+    let type_name = list.first(TYPE_NAME).ok_or(NoticeFault::NoType)?;
+    let order = list.order();
+    let (Some(topic), Some(type_name)) = (read_text(topic, order), read_text(type_name, order))
+    else {
+        return Err(NoticeFault::BadText);
+    };
+    let reliability = reliability_of(list, side).ok_or(NoticeFault::BadReliability)?;
+    let durability = durability_of(list).ok_or(NoticeFault::BadDurability)?;
+    Ok(Endpoint {
+        guid,
+        side,
+        topic,
+        type_name,
+        reliability,
+        durability,
+    })
+}
+
+/// The GUID in the parameter of this id, or None where it is absent or cut.
+fn guid_of(list: &ParamList<'_>, pid: u16) -> Option<Guid>
+    ensures { result ≡ guid_field pid (fields_value list.now) }
+{
+    read_guid(list.first(pid)?)
+}
+
+/// The reliability of an endpoint of this side, or None where it is cut or of no known kind.
+fn reliability_of(list: &ParamList<'_>, side: Side) -> Option<Reliability>
+    ensures { result ≡ reliability_of_lem side (fields_value list.now) }
+{
+    let Some(value) = list.first(RELIABILITY) else {
+        return Some(match side {
+            Side::Writer => Reliability::Reliable,
+            Side::Reader => Reliability::BestEffort,
+        });
+    };
+    match read_u32(value, list.order())? {
+        1 => Some(Reliability::BestEffort),
+        2 => Some(Reliability::Reliable),
+        _ => None,
+    }
+}
+
+/// The durability of an endpoint, or None where it is cut or of no known kind.
+fn durability_of(list: &ParamList<'_>) -> Option<Durability>
+    ensures { result ≡ durability_of_lem (fields_value list.now) }
+{
+    let Some(value) = list.first(DURABILITY) else {
+        return Some(Durability::Volatile);
+    };
+    match read_u32(value, list.order())? {
+        0 => Some(Durability::Volatile),
+        1 => Some(Durability::TransientLocal),
+        2 => Some(Durability::Transient),
+        3 => Some(Durability::Persistent),
+        _ => None,
+    }
+}

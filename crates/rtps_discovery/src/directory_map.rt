@@ -1,0 +1,130 @@
+ghost use Rattle.std.specs.Prelude.{◌≡◌, ◌≢◌, ◌∷◌, [], ◌++◌, List, Contains, IfOk, OnOk, OnErr, length, map};
+ghost use Rattle.rtps_receiver.specs.Values.{ActValue, act_value};
+ghost use Rattle.rtps_discovery.specs.Directory.{IsMapOf, settled_in, unsettled_in};
+ghost use Rattle.rtps_discovery.specs.Endpoint.{endpoint_value};
+ghost use Rattle.rtps_discovery.specs.Matching.{matches_among, reliable_pairs};
+ghost use Rattle.rtps_discovery.specs.Notice.{announcement_of, answer_of};
+
+use crate::announcement::{read_endpoint, read_participant};
+use crate::endpoint::Endpoint;
+use crate::kept::{Kept, count_unsettled, keep_endpoint, keep_participant, settled};
+use crate::matching::{Match, Pair, reliable_pairs};
+use crate::notice::{Noted, Subject, notice};
+use crate::topic_index::matches_among;
+use rtps_ids::{Guid, Memory};
+use rtps_receiver::Act;
+use std::alloc::Global;
+use std::collections::{BTreeMap, BTreeSet};
+use std::marker::Model;
+
+/// The participants and endpoints that acts announced, whatever the order of the acts (DDSI-RTPS 2.5, 8.5 "Discovery
+/// Module"). Topics and types are parts of the caller's datagrams.
+#[derive(Drop)]
+pub struct Directory<'a> {
+    participants: BTreeSet<Guid>,
+    endpoints: BTreeMap<Guid, Kept<'a>>,
+    alloc: Global,
+}
+
+impl<'a> Model for Directory<'a> {
+    ghost use Rattle.rtps_discovery.specs.Directory.{DirectoryValue};
+
+    ghost Value = { DirectoryValue };
+
+    ghost use Rattle.rtps_discovery.specs.Kept.{entries_value};
+
+    ghost view = { (λ directory. record {
+      participants = directory.participants.keys;
+      endpoints = entries_value directory.endpoints.entries;
+    }) };
+}
+
+impl<'a> Directory<'a> {
+    /// The directory of no acts. It takes no memory.
+    pub fn new(alloc: Global) -> Self
+        ensures map { IsMapOf [] result }
+        ensures empty { result ≡ record { participants = []; endpoints = [] } }
+    {
+        Directory {
+            participants: BTreeSet::new(alloc),
+            endpoints: BTreeMap::new(alloc),
+            alloc,
+        }
+    }
+
+    /// Keeps what an act announces, from any source and to any destination. An act that announces nothing, one with a
+    /// fault, and one that was noted before take no memory and change nothing; the last is answered as before. After
+    /// `Memory` the directory is the same.
+    pub fn note(&mut self, act: &Act<'a>) -> Result<Noted, Memory>
+        ensures map { OnOk result ((acts : List ActValue)
+            → IsMapOf acts self.old → IsMapOf (acts ++ act_value act.now ∷ []) self.new) }
+        ensures noted { IfOk result (λ noted. noted ≡ answer_of (announcement_of (act_value act.now))) }
+        ensures err { OnErr result (self.new ≡ self.old) }
+
+        // Without anything new to keep, it takes no memory.
+        ensures unkept { let answer = answer_of (announcement_of (act_value act.now)) in
+            answer ≢ Noted.Kept → (result ≡ Ok answer) × (self.new ≡ self.old) }
+        ensures again { let answer = answer_of (announcement_of (act_value act.now)) in
+            (acts : List ActValue) → IsMapOf acts self.old → Contains acts (act_value act.now)
+            → (result ≡ Ok answer) × (self.new ≡ self.old) }
+    {
+        let Some((subject, payload)) = notice(act) else {
+            return Ok(Noted::Nothing);
+        };
+        match subject {
+            Subject::Participant => match read_participant(payload) {
+                Ok(guid) => {
+                    keep_participant(&mut self.participants, guid)?;
+                    Ok(Noted::Kept)
+                }
+                Err(fault) => Ok(Noted::Fault(fault)),
+            },
+            Subject::Endpoint(side) => match read_endpoint(payload, side) {
+                Ok(endpoint) => {
+                    keep_endpoint(&mut self.endpoints, endpoint)?;
+                    Ok(Noted::Kept)
+                }
+                Err(fault) => Ok(Noted::Fault(fault)),
+            },
+        }
+    }
+
+    /// The GUIDs of the participants, in order.
+    pub fn participants(&self) -> Result<Vec<Guid>, Memory>
+        ensures { IfOk result (λ guids. guids.items ≡ self.now.participants) }
+    {
+        Ok(self.participants.iter().copied().collect(self.alloc)?)
+    }
+
+    /// The endpoints whose announcements agree, in the order of their GUIDs.
+    #[tactic(auto, using(crate::proofs::Entries::settled))]
+    pub fn endpoints(&self) -> Result<Vec<Endpoint<'a>>, Memory>
+        ensures { IfOk result (λ endpoints. map endpoint_value endpoints.items ≡ settled_in self.now.endpoints) }
+    {
+        settled(self.alloc, &self.endpoints)
+    }
+
+    /// The matches among those endpoints, sorted by writer and then by reader.
+    pub fn matched(&self) -> Result<Vec<Match>, Memory>
+        ensures { IfOk result (λ found. found.items ≡ matches_among (settled_in self.now.endpoints)) }
+    {
+        let endpoints = self.endpoints()?;
+        matches_among(self.alloc, &endpoints)
+    }
+
+    /// The pairs of those matches in which both are RELIABLE, in the same order.
+    pub fn pairs(&self) -> Result<Vec<Pair>, Memory>
+        ensures { IfOk result (λ pairs. pairs.items
+            ≡ reliable_pairs (matches_among (settled_in self.now.endpoints))) }
+    {
+        reliable_pairs(self.alloc, &self.matched()?)
+    }
+
+    /// How many GUIDs have announcements that disagree.
+    #[tactic(auto, using(crate::proofs::Entries::unsettled))]
+    pub fn unsettled(&self) -> usize
+        ensures { result ≡ length (unsettled_in self.now.endpoints) }
+    {
+        count_unsettled(&self.endpoints)
+    }
+}

@@ -1,0 +1,23 @@
+/// Why a payload announces nothing: the first of these, in this order, that holds (DDSI-RTPS 2.5, 10 "Serialized
+/// Payload Representation" and 9.6 "Mapping of the RTPS Protocol"). A participant has the first four alone.
+#[derive(Clone, Copy, PartialEq, Eq, Debug)]
+pub enum NoticeFault {
+    /// Under four octets, which tell the representation.
+    CutRepresentation = 1,
+    /// A representation other than PL_CDR_BE and PL_CDR_LE.
+    Representation = 2,
+    /// No parameter list behind the representation.
+    List = 3,
+    /// No GUID, or one of under 16 octets.
+    NoGuid = 4,
+    /// No topic name.
+    NoTopic = 5,
+    /// No type name.
+    NoType = 6,
+    /// A topic name or a type name that is no text.
+    BadText = 7,
+    /// A reliability of under four octets, or of a kind that is none.
+    BadReliability = 8,
+    /// A durability of under four octets, or of a kind that is none.
+    BadDurability = 9,
+}

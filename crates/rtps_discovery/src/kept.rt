@@ -1,0 +1,86 @@
+ghost use Rattle.std.specs.Prelude.{◌≡◌, ◌≢◌, ◌∷◌, [], ◌++◌, List, Contains, Some, None, IfOk, OnOk, OnErr, MatchBool, if◌then◌else◌, count_by, filter, map, not, option_copied};
+ghost use Rattle.std.specs.BTreeMap.{values};
+ghost use Rattle.std.specs.Option.{option_map};
+ghost use Rattle.rtps_ids.specs.declared.identity.Guid.{Guid};
+ghost use Rattle.rtps_discovery.specs.Directory.{AreEntries, AreParticipants, entry_at};
+ghost use Rattle.rtps_discovery.specs.Endpoint.{EndpointValue, endpoint_value};
+ghost use Rattle.rtps_discovery.specs.Kept.{IsJoined, entries_value, kept_value};
+
+use crate::endpoint::Endpoint;
+use rtps_ids::{Guid, Memory};
+use std::alloc::Global;
+use std::collections::{BTreeMap, BTreeSet};
+
+/// The last announcement of a GUID, and whether all before it said the same.
+#[derive(Clone, Copy, Debug)]
+pub(crate) struct Kept<'a> {
+    pub(crate) endpoint: Endpoint<'a>,
+    pub(crate) settled: bool,
+}
+
+/// Adds a participant. One that is there already takes no memory.
+pub(crate) fn keep_participant(participants: &mut BTreeSet<Guid>, guid: Guid) -> Result<(), Memory>
+    ensures ok { OnOk result ((announced : List Guid)
+        → AreParticipants announced participants.old.keys
+        → AreParticipants (announced ++ guid ∷ []) participants.new.keys) }
+    ensures err { OnErr result (participants.new.keys ≡ participants.old.keys) }
+    ensures absent { OnErr result (¬ Contains participants.old.keys guid) }
+{
+    participants.insert(guid)?;
+    Ok(())
+}
+
+/// Adds an endpoint. A GUID that is there already takes no memory.
+pub(crate) fn keep_endpoint<'a>(
+    endpoints: &mut BTreeMap<Guid, Kept<'a>>,
+    endpoint: Endpoint<'a>,
+) -> Result<(), Memory>
+    ensures ok { OnOk result ((announced : List EndpointValue)
+        → AreEntries announced (entries_value endpoints.old.entries)
+        → AreEntries (announced ++ endpoint_value endpoint.entry ∷ []) (entries_value endpoints.new.entries)) }
+    ensures err { OnErr result (entries_value endpoints.new.entries ≡ entries_value endpoints.old.entries) }
+    ensures absent { OnErr result (entry_at (entries_value endpoints.old.entries) endpoint.entry.guid ≡ None) }
+{
+    let settled = agrees(endpoints.get(&endpoint.guid), &endpoint);
+    endpoints.insert(endpoint.guid, Kept { endpoint, settled })?;
+    Ok(())
+}
+
+/// Whether all announcements of a GUID agree, those before and this one.
+fn agrees(kept: Option<&Kept<'_>>, endpoint: &Endpoint<'_>) -> bool
+    ensures { IsJoined (option_map kept_value (option_copied kept.entry)) (endpoint_value endpoint.now)
+        (if result then Some (endpoint_value endpoint.now) else None) }
+{
+    match kept {
+        None => true,
+        Some(kept) => kept.settled && is_same(&kept.endpoint, endpoint),
+    }
+}
+
+/// Whether two announcements are equal in the six fields.
+fn is_same(one: &Endpoint<'_>, other: &Endpoint<'_>) -> bool
+    ensures { MatchBool result
+        (endpoint_value one.now ≡ endpoint_value other.now)
+        (endpoint_value one.now ≢ endpoint_value other.now) }
+{
+    one == other
+}
+
+/// The endpoints whose announcements agree.
+pub(crate) fn settled<'a>(
+    alloc: Global,
+    endpoints: &BTreeMap<Guid, Kept<'a>>,
+) -> Result<Vec<Endpoint<'a>>, Memory>
+    ensures { IfOk result (λ found. found.items
+        ≡ map (λ kept. kept.endpoint) (filter (λ kept. kept.settled) (values endpoints.now))) }
+{
+    let found = endpoints.values().filter(|kept| kept.settled);
+    Ok(found.map(|kept| kept.endpoint).collect(alloc)?)
+}
+
+/// How many GUIDs have announcements that disagree.
+pub(crate) fn count_unsettled(endpoints: &BTreeMap<Guid, Kept<'_>>) -> usize
+    ensures { result ≡ count_by (λ kept. not kept.settled) (values endpoints.now) }
+{
+    endpoints.values().filter(|kept| !kept.settled).count()
+}

@@ -1,0 +1,71 @@
+//! Laws of the definitions, each the contract of a function that does nothing.
+
+ghost use Rattle.std.specs.Prelude.{◌≡◌, ◌↔◌, ◌++◌, ◌∷◌, [], List, Some, Ok, Contains, map};
+ghost use Rattle.std.specs.List.Sorted.{IsPermutation, IsStrictlySortedBy};
+ghost use Rattle.rtps_ids.specs.declared.identity.Guid.{Guid};
+ghost use Rattle.rtps_receiver.specs.Values.{ActValue};
+ghost use Rattle.rtps_discovery.specs.Announcement.{Fields, endpoint_in, participant_guid, participant_in};
+ghost use Rattle.rtps_discovery.specs.Directory.{DirectoryValue, IsMapOf, IsSettled, IsUnsettled, settled_in, unsettled_in};
+ghost use Rattle.rtps_discovery.specs.Endpoint.{EndpointValue};
+ghost use Rattle.rtps_discovery.specs.GuidOrder.{guid_cmp};
+ghost use Rattle.rtps_discovery.specs.Listings.{IsMatchAmong, IsReliablePair, pair_cmp};
+ghost use Rattle.rtps_discovery.specs.Matching.{matches_among, reliable_pairs};
+ghost use Rattle.rtps_discovery.specs.Notice.{endpoints_among};
+ghost use Rattle.rtps_discovery.specs.Told.{IsToldBy};
+ghost use Rattle.rtps_discovery.specs.declared.endpoint.Side.{Side};
+ghost use Rattle.rtps_discovery.specs.declared.matching.Match.{Match};
+ghost use Rattle.rtps_discovery.specs.declared.matching.Pair.{Pair};
+
+/// An announcement is read of parameters exactly where they tell each of its fields.
+pub fn told()
+    ensures participant { (fields : Fields) (guid : Guid)
+        → (participant_in fields ≡ Ok guid) ↔ (participant_guid fields ≡ Some guid) }
+    ensures endpoint { (side : Side) (fields : Fields) (endpoint : EndpointValue)
+        → (endpoint_in side fields ≡ Ok endpoint) ↔ IsToldBy side fields endpoint }
+{}
+
+/// Each list of acts has one map.
+pub fn one_map()
+    ensures exists { (acts : List ActValue) → (map : DirectoryValue) × IsMapOf acts map }
+    ensures unique { (acts : List ActValue) (map : DirectoryValue) (other : DirectoryValue)
+        → IsMapOf acts map → IsMapOf acts other → map ≡ other }
+{}
+
+/// The map is the same in whatever order the acts come, and an act that comes again changes nothing.
+pub fn any_order()
+    ensures permutation { (acts : List ActValue) (others : List ActValue) (map : DirectoryValue)
+        → IsPermutation acts others → IsMapOf acts map → IsMapOf others map }
+    ensures again { (acts : List ActValue) (act : ActValue) (map : DirectoryValue)
+        → Contains acts act → IsMapOf acts map → IsMapOf (acts ++ act ∷ []) map }
+{}
+
+/// What is listed as settled is announced, and nothing else is announced of its GUID; what is counted as unsettled are
+/// the GUIDs of which two announcements differ.
+pub fn settled_and_unsettled()
+    ensures settled { (acts : List ActValue) (map : DirectoryValue) (endpoint : EndpointValue) → IsMapOf acts map
+        → Contains (settled_in map.endpoints) endpoint ↔ IsSettled (endpoints_among acts) endpoint }
+    ensures unsettled { (acts : List ActValue) (map : DirectoryValue) (guid : Guid) → IsMapOf acts map
+        → Contains (unsettled_in map.endpoints) guid ↔ IsUnsettled (endpoints_among acts) guid }
+{}
+
+/// What is listed as a match is one of two settled endpoints that match, and what is listed as a pair is one in which
+/// both are RELIABLE.
+pub fn matches_and_pairs()
+    ensures matches { (acts : List ActValue) (map : DirectoryValue) (found : Match) → IsMapOf acts map
+        → Contains (matches_among (settled_in map.endpoints)) found ↔ IsMatchAmong (endpoints_among acts) found }
+    ensures pairs { (acts : List ActValue) (map : DirectoryValue) (pair : Pair) → IsMapOf acts map
+        → Contains (reliable_pairs (matches_among (settled_in map.endpoints))) pair
+        ↔ IsReliablePair (endpoints_among acts) pair }
+{}
+
+/// Each listing is in order, by GUID or by writer and then reader, and has no entry twice.
+pub fn in_order()
+    ensures participants { (acts : List ActValue) (map : DirectoryValue) → IsMapOf acts map
+        → IsStrictlySortedBy guid_cmp map.participants }
+    ensures endpoints { (acts : List ActValue) (directory : DirectoryValue) → IsMapOf acts directory
+        → IsStrictlySortedBy guid_cmp (map (λ endpoint. endpoint.guid) (settled_in directory.endpoints)) }
+    ensures matches { (acts : List ActValue) (directory : DirectoryValue) → IsMapOf acts directory
+        → IsStrictlySortedBy pair_cmp (map (λ found. found.pair) (matches_among (settled_in directory.endpoints))) }
+    ensures pairs { (acts : List ActValue) (directory : DirectoryValue) → IsMapOf acts directory
+        → IsStrictlySortedBy pair_cmp (reliable_pairs (matches_among (settled_in directory.endpoints))) }
+{}

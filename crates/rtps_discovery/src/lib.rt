@@ -1,0 +1,23 @@
+//! Discovery (DDSI-RTPS 2.5, 8.5 "Discovery Module"): announcements of participants and endpoints, and which writers
+//! and readers match.
+#![tactic(auto)]
+
+mod announcement;
+mod directory_map;
+mod endpoint;
+mod fault;
+mod kept;
+pub mod laws;
+mod matching;
+mod notice;
+mod topic_index;
+
+pub use announcement::{read_endpoint, read_participant};
+pub use directory_map::Directory;
+pub use endpoint::{Durability, Endpoint, Reliability, Side};
+pub use fault::NoticeFault;
+pub use matching::{Match, Pair, matches};
+pub use notice::Noted;
+
+#[cfg(test)]
+mod tests;

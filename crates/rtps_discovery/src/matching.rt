@@ -1,0 +1,66 @@
+ghost use Rattle.std.specs.Prelude.{◌≡◌, ◌↔◌, IfOk, IsTrue};
+ghost use Rattle.rtps_discovery.specs.Endpoint.{endpoint_value};
+ghost use Rattle.rtps_discovery.specs.Matching.{Matches, is_match, match_of as match_of_lem, reliable_pairs as reliable_pairs_lem};
+
+use crate::endpoint::{Endpoint, Reliability, Side};
+use rtps_ids::{Guid, Memory};
+use std::alloc::Global;
+
+/// A writer and a reader.
+#[derive(Clone, Copy, PartialEq, Eq, PartialOrd, Ord, Debug)]
+pub struct Pair {
+    pub writer: Guid,
+    pub reader: Guid,
+}
+
+/// A writer and a reader that match.
+#[derive(Clone, Copy, PartialEq, Eq, Debug)]
+pub struct Match {
+    pub pair: Pair,
+    /// Whether both are RELIABLE.
+    pub reliable: bool,
+}
+
+/// Whether a writer and a reader match: one topic, one type, and the reader asks for no more reliability and durability
+/// than the writer offers (DDS 1.4, 2.2.3.4 "DURABILITY" and 2.2.3.14 "RELIABILITY"). False unless the first is a writer
+/// and the second a reader.
+pub fn matches(writer: &Endpoint<'_>, reader: &Endpoint<'_>) -> bool
+    ensures meaning { IsTrue result ↔ Matches (endpoint_value writer.now) (endpoint_value reader.now) }
+    ensures test { result ≡ is_match (endpoint_value writer.now) (endpoint_value reader.now) }
+{
+    suits(writer, reader)
+}
+
+/// The same, by its meaning alone.
+fn suits(writer: &Endpoint<'_>, reader: &Endpoint<'_>) -> bool
+    ensures { IsTrue result ↔ Matches (endpoint_value writer.now) (endpoint_value reader.now) }
+{
+    writer.side == Side::Writer
+        && reader.side == Side::Reader
+        && writer.topic == reader.topic
+        && writer.type_name == reader.type_name
+        && writer.reliability >= reader.reliability
+        && writer.durability >= reader.durability
+}
+
+/// The match of a writer and a reader that match.
+pub(crate) fn match_of(writer: &Endpoint<'_>, reader: &Endpoint<'_>) -> Match
+    ensures { result ≡ match_of_lem (endpoint_value writer.now) (endpoint_value reader.now) }
+{
+    Match {
+        pair: Pair {
+            writer: writer.guid,
+            reader: reader.guid,
+        },
+        reliable: writer.reliability == Reliability::Reliable
+            && reader.reliability == Reliability::Reliable,
+    }
+}
+
+/// The pairs of the reliable matches.
+pub(crate) fn reliable_pairs(alloc: Global, found: &[Match]) -> Result<Vec<Pair>, Memory>
+    ensures { IfOk result (λ pairs. pairs.items ≡ reliable_pairs_lem found.now) }
+{
+    let reliable = found.iter().filter(|found| found.reliable);
+    Ok(reliable.map(|found| found.pair).collect(alloc)?)
+}

@@ -1,0 +1,65 @@
+ghost use Rattle.std.specs.Prelude.{◌≡◌};
+ghost use Rattle.std.specs.Option.{option_map};
+ghost use Rattle.rtps_discovery.specs.Notice.{notice_in, subject_of as subject_of_lem};
+ghost use Rattle.rtps_receiver.specs.Values.{act_value};
+
+use crate::endpoint::Side;
+use crate::fault::NoticeFault;
+use rtps_ids::EntityId;
+use rtps_receiver::{Act, ActBody};
+use rtps_wire::Payload;
+
+/// What a directory made of an act.
+#[derive(Clone, Copy, PartialEq, Eq, Debug)]
+pub enum Noted {
+    /// The act announces nothing.
+    Nothing,
+    /// Its announcement is kept.
+    Kept,
+    /// It is an announcement with this fault, and nothing is kept of it.
+    Fault(NoticeFault),
+}
+
+/// Whom an announcement is of.
+#[derive(Clone, Copy, PartialEq, Eq, Debug)]
+pub enum Subject {
+    Participant,
+    Endpoint(Side),
+}
+
+/// The built-in writers that announce participants, writers and readers (DDSI-RTPS 2.5, 9.3.1.3 "Predefined
+/// EntityIds").
+const PARTICIPANT_WRITER: EntityId = EntityId([0x00, 0x01, 0x00, 0xc2]);
+
+const PUBLICATIONS_WRITER: EntityId = EntityId([0x00, 0x00, 0x03, 0xc2]);
+
+const SUBSCRIPTIONS_WRITER: EntityId = EntityId([0x00, 0x00, 0x04, 0xc2]);
+
+/// Whom an act announces and by which payload, or None where it is no announcement.
+pub(crate) fn notice<'a>(act: &Act<'a>) -> Option<(Subject, &'a [u8])>
+    ensures { option_map (λ notice. (notice.0, notice.1.now)) result ≡ notice_in (act_value act.now).body }
+{
+    let ActBody::Data(data) = &act.body else {
+        return None;
+    };
+    let Payload::Whole(payload) = &data.payload else {
+        return None;
+    };
+    let subject = subject_of(data.writer)?;
+    Some((subject, *payload))
+}
+
+/// Whom this built-in writer announces.
+fn subject_of(writer: EntityId) -> Option<Subject>
+    ensures { result ≡ subject_of_lem writer }
+{
+    if writer == PARTICIPANT_WRITER {
+        Some(Subject::Participant)
+    } else if writer == PUBLICATIONS_WRITER {
+        Some(Subject::Endpoint(Side::Writer))
+    } else if writer == SUBSCRIPTIONS_WRITER {
+        Some(Subject::Endpoint(Side::Reader))
+    } else {
+        None
+    }
+}

@@ -1,0 +1,76 @@
+ghost use Rattle.std.specs.Prelude.{◌≡◌, ◌++◌, IfOk, OnOk, filter, map};
+ghost use Rattle.rtps_discovery.specs.Endpoint.{endpoint_value};
+ghost use Rattle.rtps_discovery.specs.Matching.{matches_among as matches_among_lem, matches_of};
+ghost use Rattle.rtps_discovery.specs.TopicIndex.{IsByTopic, KeepsTopics, has_topic, readers_among as readers_among_lem};
+
+use crate::endpoint::{Endpoint, Side};
+use crate::matching::{Match, match_of, matches};
+use rtps_ids::Memory;
+use std::alloc::Global;
+
+/// The matches among endpoints, each writer's in turn. A writer is compared with the readers of its topic alone.
+pub(crate) fn matches_among(alloc: Global, endpoints: &[Endpoint<'_>]) -> Result<Vec<Match>, Memory>
+    ensures { IfOk result (λ found. found.items ≡ matches_among_lem (map endpoint_value endpoints.now)) }
+{
+    let readers = readers_by_topic(alloc, endpoints)?;
+    let mut found = Vec::new(alloc);
+    for writer in endpoints {
+        if writer.side == Side::Writer {
+            push_matches(&mut found, writer, readers_of(&readers, writer.topic))?;
+        }
+    }
+    Ok(found)
+}
+
+/// The readers among endpoints, sorted by topic, those of one topic in the order that they had.
+fn readers_by_topic<'a>(
+    alloc: Global,
+    endpoints: &[Endpoint<'a>],
+) -> Result<Vec<Endpoint<'a>>, Memory>
+    ensures sorted { IfOk result (λ readers. IsByTopic readers.items) }
+    ensures stable { IfOk result (λ readers. KeepsTopics (readers_among_lem endpoints.now) readers.items) }
+{
+    let mut readers = readers_among(alloc, endpoints)?;
+    readers.sort_by_key(|reader| reader.topic)?;
+    Ok(readers)
+}
+
+/// The readers among endpoints.
+fn readers_among<'a>(alloc: Global, endpoints: &[Endpoint<'a>]) -> Result<Vec<Endpoint<'a>>, Memory>
+    ensures { IfOk result (λ readers. readers.items ≡ readers_among_lem endpoints.now) }
+{
+    let endpoints = endpoints.iter().copied();
+    Ok(
+        endpoints
+            .filter(|endpoint| endpoint.side == Side::Reader)
+            .collect(alloc)?,
+    )
+}
+
+/// The readers of a topic, among readers that are sorted by topic.
+fn readers_of<'r, 'a>(readers: &'r [Endpoint<'a>], topic: &[u8]) -> &'r [Endpoint<'a>]
+    requires { IsByTopic readers.now }
+    ensures { result.now ≡ filter (has_topic topic.now) readers.now }
+{
+    let start = readers.partition_point(|reader| reader.topic.cmp(&topic).is_lt());
+    let behind = &readers[start..];
+    let end = behind.partition_point(|reader| reader.topic.cmp(&topic).is_le());
+    &behind[..end]
+}
+
+/// Adds a writer's matches among readers.
+fn push_matches(
+    found: &mut Vec<Match>,
+    writer: &Endpoint<'_>,
+    readers: &[Endpoint<'_>],
+) -> Result<(), Memory>
+    ensures { OnOk result (found.new.items
+        ≡ found.old.items ++ matches_of (endpoint_value writer.now) (map endpoint_value readers.now)) }
+{
+    for reader in readers {
+        if matches(writer, reader) {
+            found.push(match_of(writer, reader))?;
+        }
+    }
+    Ok(())
+}

@@ -1,0 +1,137 @@
+ghost use Rattle.std.specs.Prelude.{◌≡◌, ◌++◌, ◌<◌, ◌^◌, if◌then◌else◌, [], IfOk, OnOk, List, length};
+ghost use Rattle.std.specs.String.{string_bytes};
+ghost use Rattle.rtps_discovery.specs.Directory.{IsMapOf};
+ghost use Rattle.rtps_discovery.specs.Endpoint.{endpoint_value};
+ghost use Rattle.std.specs.List.{flat_map};
+ghost use Rattle.rtps_receiver.specs.Acts.{acts_left, acts_of};
+ghost use Rattle.rtps_receiver.specs.Values.{ActValue};
+ghost use Rattle.rtps_wire.specs.Reading.{reading_of};
+ghost use Rattle.rtps_tool.specs.ListText.{IsListOf, acts_among, acts_in, directory_text as directory_text_lem, endpoint_line, faults_in, is_fault, match_line, participant_line};
+
+use crate::datagrams::Recording;
+use crate::list_lines::{CountsLine, EndpointLine, MatchLine, ParticipantLine};
+use rtps_discovery::{Directory, Endpoint, Match, Noted};
+use rtps_ids::{Guid, Memory};
+use rtps_receiver::Acts;
+use std::alloc::{AllocError, Global};
+
+/// What `list` prints of a recording.
+pub(crate) fn list_text(alloc: Global, recording: &Recording) -> Result<String, Memory>
+    ensures { IfOk result (λ text. IsListOf recording.now (string_bytes text)) }
+{
+    let mut directory = Directory::new(alloc);
+    let faults = note_datagrams(&mut directory, recording)?;
+    directory_text(alloc, &directory, faults)
+}
+
+// Notes the acts of all datagrams, and answers how many had a fault.
+fn note_datagrams<'a>(
+    directory: &mut Directory<'a>,
+    recording: &'a Recording,
+) -> Result<u128, Memory>
+    requires { IsMapOf [] directory.old }
+    ensures map { OnOk result (IsMapOf (acts_in recording.now) directory.new) }
+    ensures faults { IfOk result (λ faults. faults ≡ faults_in (acts_in recording.now)) }
+{
+    let mut faults = 0u128;
+    'datagrams: for i in 0..recording.len() {
+        if let Some(octets) = recording.datagram(i) {
+            faults += u128::from(note_datagram(directory, octets)?);
+        }
+    }
+    Ok(faults)
+}
+
+// Notes the acts of a datagram, and answers how many had a fault.
+fn note_datagram<'a>(directory: &mut Directory<'a>, octets: &'a [u8]) -> Result<u64, Memory>
+    ensures map { OnOk result ((acts : List ActValue)
+        → IsMapOf acts directory.old → IsMapOf (acts ++ acts_of (reading_of octets.now)) directory.new) }
+    ensures faults { IfOk result (λ faults. faults ≡ faults_in (acts_of (reading_of octets.now))) }
+{
+    match Acts::open(octets) {
+        Ok(acts) => note_acts(directory, acts),
+        Err(_) => Ok(0),
+    }
+}
+
+// Notes what is left of the acts of a datagram, and answers how many had a fault.
+fn note_acts<'a>(directory: &mut Directory<'a>, left: Acts<'a>) -> Result<u64, Memory>
+    requires { length (acts_left left) < 2 ^ 64 }
+    ensures map { OnOk result ((acts : List ActValue)
+        → IsMapOf acts directory.old → IsMapOf (acts ++ acts_among (acts_left left.entry)) directory.new) }
+    ensures faults { IfOk result (λ faults. faults ≡ faults_in (acts_among (acts_left left.entry))) }
+{
+    let mut faults = 0;
+    for outcome in left {
+        match outcome {
+            Ok(act) => {
+                let noted = directory.note(&act)?;
+                faults += fault_count(noted);
+            }
+            Err(_) => {}
+        }
+    }
+    Ok(faults)
+}
+
+// One for an act that is answered with a fault, and else none.
+fn fault_count(noted: Noted) -> u64
+    ensures { result ≡ (if is_fault noted then 1 else 0) }
+{
+    match noted {
+        Noted::Nothing | Noted::Kept => 0,
+        Noted::Fault(_) => 1,
+    }
+}
+
+// The lines of a directory, and of so many faults.
+fn directory_text(alloc: Global, directory: &Directory<'_>, faults: u128) -> Result<String, Memory>
+    ensures { IfOk result (λ text. string_bytes text ≡ directory_text_lem directory.now faults) }
+{
+    let participants = directory.participants()?;
+    let endpoints = directory.endpoints()?;
+    let matches = directory.matched()?;
+    let counts = CountsLine {
+        participants: participants.len(),
+        endpoints: endpoints.len(),
+        unsettled: directory.unsettled(),
+        faults,
+    };
+    let mut text = String::new(alloc);
+    push_participants(&mut text, &participants)?;
+    push_endpoints(&mut text, &endpoints)?;
+    push_matches(&mut text, &matches)?;
+    write!(text, "{counts}")?;
+    Ok(text)
+}
+
+// Appends the lines of participants.
+fn push_participants(text: &mut String, guids: &[Guid]) -> Result<(), AllocError>
+    ensures { OnOk result (string_bytes text.new ≡ string_bytes text.old ++ flat_map participant_line guids.now) }
+{
+    for guid in guids {
+        write!(text, "{}", ParticipantLine(*guid))?;
+    }
+    Ok(())
+}
+
+// Appends the lines of endpoints.
+fn push_endpoints(text: &mut String, endpoints: &[Endpoint<'_>]) -> Result<(), AllocError>
+    ensures { OnOk result (string_bytes text.new
+        ≡ string_bytes text.old ++ flat_map (λ endpoint. endpoint_line (endpoint_value endpoint)) endpoints.now) }
+{
+    for endpoint in endpoints {
+        write!(text, "{}", EndpointLine(endpoint))?;
+    }
+    Ok(())
+}
+
+// Appends the lines of matches.
+fn push_matches(text: &mut String, matches: &[Match]) -> Result<(), AllocError>
+    ensures { OnOk result (string_bytes text.new ≡ string_bytes text.old ++ flat_map match_line matches.now) }
+{
+    for found in matches {
+        write!(text, "{}", MatchLine(*found))?;
+    }
+    Ok(())
+}

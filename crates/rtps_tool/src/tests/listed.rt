@@ -1,0 +1,77 @@
+//! Recordings, each with the lines that `list` prints of it.
+
+/// What is special about a recording, its text, and its lines.
+pub(super) const LISTED: &[(&str, &str, &str)] = &[
+    (
+        "nothing",
+        "",
+        "participants 0 endpoints 0 unsettled 0 faults 0\n",
+    ),
+    (
+        "a reliable pair",
+        "5254505302050000aaaaaaaaaaaaaaaaaaaaaaaa150400300000001000000000000100c200000000000000010002000000500010aaaaaaaaaaaaaaaaaaaaaaaa000001c100010000150400500000001000000000000003c2000000000000000100020000005a0010aaaaaaaaaaaaaaaaaaaaaaaa000001030005000c00000005706f7365000000000007000c00000005506f73650000000000010000\n\
+            5254505302050000bbbbbbbbbbbbbbbbbbbbbbbb150400600000001000000000000004c2000000000000000100020000005a0010bbbbbbbbbbbbbbbbbbbbbbbb000001040005000c00000005706f7365000000000007000c00000005506f736500000000001a000c00000002000000000000000000010000\n",
+        "participant aaaaaaaaaaaaaaaaaaaaaaaa.000001c1\n\
+            writer aaaaaaaaaaaaaaaaaaaaaaaa.00000103 topic \"pose\" type \"Pose\" reliable volatile\n\
+            reader bbbbbbbbbbbbbbbbbbbbbbbb.00000104 topic \"pose\" type \"Pose\" reliable volatile\n\
+            pair aaaaaaaaaaaaaaaaaaaaaaaa.00000103 bbbbbbbbbbbbbbbbbbbbbbbb.00000104 reliable\n\
+            participants 1 endpoints 2 unsettled 0 faults 0\n",
+    ),
+    (
+        "a reader that takes best effort",
+        "5254505302050000aaaaaaaaaaaaaaaaaaaaaaaa150400300000001000000000000100c200000000000000010002000000500010aaaaaaaaaaaaaaaaaaaaaaaa000001c100010000150400500000001000000000000003c2000000000000000100020000005a0010aaaaaaaaaaaaaaaaaaaaaaaa000001030005000c00000005706f7365000000000007000c00000005506f73650000000000010000\n\
+            5254505302050000bbbbbbbbbbbbbbbbbbbbbbbb150400500000001000000000000004c2000000000000000100020000005a0010bbbbbbbbbbbbbbbbbbbbbbbb000001040005000c00000005706f7365000000000007000c00000005506f73650000000000010000\n",
+        "participant aaaaaaaaaaaaaaaaaaaaaaaa.000001c1\n\
+            writer aaaaaaaaaaaaaaaaaaaaaaaa.00000103 topic \"pose\" type \"Pose\" reliable volatile\n\
+            reader bbbbbbbbbbbbbbbbbbbbbbbb.00000104 topic \"pose\" type \"Pose\" best-effort volatile\n\
+            pair aaaaaaaaaaaaaaaaaaaaaaaa.00000103 bbbbbbbbbbbbbbbbbbbbbbbb.00000104 best-effort\n\
+            participants 1 endpoints 2 unsettled 0 faults 0\n",
+    ),
+    (
+        "announcements that disagree",
+        "5254505302050000aaaaaaaaaaaaaaaaaaaaaaaa150400300000001000000000000100c200000000000000010002000000500010aaaaaaaaaaaaaaaaaaaaaaaa000001c100010000150400500000001000000000000003c2000000000000000100020000005a0010aaaaaaaaaaaaaaaaaaaaaaaa000001030005000c00000005706f7365000000000007000c00000005506f73650000000000010000\n\
+            5254505302050000bbbbbbbbbbbbbbbbbbbbbbbb150400600000001000000000000004c2000000000000000100020000005a0010bbbbbbbbbbbbbbbbbbbbbbbb000001040005000c00000005706f7365000000000007000c00000005506f736500000000001a000c00000002000000000000000000010000\n\
+            5254505302050000bbbbbbbbbbbbbbbbbbbbbbbb150400680000001000000000000004c2000000000000000200020000005a0010bbbbbbbbbbbbbbbbbbbbbbbb000001040005000c00000005706f7365000000000007000c00000005506f736500000000001a000c000000020000000000000000001d00040000000100010000\n",
+        "participant aaaaaaaaaaaaaaaaaaaaaaaa.000001c1\n\
+            writer aaaaaaaaaaaaaaaaaaaaaaaa.00000103 topic \"pose\" type \"Pose\" reliable volatile\n\
+            participants 1 endpoints 1 unsettled 1 faults 0\n",
+    ),
+    (
+        "a durable reader of a volatile writer",
+        "5254505302050000aaaaaaaaaaaaaaaaaaaaaaaa150400300000001000000000000100c200000000000000010002000000500010aaaaaaaaaaaaaaaaaaaaaaaa000001c100010000150400500000001000000000000003c2000000000000000100020000005a0010aaaaaaaaaaaaaaaaaaaaaaaa000001030005000c00000005706f7365000000000007000c00000005506f73650000000000010000\n\
+            5254505302050000bbbbbbbbbbbbbbbbbbbbbbbb150400680000001000000000000004c2000000000000000200020000005a0010bbbbbbbbbbbbbbbbbbbbbbbb000001040005000c00000005706f7365000000000007000c00000005506f736500000000001a000c000000020000000000000000001d00040000000100010000\n",
+        "participant aaaaaaaaaaaaaaaaaaaaaaaa.000001c1\n\
+            writer aaaaaaaaaaaaaaaaaaaaaaaa.00000103 topic \"pose\" type \"Pose\" reliable volatile\n\
+            reader bbbbbbbbbbbbbbbbbbbbbbbb.00000104 topic \"pose\" type \"Pose\" reliable transient-local\n\
+            participants 1 endpoints 2 unsettled 0 faults 0\n",
+    ),
+    (
+        "a participant alone, repeated",
+        "5254505302050000aaaaaaaaaaaaaaaaaaaaaaaa150400300000001000000000000100c200000000000000010002000000500010aaaaaaaaaaaaaaaaaaaaaaaa000001c100010000\n\
+            5254505302050000aaaaaaaaaaaaaaaaaaaaaaaa150400300000001000000000000100c200000000000000010002000000500010aaaaaaaaaaaaaaaaaaaaaaaa000001c100010000150400300000001000000000000100c200000000000000010002000000500010aaaaaaaaaaaaaaaaaaaaaaaa000001c100010000\n",
+        "participant aaaaaaaaaaaaaaaaaaaaaaaa.000001c1\n\
+            participants 1 endpoints 0 unsettled 0 faults 0\n",
+    ),
+    (
+        "a name with octets that do not stand for themselves",
+        "5254505302050000aaaaaaaaaaaaaaaaaaaaaaaa150400500000001000000000000003c2000000000000000100020000005a0010aaaaaaaaaaaaaaaaaaaaaaaa00000103000500100000000961225c1f7e20800a0000000000070008000000010000000000010000\n",
+        "writer aaaaaaaaaaaaaaaaaaaaaaaa.00000103 topic \"a\\x22\\x5c\\x1f~ \\x80\\x0a\" type \"\" reliable volatile\n\
+            participants 0 endpoints 1 unsettled 0 faults 0\n",
+    ),
+    (
+        "data that nobody announced, a refused datagram and an inline QoS",
+        "5254505302050000aaaaaaaaaaaaaaaaaaaaaaaa1504001c000000100000000000000103000000000000000100000000000000011506002800000010000000000000010300000000000000018001000401020304000100000000000000000001\n\
+            1504001c00000010000000000000010300000000000000010000000000000001\n\
+            5254505302050000bbbbbbbbbbbbbbbbbbbbbbbb0e00000caaaaaaaaaaaaaaaaaaaaaaaa06000018000001040000010300000000000000040000000000000001\n",
+        "participants 0 endpoints 0 unsettled 0 faults 0\n",
+    ),
+    (
+        "announcements with faults",
+        "5254505302050000aaaaaaaaaaaaaaaaaaaaaaaa150400300000001000000000000100c200000000000000010002000000500010aaaaaaaaaaaaaaaaaaaaaaaa000001c100010000\n\
+            5254505302050000aaaaaaaaaaaaaaaaaaaaaaaa1504001c0000001000000000000003c200000000000000010003000000010000\n\
+            5254505302050000aaaaaaaaaaaaaaaaaaaaaaaa150400300000001000000000000003c2000000000000000100020000005a0010aaaaaaaaaaaaaaaaaaaaaaaa0000010300010000150400500000001000000000000003c2000000000000000100020000005a0010aaaaaaaaaaaaaaaaaaaaaaaa000001030005000c00000005706f7365000000000007000c00000005506f73650000000000010000\n",
+        "participant aaaaaaaaaaaaaaaaaaaaaaaa.000001c1\n\
+            writer aaaaaaaaaaaaaaaaaaaaaaaa.00000103 topic \"pose\" type \"Pose\" reliable volatile\n\
+            participants 1 endpoints 1 unsettled 0 faults 2\n",
+    ),
+];
