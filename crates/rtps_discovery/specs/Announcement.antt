@@ -111,7 +111,7 @@ durability_of_kind kind =
 abbrev pub durability_of : Fields → Option Durability
 durability_of = kind_field 0x001d durability_of_kind Volatile
 
--- what stands in a value that nobody reads, since there is a fault: GUID_UNKNOWN
+-- GUID_UNKNOWN, which stands where a fault comes instead of the value
 abbrev pub unknown_guid : Guid
 unknown_guid = record { prefix = record { 0 = replicate 12 0 }; entity = record { 0 = replicate 4 0 } }
 

@@ -21,7 +21,8 @@ const PARTICIPANT_GUID: u16 = 0x0050;
 
 const ENDPOINT_GUID: u16 = 0x005a;
 
-/// The GUID of the participant that a payload announces, or the payload's first fault.
+/// The GUID of the participant that a payload announces, or the payload's first fault, one of the first four (DDSI-RTPS
+/// 2.5, 8.5.3 "The Simple Participant Discovery Protocol"). It takes no memory.
 #[tactic(auto, unfolding(crate::specs::Announcement::participant_in))]
 pub fn read_participant(payload: &[u8]) -> Result<Guid, NoticeFault>
     ensures { Answers (λ guid. guid) result (participant_of payload.now) }
@@ -32,7 +33,8 @@ pub fn read_participant(payload: &[u8]) -> Result<Guid, NoticeFault>
     }
 }
 
-/// The endpoint of this side that a payload announces, or the payload's first fault.
+/// The endpoint of this side that a payload announces, or the payload's first fault (DDSI-RTPS 2.5, 8.5.4 "The Simple
+/// Endpoint Discovery Protocol"). Its names are parts of the payload. It takes no memory.
 pub fn read_endpoint(payload: &[u8], side: Side) -> Result<Endpoint<'_>, NoticeFault>
     ensures { Answers endpoint_value result (endpoint_of side payload.now) }
 {

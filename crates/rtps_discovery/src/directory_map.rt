@@ -18,7 +18,8 @@ use std::collections::{BTreeMap, BTreeSet};
 use std::marker::Model;
 
 /// The participants and endpoints that acts announced, whatever the order of the acts (DDSI-RTPS 2.5, 8.5 "Discovery
-/// Module"). Topics and types are parts of the caller's datagrams.
+/// Module"). Topics and types are parts of the caller's datagrams. Each listing is a new `Vec`, or `Memory` where that
+/// cannot grow.
 #[derive(Drop)]
 pub struct Directory<'a> {
     participants: BTreeSet<Guid>,

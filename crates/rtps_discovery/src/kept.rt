@@ -12,7 +12,7 @@ use std::alloc::Global;
 use std::collections::{BTreeMap, BTreeSet};
 
 /// The last announcement of a GUID, and whether all before it said the same.
-#[derive(Clone, Copy, Debug)]
+#[derive(Clone, Copy)]
 pub(crate) struct Kept<'a> {
     pub(crate) endpoint: Endpoint<'a>,
     pub(crate) settled: bool,

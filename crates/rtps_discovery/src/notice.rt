@@ -21,7 +21,7 @@ pub enum Noted {
 }
 
 /// Whom an announcement is of.
-#[derive(Clone, Copy, PartialEq, Eq, Debug)]
+#[derive(Clone, Copy)]
 pub enum Subject {
     Participant,
     Endpoint(Side),

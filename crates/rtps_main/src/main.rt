@@ -1,7 +1,9 @@
 //! The program `rtps-audit`: opens what its words name, runs, and ends with the status of the run.
 #![tactic(auto)]
 
-use rtps_tool::{Choice, Ending, RunFault, WordFault, read_words, run_list, run_show, status, write_fault};
+use rtps_tool::{
+    Choice, Ending, RunFault, WordFault, read_words, run_list, run_show, status, write_fault,
+};
 use std::alloc::AllocError;
 use std::fs::File;
 use std::process::ExitCode;
