@@ -3,7 +3,7 @@ use Rattle.std.proofs.Common.{◌≡◌, ◌↔◌, Bool, true, false, cond, ◌
 use Rattle.std.specs.List.{All, AllByRecursion, cons_option}
 use Rattle.std.specs.List.Sorted.{IsStrictlySortedBy}
 use Rattle.std.specs.Map.{keys_of}
-use Rattle.std.specs.Option.{is_some}
+use Rattle.std.specs.Option.{is_none, is_some}
 use Rattle.std.specs.Ordering.{ordering_then}
 use Rattle.std.specs.declared.cmp.Ordering.{Ordering}
 use Rattle.std.specs.declared.cmp.Ordering.TheVariants.{Less}
@@ -13,7 +13,7 @@ use Rattle.std.proofs.lemmas.List.{map-append}
 use Rattle.std.proofs.lemmas.List.Elements.{Contains-get_or, recursion_from_All}
 use Rattle.std.proofs.lemmas.Map.Keys.{sorted_head, sorted_tail}
 use Rattle.rtps_ids.specs.declared.identity.Guid.{Guid}
-use Rattle.rtps_discovery.specs.Directory.{AreEntries, Entries, IsEntry, settled_in}
+use Rattle.rtps_discovery.specs.Directory.{AreEntries, Entries, IsEntry, settled_in, unsettled_in}
 use Rattle.rtps_discovery.specs.Endpoint.{EndpointValue}
 use Rattle.rtps_discovery.specs.GuidOrder.{guid_cmp}
 use Rattle.rtps_discovery.specs.Listings.{IsMatchAmong, IsReliablePair, pair_cmp}
@@ -148,6 +148,9 @@ own_guids announced entries h = λ i d lt.
 pub settled_in_order : (announced : List EndpointValue) (entries : Entries) → AreEntries announced entries → IsStrictlySortedBy guid_cmp (map (λ endpoint. endpoint.guid) (settled_in entries))
 settled_in_order announced entries h =
     rw (guids_settled entries (recursion_from_All _ entries (own_guids announced entries h))) (sorted_kept guid_cmp (λ entry. entry.0) (λ entry. is_some entry.1) entries h.in_order)
+
+pub unsettled_in_order : (announced : List EndpointValue) (entries : Entries) → AreEntries announced entries → IsStrictlySortedBy guid_cmp (unsettled_in entries)
+unsettled_in_order announced entries h = sorted_kept guid_cmp (λ entry. entry.0) (λ entry. is_none entry.1) entries h.in_order
 
 -- the matches of one writer rise by their readers
 abbrev pair_with : Guid → Guid → Pair

@@ -64,6 +64,8 @@ pub fn in_order()
         → IsStrictlySortedBy guid_cmp map.participants }
     ensures endpoints { (acts : List ActValue) (directory : DirectoryValue) → IsMapOf acts directory
         → IsStrictlySortedBy guid_cmp (map (λ endpoint. endpoint.guid) (settled_in directory.endpoints)) }
+    ensures unsettled { (acts : List ActValue) (directory : DirectoryValue) → IsMapOf acts directory
+        → IsStrictlySortedBy guid_cmp (unsettled_in directory.endpoints) }
     ensures matches { (acts : List ActValue) (directory : DirectoryValue) → IsMapOf acts directory
         → IsStrictlySortedBy pair_cmp (map (λ found. found.pair) (matches_among (settled_in directory.endpoints))) }
     ensures pairs { (acts : List ActValue) (directory : DirectoryValue) → IsMapOf acts directory

@@ -2,7 +2,8 @@
 #![tactic(auto)]
 
 use rtps_tool::{
-    Choice, Ending, RunFault, WordFault, read_words, run_list, run_show, status, write_fault,
+    Choice, Ending, RunFault, WordFault, read_words, run_audit, run_list, run_show, status,
+    write_fault,
 };
 use std::alloc::AllocError;
 use std::fs::File;
@@ -46,6 +47,7 @@ fn run_args(rt: &HostRuntime, args: &[String]) -> Result<u8, AllocError> {
     Ok(match read_words(rt.alloc(), &words) {
         Ok(Choice::Show { file }) => finish(rt, &show(rt, file.as_str())),
         Ok(Choice::List { file }) => finish(rt, &list(rt, file.as_str())),
+        Ok(Choice::Audit { file }) => finish(rt, &audit(rt, file.as_str())),
         Err(WordFault::Refused(refusal)) => {
             let _ = refusal.print(rt);
             2
@@ -76,6 +78,16 @@ fn list(rt: &HostRuntime, file: &str) -> Result<Ending, RunFault> {
         return Err(RunFault::Input);
     };
     run_list(rt.alloc(), &mut input, &mut rt.stdout())
+}
+
+fn audit(rt: &HostRuntime, file: &str) -> Result<Ending, RunFault> {
+    if file == "-" {
+        return run_audit(rt.alloc(), &mut rt.stdin(), &mut rt.stdout());
+    }
+    let Ok(mut input) = File::open(rt, file) else {
+        return Err(RunFault::Input);
+    };
+    run_audit(rt.alloc(), &mut input, &mut rt.stdout())
 }
 
 // Tells of a fault, if there is one, and answers the status to end with.

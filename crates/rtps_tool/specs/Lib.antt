@@ -1,4 +1,5 @@
 pub mod Answers
+pub mod AuditText
 pub mod Lines
 pub mod ListText
 pub mod Places

@@ -8,7 +8,7 @@ use Rattle.clap.specs.declared.error.kind.ErrorKind.TheVariants.{DisplayHelp, Ou
 use Rattle.clap.specs.Words.{kind_of}
 use Rattle.std.specs.String.{string_bytes}
 use Rattle.rtps_tool.specs.declared.command.Choice.{Choice}
-use Rattle.rtps_tool.specs.declared.command.Choice.TheVariants.{Show, List as ListChoice}
+use Rattle.rtps_tool.specs.declared.command.Choice.TheVariants.{Show, List as ListChoice, Audit}
 use Rattle.rtps_tool.specs.declared.command.WordFault.{WordFault}
 use Rattle.rtps_tool.specs.declared.command.WordFault.TheVariants.{Refused, Help, Memory}
 
@@ -25,17 +25,20 @@ abbrev pub bare_program : App
 bare_program = record (new_app (codes "rtps-audit")) { top = record (new_app (codes "rtps-audit")).top { subcommand_required = true } }
 
 abbrev pub program : App
-program = with_subcommand (with_subcommand bare_program (reading_app (codes "show")).top) (reading_app (codes "list")).top
+program =
+    with_subcommand (with_subcommand (with_subcommand bare_program (reading_app (codes "show")).top) (reading_app (codes "list")).top) (reading_app (codes "audit")).top
 
 -- the subcommand that was chosen
 abbrev pub subcommand_name : Choice → Text
 subcommand_name (Show file) = codes "show"
 subcommand_name (ListChoice file) = codes "list"
+subcommand_name (Audit file) = codes "audit"
 
 -- the file that was chosen
 abbrev pub file_name : Choice → Text
 file_name (Show file) = string_bytes file
 file_name (ListChoice file) = string_bytes file
+file_name (Audit file) = string_bytes file
 
 -- the choice has the name of the subcommand that was found, and its FILE, which is empty where none was given
 abbrev pub IsChoice : Option (Text × List Row) → Choice → Type 0

@@ -15,6 +15,8 @@ pub enum Choice {
     Show { file: String },
     /// List participants, endpoints and the pairs that match.
     List { file: String },
+    /// Judge for each reliable writer and reader that match whether the reader got all data.
+    Audit { file: String },
 }
 
 /// Why the words ask for nothing that can be run.
@@ -84,14 +86,18 @@ fn program<'a>(alloc: Global) -> Result<Command<'a>, AllocError>
 {
     let shows = "Shows each datagram of a recording and its submessages";
     let lists = "Lists participants, endpoints and pairs of writers and readers that match";
+    let audits =
+        "Says for each reliable writer and reader that match whether the reader got all data";
     let show = reading_subcommand(alloc, "show", shows)?;
     let list = reading_subcommand(alloc, "list", lists)?;
+    let audit = reading_subcommand(alloc, "audit", audits)?;
     Command::new(alloc, "rtps-audit")
-        .about("Shows recordings of RTPS datagrams, and what discovery tells in them")
+        .about("Audits recordings of RTPS datagrams: shows them, lists discovery, judges delivery")
         .after_help(STATUSES)
         .subcommand_required(true)
         .subcommand(show)?
-        .subcommand(list)
+        .subcommand(list)?
+        .subcommand(audit)
 }
 
 // The FILE of a subcommand; empty where it has none.
@@ -114,6 +120,10 @@ fn choice_of(alloc: Global, matches: &ArgMatches) -> Result<Option<Choice>, Allo
     if let Some(list) = matches.subcommand_matches("list") {
         let file = file_of(alloc, list)?;
         return Ok(Some(Choice::List { file }));
+    }
+    if let Some(audit) = matches.subcommand_matches("audit") {
+        let file = file_of(alloc, audit)?;
+        return Ok(Some(Choice::Audit { file }));
     }
     Ok(None)
 }

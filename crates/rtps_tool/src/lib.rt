@@ -1,6 +1,9 @@
-//! Texts of `rtps-audit`: recordings that are read, what is shown of them, and how a run ends.
+//! Texts of `rtps-audit`: recordings that are read, what is shown, listed and audited of them, and how a run ends.
 #![tactic(auto)]
 
+mod audit;
+mod audit_lines;
+mod auditing;
 mod command;
 mod datagrams;
 mod faults;
@@ -18,6 +21,7 @@ mod streams;
 mod tests;
 mod words;
 
+pub use auditing::run_audit;
 pub use command::{Choice, WordFault, read_words};
 pub use datagrams::Recording;
 pub use faults::{Ending, RecFault, RunFault};

@@ -62,13 +62,14 @@ fn chosen_of(alloc: Global, words: &[&str]) -> Result<(&'static str, String), Wo
     Ok(match read_words(alloc, words)? {
         Choice::Show { file } => ("show", file),
         Choice::List { file } => ("list", file),
+        Choice::Audit { file } => ("audit", file),
     })
 }
 
 #[test]
 fn a_subcommand_is_chosen_with_its_file(rt: HostRuntime) -> Result<(), Fail> {
     let alloc = rt.alloc();
-    for subcommand in ["show", "list"] {
+    for subcommand in ["show", "list", "audit"] {
         for name in ["-", "a file.rec", "--"] {
             let words = ["rtps-audit", subcommand, "--", name];
             let (chosen, file) = chosen_of(alloc, &words).expect(&rt, "a choice");
@@ -107,6 +108,7 @@ fn other_words_are_refused(rt: HostRuntime) {
     assert!(rt; are_refused(alloc, &["rtps-audit", "shows", "-"]));
     assert!(rt; are_refused(alloc, &["rtps-audit", "show"]));
     assert!(rt; are_refused(alloc, &["rtps-audit", "list"]));
+    assert!(rt; are_refused(alloc, &["rtps-audit", "audit"]));
     assert!(rt; are_refused(alloc, &["rtps-audit", "show", "a", "b"]));
     assert!(rt; are_refused(alloc, &["rtps-audit", "show", "--all", "-"]));
 }

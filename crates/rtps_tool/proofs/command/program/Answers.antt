@@ -11,5 +11,7 @@ returns c =
     let bare_is : app_of c.subcommand_required.result ≡ bare_program = ap app_of_fields c.subcommand_required.ensures ∙ ap (on_top (λ s. record s { subcommand_required = true })) about_is in
     let show_is = ap (λ (a : App). a.top) c.in_ok-show.ensures.app in
     let list_is = ap (λ (a : App). a.top) c.in_ok-list.ensures.app in
+    let audit_is = ap (λ (a : App). a.top) c.in_ok-audit.ensures.app in
     let one_is = c.in_ok-subcommand.ensures.shape c.in_ok-show.ensures.local ∙ ap₂ with_subcommand bare_is show_is in
-    IfOk-weaker c.subcommand-2.result _ _ (λ command added. added.shape c.in_ok-list.ensures.local ∙ ap₂ with_subcommand one_is list_is) c.subcommand-2.ensures
+    let two_is = c.in_ok-subcommand-2.ensures.shape c.in_ok-list.ensures.local ∙ ap₂ with_subcommand one_is list_is in
+    IfOk-weaker c.subcommand-3.result _ _ (λ command added. added.shape c.in_ok-audit.ensures.local ∙ ap₂ with_subcommand two_is audit_is) c.subcommand-3.ensures
