@@ -1,5 +1,5 @@
 //! Judging from recorded datagrams whether a reader was told of every number that a writer announced
-//! (DDSI-RTPS 2.5, 8.4 "RTPS Behavior Specification").
+//! (DDSI-RTPS 2.5, 8.4 "Behavior Module").
 #![tactic(auto)]
 
 mod auditing;

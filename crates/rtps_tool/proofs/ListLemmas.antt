@@ -1,7 +1,7 @@
 -- Facts on what `list` prints: the acts of datagrams, and how many there are.
-use Rattle.std.proofs.Common.{◌≡◌, ◌+◌, ◌<◌, ◌≤◌, ◌*◌, ℕ, List, [], ◌∷◌, ◌++◌, map, take, drop, get_or, length, Option, None, Some, Ok, Err, refl, ap, sym, subst, ◌∙◌, arith}
+use Rattle.std.proofs.Common.{◌≡◌, ◌+◌, ◌≤◌, ℕ, List, [], ◌∷◌, ◌++◌, take, drop, get_or, length, Option, None, Some, Ok, Err, refl, ap, ◌∙◌, arith}
 use Rattle.std.specs.Prelude.{if◌then◌else◌, option_to_list}
-use Rattle.std.specs.List.{flat_map, slice_get}
+use Rattle.std.specs.List.{slice_get}
 use Rattle.std.proofs.lemmas.Grind.{flat_map-append}
 use Rattle.std.proofs.lemmas.List.{append-nil, length-append, length-drop, take_more}
 use Rattle.std.proofs.lemmas.List.Sums.{sum_by-append}
@@ -12,7 +12,7 @@ use Rattle.rtps_wire.specs.Reading.{Outcome, items_among, outcomes, reading_of, 
 use Rattle.rtps_wire.specs.Values.{ItemValue}
 use Rattle.rtps_wire.specs.declared.fault.Refusal.{Refusal}
 use Rattle.rtps_wire.specs.declared.fault.WireFault.{WireFault}
-use Rattle.rtps_receiver.specs.Acts.{ActOutcome, act_body, acts_behind, acts_in as acts_at, acts_of, acts_then, state_at_start, state_behind}
+use Rattle.rtps_receiver.specs.Acts.{act_body, acts_behind, acts_in as acts_at, acts_of, acts_then, state_at_start, state_behind}
 use Rattle.rtps_receiver.specs.Values.{ActBodyValue, ActValue}
 use Rattle.rtps_receiver.specs.declared.state.State.{State}
 use Rattle.rtps_discovery.specs.Notice.{announcement_of, answer_of}

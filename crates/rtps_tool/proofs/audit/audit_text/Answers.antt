@@ -1,5 +1,5 @@
-use Rattle.std.proofs.Common.{◌≡◌, ◌∙◌, ap}
-use Rattle.rtps_tool.specs.AuditText.{IsAudited, ending_of}
+use Rattle.std.proofs.Common.{◌∙◌, ap}
+use Rattle.rtps_tool.specs.AuditText.{ending_of}
 use Rattle.rtps_tool.proofs.audit.audit_text.Goals as goal
 
 pub returns : goal.returns

@@ -1,10 +1,9 @@
-use Rattle.std.proofs.Common.{◌≡◌, ◌∙◌, Bool, ap, if◌then◌else◌, rules, sym, true, false}
+use Rattle.std.proofs.Common.{◌≡◌, ◌∙◌, Bool, ap, if◌then◌else◌, rules, sym}
 use Rattle.std.proofs.lemmas.Iterator.Search.{all_from_yields_List}
 use Rattle.std.proofs.lemmas.Iterator.{YieldsList-from_slice}
 use Rattle.std.specs.List.{list_all}
 use Rattle.rtps_audit.specs.declared.report.Row.{Row}
 use Rattle.rtps_tool.specs.AuditText.{is_complete}
-use Rattle.rtps_tool.specs.declared.faults.Ending.{Ending}
 use Rattle.rtps_tool.specs.declared.faults.Ending.TheVariants.{Clean, Unclean}
 use Rattle.rtps_tool.proofs.audit.ending_of.Goals as goal
 

@@ -1,7 +1,7 @@
 use Rattle.std.proofs.Common.{◌≡◌, ◌+◌, ◌++◌, ◌≤◌, ◌∷◌, [], ◌∙◌, List, Ok, Err, ap, append_assoc, arith, length, subst, sym}
 use Rattle.rtps_discovery.specs.Directory.{IsMapOf}
 use Rattle.rtps_receiver.specs.Acts.{ActOutcome, Awaited, acts_left}
-use Rattle.rtps_receiver.specs.Values.{ActValue, act_outcome_value, act_value}
+use Rattle.rtps_receiver.specs.Values.{act_outcome_value, act_value}
 use Rattle.rtps_tool.specs.ListText.{acts_among, faults_in}
 use Rattle.std.proofs.lemmas.List.{append-nil}
 use Rattle.std.proofs.lemmas.List.Sums.{sum_by-cons}

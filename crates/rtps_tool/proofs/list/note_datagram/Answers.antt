@@ -1,9 +1,8 @@
-use Rattle.std.proofs.Common.{◌≡◌, ◌++◌, ◌≤◌, ◌∙◌, [], List, ap, arith, length, subst, sym}
+use Rattle.std.proofs.Common.{◌≡◌, ◌++◌, ◌∙◌, ap, arith, subst, sym}
 use Rattle.std.proofs.lemmas.List.{append-nil}
 use Rattle.std.proofs.lemmas.Result.{IfOk-weaker, on_ok_weaker}
 use Rattle.rtps_discovery.specs.Directory.{IsMapOf}
-use Rattle.rtps_receiver.specs.Acts.{ActOutcome, acts_left, acts_of, acts_then}
-use Rattle.rtps_receiver.specs.Values.{ActValue}
+use Rattle.rtps_receiver.specs.Acts.{acts_left, acts_of}
 use Rattle.rtps_wire.specs.Reading.{reading_of}
 use Rattle.rtps_tool.specs.ListText.{acts_among, faults_in}
 use Rattle.rtps_tool.proofs.ListLemmas.{acts_among-then, acts_of-refused, few_in_datagram}

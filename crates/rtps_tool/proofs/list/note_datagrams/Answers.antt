@@ -1,4 +1,4 @@
-use Rattle.std.proofs.Common.{◌≡◌, ◌++◌, ◌+◌, ◌*◌, ◌≤◌, ◌∙◌, ap, arith, subst, sym, take}
+use Rattle.std.proofs.Common.{◌≡◌, ◌++◌, ◌+◌, ◌∙◌, ap, arith, subst, sym, take}
 use Rattle.rtps_discovery.specs.Directory.{IsMapOf}
 use Rattle.rtps_receiver.specs.Acts.{acts_of}
 use Rattle.rtps_wire.specs.Reading.{reading_of}

@@ -1,4 +1,4 @@
-use Rattle.std.proofs.Common.{◌≡◌, ◌*◌, ◌<◌, ◌≤◌, ◌^◌, take}
+use Rattle.std.proofs.Common.{◌≡◌, ◌*◌, ◌≤◌, ◌^◌, take}
 use Rattle.rtps_discovery.specs.Directory.{IsMapOf}
 use Rattle.rtps_tool.specs.ListText.{acts_in, faults_in}
 use Rattle.rtps_tool.proofs.list.note_datagrams.Given as goal
