@@ -4,6 +4,9 @@
     reference.py show|list|audit FILE      prints what `rtps-audit` should print
     reference.py compare PROGRAM [COUNT [SEED]]
                                            runs PROGRAM on COUNT random recordings, and says where it differs
+    reference.py texts PROGRAM [COUNT [SEED]]
+                                           the same on COUNT random texts, most of which are no recordings, that come
+                                           through a pipe in pieces
 
 It is written for clearness: every verdict of a small recording is found by trying what a reader may take
 (`verdict_by_runs`), and that of a large one by the plain conditions.
@@ -674,10 +677,69 @@ def compare(program, count, seed):
     return int(differing > 0)
 
 
+# ---- random texts
+
+def some_line(rng, long):
+    kind = rng.randrange(20)
+    if kind < 8:
+        return rng.choice([b'', b'', b'52', b'aB', b'525450530205', START[0].hex().encode()])
+    if kind < 11:
+        return b'#' + rng.choice([b'', b' note', b'zz\r', bytes(rng.randrange(256) for _ in range(9)).replace(b'\n', b'')])
+    if kind < 13:
+        line = bytearray(rng.choice([b'00', b'0a1B', START[1].hex().encode()]))
+        line[rng.randrange(len(line))] = rng.choice([0, 0x0d, 0x20, 0x23, 0x2f, 0x3a, 0x40, 0x47, 0x60, 0x67, 0x80, 0xff])
+        return bytes(line)
+    if kind < 14:
+        return rng.choice([b'0', b'\r', b'\r\r', b' ', b' #', b'00 ', b'\x00', b'\xef\xbb\xbf00'])
+    if not long:
+        return b'00'
+    size = rng.choice([131070, 262144]) + rng.randrange(-3, 4)
+    line = bytearray(rng.choice([b'0', b'0', b'#', b'z']) * size)
+    line[0] = rng.choice(b'##00f')
+    if rng.random() < 0.2:
+        line[rng.randrange(size)] = ord('z')
+    return bytes(line)
+
+
+def some_lines(rng, long):
+    lines = [some_line(rng, long) for _ in range(rng.randrange(6))]
+    text = b''.join(line + rng.choice([b'\n', b'\n', b'\r\n', b'\r\r\n']) for line in lines)
+    return text[:-1] if text and rng.random() < 0.4 else text
+
+
+def in_pieces(rng, program, words, text):
+    child = subprocess.Popen(program.split() + words, stdin=subprocess.PIPE, stdout=subprocess.PIPE, stderr=subprocess.PIPE, bufsize=0)
+    at, most = 0, rng.choice([1, 3, 50, 1 << 16, 1 << 20]) if len(text) < 2000 else rng.choice([30000, 65536, 131071, 1 << 20])
+    while at < len(text):
+        size = rng.randrange(1, most + 1)
+        child.stdin.write(text[at:at + size])
+        at += size
+    out, err = child.communicate()
+    return out.decode(), err.decode(), child.returncode
+
+
+def texts(program, count, seed):
+    rng, differing, faulty = random.Random(seed), 0, 0
+    for k in range(count):
+        text = some_lines(rng, rng.random() < 0.5)
+        found = recording_of(text)
+        faulty += isinstance(found, str)
+        told = f'rtps-audit: {found}\n' if isinstance(found, str) else ''
+        want, status = answer('show', text)
+        if in_pieces(rng, program, ['show', '-'], text) != (want, told, status):
+            differing += 1
+            with tempfile.NamedTemporaryFile(delete=False, suffix='.rec') as f:
+                f.write(text)
+            print(f'text {k} differs, kept in {f.name}')
+    print(f'{count} texts, {faulty} of them no recordings, {differing} differences')
+    return int(differing > 0)
+
+
 def main():
-    if sys.argv[1] == 'compare':
+    if sys.argv[1] in ('compare', 'texts'):
         count = int(sys.argv[3]) if len(sys.argv) > 3 else 1000
-        return compare(sys.argv[2], count, int(sys.argv[4]) if len(sys.argv) > 4 else 1)
+        run = compare if sys.argv[1] == 'compare' else texts
+        return run(sys.argv[2], count, int(sys.argv[4]) if len(sys.argv) > 4 else 1)
     with open(sys.argv[2], 'rb') as f:
         text, status = answer(sys.argv[1], f.read())
     sys.stdout.write(text)

@@ -6,6 +6,7 @@ use byteorder::{BigEndian, ByteOrder, LittleEndian};
 
 /// The number of two octets at the place `at`, or None where the octets do not reach.
 #[tactic(auto, unfolding(crate::specs::Octets::number_of))]
+#[inline]
 pub fn u16_at(order: Order, bytes: &[u8], at: usize) -> Option<u16>
     ensures { result ≡ read_at (number_of order 2) 2 bytes.now at }
 {
@@ -21,6 +22,7 @@ pub fn u16_at(order: Order, bytes: &[u8], at: usize) -> Option<u16>
 
 /// The number of four octets at the place `at`, or None where the octets do not reach.
 #[tactic(auto, unfolding(crate::specs::Octets::number_of))]
+#[inline]
 pub fn u32_at(order: Order, bytes: &[u8], at: usize) -> Option<u32>
     ensures { result ≡ read_at (number_of order 4) 4 bytes.now at }
 {
@@ -37,6 +39,7 @@ pub fn u32_at(order: Order, bytes: &[u8], at: usize) -> Option<u32>
 /// The sequence number of eight octets at the place `at`, a signed high part and then an unsigned low part, or None
 /// where the octets do not reach.
 #[tactic(auto, unfolding(crate::specs::Octets::number_of, crate::specs::Octets::sequence_number_of))]
+#[inline]
 pub fn number_at(order: Order, bytes: &[u8], at: usize) -> Option<i64>
     ensures { result ≡ read_at (sequence_number_of order) 8 bytes.now at }
 {

@@ -29,6 +29,7 @@ impl<'a> Model for Acts<'a> {
 impl<'a> Acts<'a> {
     /// Reads the header of a datagram, of any length, and leaves its acts to be read. The refusal, at place 0, is
     /// `Short`, `NotRtps` or `BadVersion`.
+    #[inline(always)]
     pub fn open(bytes: &'a [u8]) -> Result<Acts<'a>, Refusal>
         ensures { MatchResult result
             (λ acts. (header_fault bytes.now ≡ None) × (acts_left acts ≡ acts_then (acts_of (reading_of bytes.now)) (reading_of bytes.now).ending))
@@ -52,6 +53,7 @@ impl<'a> Iterator for Acts<'a> {
     ghost remaining = { item_count acts_left };
 
     /// The next act, or the refusal that ends the message. After a refusal or the end it answers None for good.
+    #[inline(always)]
     fn next(&mut self) -> Option<Result<Act<'a>, Refusal>> {
         while let Some(outcome) = self.items.next() {
             match outcome {

@@ -35,6 +35,7 @@ impl State {
     }
 
     /// The act that this item is in this state, or None where it is none.
+    #[inline(always)]
     pub fn act<'a>(&self, item: &Item<'a>) -> Option<Act<'a>>
         ensures { MatchOption result (act_body (item_value item.now).body ≡ None) (IsActIn self.now (item_value item.now)) }
     {
@@ -54,6 +55,7 @@ impl State {
     }
 
     /// Takes what this item says of the state of what follows it.
+    #[inline(always)]
     pub fn hear(&mut self, item: &Item<'_>)
         ensures { self.new ≡ state_behind self.old (item_value item.now ∷ []) }
     {
@@ -78,6 +80,7 @@ impl State {
 }
 
 /// What an act with this body says, or None where the body is none of an act.
+#[inline(always)]
 fn body_of_act<'a>(body: &Body<'a>) -> Option<ActBody<'a>>
     ensures { option_map act_body_value result ≡ act_body (body_value body.now) }
 {

@@ -1,16 +1,13 @@
 -- Facts on recordings, line by line.
 use Rattle.std.proofs.Common.{◌≡◌, ℕ, ◌+◌, true, false, Bool, List, [], ◌∷◌, ◌++◌, length, Option, None, Some, Result, Ok, Err, refl, sym, ap, ◌∙◌, ◌⊎◌, inl, inr, add-zero}
 use Rattle.std.proofs.lemmas.List.{append_assoc, append-nil, length-append, nil_from_length}
-use Rattle.rtps_tool.specs.RecordingText.{recording_of_lines, is_datagram_line, line_fault, octets_of, unless_faulty}
+use Rattle.rtps_digits.specs.Pairs.{octets_of}
+use Rattle.rtps_tool.specs.RecordingText.{recording_of_lines, is_datagram_line, line_fault, unless_faulty}
 use Rattle.rtps_tool.specs.declared.faults.RecFault.{RecFault}
 use Rattle.rtps_tool.specs.declared.faults.RecFault.TheVariants.{BadHex, TooLong, TooMany, Memory}
 use Rattle.rtps_tool.specs.Answers.{IsFaultOf}
 use Rattle.rtps_tool.specs.Lines.{lines_of}
-
--- datagrams in front of a recording, which a fault keeps as it is
-abbrev pub with_front : List (List ℕ) → Result (List (List ℕ)) RecFault → Result (List (List ℕ)) RecFault
-with_front front (Ok datagrams) = Ok (front ++ datagrams)
-with_front front (Err fault) = Err fault
+use Rattle.rtps_tool.specs.Unfinished.{with_front}
 
 pub with_front-none : (r : Result (List (List ℕ)) RecFault) → with_front [] r ≡ r
 with_front-none (Ok datagrams) = refl

@@ -4,8 +4,10 @@ pub mod Lines
 pub mod ListText
 pub mod Places
 pub mod RecordingText
+pub mod Room
 pub mod Runs
 pub mod RunFaults
 pub mod Statuses
 pub mod Words
 pub mod ShowText
+pub mod Unfinished

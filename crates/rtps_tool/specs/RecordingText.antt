@@ -2,8 +2,8 @@
 -- own: one datagram a line, in hexadecimal digits of either case, with comments; the limits are this project's.
 use Rattle.std.specs.Prelude.{ℕ, ◌^◌, ◌==◌, ◌&&◌, nat_le, nat_lt, not, Bool, if◌then◌else◌, List, [], ◌∷◌, length, slice_index, map, filter, Option, Some, None, Result, Ok, Err, is_err}
 use Rattle.std.specs.List.{enumerate_from, filter_map}
-use Rattle.std.specs.Result.{result_unwrap_or}
 use Rattle.hex.specs.Hex.{decode_of}
+use Rattle.rtps_digits.specs.Pairs.{octets_of}
 use Rattle.rtps_tool.specs.Lines.{lines_of}
 use Rattle.rtps_tool.specs.declared.faults.RecFault.{RecFault}
 use Rattle.rtps_tool.specs.declared.faults.RecFault.TheVariants.{BadHex, TooLong, TooMany}
@@ -28,10 +28,6 @@ line_fault before number digits =
 -- all that is wrong with datagram lines that come after so many others, in their order
 abbrev pub line_faults : ℕ → List (ℕ × List ℕ) → List RecFault
 line_faults before lines = filter_map (λ row. line_fault row.0 row.1.0 row.1.1) (enumerate_from before lines)
-
--- the octets that hexadecimal digits stand for
-abbrev pub octets_of : List ℕ → List ℕ
-octets_of digits = result_unwrap_or (decode_of digits) []
 
 -- the first of these faults, or the datagrams where there is none
 abbrev pub unless_faulty : List RecFault → List (List ℕ) → Result (List (List ℕ)) RecFault

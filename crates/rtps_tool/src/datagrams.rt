@@ -1,11 +1,15 @@
-ghost use Rattle.std.specs.Prelude.{◌≡◌, ◌==◌, ◌++◌, ◌∷◌, [], ◌+◌, ◌/◌, if◌then◌else◌, length, take, drop, is_ok, IfOk, OnErr, IsTrue};
+ghost use Rattle.std.specs.Prelude.{◌≡◌, ◌==◌, ◌++◌, ◌∷◌, [], ◌+◌, ◌/◌, ◌≤◌, max, vec_len, vec_capacity, if◌then◌else◌, length, take, drop, is_ok, IfOk, OnOk, OnErr, IsTrue};
 ghost use Rattle.std.specs.List.{slice_get};
 ghost use Rattle.std.specs.Option.{option_map};
 ghost use Rattle.hex.specs.Hex.{decode_of};
-ghost use Rattle.rtps_tool.specs.RecordingText.{octets_of};
+ghost use Rattle.rtps_digits.specs.Pairs.{octets_of};
+ghost use Rattle.rtps_tool.specs.Room.{roomy_size};
 
 use std::alloc::{AllocError, Global};
 use std::marker::Model;
+
+// The least that room is asked for besides what is needed, in octets or places.
+const ROOM_MIN: usize = 1 << 16;
 
 /// Datagrams in the order in which they were sent. A recording is seen as the list of its datagrams.
 #[derive(Drop)]
@@ -53,18 +57,16 @@ impl Recording {
         Some(&self.octets[from..to])
     }
 
-    // No datagram yet, with room for so many octets and datagrams.
-    pub(crate) fn with_room(
-        alloc: Global,
-        octets: usize,
-        datagrams: usize,
-    ) -> Result<Recording, AllocError>
+    // No datagram yet.
+    pub(crate) fn new(alloc: Global) -> Result<Recording, AllocError>
         ensures { IfOk result (λ recording. recording ≡ []) }
     {
-        let octets = Vec::with_capacity(alloc, octets)?;
-        let mut places = Vec::with_capacity(alloc, datagrams)?;
+        let mut places = Vec::new(alloc);
         places.push(0)?;
-        Ok(Recording { octets, places })
+        Ok(Recording {
+            octets: Vec::new(alloc),
+            places,
+        })
     }
 
     // Appends the datagram that these digits stand for, and answers whether they stand for one. Nothing changes
@@ -74,13 +76,27 @@ impl Recording {
         ensures pushed { IfOk result (λ found. self.new ≡ (if found then self.old ++ octets_of digits.now ∷ [] else self.old)) }
         ensures err { OnErr result (self.new ≡ self.old) }
     {
-        self.places.reserve(1)?;
+        make_room(&mut self.places, 1)?;
         if !append_hex(&mut self.octets, digits)? {
             return Ok(false);
         }
         self.places.push_reserved(self.octets.len());
         Ok(true)
     }
+}
+
+// Makes room for so many items more: for an eighth of those that are there besides, so that the room of a recording is
+// never much more than what it needs, and is seldom asked for. Nothing changes after an `Err`.
+fn make_room<T>(items: &mut Vec<T>, more: usize) -> Result<(), AllocError>
+    ensures items { items.new.items ≡ items.old.items }
+    ensures room { OnOk result (vec_len items.new + more ≤ vec_capacity items.new) }
+    ensures sparing { vec_capacity items.new ≤ max (vec_capacity items.old) (roomy_size (vec_len items.old) more) }
+{
+    if more <= items.capacity() - items.len() {
+        return Ok(());
+    }
+    let besides = (items.len() / 8).max(ROOM_MIN);
+    items.reserve_exact(more.saturating_add(besides))
 }
 
 // Appends the octets that these digits stand for, and answers whether they stand for any. Nothing is appended where
@@ -91,6 +107,7 @@ fn append_hex(octets: &mut Vec<u8>, digits: &[u8]) -> Result<bool, AllocError>
     ensures err { OnErr result (octets.new.items ≡ octets.old.items) }
 {
     let from = octets.len();
+    make_room(octets, digits.len() / 2)?;
     octets.resize(from + digits.len() / 2, 0)?;
     let found = decode_behind(octets.as_mut_slice(), from, digits);
     if !found {
@@ -107,5 +124,25 @@ fn decode_behind(octets: &mut [u8], from: usize, digits: &[u8]) -> bool
     ensures front { take from octets.new ≡ take from octets.old }
     ensures back { IsTrue result → drop from octets.new ≡ octets_of digits.now }
 {
-    hex::decode_to_slice(digits, &mut octets[from..]).is_ok()
+    rtps_digits::decode(&mut octets[from..], digits)
+}
+
+#[cfg(test)]
+mod tests {
+    use super::*;
+    use std::test::Fail;
+
+    #[test]
+    fn room_stays_near_what_is_needed(rt: HostRuntime) -> Result<(), Fail> {
+        let mut recording = Recording::new(rt.alloc())?;
+        let digits = vec![in rt.alloc(); b'0'; 100_000]?;
+        for _ in 0..100 {
+            assert!(rt; recording.push_hex(&digits)?);
+            let (octets, places) = (recording.octets.len(), recording.places.len());
+            assert!(rt; recording.octets.capacity() <= octets + octets / 8 + ROOM_MIN);
+            assert!(rt; recording.places.capacity() <= places + places / 8 + ROOM_MIN);
+        }
+        assert_eq!(rt; recording.octets.len(), 5_000_000);
+        Ok(())
+    }
 }

@@ -9,6 +9,7 @@ mod datagrams;
 mod faults;
 mod hexadecimal;
 mod item_lines;
+mod line_reader;
 mod lines;
 mod list;
 mod list_lines;

@@ -1,9 +1,10 @@
-ghost use Rattle.std.specs.Prelude.{◌≡◌, ◌==◌, ◌<◌, ◌∷◌, ◌++◌, [], length, ℕ, List, Ok, MatchResult};
+ghost use Rattle.std.specs.Prelude.{◌≡◌, ◌==◌, ◌+◌, ◌^◌, ◌<◌, ◌≤◌, ◌∷◌, ◌++◌, [], length, take, ℕ, List, None, Ok, MatchResult};
 ghost use Rattle.std.specs.List.{position};
 ghost use Rattle.std.specs.Str.Lines.{strip_carriage_return};
 ghost use Rattle.rtps_tool.specs.Answers.{IsFaultOf};
 ghost use Rattle.rtps_tool.specs.Lines.{lines_of, is_line_feed};
 ghost use Rattle.rtps_tool.specs.RecordingText.{is_datagram_line as is_datagram_line_lem, recording_of, recording_of_lines};
+ghost use Rattle.rtps_tool.specs.Unfinished.{recording_behind};
 
 use crate::datagrams::Recording;
 use crate::faults::RecFault;
@@ -13,20 +14,32 @@ use std::alloc::Global;
 pub(crate) const TEXT_MAX: usize = 1 << 30;
 
 // The most datagrams of a recording.
-const DATAGRAMS_MAX: usize = 1_000_000;
+pub(crate) const DATAGRAMS_MAX: usize = 1_000_000;
 
 // The most digits of a datagram: two for each of 65,535 octets, as UDP carries no more.
-const DIGITS_MAX: usize = 131_070;
+pub(crate) const DIGITS_MAX: usize = 131_070;
 
 // The place of the first line feed.
-fn line_end(text: &[u8]) -> Option<usize>
+pub(crate) fn line_end(text: &[u8]) -> Option<usize>
     ensures { result ≡ position is_line_feed text.now }
 {
-    text.iter().position(|b| *b == b'\n')
+    memchr::memchr(b'\n', text)
+}
+
+// The place of the first line feed of a text in front of which so much has none.
+pub(crate) fn line_end_behind(text: &[u8], known: usize) -> Option<usize>
+    requires within { known ≤ length text.now }
+    requires none { position is_line_feed (take known text.now) ≡ None }
+    ensures { result ≡ position is_line_feed text.now }
+{
+    match line_end(&text[known..]) {
+        Some(end) => Some(known + end),
+        None => None,
+    }
 }
 
 // The line without the one carriage return at its end, if it has one.
-fn without_return(line: &[u8]) -> &[u8]
+pub(crate) fn without_return(line: &[u8]) -> &[u8]
     ensures { result.now ≡ strip_carriage_return line.now }
 {
     match line {
@@ -57,21 +70,20 @@ pub fn read_recording(alloc: Global, text: &[u8]) -> Result<Recording, RecFault>
     if text.len() > TEXT_MAX {
         return Err(RecFault::TooMany);
     }
-    let most = (text.len() / 3 + 1).min(DATAGRAMS_MAX);
-    let mut recording = Recording::with_room(alloc, text.len() / 2, most)?;
-    read_lines(&mut recording, text)?;
+    let mut recording = Recording::new(alloc)?;
+    read_lines(&mut recording, 0, text)?;
     Ok(recording)
 }
 
-// Appends the datagrams of a text to a recording that has none.
-fn read_lines(recording: &mut Recording, text: &[u8]) -> Result<(), RecFault>
-    requires { recording.old ≡ [] }
+// Appends the datagrams of what is left of a text, behind so many lines.
+pub(crate) fn read_lines(recording: &mut Recording, lines: u64, left: &[u8]) -> Result<(), RecFault>
+    requires { lines + length left.now < 2 ^ 64 }
     ensures { MatchResult result
-        (λ _. recording_of_lines 1 0 (lines_of text.now) ≡ Ok recording.new)
-        (IsFaultOf (recording_of_lines 1 0 (lines_of text.now))) }
+        (λ _. recording_behind recording.old lines left.now ≡ Ok recording.new)
+        (IsFaultOf (recording_behind recording.old lines left.now)) }
 {
-    let mut rest = text;
-    let mut number = 0;
+    let mut rest = left;
+    let mut number = lines;
     'lines: while !rest.is_empty() {
         let (line, behind) = first_line(rest);
         rest = behind;
@@ -82,7 +94,7 @@ fn read_lines(recording: &mut Recording, text: &[u8]) -> Result<(), RecFault>
 }
 
 // Appends the datagram that a line stands for, if it stands for one.
-fn read_line(recording: &mut Recording, number: u64, line: &[u8]) -> Result<(), RecFault>
+pub(crate) fn read_line(recording: &mut Recording, number: u64, line: &[u8]) -> Result<(), RecFault>
     ensures { let defined = recording_of_lines number (length recording.old) (line.now ∷ []) in MatchResult result
         (λ _. (found : List (List ℕ)) × (defined ≡ Ok found) × (recording.new ≡ recording.old ++ found))
         (IsFaultOf defined) }

@@ -1,15 +1,21 @@
-ghost use Rattle.std.specs.Prelude.{◌≡◌, [], ◌≤◌, ◌<◌, ◌^◌, length, take, vec_len, MatchResult, IfOk};
-ghost use Rattle.std.specs.Io.KnownBytes.{Appends, Consumes, IsAtEnd, Keeps};
-ghost use Rattle.rtps_tool.specs.Runs.{Reads, ReadsRecording, FailsReading, FailsWriting};
+ghost use Rattle.std.specs.Prelude.{◌≡◌, [], ◌+◌, ◌≤◌, ◌<◌, ◌^◌, length, take, vec_len, MatchResult, IfOk};
+ghost use Rattle.std.specs.Io.KnownBytes.{Appends};
+ghost use Rattle.rtps_tool.specs.Runs.{ReadsRecording, FailsReading, FailsWriting};
+ghost use Rattle.rtps_tool.specs.Unfinished.{ReadsOn};
+ghost use Rattle.rtps_tool.specs.declared.faults.RunFault.TheVariants.{Input};
 
 use crate::datagrams::Recording;
-use crate::faults::RunFault;
-use crate::lines::{TEXT_MAX, read_recording};
+use crate::faults::{RecFault, RunFault};
+use crate::line_reader::{KEPT_MAX, LineReader};
+use crate::lines::TEXT_MAX;
 use std::alloc::{AllocError, Global};
 use std::io::{Read, Write};
 
-// How many octets a read asks for.
-const PIECE: usize = 1 << 17;
+// How many octets are asked for at once.
+const PIECE: usize = 1 << 16;
+
+// How many octets are held of a text: an unfinished line, and what is read behind it.
+const HELD: usize = KEPT_MAX + PIECE;
 
 /// Reads the recording that is all the input.
 pub(crate) fn read_input<R: Read>(alloc: Global, input: &mut R) -> Result<Recording, RunFault>
@@ -17,20 +23,10 @@ pub(crate) fn read_input<R: Read>(alloc: Global, input: &mut R) -> Result<Record
         (ReadsRecording (R.remaining input.old) (R.remaining input.new))
         (FailsReading (R.remaining input.old) (R.remaining input.new)) }
 {
-    let text = read_text(alloc, input)?;
-    Ok(read_recording(alloc, text.as_slice())?)
-}
-
-// Reads all the input, or more of it than a recording's text may have.
-fn read_text<R: Read>(alloc: Global, input: &mut R) -> Result<Vec<u8>, RunFault>
-    ensures { MatchResult result
-        (λ text. Reads (R.remaining input.old) (R.remaining input.new) text.items)
-        (FailsReading (R.remaining input.old) (R.remaining input.new)) }
-{
-    let mut text = Vec::new(alloc);
-    let mut piece = zeros(alloc, PIECE)?;
-    read_pieces(input, &mut text, &mut piece)?;
-    Ok(text)
+    let mut held = zeros(alloc, HELD)?;
+    let mut reader = LineReader::new(alloc)?;
+    read_pieces(input, &mut reader, &mut held)?;
+    Ok(reader.into_recording())
 }
 
 fn zeros(alloc: Global, size: usize) -> Result<Vec<u8>, AllocError>
@@ -39,24 +35,63 @@ fn zeros(alloc: Global, size: usize) -> Result<Vec<u8>, AllocError>
     vec![in alloc; 0u8; size]
 }
 
-// Reads into a text that is empty, by way of a piece, to the end of the input or past the most that a text may have.
-fn read_pieces<R: Read>(input: &mut R, text: &mut Vec<u8>, piece: &mut [u8]) -> Result<(), RunFault>
-    requires empty { text.old.items ≡ [] }
-    requires some { 0 < length piece.old }
+// Reads the recording that is all the input, by way of what is held of it.
+fn read_pieces<R: Read>(
+    input: &mut R,
+    reader: &mut LineReader,
+    held: &mut [u8],
+) -> Result<(), RunFault>
+    requires empty { (reader.old.recording ≡ []) × (reader.old.lines ≡ 0) }
+    requires room { length held.old ≡ 196607 }
     ensures { MatchResult result
-        (λ _. Reads (R.remaining input.old) (R.remaining input.new) text.new.items)
+        (λ _. ReadsRecording (R.remaining input.old) (R.remaining input.new) reader.new.recording)
         (FailsReading (R.remaining input.old) (R.remaining input.new)) }
 {
-    'pieces: while text.len() <= TEXT_MAX {
+    let mut total = 0;
+    let mut kept = 0;
+    'pieces: while total <= TEXT_MAX {
+        let Ok(got) = input.read(&mut held[kept..kept + PIECE]) else {
+            return Err(RunFault::Input);
+        };
+        if got == 0 {
+            reader.finish(&held[..kept])?;
+            return Ok(());
+        }
+        total += got;
+        match reader.feed(&mut held[..kept + got], kept) {
+            Ok(left) => kept = left,
+            Err(fault) => {
+                let total = read_on(input, held, total)?;
+                let first = if total > TEXT_MAX {
+                    RecFault::TooMany
+                } else {
+                    fault
+                };
+                return Err(RunFault::from(first));
+            }
+        }
+    }
+    Err(RunFault::Recording(RecFault::TooMany))
+}
+
+// Reads on from so many octets, and answers how many there are then.
+fn read_on<R: Read>(input: &mut R, piece: &mut [u8], from: usize) -> Result<usize, RunFault>
+    requires { 0 < length piece.old }
+    ensures { MatchResult result
+        (ReadsOn (R.remaining input.old) (R.remaining input.new) from)
+        (λ fault. fault ≡ Input) }
+{
+    let mut total = from;
+    'rest: while total <= TEXT_MAX {
         let Ok(got) = input.read(piece) else {
             return Err(RunFault::Input);
         };
         if got == 0 {
-            return Ok(());
+            return Ok(total);
         }
-        text.extend_from_slice(&piece[..got])?;
+        total += got;
     }
-    Ok(())
+    Ok(total)
 }
 
 /// Writes this text.

@@ -5,6 +5,7 @@ mod audited;
 mod audits;
 mod listed;
 mod lists;
+mod pieces;
 mod recordings;
 mod shown;
 mod shows;

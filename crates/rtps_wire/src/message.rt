@@ -37,6 +37,7 @@ impl<'a> Model for Items<'a> {
 impl<'a> Items<'a> {
     /// Reads the header of a datagram, of any length, and leaves all behind it to be read. The refusal, at place 0,
     /// is `Short`, `NotRtps` or `BadVersion`.
+    #[inline(always)]
     pub fn open(bytes: &'a [u8]) -> Result<(Header, Items<'a>), Refusal>
         ensures { MatchResult result
             (λ opened. (header_fault bytes.now ≡ None) × (opened.0 ≡ header_of bytes.now) × (opened.1 ≡ record { rest = drop 20 bytes.now; at = 20 }))
@@ -61,6 +62,7 @@ impl<'a> Iterator for Items<'a> {
     ghost remaining = { item_count outcomes_left };
 
     /// The next item, or the refusal that ends the message. After a refusal or the end it answers None for good.
+    #[inline(always)]
     fn next(&mut self) -> Option<Result<Item<'a>, Refusal>> {
         if self.rest.is_empty() {
             return None;
@@ -82,6 +84,7 @@ impl<'a> Iterator for Items<'a> {
 
 /// Reads the submessage at the front, whose place this is, and says how many octets it has.
 #[tactic(auto, unfolding(crate::specs::Message::fault_at, crate::specs::Message::item_at))]
+#[inline(always)]
 fn read_item(rest: &[u8], at: usize) -> Result<(Item<'_>, usize), WireFault>
     ensures item { Answers (λ found. item_value found.0) result (fault_at rest.now) (item_at rest.now at) }
     ensures size { IfOk result (λ found. (found.1 ≡ 4 + body_length rest.now) × (found.1 ≤ length rest.now)) }
@@ -107,6 +110,7 @@ fn read_item(rest: &[u8], at: usize) -> Result<(Item<'_>, usize), WireFault>
 }
 
 /// How many octets the body of a submessage has, where so many are left behind its header.
+#[inline(always)]
 fn extent(id: u8, declared: usize, left: usize) -> usize
     ensures { result ≡ extent_of id declared left }
 {
@@ -118,6 +122,7 @@ fn extent(id: u8, declared: usize, left: usize) -> usize
 }
 
 /// The order that the flags tell.
+#[inline(always)]
 fn order_of(flags: u8) -> Order
     ensures { result ≡ order_of_lem flags }
 {
@@ -129,6 +134,7 @@ fn order_of(flags: u8) -> Order
 }
 
 /// Reads the body of a submessage.
+#[inline(always)]
 fn read_body(id: u8, flags: u8, octets: &[u8]) -> Result<Body<'_>, WireFault>
     ensures { Answers body_value result (body_fault id flags octets.now) (body_of id flags octets.now) }
 {

@@ -13,6 +13,7 @@ use rtps_ids::{Order, SeqNum, number_at, u16_at};
 use rtps_params::ParamList;
 
 /// Reads the body of a DATA.
+#[inline(always)]
 pub(crate) fn data(order: Order, flags: u8, body: &[u8]) -> Result<DataBody<'_>, WireFault>
     ensures { Answers data_value result (data_fault order flags body.now) (data_of order flags body.now) }
 {
@@ -44,6 +45,7 @@ pub(crate) fn data(order: Order, flags: u8, body: &[u8]) -> Result<DataBody<'_>,
 }
 
 /// The inline QoS that these octets begin with, where the flags say that there is one, and the octets behind it.
+#[inline(always)]
 fn inline_qos(
     flags: DataFlags,
     order: Order,
@@ -61,6 +63,7 @@ fn inline_qos(
 }
 
 /// The payload that these octets are.
+#[inline(always)]
 fn payload(flags: DataFlags, octets: &[u8]) -> Payload<'_>
     ensures { payload_value result ≡ payload_of_lem flags.0 octets.now }
 {

@@ -5,6 +5,7 @@ use crate::fault::WireFault;
 use rtps_ids::{EntityId, GuidPrefix, NumberSet, Order, SetFault, Vendor};
 
 /// The octets from this place on.
+#[inline(always)]
 pub(crate) fn rest_at(octets: &[u8], at: usize) -> &[u8]
     requires { at ≤ length octets.now }
     ensures { result.now ≡ drop at octets.now }
@@ -14,6 +15,7 @@ pub(crate) fn rest_at(octets: &[u8], at: usize) -> &[u8]
 }
 
 /// The entity id at this place.
+#[inline(always)]
 pub(crate) fn entity_at(octets: &[u8], at: usize) -> EntityId
     requires { at + 4 ≤ length octets.now }
     ensures { result.0 ≡ take 4 (drop at octets.now) }
@@ -24,6 +26,7 @@ pub(crate) fn entity_at(octets: &[u8], at: usize) -> EntityId
 }
 
 /// The GUID prefix at this place.
+#[inline(always)]
 pub(crate) fn prefix_at(octets: &[u8], at: usize) -> GuidPrefix
     requires { at + 12 ≤ length octets.now }
     ensures { result.0 ≡ take 12 (drop at octets.now) }

@@ -7,6 +7,7 @@ use crate::fault::WireFault;
 use rtps_ids::{Order, SeqNum, number_at, u32_at};
 
 /// Reads the body of a HEARTBEAT.
+#[inline]
 pub(crate) fn heartbeat(order: Order, flags: u8, body: &[u8]) -> Result<HeartbeatBody, WireFault>
     ensures { Answers (λ heartbeat. heartbeat) result (heartbeat_fault order body.now) (heartbeat_of order flags body.now) }
 {

@@ -1,8 +1,10 @@
 use Rattle.std.proofs.Common.{◌≡◌, ◌∷◌, [], length, Some, None, false, sym, ◌∙◌, ap, arith}
 use Rattle.std.proofs.lemmas.List.{append-nil}
 use Rattle.std.proofs.lemmas.Bool.Decides.{nat_tests}
-use Rattle.rtps_tool.proofs.RecordingLemmas.{recording_of_lines-nil, recording_of_lines-skipped, recording_of_lines-faulty, recording_of_lines-taken, with_front}
-use Rattle.rtps_tool.specs.RecordingText.{is_datagram_line, line_fault, octets_of}
+use Rattle.rtps_tool.proofs.RecordingLemmas.{recording_of_lines-nil, recording_of_lines-skipped, recording_of_lines-faulty, recording_of_lines-taken}
+use Rattle.rtps_tool.specs.Unfinished.{with_front}
+use Rattle.rtps_digits.specs.Pairs.{octets_of}
+use Rattle.rtps_tool.specs.RecordingText.{is_datagram_line, line_fault}
 use Rattle.rtps_tool.specs.declared.faults.RecFault.TheVariants.{BadHex, TooLong, TooMany}
 use Rattle.rtps_tool.proofs.lines.read_line.Goals as goal
 

@@ -1,5 +1,5 @@
 use Rattle.std.proofs.Common.{◌≡◌, ◌++◌, ◌∷◌, [], length, ap}
-use Rattle.rtps_tool.specs.RecordingText.{octets_of}
+use Rattle.rtps_digits.specs.Pairs.{octets_of}
 use Rattle.rtps_tool.proofs.PiecesLemmas.{pieces-push}
 use Rattle.rtps_tool.proofs.datagrams.Recording.push_hex.Goals as goal
 

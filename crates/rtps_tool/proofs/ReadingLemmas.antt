@@ -1,0 +1,145 @@
+-- Facts on a text that is read in pieces.
+use Rattle.std.proofs.Common.{◌≡◌, ℕ, ◌+◌, ◌<◌, ◌≤◌, ◌^◌, List, [], ◌++◌, length, take, Option, Result, Ok, refl, sym, ap, ◌∙◌, subst, arith}
+use Rattle.std.proofs.lemmas.List.{append-nil, append_assoc, length-append, length-take-le, take-append-le, take-take}
+use Rattle.std.proofs.Math.Seq.{take-append-add}
+use Rattle.std.proofs.KnownBytes.{Consumes-nil, Consumes-trans}
+use Rattle.std.specs.Io.KnownBytes.{Consumes, IsAtEnd}
+use borrow.Rule.Slice.PartMut.{put_mid, post_of}
+use Rattle.rtps_tool.specs.Answers.{IsFaultOf}
+use Rattle.rtps_tool.specs.Lines.{lines_of}
+use Rattle.rtps_tool.specs.RecordingText.{recording_of, recording_of_lines}
+use Rattle.rtps_tool.specs.RunFaults.{run_fault_of}
+use Rattle.rtps_tool.specs.Runs.{Reads, ReadsRecording, FailsReading}
+use Rattle.rtps_tool.specs.Unfinished.{HasRead, ReadsOn, recording_behind}
+use Rattle.rtps_tool.specs.declared.faults.RecFault.{RecFault}
+use Rattle.rtps_tool.specs.declared.faults.RecFault.TheVariants.{BadHex, TooLong, TooMany, Memory}
+use Rattle.rtps_tool.proofs.UnfinishedLemmas.{recording_behind-start, recording_of-within, recording_of-past}
+
+-- nothing was read yet
+pub HasRead-start : (a : Option (List ℕ)) (done : List (List ℕ)) (lines : ℕ) (held : List ℕ) → done ≡ [] → lines ≡ 0
+    → HasRead a a 0 (λ later. recording_behind done lines (take 0 held ++ later))
+HasRead-start a done lines held none first = record {
+  text = [];
+  taken = Consumes-nil a;
+  size = refl;
+  stands = λ later. rw (none, first) (recording_behind-start later);
+}
+
+-- a piece more was read
+pub HasRead-more : (a b c : Option (List ℕ)) (total got : ℕ) (told now : List ℕ → Result (List (List ℕ)) RecFault) (piece : List ℕ)
+    → HasRead a b total told → Consumes b c piece → length piece ≡ got → ((later : List ℕ) → now later ≡ told (piece ++ later)) → HasRead a c (total + got) now
+HasRead-more a b c total got told now piece h taken size same = record {
+  text = h.text ++ piece;
+  taken = Consumes-trans a b c h.text piece h.taken taken;
+  size = omega (arith, length-append h.text piece, h.size);
+  stands = λ later. same later ∙ h.stands (piece ++ later)
+      ∙ ap (λ (text : List ℕ). recording_of_lines 1 0 (lines_of text)) (sym (append_assoc h.text piece later));
+}
+
+-- the same text is told of in another way
+pub HasRead-told : (a b : Option (List ℕ)) (total : ℕ) (told now : List ℕ → Result (List (List ℕ)) RecFault)
+    → HasRead a b total told → ((later : List ℕ) → now later ≡ told later) → HasRead a b total now
+HasRead-told a b total told now h same = record { text = h.text; taken = h.taken; size = h.size; stands = λ later. same later ∙ h.stands later }
+
+-- a piece was read behind what is kept
+pub take_both : (kept got k : ℕ) (held buf : List ℕ) → kept ≤ length held → got ≤ length buf
+    → take (kept + got) (put_mid kept k held buf) ≡ take kept held ++ take got buf
+take_both kept got k held buf within some =
+    let size = length-take-le kept held within in
+    let rest : take got (buf ++ post_of kept k held) ≡ take got buf = take-append-le got buf (post_of kept k held) some in
+    subst (λ (n : ℕ). take (n + got) (put_mid kept k held buf) ≡ take kept held ++ take got buf) size
+    (take-append-add (take kept held) (buf ++ post_of kept k held) got ∙ ap (λ (piece : List ℕ). take kept held ++ piece) rest)
+
+-- what is kept stays in front
+pub take_kept : (kept got k : ℕ) (held buf : List ℕ) → kept ≤ length held → got ≤ length buf
+    → take kept (take (kept + got) (put_mid kept k held buf)) ≡ take kept held
+take_kept kept got k held buf within some =
+    ap (take kept) (take_both kept got k held buf within some)
+    ∙ take-append-le kept (take kept held) (take got buf) (omega (arith, length-take-le kept held within))
+    ∙ take-take kept kept held (omega arith)
+
+pub HasRead-read : (a b c : Option (List ℕ)) (total kept got k lines : ℕ) (done : List (List ℕ)) (held buf : List ℕ)
+    → HasRead a b total (λ later. recording_behind done lines (take kept held ++ later)) → Consumes b c (take got buf) → length (take got buf) ≡ got
+    → kept ≤ length held → got ≤ length buf
+    → HasRead a c (total + got) (λ later. recording_behind done lines (take (kept + got) (put_mid kept k held buf) ++ later))
+HasRead-read a b c total kept got k lines done held buf h taken size within some =
+    HasRead-more a b c total got (λ later. recording_behind done lines (take kept held ++ later))
+    (λ later. recording_behind done lines (take (kept + got) (put_mid kept k held buf) ++ later)) (take got buf) h taken size
+    (λ later. ap (recording_behind done lines)
+    (ap (λ (text : List ℕ). text ++ later) (take_both kept got k held buf within some) ∙ append_assoc (take kept held) (take got buf) later))
+
+-- no octet more was read
+pub HasRead-last : (a b c : Option (List ℕ)) (total kept got k lines : ℕ) (done : List (List ℕ)) (held buf : List ℕ)
+    → HasRead a b total (λ later. recording_behind done lines (take kept held ++ later)) → Consumes b c (take got buf) → length (take got buf) ≡ got
+    → kept ≤ length held → got ≤ length buf → got ≡ 0
+    → HasRead a c total (λ later. recording_behind done lines (take kept (put_mid kept k held buf) ++ later))
+HasRead-last a b c total kept got k lines done held buf h taken size within some none =
+    let grown = HasRead-read a b c total kept got k lines done held buf h taken size within some in
+    let same : total + got ≡ total = omega arith in
+    let front : kept + got ≡ kept = omega arith in
+    let told : ℕ → List ℕ → Result (List (List ℕ)) RecFault = λ n later. recording_behind done lines (take n (put_mid kept k held buf) ++ later) in
+    subst (λ (n : ℕ). HasRead a c total (told n)) front (subst (λ (n : ℕ). HasRead a c n (told (kept + got))) same grown)
+
+-- the whole text was read, and is not too long
+recording_of-read : (a b : Option (List ℕ)) (total : ℕ) (told : List ℕ → Result (List (List ℕ)) RecFault) (h : HasRead a b total told) → total ≤ 2 ^ 30
+    → told [] ≡ recording_of h.text
+recording_of-read a b total told h within =
+    h.stands [] ∙ ap (λ (text : List ℕ). recording_of_lines 1 0 (lines_of text)) (append-nil h.text) ∙ sym (recording_of-within h.text (omega (arith, h.size)))
+
+pub ReadsRecording-read : (a b : Option (List ℕ)) (total : ℕ) (told : List ℕ → Result (List (List ℕ)) RecFault) (datagrams : List (List ℕ))
+    → HasRead a b total told → IsAtEnd b → total ≤ 2 ^ 30 → told [] ≡ Ok datagrams → ReadsRecording a b datagrams
+ReadsRecording-read a b total told datagrams h end within fine = record {
+  text = h.text;
+  taken = h.taken;
+  whole = end;
+  recording = sym (recording_of-read a b total told h within) ∙ fine;
+}
+
+pub ReadsRecording-last : (a b : Option (List ℕ)) (total lines : ℕ) (done : List (List ℕ)) (left : List ℕ) (datagrams : List (List ℕ))
+    → HasRead a b total (λ later. recording_behind done lines (left ++ later)) → IsAtEnd b → total ≤ 2 ^ 30 → recording_behind done lines left ≡ Ok datagrams
+    → ReadsRecording a b datagrams
+ReadsRecording-last a b total lines done left datagrams h end within fine =
+    ReadsRecording-read a b total (λ later. recording_behind done lines (left ++ later)) datagrams h end within (ap (recording_behind done lines) (append-nil left) ∙ fine)
+
+-- what was read has this fault
+pub FailsReading-text : (a b : Option (List ℕ)) (text : List ℕ) (fault : RecFault) → Reads a b text → IsFaultOf (recording_of text) fault → FailsReading a b (run_fault_of fault)
+FailsReading-text a b text (BadHex line) reads faulty = record { text = text; reads = reads; faulty = faulty; readable = λ same. cc }
+FailsReading-text a b text (TooLong line) reads faulty = record { text = text; reads = reads; faulty = faulty; readable = λ same. cc }
+FailsReading-text a b text TooMany reads faulty = record { text = text; reads = reads; faulty = faulty; readable = λ same. cc }
+FailsReading-text a b text Memory reads faulty = tt
+
+pub FailsReading-end : (a b : Option (List ℕ)) (total : ℕ) (told : List ℕ → Result (List (List ℕ)) RecFault) (fault : RecFault)
+    → HasRead a b total told → IsAtEnd b → total ≤ 2 ^ 30 → IsFaultOf (told []) fault → FailsReading a b (run_fault_of fault)
+FailsReading-end a b total told fault h end within faulty =
+    FailsReading-text a b h.text fault record { taken = h.taken; whole = λ _. end }
+    (subst (λ (all : Result (List (List ℕ)) RecFault). IsFaultOf all fault) (recording_of-read a b total told h within) faulty)
+
+pub FailsReading-last : (a b : Option (List ℕ)) (total lines : ℕ) (done : List (List ℕ)) (left : List ℕ) (fault : RecFault)
+    → HasRead a b total (λ later. recording_behind done lines (left ++ later)) → IsAtEnd b → total ≤ 2 ^ 30 → IsFaultOf (recording_behind done lines left) fault
+    → FailsReading a b (run_fault_of fault)
+FailsReading-last a b total lines done left fault h end within faulty =
+    FailsReading-end a b total (λ later. recording_behind done lines (left ++ later)) fault h end within
+    (subst (λ (text : List ℕ). IsFaultOf (recording_behind done lines text) fault) (sym (append-nil left)) faulty)
+
+-- too much was read
+pub FailsReading-past : (a b : Option (List ℕ)) (total : ℕ) (told : List ℕ → Result (List (List ℕ)) RecFault)
+    → HasRead a b total told → 2 ^ 30 < total → FailsReading a b (run_fault_of TooMany)
+FailsReading-past a b total told h past =
+    FailsReading-text a b h.text TooMany record { taken = h.taken; whole = λ few. absurd (omega (arith, h.size)) } (recording_of-past h.text (omega (arith, h.size)))
+
+-- after a fault of a line reading went on
+pub FailsReading-on-past : (a b c : Option (List ℕ)) (total to : ℕ) (told : List ℕ → Result (List (List ℕ)) RecFault)
+    → HasRead a b total told → ReadsOn b c total to → 2 ^ 30 < to → FailsReading a c (run_fault_of TooMany)
+FailsReading-on-past a b c total to told h more past =
+    let text = h.text ++ more.text in
+    let size : length text ≡ to = omega (arith, length-append h.text more.text, h.size, more.size) in
+    FailsReading-text a c text TooMany record { taken = Consumes-trans a b c h.text more.text h.taken more.taken; whole = λ few. absurd (omega arith) }
+    (recording_of-past text (omega arith))
+
+pub FailsReading-on : (a b c : Option (List ℕ)) (total to : ℕ) (told : List ℕ → Result (List (List ℕ)) RecFault) (fault : RecFault)
+    → HasRead a b total told → ReadsOn b c total to → to ≤ 2 ^ 30 → ((later : List ℕ) → IsFaultOf (told later) fault) → FailsReading a c (run_fault_of fault)
+FailsReading-on a b c total to told fault h more within faulty =
+    let text = h.text ++ more.text in
+    let size : length text ≡ to = omega (arith, length-append h.text more.text, h.size, more.size) in
+    FailsReading-text a c text fault record { taken = Consumes-trans a b c h.text more.text h.taken more.taken; whole = λ _. more.whole within }
+    (subst (λ (all : Result (List (List ℕ)) RecFault). IsFaultOf all fault) (h.stands more.text ∙ sym (recording_of-within text (omega arith))) (faulty more.text))

@@ -1,0 +1,143 @@
+-- Facts on a text of which a part was read.
+use Rattle.std.proofs.Common.{◌≡◌, ◌≢◌, ℕ, suc, ◌+◌, ◌-◌, ◌<◌, ◌≤◌, true, false, Bool, List, [], ◌∷◌, ◌++◌, length, take, drop, get_or, None, Some, Ok, Err, refl, sym, ap, ◌∙◌, subst, arith}
+use Rattle.std.specs.Prelude.{if◌then◌else◌, ◌^◌}
+use Rattle.std.specs.List.{position}
+use Rattle.std.specs.Str.Lines.{strip_carriage_return}
+use Rattle.std.proofs.lemmas.List.{length-append, length-take, get_or-take, drop-drop}
+use Rattle.std.proofs.lemmas.Bool.Decides.{nat_tests}
+use Rattle.rtps_tool.specs.Answers.{IsFaultOf}
+use Rattle.rtps_tool.specs.Lines.{lines_of, is_line_feed, parts_of}
+use Rattle.rtps_tool.specs.RecordingText.{recording_of, recording_of_lines, is_datagram_line, line_fault}
+use Rattle.rtps_tool.specs.Unfinished.{with_front, recording_behind}
+use Rattle.rtps_tool.specs.declared.faults.RecFault.{RecFault}
+use Rattle.rtps_tool.specs.declared.faults.RecFault.TheVariants.{TooLong, TooMany}
+use Rattle.rtps_tool.proofs.LinesLemmas.{lines_of-append, lines_of-unfinished, first_part, later_parts}
+use Rattle.rtps_tool.proofs.RecordingLemmas.{with_front-ok, with_front-all, with_front-none, IsFaultOf-with_front, recording_of_lines-skipped, recording_of_lines-faulty}
+
+-- nothing was read yet
+pub recording_behind-start : (text : List ℕ) → recording_behind [] 0 text ≡ recording_of_lines 1 0 (lines_of text)
+unfolding recording_behind
+recording_behind-start text = with_front-none _
+
+-- nothing is left
+pub recording_behind-end : (done : List (List ℕ)) (lines : ℕ) (left : List ℕ) → length left ≡ 0 → recording_behind done lines left ≡ Ok done
+unfolding recording_behind
+recording_behind-end done lines left none = with_front-all _ _ done left none
+
+-- a line with no fault was read
+pub recording_behind-line : (done found new : List (List ℕ)) (lines : ℕ) (line text left : List ℕ) → lines_of text ≡ line ∷ lines_of left
+    → recording_of_lines (lines + 1) (length done) (line ∷ []) ≡ Ok found → new ≡ done ++ found
+    → recording_behind new (lines + 1) left ≡ recording_behind done lines text
+unfolding recording_behind
+recording_behind-line done found new lines line text left cut fine joined =
+    with_front-ok (lines + 1) done found new line (lines_of left) fine joined
+    ∙ ap (λ (all : List (List ℕ)). with_front done (recording_of_lines (lines + 1) (length done) all)) (sym cut)
+
+-- a line with a fault was read
+pub recording_behind-fault : (done : List (List ℕ)) (lines : ℕ) (line text left : List ℕ) (fault : RecFault) → lines_of text ≡ line ∷ lines_of left
+    → IsFaultOf (recording_of_lines (lines + 1) (length done) (line ∷ [])) fault → IsFaultOf (recording_behind done lines text) fault
+unfolding recording_behind
+recording_behind-fault done lines line text left fault cut faulty =
+    subst (λ (all : List (List ℕ)). IsFaultOf (with_front done (recording_of_lines (lines + 1) (length done) all)) fault) (sym cut)
+    (IsFaultOf-with_front (lines + 1) done line (lines_of left) fault faulty)
+
+-- a line without the carriage return at its end begins as before, and is shorter by one octet at most
+shorter_by_one : (line : List ℕ) (b : Bool) → length line ≤ suc (length (if b then take (length line - 1) line else line))
+shorter_by_one line true = omega (arith, length-take (length line - 1) line)
+shorter_by_one line false = omega arith
+
+begins_same : (line : List ℕ) (b : Bool) → 1 < length line → get_or (if b then take (length line - 1) line else line) 0 0 ≡ get_or line 0 0
+begins_same line true some = get_or-take (length line - 1) line 0 0 (omega arith)
+begins_same line false some = refl
+
+strip_shorter : (line : List ℕ) → length line ≤ suc (length (strip_carriage_return line))
+strip_shorter line = shorter_by_one line _
+
+strip_begins : (line : List ℕ) → 1 < length line → get_or (strip_carriage_return line) 0 0 ≡ get_or line 0 0
+strip_begins line some = begins_same line _ some
+
+-- whether a line is one of a datagram its first octet tells
+comment_line : (line : List ℕ) → get_or line 0 0 ≡ 35 → is_datagram_line line ≡ false
+comment_line line first = grind (arith, nat_tests)
+
+long_is_datagram : (line : List ℕ) → 131070 < length line → get_or line 0 0 ≢ 35 → is_datagram_line line ≡ true
+long_is_datagram line long plain = grind (arith, nat_tests)
+
+comment_is_skipped : (text : List ℕ) → is_datagram_line (strip_carriage_return (35 ∷ text)) ≡ false
+comment_is_skipped [] = refl
+comment_is_skipped (c ∷ text) = comment_line (strip_carriage_return (35 ∷ c ∷ text)) (strip_begins (35 ∷ c ∷ text) (omega arith))
+
+-- of a comment that goes on its first octet tells all
+pub recording_behind-comment : (done : List (List ℕ)) (lines : ℕ) (text later : List ℕ) → position is_line_feed (35 ∷ text) ≡ None
+    → recording_behind done lines (35 ∷ later) ≡ recording_behind done lines (35 ∷ text ++ later)
+unfolding recording_behind
+recording_behind-comment done lines text later none =
+    let rest = later_parts (parts_of later) in
+    let short = lines_of-unfinished 35 [] later refl in
+    let long = lines_of-unfinished 35 text later none in
+    let one = ap (recording_of_lines (lines + 1) (length done)) short ∙ recording_of_lines-skipped (lines + 1) (length done) _ _ (comment_is_skipped (first_part (parts_of later))) in
+    let other = ap (recording_of_lines (lines + 1) (length done)) long ∙ recording_of_lines-skipped (lines + 1) (length done) _ _ (comment_is_skipped (text ++ first_part (parts_of later))) in
+    ap (with_front done) (one ∙ sym other)
+
+long_line : (line : List ℕ) → 131071 < length line → 131070 < length (strip_carriage_return line)
+long_line line long = omega (arith, strip_shorter line)
+
+plain_line : (line : List ℕ) → 131071 < length line → get_or line 0 0 ≢ 35 → get_or (strip_carriage_return line) 0 0 ≢ 35
+plain_line line long plain = λ comment. plain (sym (strip_begins line (omega arith)) ∙ comment)
+
+long_fault_first : (before number : ℕ) (line : List ℕ) → 1000000 ≤ before → line_fault before number line ≡ Some TooMany
+long_fault_first before number line many = grind (arith, nat_tests)
+
+long_fault : (before number : ℕ) (line : List ℕ) → before < 1000000 → 131070 < length line → line_fault before number line ≡ Some (TooLong number)
+long_fault before number line few long = grind (arith, nat_tests)
+
+-- a line that goes on and is too long, whatever comes later
+recording_behind-faulty : (done : List (List ℕ)) (lines b : ℕ) (text later : List ℕ) (fault : RecFault) → position is_line_feed (b ∷ text) ≡ None
+    → 131071 < length (b ∷ text) → b ≢ 35
+    → ((line : List ℕ) → 131070 < length line → line_fault (length done) (lines + 1) line ≡ Some fault)
+    → recording_behind done lines (b ∷ text ++ later) ≡ Err fault
+unfolding recording_behind
+recording_behind-faulty done lines b text later fault none long plain faulty =
+    let line : List ℕ = b ∷ text ++ first_part (parts_of later) in
+    let cut = lines_of-unfinished b text later none in
+    let size : 131071 < length line = omega (arith, length-append text (first_part (parts_of later))) in
+    let far = long_line line size in
+    ap (λ (all : List (List ℕ)). with_front done (recording_of_lines (lines + 1) (length done) all)) cut
+    ∙ ap (with_front done) (recording_of_lines-faulty (lines + 1) (length done) (strip_carriage_return line) _ fault
+    (long_is_datagram (strip_carriage_return line) far (plain_line line size plain)) (faulty (strip_carriage_return line) far))
+
+pub recording_behind-many : (done : List (List ℕ)) (lines : ℕ) (text later : List ℕ) → position is_line_feed text ≡ None
+    → 131071 < length text → get_or text 0 0 ≢ 35 → 1000000 ≤ length done → recording_behind done lines (text ++ later) ≡ Err TooMany
+recording_behind-many done lines [] later none long plain many = absurd (omega arith)
+recording_behind-many done lines (b ∷ text) later none long plain many =
+    recording_behind-faulty done lines b text later TooMany none long plain (λ line _. long_fault_first (length done) (lines + 1) line many)
+
+pub recording_behind-long : (done : List (List ℕ)) (lines : ℕ) (text later : List ℕ) → position is_line_feed text ≡ None
+    → 131071 < length text → get_or text 0 0 ≢ 35 → length done < 1000000 → recording_behind done lines (text ++ later) ≡ Err (TooLong (lines + 1))
+recording_behind-long done lines [] later none long plain few = absurd (omega arith)
+recording_behind-long done lines (b ∷ text) later none long plain few =
+    recording_behind-faulty done lines b text later (TooLong (lines + 1)) none long plain (λ line far. long_fault (length done) (lines + 1) line few far)
+
+pub recording_behind-comment-at : (done : List (List ℕ)) (lines : ℕ) (text later : List ℕ) → position is_line_feed text ≡ None
+    → 0 < length text → get_or text 0 0 ≡ 35 → recording_behind done lines (take 1 text ++ later) ≡ recording_behind done lines (text ++ later)
+recording_behind-comment-at done lines [] later none some first = absurd (omega arith)
+recording_behind-comment-at done lines (b ∷ text) later none some first =
+    subst (λ (c : ℕ). position is_line_feed (c ∷ text) ≡ None → recording_behind done lines (c ∷ later) ≡ recording_behind done lines (c ∷ text ++ later))
+    (sym first) (recording_behind-comment done lines text later) none
+
+-- a text that is not too long stands for what its lines stand for
+pub recording_of-within : (text : List ℕ) → length text ≤ 2 ^ 30 → recording_of text ≡ recording_of_lines 1 0 (lines_of text)
+recording_of-within text within = grind (arith, nat_tests)
+
+pub recording_of-past : (text : List ℕ) → 2 ^ 30 < length text → recording_of text ≡ Err TooMany
+recording_of-past text past = grind (arith, nat_tests)
+
+pub recording_behind-whole : (done : List (List ℕ)) (text : List ℕ) → length text ≤ 2 ^ 30 → done ≡ [] → recording_behind done 0 text ≡ recording_of text
+recording_behind-whole done text within none = rw none (recording_behind-start text ∙ sym (recording_of-within text within))
+
+-- a line that ends within what is left of a text, whatever comes later
+pub line_within : (text later line : List ℕ) (from end : ℕ) → position is_line_feed (drop from text) ≡ Some end → line ≡ strip_carriage_return (take end (drop from text))
+    → lines_of (drop from text ++ later) ≡ line ∷ lines_of (drop (from + (end + 1)) text ++ later)
+line_within text later line from end found is =
+    rw is (lines_of-append (drop from text) later end found
+    ∙ ap (λ (left : List ℕ). strip_carriage_return (take end (drop from text)) ∷ lines_of (left ++ later)) (drop-drop (end + 1) from text))
