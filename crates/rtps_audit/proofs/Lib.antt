@@ -1,4 +1,5 @@
 pub mod SpanLemmas
+pub mod KeptLemmas
 pub mod CoverageLemmas
 pub mod Gathered
 pub mod SampleLemmas

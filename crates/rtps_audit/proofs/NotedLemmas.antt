@@ -1,5 +1,5 @@
 -- Facts beside facts, and what they stand for.
-use Rattle.std.proofs.Common.{◌≡◌, ℕ, ◌+◌, ◌-◌, ◌<◌, ◌≤◌, Bool, true, false, cond, ◌==◌, ◌&&◌, ◌||◌, nat_le, nat_lt, List, [], ◌∷◌, ◌++◌, map, Option, Some, None, All, refl, sym, ◌∙◌, ap, subst, arith, ◌⊎◌, inl, inr, rules}
+use Rattle.std.proofs.Common.{◌≡◌, ℕ, ◌-◌, ◌<◌, ◌≤◌, Bool, true, false, cond, ◌==◌, ◌&&◌, ◌||◌, nat_le, nat_lt, pos, List, [], ◌∷◌, ◌++◌, map, Option, Some, None, All, refl, sym, ◌∙◌, ap, subst, arith, ◌⊎◌, inl, inr, rules}
 use Rattle.std.specs.Prelude.{◌↔◌, ◌≢◌, ◌^◌}
 use Rattle.std.specs.Option.{option_to_list}
 use Rattle.std.specs.List.{filter_map, cons_option}
@@ -7,7 +7,8 @@ use Rattle.std.proofs.lemmas.List.{append-nil, map-append}
 use Rattle.std.proofs.lemmas.List.Elements.{filter_map-append, All-append}
 use Rattle.std.proofs.lemmas.Bool.Decides.{nat_tests}
 use Rattle.std.proofs.lemmas.Bool.{cases_lt}
-use Rattle.rtps_ids.specs.NumberSet.{NumberSetValue}
+use Rattle.rtps_ids.specs.NumberSet.{IsMember, NumberSetValue}
+use Rattle.rtps_ids.specs.Runs.{IsRunFrom, HasNoneFrom}
 use Rattle.rtps_ids.specs.declared.identity.Guid.{Guid}
 use Rattle.rtps_wire.specs.Values.{payload_value}
 use Rattle.rtps_wire.specs.declared.body.GapBody.{GapBody}
@@ -23,11 +24,12 @@ use Rattle.rtps_receiver.specs.Values.ActBodyValue.{Gap}
 use Rattle.rtps_audit.specs.Delivery.{Word}
 use Rattle.rtps_audit.specs.Delivery.Word.{Told as told, Gone as gone}
 use Rattle.rtps_audit.specs.Facts.{IsInRange, act_of, announced_of, base_of}
-use Rattle.rtps_audit.specs.Speech.{announced_for, announced_of_body, base_for, base_of_body, is_answer, is_below_list, is_heard_by, is_member, is_spoken_by, word_for, word_of}
-use Rattle.rtps_audit.specs.Noted.{Adds, SomeSays, StandFor, acts_among, gone_where, is_bit}
+use Rattle.rtps_audit.specs.Speech.{announced_for, announced_of_body, base_for, base_of_body, is_answer, is_heard_by, is_in_gap, is_member, is_spoken_by, word_for, word_of}
+use Rattle.rtps_audit.specs.Noted.{Adds, SomeSays, StandFor, acts_among, gone_where, is_in_gap_below}
 use Rattle.rtps_audit.specs.declared.fact.Fact.{Fact}
 use Rattle.rtps_audit.specs.declared.fact.Fact.TheVariants.{Told, Gone, Claimed, Announced}
 use Rattle.rtps_audit.proofs.Gathered.{cons_option-nil}
+use Rattle.rtps_audit.proofs.SpeechTests.{member_decides, not_member}
 
 pub says_cases : (xs ys : List (ℕ → Option Word)) (n : ℕ) (word : Word) → SomeSays (xs ++ ys) n word → SomeSays xs n word ⊎ SomeSays ys n word
 says_cases [] ys n word says = inr says
@@ -223,44 +225,8 @@ adds_range xs ys first last test is positive small same =
     adds_fact xs ys (Gone first last) _ _ _ is (positive, small) refl refl (λ n word h.
     (λ e. ap (λ b. cond b (Some gone) None) (same n h) ∙ e, λ e. sym (ap (λ b. cond b (Some gone) None) (same n h)) ∙ e))
 
-pub adds_below : (xs ys : List Fact) (gap : GapBody) (first last : ℕ) → ys ≡ xs ++ Gone first last ∷ [] → first ≡ gap.start → last ≡ gap.list.base - 1 → 1 ≤ first → last < 2 ^ 63
-    → Adds xs ys [] [] (gone_where (is_below_list gap))
-adds_below xs ys gap first last is at to positive small = adds_range xs ys first last (is_below_list gap) is positive small (λ n h. grind (arith, nat_tests))
-
 pub adds_before : (xs ys : List Fact) (first last : ℕ) → ys ≡ xs ++ Gone 1 last ∷ [] → last ≡ first - 1 → last < 2 ^ 63 → Adds xs ys [] [] (gone_where (λ n. nat_lt n first))
 adds_before xs ys first last is to small = adds_range xs ys 1 last (λ n. nat_lt n first) is (omega arith) small (λ n h. grind (arith, nat_tests))
-
-pub adds_bit : (xs ys : List Fact) (set : NumberSetValue) (bit number : ℕ) → ys ≡ xs ++ Gone number number ∷ [] → number ≡ set.base + bit → is_member set number ≡ true → 1 ≤ number → number < 2 ^ 63
-    → Adds xs ys [] [] (gone_where (is_bit set bit))
-adds_bit xs ys set bit number is at member positive small = adds_range xs ys number number (is_bit set bit) is positive small (λ n h. same n)
-  where
-    same : (n : ℕ) → is_bit set bit n ≡ (nat_le number n && nat_le n number)
-    same n = elim (cases_eq n number) [
-      | inl e ↦
-          let there : is_member set n ≡ true = ap (is_member set) e ∙ member in
-          let here : (n == set.base + bit) ≡ true = grind (arith, nat_tests) in
-          let up : nat_le number n ≡ true = grind (arith, nat_tests) in
-          let down : nat_le n number ≡ true = grind (arith, nat_tests) in
-          ap (λ b. b && is_member set n) here ∙ there ∙ sym (ap (λ b. b && nat_le n number) up ∙ down)
-      | inr e ↦
-          let here : (n == set.base + bit) ≡ false = grind (arith, nat_tests) in
-          let none : (nat_le number n && nat_le n number) ≡ false = grind (arith, nat_tests) in
-          ap (λ b. b && is_member set n) here ∙ sym none
-    ]
-
-pub adds_no_bit : (xs : List Fact) (set : NumberSetValue) (bit number : ℕ) → number ≡ set.base + bit → is_member set number ≡ false → Adds xs xs [] [] (gone_where (is_bit set bit))
-adds_no_bit xs set bit number at nix = adds_none xs _ _ _ refl refl none
-  where
-    none : (n : ℕ) → gone_where (is_bit set bit) n ≡ None
-    none n = elim (cases_eq n number) [
-      | inl e ↦
-          let there : is_member set n ≡ false = ap (is_member set) e ∙ nix in
-          let here : (n == set.base + bit) ≡ true = grind (arith, nat_tests) in
-          ap (λ b. cond (b && is_member set n) (Some gone) None) here ∙ ap (λ b. cond b (Some gone) None) there
-      | inr e ↦
-          let here : (n == set.base + bit) ≡ false = grind (arith, nat_tests) in
-          ap (λ b. cond (b && is_member set n) (Some gone) None) here
-    ]
 
 -- a payload
 pub adds_told : (xs ys : List Fact) (number other : ℕ) (payload : Payload) → ys ≡ xs ++ Told number payload ∷ [] → number ≡ other → 1 ≤ number → number < 2 ^ 63
@@ -269,53 +235,90 @@ adds_told xs ys number other payload is at positive small =
     adds_fact xs ys (Told number payload) _ _ _ is (positive, small) refl refl (λ n word h.
     (λ e. sym (ap (λ k. cond (n == k) (Some (told (payload_value payload))) None) at) ∙ e, λ e. ap (λ k. cond (n == k) (Some (told (payload_value payload))) None) at ∙ e))
 
--- the numbers of a list of bits
-abbrev pub so_far : GapBody → ℕ → ℕ → Bool
-so_far gap bit n = is_below_list gap n || (nat_lt n (gap.list.base + bit) && is_member gap.list n)
+-- ---- the numbers of a GAP, run by run
 
-next_bit : (a m : Bool) (n base bit : ℕ) → (a || (nat_lt n (base + (bit + 1)) && m)) ≡ ((a || (nat_lt n (base + bit) && m)) || (n == base + bit && m))
-next_bit true m n base bit = refl
-next_bit false true n base bit = grind (arith, nat_tests)
-next_bit false false n base bit = grind (arith, nat_tests)
+in_list : (set : NumberSetValue) (n : ℕ) → IsMember set (pos n) → is_member set n ≡ true
+in_list set n member = (member_decides set n).1 member
 
-pub gap_start : (xs ys : List Fact) (gap : GapBody) → Adds xs ys [] [] (gone_where (is_below_list gap)) → Adds xs ys [] [] (gone_where (so_far gap 0))
-gap_start xs ys gap adds = adds_gone xs ys ys _ (λ n. false) _ adds (adds_none ys _ _ _ refl refl (λ n. refl)) (λ n. same (is_below_list gap n) n)
+-- a row up to the base of the list
+pub row_to_base : (gap : GapBody) (n : ℕ) → (nat_le gap.start n && nat_lt n gap.list.base) ≡ is_in_gap_below gap gap.list.base n
+row_to_base gap n = elim (cases_lt n gap.list.base) [
+  | inl lt ↦ let early : nat_le gap.list.base n ≡ false = grind (arith, nat_tests) in rw early (grind (arith, nat_tests))
+  | inr le ↦ let late : nat_lt n gap.list.base ≡ false = grind (arith, nat_tests) in rw late (or_and_false (nat_le gap.start n) (is_member gap.list n))
+]
   where
-    none : (n : ℕ) → (nat_lt n (gap.list.base + 0) && is_member gap.list n) ≡ false
-    none n = elim (cases_lt n gap.list.base) [
-      | inl lt ↦ let nix : nat_le gap.list.base n ≡ false = grind (arith, nat_tests) in rw nix (grind (arith, nat_tests))
-      | inr le ↦ let nix : nat_lt n (gap.list.base + 0) ≡ false = grind (arith, nat_tests) in ap (λ b. b && is_member gap.list n) nix
+    or_and_false : (a b : Bool) → (a && false) ≡ ((a && false) || (b && false))
+    or_and_false true true = refl
+    or_and_false true false = refl
+    or_and_false false true = refl
+    or_and_false false false = refl
+
+-- and on to the end of the run that begins there
+pub row_to_run : (gap : GapBody) (past n : ℕ) → gap.start ≤ gap.list.base → IsRunFrom gap.list gap.list.base gap.list.base past
+    → (nat_le gap.start n && nat_lt n past) ≡ is_in_gap_below gap past n
+row_to_run gap past n from run = elim (cases_lt n gap.list.base) [
+  | inl lt ↦
+      let some = run.some in
+      let early : nat_le gap.list.base n ≡ false = grind (arith, nat_tests) in
+      rw early (grind (arith, nat_tests))
+  | inr le ↦ elim (cases_lt n past) [
+    | inl lt ↦ let there : is_member gap.list n ≡ true = in_list gap.list n (run.members n le lt) in rw there (grind (arith, nat_tests))
+    | inr ge ↦
+        let some = run.some in
+        let late : nat_lt n past ≡ false = grind (arith, nat_tests) in
+        let later : nat_lt n gap.list.base ≡ false = grind (arith, nat_tests) in
+        rw (late, later) (or_and_false (nat_le gap.start n) (is_member gap.list n))
+  ]
+]
+  where
+    or_and_false : (a b : Bool) → (a && false) ≡ ((a && false) || (b && false))
+    or_and_false true true = refl
+    or_and_false true false = refl
+    or_and_false false true = refl
+    or_and_false false false = refl
+
+pub gap_row : (xs ys : List Fact) (gap : GapBody) (first last end : ℕ) → ys ≡ xs ++ Gone first last ∷ [] → first ≡ gap.start → last ≡ end - 1 → 1 ≤ first → last < 2 ^ 63
+    → ((n : ℕ) → (nat_le gap.start n && nat_lt n end) ≡ is_in_gap_below gap end n) → Adds xs ys [] [] (gone_where (is_in_gap_below gap end))
+gap_row xs ys gap first last end is at to positive small row =
+    adds_range xs ys first last (is_in_gap_below gap end) is positive small (λ n h. sym (row n) ∙ within n h)
+  where
+    within : (n : ℕ) → 1 ≤ n → (nat_le gap.start n && nat_lt n end) ≡ (nat_le first n && nat_le n last)
+    within n h = grind (arith, nat_tests)
+
+-- a run more
+pub gap_run : (xs ys zs : List Fact) (gap : GapBody) (at first past last : ℕ) → Adds xs ys [] [] (gone_where (is_in_gap_below gap at)) → zs ≡ ys ++ Gone first last ∷ [] → last ≡ past - 1
+    → IsRunFrom gap.list at first past → 1 ≤ first → past ≤ 2 ^ 63 → Adds xs zs [] [] (gone_where (is_in_gap_below gap past))
+gap_run xs ys zs gap at first past last before is to run positive small =
+    adds_gone xs ys zs _ _ _ before (adds_range ys zs first last (λ n. nat_le first n && nat_le n last) is positive (let some = run.some in omega arith) (λ n h. refl)) (λ n. more n)
+  where
+    cut : (a b c : Bool) → c ≡ false → (a || (b && c)) ≡ a
+    cut true b c e = refl
+    cut false true c e = e
+    cut false false c e = refl
+
+    more : (n : ℕ) → is_in_gap_below gap past n ≡ (is_in_gap_below gap at n || (nat_le first n && nat_le n last))
+    more n = elim (cases_lt n first) [
+      | inl lt ↦ elim (cases_lt n at) [
+        | inl early ↦ let some = run.some in let onward = run.onward in grind (arith, nat_tests)
+        | inr le ↦
+            let none : is_member gap.list n ≡ false = not_member gap.list n (λ member. run.before n le lt member) in
+            rw none (grind (arith, nat_tests))
+      ]
+      | inr le ↦ elim (cases_lt n past) [
+        | inl lt ↦ let there : is_member gap.list n ≡ true = in_list gap.list n (run.members n le lt) in rw there (grind (arith, nat_tests))
+        | inr ge ↦ let some = run.some in let onward = run.onward in grind (arith, nat_tests)
+      ]
     ]
 
-    same : (a : Bool) (n : ℕ) → (a || (nat_lt n (gap.list.base + 0) && is_member gap.list n)) ≡ (a || false)
-    same a n = ap (λ b. a || b) (none n)
-
-pub gap_step : (xs ys zs : List Fact) (gap : GapBody) (bit : ℕ) → Adds xs ys [] [] (gone_where (so_far gap bit)) → Adds ys zs [] [] (gone_where (is_bit gap.list bit)) → Adds xs zs [] [] (gone_where (so_far gap (bit + 1)))
-gap_step xs ys zs gap bit before now =
-    adds_gone xs ys zs _ _ _ before now (λ n. next_bit (is_below_list gap n) (is_member gap.list n) n gap.list.base bit)
-
-pub gap_end : (xs ys : List Fact) (gap : GapBody) (bit : ℕ) → gap.list.count ≤ bit → Adds xs ys [] [] (gone_where (so_far gap bit)) → Adds xs ys [] [] (word_of (Gap gap))
-gap_end xs ys gap bit all adds = adds_gone xs ys ys _ (λ n. false) _ adds (adds_none ys _ _ _ refl refl (λ n. refl)) (λ n. same (is_below_list gap n) n)
+-- the last run
+pub gap_end : (xs ys : List Fact) (gap : GapBody) (at : ℕ) → HasNoneFrom gap.list at → Adds xs ys [] [] (gone_where (is_in_gap_below gap at)) → Adds xs ys [] [] (word_of (Gap gap))
+gap_end xs ys gap at none adds = adds_gone xs ys ys _ (λ n. false) _ adds (adds_none ys _ _ _ refl refl (λ n. refl)) (λ n. same n)
   where
-    and_not : (a b c : Bool) → b ≡ false → (a && (b && c)) ≡ false
-    and_not true b c e = rw e refl
-    and_not false b c e = refl
-
-    within : (n : ℕ) → is_member gap.list n ≡ (nat_lt n (gap.list.base + bit) && is_member gap.list n)
-    within n = elim (cases_lt n (gap.list.base + bit)) [
-      | inl lt ↦ let yes : nat_lt n (gap.list.base + bit) ≡ true = grind (arith, nat_tests) in sym (ap (λ b. b && is_member gap.list n) yes)
-      | inr le ↦
-          let past : nat_lt (n - gap.list.base) gap.list.count ≡ false = grind (arith, nat_tests) in
-          let nix : nat_lt n (gap.list.base + bit) ≡ false = grind (arith, nat_tests) in
-          and_not (nat_le gap.list.base n) _ _ past ∙ sym (ap (λ b. b && is_member gap.list n) nix)
+    same : (n : ℕ) → is_in_gap gap n ≡ (is_in_gap_below gap at n || false)
+    same n = elim (cases_lt n at) [
+      | inl lt ↦ grind (arith, nat_tests)
+      | inr le ↦ let out : is_member gap.list n ≡ false = not_member gap.list n (λ member. none n le member) in rw out (grind (arith, nat_tests))
     ]
-
-    or_false : (b : Bool) → b ≡ (b || false)
-    or_false true = refl
-    or_false false = refl
-
-    same : (a : Bool) (n : ℕ) → (a || is_member gap.list n) ≡ ((a || (nat_lt n (gap.list.base + bit) && is_member gap.list n)) || false)
-    same a n = ap (λ b. a || b) (within n) ∙ or_false (a || (nat_lt n (gap.list.base + bit) && is_member gap.list n))
 
 -- for the reader
 pub adds_heard : (writer reader : Guid) (act : ActValue) (xs ys : List Fact) → is_spoken_by act writer ≡ true → is_heard_by act reader ≡ true → Adds xs ys [] [] (word_of act.body) → Adds xs ys [] [] (word_for writer reader act)

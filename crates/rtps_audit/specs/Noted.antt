@@ -1,14 +1,14 @@
 -- What facts say, one beside another.
-use Rattle.std.specs.Prelude.{ℕ, Bool, ◌+◌, ◌==◌, ◌&&◌, if◌then◌else◌, ◌≡◌, ◌≤◌, ◌⊎◌, ◌↔◌, ◌++◌, List, [], ◌∷◌, map, Option, Some, None, Ok, Err, All}
+use Rattle.std.specs.Prelude.{ℕ, Bool, ◌&&◌, ◌||◌, nat_lt, if◌then◌else◌, ◌≡◌, ◌≤◌, ◌⊎◌, ◌↔◌, ◌++◌, List, [], ◌∷◌, map, Option, Some, None, Ok, Err, All}
 use Rattle.std.specs.List.{filter_map}
-use Rattle.rtps_ids.specs.NumberSet.{NumberSetValue}
 use Rattle.rtps_ids.specs.declared.identity.Guid.{Guid}
+use Rattle.rtps_wire.specs.declared.body.GapBody.{GapBody}
 use Rattle.rtps_receiver.specs.Acts.{ActOutcome}
 use Rattle.rtps_receiver.specs.Values.{ActValue}
 use Rattle.rtps_audit.specs.Delivery.{Word}
 use Rattle.rtps_audit.specs.Delivery.Word.{Gone}
 use Rattle.rtps_audit.specs.Facts.{IsInRange, act_of, announced_of, base_of}
-use Rattle.rtps_audit.specs.Speech.{announced_for, base_for, is_member, word_for}
+use Rattle.rtps_audit.specs.Speech.{announced_for, base_for, is_below_list, is_member, word_for}
 use Rattle.rtps_audit.specs.declared.fact.Fact.{Fact}
 
 -- some act has the word for n
@@ -40,6 +40,6 @@ acts_among (Err refusal ∷ rest) = acts_among rest
 abbrev pub gone_where : (ℕ → Bool) → ℕ → Option Word
 gone_where test n = if test n then Some Gone else None
 
--- the number of this bit, where it is in the set
-abbrev pub is_bit : NumberSetValue → ℕ → ℕ → Bool
-is_bit set bit n = n == set.base + bit && is_member set n
+-- the numbers of a GAP: those below the base of its list, and those of the list that are below a number
+abbrev pub is_in_gap_below : GapBody → ℕ → ℕ → Bool
+is_in_gap_below gap at n = is_below_list gap n || (is_member gap.list n && nat_lt n at)

@@ -23,12 +23,12 @@ in_range n lo hi from to h =
     let within : hi ≤ 2 ^ 63 - 1 = le_of_suc-le-suc to in
     (le_trans from (leb-true lo n h.0), lt_of_lt_of_le (ltb-true n hi h.1) within)
 
-in_first : (n lo hi : ℕ) (a b : Bool) → (nat_le lo n && nat_lt n hi) ≡ a → 1 ≤ lo → hi < 2 ^ 63 → (a || b) ≡ true → (b ≡ true → (1 ≤ n) × (n < 2 ^ 63 - 1)) → (1 ≤ n) × (n < 2 ^ 63 - 1)
+pub in_first : (n lo hi : ℕ) (a b : Bool) → (nat_le lo n && nat_lt n hi) ≡ a → 1 ≤ lo → hi < 2 ^ 63 → (a || b) ≡ true → (b ≡ true → (1 ≤ n) × (n < 2 ^ 63 - 1)) → (1 ≤ n) × (n < 2 ^ 63 - 1)
 in_first n lo hi true b e from to h k = in_range n lo hi from to (both (nat_le lo n) (nat_lt n hi) e)
 in_first n lo hi false b e from to h k = k h
 
 -- bounded ranges have numbers from 1 to 2^63 - 2
-spans_in_range : (n : ℕ) (spans : List Span) → All IsBounded spans → list_any (has_number n) spans ≡ true → (1 ≤ n) × (n < 2 ^ 63 - 1)
+pub spans_in_range : (n : ℕ) (spans : List Span) → All IsBounded spans → list_any (has_number n) spans ≡ true → (1 ≤ n) × (n < 2 ^ 63 - 1)
 spans_in_range n [] bounded h = absurd (false≢true h)
 spans_in_range n (x ∷ xs) bounded h =
     let here : IsBounded x = All-head IsBounded x xs bounded in

@@ -35,3 +35,6 @@ pub trait Coverage: Sized + Drop {
     ghost in_range: { (set : Self) (n : ℕ) → covered set n ≡ true
         → (1 ≤ n) × (n < 2 ^ 63 - 1) };
 }
+
+#[cfg(test)]
+mod tests;

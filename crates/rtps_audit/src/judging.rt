@@ -6,7 +6,7 @@ ghost use Rattle.rtps_audit.specs.Speech.{speech_of};
 
 use crate::coverage::Coverage;
 use crate::judge_state::Judge;
-use crate::plain_ranges::PlainRanges;
+use crate::merged_ranges::MergedRanges;
 use crate::said::push_datagram;
 use crate::verdict::Verdict;
 use rtps_discovery::Pair;
@@ -66,5 +66,5 @@ pub fn judge(alloc: Global, recording: &[&[u8]], pair: Pair) -> Result<Verdict, 
     ensures plain { let speech = speech_of pair.writer pair.reader (map (λ datagram. datagram.now) recording.now) in
         IfOk result (λ verdict. IsPlain speech → verdict ≡ Verdict.Complete (pos (last_announced speech))) }
 {
-    judge_by::<PlainRanges>(alloc, recording, pair)
+    judge_by::<MergedRanges>(alloc, recording, pair)
 }

@@ -8,9 +8,9 @@ use std::alloc::Global;
 
 /// The numbers from `lo` on and below `hi`.
 #[derive(Clone, Copy, Debug)]
-struct Span {
-    lo: u64,
-    hi: u64,
+pub(crate) struct Span {
+    pub(crate) lo: u64,
+    pub(crate) hi: u64,
 }
 
 /// A set of sequence numbers as its front, below which each positive number is in the set, and the ranges

@@ -1,14 +1,14 @@
-ghost use Rattle.std.specs.Prelude.{ℕ, ◌≡◌, ◌+◌, ◌<◌, ◌^◌, ◌++◌, [], ◌∷◌, List, None, OnOk, IfSome};
+ghost use Rattle.std.specs.Prelude.{ℕ, ◌≡◌, ◌+◌, ◌<◌, ◌≤◌, ◌^◌, ◌&&◌, nat_le, nat_lt, ◌++◌, [], ◌∷◌, List, None, OnOk, IfSome};
 ghost use Rattle.std.specs.Option.{option_to_list};
 ghost use Rattle.rtps_wire.specs.Reading.{reading_of};
 ghost use Rattle.rtps_receiver.specs.Acts.{acts_left, acts_of};
 ghost use Rattle.rtps_receiver.specs.Values.{ActValue, act_body_value, act_value};
 ghost use Rattle.rtps_receiver.specs.Values.ActBodyValue.{Gap};
-ghost use Rattle.rtps_audit.specs.Speech.{announced_for, announced_of_body, base_for, base_of_body, is_answer, is_below_list, is_heard_by, is_spoken_by, word_for, word_of};
-ghost use Rattle.rtps_audit.specs.Noted.{Adds, StandFor, acts_among, gone_where, is_bit};
+ghost use Rattle.rtps_audit.specs.Speech.{announced_for, announced_of_body, base_for, base_of_body, is_answer, is_heard_by, is_spoken_by, word_for, word_of};
+ghost use Rattle.rtps_audit.specs.Noted.{Adds, StandFor, acts_among, is_in_gap_below};
 
 use crate::fact::Fact;
-use rtps_ids::{Guid, Memory, NumberSet};
+use rtps_ids::{Guid, Memory};
 use rtps_receiver::{Act, ActBody, Acts};
 use rtps_wire::GapBody;
 
@@ -89,39 +89,36 @@ fn push_number<'a>(facts: &mut Vec<Fact<'a>>, act: &Act<'_>, writer: Guid) -> Re
     Ok(())
 }
 
-/// The number of one bit, where it is in the set.
-fn push_bit<'a>(facts: &mut Vec<Fact<'a>>, set: &NumberSet, bit: u32) -> Result<(), Memory>
-    ensures { OnOk result (Adds facts.old.items facts.new.items [] [] (gone_where (is_bit set.now bit))) }
+/// Where the numbers end that a GAP tells in one row: those from its start on and below the base of its list, and those
+/// of the list that follow at once.
+fn row_end(gap: &GapBody) -> u64
+    ensures onward { gap.now.list.base ≤ result }
+    ensures in_range { result ≤ 2 ^ 63 }
+    ensures row { (n : ℕ) → (nat_le gap.now.start n && nat_lt n result) ≡ is_in_gap_below gap.now result n }
 {
-    let number = set.base().cast_unsigned() + u64::from(bit);
-    if set.contains(number.cast_signed()) {
-        facts.push(Fact::Gone {
-            first: number,
-            last: number,
-        })?;
+    let base = gap.list.base().cast_unsigned();
+    let start = gap.start.get().cast_unsigned();
+    match gap.list.run_from(base) {
+        Some((first, past)) if start <= base && first == base => past,
+        _ => base,
     }
-    Ok(())
 }
 
-/// The numbers from the start of a GAP on and below the base of its list.
-fn push_range<'a>(facts: &mut Vec<Fact<'a>>, gap: &GapBody) -> Result<(), Memory>
-    ensures { OnOk result (Adds facts.old.items facts.new.items [] []
-        (gone_where (is_below_list gap.now))) }
-{
-    facts.push(Fact::Gone {
-        first: gap.start.get().cast_unsigned(),
-        last: gap.list.base().cast_unsigned().saturating_sub(1),
-    })?;
-    Ok(())
-}
-
-/// The numbers of a GAP. A set has 256 numbers at most.
+/// The numbers of a GAP: a row, and then the runs of its list that are apart from it.
 fn push_gap<'a>(facts: &mut Vec<Fact<'a>>, gap: &GapBody) -> Result<(), Memory>
     ensures { OnOk result (Adds facts.old.items facts.new.items [] [] (word_of (Gap gap.now))) }
 {
-    push_range(facts, gap)?;
-    for bit in 0..gap.list.count() {
-        push_bit(facts, &gap.list, bit)?;
+    let mut at = row_end(gap);
+    facts.push(Fact::Gone {
+        first: gap.start.get().cast_unsigned(),
+        last: at.saturating_sub(1),
+    })?;
+    'runs: while let Some((first, past)) = gap.list.run_from(at) {
+        facts.push(Fact::Gone {
+            first,
+            last: past - 1,
+        })?;
+        at = past;
     }
     Ok(())
 }

@@ -1,5 +1,5 @@
-ghost use Rattle.std.specs.Prelude.{ℕ, MatchOption};
-ghost use Rattle.std.specs.List.Sorted.{IsNonDecreasingBy};
+ghost use Rattle.std.specs.Prelude.{ℕ, MatchOption, IsTrue};
+ghost use Rattle.std.specs.List.Sorted.{IsNonDecreasingBy, IsPermutation};
 ghost use Rattle.rtps_audit.specs.RunVerdict.{IsLeast};
 ghost use Rattle.rtps_audit.specs.Samples.{KeepsTwo, number_of};
 
@@ -11,6 +11,28 @@ use rtps_wire::Payload;
 pub(crate) struct Sample<'a> {
     pub(crate) number: u64,
     pub(crate) payload: Payload<'a>,
+}
+
+/// Whether samples stand in the order of their numbers.
+fn is_in_order(samples: &[Sample<'_>]) -> bool
+    ensures { IsTrue result → IsNonDecreasingBy number_of samples.now }
+{
+    for place in 1..samples.len() {
+        if samples[place].number < samples[place - 1].number {
+            return false;
+        }
+    }
+    true
+}
+
+/// Puts samples in the order of their numbers. Those that came in order, as most do, are not sorted again.
+pub(crate) fn put_in_order(samples: &mut Vec<Sample<'_>>)
+    ensures permutation { IsPermutation samples.old.items samples.new.items }
+    ensures sorted { IsNonDecreasingBy number_of samples.new.items }
+{
+    if !is_in_order(samples) {
+        samples.sort_unstable_by_key(|sample| sample.number);
+    }
 }
 
 /// The least number for which two different payloads are kept.

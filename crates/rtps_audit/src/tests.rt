@@ -1,4 +1,4 @@
-use crate::{Counts, Report, Verdict, audit, judge};
+use crate::{Counts, MergedRanges, PlainRanges, Report, Verdict, audit, judge, judge_by};
 use rtps_discovery::Pair;
 use rtps_ids::{EntityId, Guid, GuidPrefix};
 use std::alloc::{AllocError, Global};
@@ -101,29 +101,37 @@ enum Piece {
     Gap2To4And6,
     Fragment,
     Unknown,
+    /// A HEARTBEAT of the numbers from 1 to this one.
+    HeartbeatTo(u16),
     /// The number, and the last octet of the payload.
-    Data(u8, u8),
+    Data(u16, u8),
     /// The base.
-    AckNack(u8),
+    AckNack(u16),
 }
 
 use Piece::{
     AckNack, Data, Fragment, Gap2To4And6, HeaderA, HeaderB, Heartbeat1To3, Heartbeat4To5,
-    HeartbeatBad, ReaderR, ReaderROther, ToA, ToAll, ToC, Unknown, WriterW,
+    HeartbeatBad, HeartbeatTo, ReaderR, ReaderROther, ToA, ToAll, ToC, Unknown, WriterW,
 };
 
-fn push_data(datagram: &mut Vec<u8>, number: u8, last: u8) -> Result<(), AllocError> {
+fn push_data(datagram: &mut Vec<u8>, number: u16, last: u8) -> Result<(), AllocError> {
     let mut piece =
         *b"\x15\x04\x00\x1c\x00\x00\x00\x10\x00\x00\x00\x00\x00\x00\x01\x03\x00\x00\x00\x00\x00\x00\x00\x00\x00\x00\x00\x00\x00\x00\x00\x00";
-    piece[23] = number;
+    piece[22..24].copy_from_slice(&number.to_be_bytes());
     piece[31] = last;
     datagram.extend_from_slice(&piece)
 }
 
-fn push_ack_nack(datagram: &mut Vec<u8>, base: u8) -> Result<(), AllocError> {
+fn push_ack_nack(datagram: &mut Vec<u8>, base: u16) -> Result<(), AllocError> {
     let mut piece =
         *b"\x06\x00\x00\x18\x00\x00\x01\x04\x00\x00\x01\x03\x00\x00\x00\x00\x00\x00\x00\x00\x00\x00\x00\x00\x00\x00\x00\x01";
-    piece[19] = base;
+    piece[18..20].copy_from_slice(&base.to_be_bytes());
+    datagram.extend_from_slice(&piece)
+}
+
+fn push_heartbeat(datagram: &mut Vec<u8>, last: u16) -> Result<(), AllocError> {
+    let mut piece = HEARTBEAT_1_TO_3;
+    piece[26..28].copy_from_slice(&last.to_be_bytes());
     datagram.extend_from_slice(&piece)
 }
 
@@ -143,6 +151,7 @@ fn push_piece(datagram: &mut Vec<u8>, piece: Piece) -> Result<(), AllocError> {
         Gap2To4And6 => datagram.extend_from_slice(&GAP_2_TO_4_AND_6),
         Fragment => datagram.extend_from_slice(&FRAGMENT),
         Unknown => datagram.extend_from_slice(&UNKNOWN),
+        HeartbeatTo(last) => push_heartbeat(datagram, last),
         Data(number, last) => push_data(datagram, number, last),
         AckNack(base) => push_ack_nack(datagram, base),
     }
@@ -164,7 +173,8 @@ fn push_all(
     Ok(())
 }
 
-/// The audit of a recording of the announcements of the pair and then these pieces.
+/// The audit of a recording of the announcements of the pair and then these pieces. Each row is what the pair is judged
+/// by either kind of set.
 fn audited(alloc: Global, pieces: &[Piece]) -> Result<Report, Fail> {
     let mut datagrams = Vec::new(alloc);
     push_all(alloc, &mut datagrams, &[HeaderA, WriterW, HeaderB, ReaderR])?;
@@ -173,7 +183,15 @@ fn audited(alloc: Global, pieces: &[Piece]) -> Result<Report, Fail> {
     for datagram in &datagrams {
         slices.push(datagram.as_slice())?;
     }
-    Ok(audit(alloc, &slices)?)
+    let report = audit(alloc, &slices)?;
+    for row in &report.rows {
+        let plain = judge_by::<PlainRanges>(alloc, &slices, row.pair)?;
+        let merged = judge_by::<MergedRanges>(alloc, &slices, row.pair)?;
+        if plain != row.verdict || merged != row.verdict {
+            return Err("one verdict by any set".into());
+        }
+    }
+    Ok(report)
 }
 
 /// The verdict of the one pair.
@@ -300,6 +318,30 @@ fn verdicts_of_recordings(rt: HostRuntime) -> Result<(), Fail> {
         number: 2,
     };
     assert_eq!(rt; verdict_of(alloc, &elsewhere)?, unfounded);
+    Ok(())
+}
+
+#[test]
+fn every_second_number_first(rt: HostRuntime) -> Result<(), Fail> {
+    let mut pieces = Vec::new(rt.alloc());
+    for parity in 0..2u16 {
+        for half in 1..501u16 {
+            pieces.push(HeaderA)?;
+            pieces.push(Data(2 * half - parity, 1))?;
+        }
+    }
+    for piece in [HeaderA, HeartbeatTo(1000), HeaderB, ToA, AckNack(1001)] {
+        pieces.push(piece)?;
+    }
+    let report = audited(rt.alloc(), &pieces)?;
+    assert_eq!(rt; report.rows.len(), 1);
+    assert!(rt;
+        report
+            .rows
+            .iter()
+            .all(|row| row.verdict == Verdict::Complete { last: 1000 })
+    );
+    assert_eq!(rt; report.counts.datagrams, 1004);
     Ok(())
 }
 

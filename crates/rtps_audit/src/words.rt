@@ -7,7 +7,7 @@ ghost use Rattle.rtps_audit.specs.Samples.{IsSmall, KeepsTwo, sample_of};
 
 use crate::coverage::Coverage;
 use crate::fact::Fact;
-use crate::sample::{Sample, least_conflict};
+use crate::sample::{Sample, least_conflict, put_in_order};
 use rtps_ids::Memory;
 use std::alloc::Global;
 
@@ -83,7 +83,7 @@ impl<'a, C: Coverage> Words<'a, C> {
             (IsLeast (KeepsTwo self.old.samples.items)) }
         ensures in_range { IfSome result (λ n. n < 2 ^ 63) }
     {
-        self.samples.sort_unstable_by_key(|sample| sample.number);
+        put_in_order(&mut self.samples);
         least_conflict(&self.samples)
     }
 }

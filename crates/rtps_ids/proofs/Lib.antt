@@ -1,2 +1,3 @@
 pub mod SetBits
 pub mod Sets
+pub mod RunBits

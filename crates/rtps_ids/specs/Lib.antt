@@ -1,2 +1,3 @@
 pub mod NumberSet
 pub mod Octets
+pub mod Runs

@@ -1,6 +1,7 @@
 //! Identities, numbers and sets of the DDS Interoperability Wire Protocol (DDSI-RTPS 2.5).
 #![tactic(auto)]
 
+mod bits;
 mod identity;
 pub mod laws;
 mod memory;

@@ -1,6 +1,8 @@
 ghost use Rattle.std.specs.Prelude.{◌≡◌, ◌<◌, ◌≤◌, ◌^◌, ◌/◌, length, ◌↔◌, ◌<ℤ◌, ℤ, pos, true, false, None, Some, IsTrue, IsSome, IfSome, MatchOption, MatchResult, slice_index};
 ghost use Rattle.rtps_ids.specs.NumberSet.{IsMember, cleared_words, bit_of, is_bad as is_bad_lem, octets_of_count, set_fault, spelled_set, spelled_word, cleared as cleared_lem};
+ghost use Rattle.rtps_ids.specs.Runs.{IsRunFrom, HasNoneFrom};
 
+use crate::bits::first_bit;
 use crate::octets::{number_at, u32_at};
 use crate::order::Order;
 use std::marker::Model;
@@ -109,6 +111,30 @@ impl NumberSet {
             return false;
         }
         is_set(&self.words, (n - self.base) as usize)
+    }
+}
+
+impl NumberSet {
+    /// The first run of numbers of the set from `from` on: its first number, and the one past its last, up to 2^63. None
+    /// where no number from `from` on is in the set. Asked again from the end of each run, it gives all of them.
+    pub fn run_from(&self, from: u64) -> Option<(u64, u64)>
+        ensures run { MatchOption result (HasNoneFrom self.now from) (λ run. IsRunFrom self.now from run.0 run.1) }
+        ensures in_range { IfSome result (λ run. (1 ≤ run.0) × (run.1 ≤ 2 ^ 63)) }
+    {
+        let start = if from < self.base {
+            0
+        } else {
+            from - self.base
+        };
+        if start >= u64::from(self.count) {
+            return None;
+        }
+        let first = first_bit(&self.words, start as usize, true);
+        if first >= self.count as usize {
+            return None;
+        }
+        let past = first_bit(&self.words, first, false).min(self.count as usize);
+        Some((self.base + first as u64, self.base + past as u64))
     }
 }
 

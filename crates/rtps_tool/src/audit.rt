@@ -29,7 +29,7 @@ fn report_of(alloc: Global, recording: &Recording) -> Result<Report, Memory>
 }
 
 // The datagrams of a recording.
-fn datagrams_of(alloc: Global, recording: &Recording) -> Result<Vec<&[u8]>, AllocError>
+pub(crate) fn datagrams_of(alloc: Global, recording: &Recording) -> Result<Vec<&[u8]>, AllocError>
     ensures { IfOk result (λ datagrams. map (λ datagram. datagram.now) datagrams.items ≡ recording.now) }
 {
     let mut datagrams = Vec::with_capacity(alloc, recording.len())?;

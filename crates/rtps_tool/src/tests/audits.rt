@@ -1,5 +1,7 @@
 use super::audited;
-use crate::{Ending, RecFault, RunFault, run_audit};
+use crate::audit::datagrams_of;
+use crate::{Ending, RecFault, RunFault, read_recording, run_audit};
+use rtps_audit::{MergedRanges, PlainRanges, audit, judge_by};
 use std::alloc::Global;
 use std::test::Fail;
 
@@ -43,6 +45,36 @@ fn fourth_reports(rt: HostRuntime) -> Result<(), Fail> {
     for (name, text, report) in audited::FOURTH {
         let (output, _) = audited_of(rt.alloc(), text)?;
         assert_eq!(rt; output.as_slice(), report.as_bytes(), "{name}");
+    }
+    Ok(())
+}
+
+// Whether either kind of set gives each pair of a recording the verdict of its row.
+fn is_judged_by_either(alloc: Global, text: &str) -> Result<bool, Fail> {
+    let recording = read_recording(alloc, text.as_bytes())?;
+    let datagrams = datagrams_of(alloc, &recording)?;
+    for row in &audit(alloc, &datagrams)?.rows {
+        if judge_by::<PlainRanges>(alloc, &datagrams, row.pair)? != row.verdict
+            || judge_by::<MergedRanges>(alloc, &datagrams, row.pair)? != row.verdict
+        {
+            return Ok(false);
+        }
+    }
+    Ok(true)
+}
+
+#[test]
+fn each_row_is_judged_by_either_set(rt: HostRuntime) -> Result<(), Fail> {
+    let tables = [
+        audited::FIRST,
+        audited::SECOND,
+        audited::THIRD,
+        audited::FOURTH,
+    ];
+    for table in tables {
+        for (name, text, _) in table {
+            assert!(rt; is_judged_by_either(rt.alloc(), text)?, "{name}");
+        }
     }
     Ok(())
 }

@@ -1,12 +1,17 @@
 use Rattle.std.proofs.Common.{arith}
-use Rattle.rtps_audit.proofs.NotedLemmas.{gap_start, gap_step, gap_end}
+use Rattle.std.proofs.lemmas.Int.{ints}
+use Rattle.rtps_audit.proofs.NotedLemmas.{gap_row, gap_run, gap_end}
 use Rattle.rtps_audit.proofs.said.push_gap.Goals as goal
 
-pub loop-bit-init : goal.loop-bit-init
-loop-bit-init c = gap_start c.args.facts.now.items _ c.args.gap.now c.in_ok-push_range.ensures
+pub runs-init : goal.runs-init
+runs-init c =
+    let row = c.row_end-at.ensures in
+    gap_row c.args.facts.now.items _ c.args.gap.now _ _ c.row_end-at.result c.in_ok-push.ensures.items (omega (arith, ints)) (omega (arith, ints)) (omega (arith, ints)) (omega (arith, ints)) row.row
 
-pub loop-bit-preserved : goal.loop-bit-preserved
-loop-bit-preserved c = gap_step c.args.facts.now.items _ _ c.args.gap.now c.loop-bit.bit c.loop-bit.invariant c.in_ok-push_bit.ensures
+pub runs-preserved : goal.runs-preserved
+runs-preserved c =
+    let run = c.in-Some.ensures in
+    gap_run c.args.facts.now.items c.runs.facts.items _ c.args.gap.now c.runs.at c.in-Some.first c.in-Some.past _ c.runs.invariant c.in_ok-push-2.ensures.items (omega arith) run.run run.in_range.0 run.in_range.1
 
 pub returns : goal.returns
-returns c = gap_end c.args.facts.now.items _ c.args.gap.now c.loop-bit.bit (omega arith) c.loop-bit.invariant
+returns c = gap_end c.args.facts.now.items c.runs.facts.items c.args.gap.now c.runs.at c.in_default.ensures.run c.runs.invariant

@@ -1,0 +1,14 @@
+use Rattle.std.proofs.Common.{◌≡◌, ◌≤◌, ℕ, subst, arith}
+use Rattle.std.proofs.lemmas.Int.{ints}
+use Rattle.rtps_ids.specs.Runs.{IsRunFrom}
+use Rattle.rtps_audit.proofs.NotedLemmas.{row_to_run}
+use Rattle.rtps_audit.proofs.said.row_end.Goals as goal
+
+pub returns-in-Some-clause-row : goal.returns-in-Some-clause-row
+returns-in-Some-clause-row c = λ n.
+    let gap = c.args.gap.now in
+    let base : c.cast_unsigned-base.result ≡ gap.list.base = omega (arith, ints) in
+    let first : c.in-Some.first ≡ gap.list.base = omega (arith, ints, c.if-first-base.true) in
+    let from : gap.start ≤ gap.list.base = omega (arith, ints, c.if-start-base.true) in
+    row_to_run gap c.in-Some.past n from
+    (subst (λ (m : ℕ). IsRunFrom gap.list gap.list.base m c.in-Some.past) first (subst (λ (m : ℕ). IsRunFrom gap.list m c.in-Some.first c.in-Some.past) base c.in-Some.ensures.run))

@@ -1,0 +1,149 @@
+//! What no clause says: that sets take ranges where there is memory. Both kinds of set are tried beside a row of flags, in
+//! orders in which ranges could come.
+
+use super::Coverage;
+use crate::{MergedRanges, PlainRanges};
+use rtps_ids::Memory;
+use std::alloc::Global;
+use std::test::Fail;
+
+/// The numbers that are looked at are below this one.
+const END: u8 = 100;
+
+/// One set, three times over.
+#[derive(Drop)]
+struct Sets {
+    plain: PlainRanges,
+    merged: MergedRanges,
+    flags: [bool; 100],
+}
+
+impl Sets {
+    fn empty(alloc: Global) -> Sets {
+        Sets {
+            plain: PlainRanges::empty(alloc),
+            merged: MergedRanges::empty(alloc),
+            flags: [false; 100],
+        }
+    }
+
+    fn add(&mut self, lo: u8, hi: u8) -> Result<(), Memory> {
+        if 1 <= lo && lo <= hi {
+            self.plain.add(i64::from(lo), i64::from(hi))?;
+            self.merged.add(i64::from(lo), i64::from(hi))?;
+        }
+        for n in 1..END {
+            if lo <= n && n < hi {
+                self.flags[usize::from(n)] = true;
+            }
+        }
+        Ok(())
+    }
+
+    fn has(&self, n: u8) -> bool {
+        self.flags.get(usize::from(n)) == Some(&true)
+    }
+
+    /// How many flags are set behind one that is not.
+    fn runs(&self) -> usize {
+        (1..END)
+            .filter(|n| self.has(*n) && !self.has(*n - 1))
+            .count()
+    }
+
+    /// The least number whose flag is not set.
+    fn front(&self) -> i64 {
+        (1..END).find(|n| !self.has(*n)).map_or(0, i64::from)
+    }
+
+    fn agree(&self) -> bool {
+        for n in 0..END {
+            let (number, has) = (i64::from(n), self.has(n));
+            if self.plain.covers(number) != has || self.merged.covers(number) != has {
+                return false;
+            }
+        }
+        self.plain.front() == self.front()
+            && self.merged.front() == self.front()
+            && self.merged.len() == self.runs()
+            && self.merged.is_empty() == (self.runs() == 0)
+    }
+}
+
+/// Numbers that look as if they came by chance.
+#[derive(Drop)]
+struct Chance(u64);
+
+impl Chance {
+    fn below_64(&mut self) -> u8 {
+        self.0 ^= self.0 << 13;
+        self.0 ^= self.0 >> 7;
+        self.0 ^= self.0 << 17;
+        ((self.0 >> 32) % 64) as u8
+    }
+}
+
+/// The range that comes at a place from 0 to 39, in one of ten orders.
+fn range(order: u8, place: u8, chance: &mut Chance) -> (u8, u8) {
+    let place = place.min(39);
+    let half = place / 2;
+    let single = match order {
+        0 => 1 + place,
+        1 => 40 - place,
+        2 if place < 20 => 1 + 2 * place,
+        2 => 2 * (place - 19),
+        3 if place % 2 == 0 => 1 + half,
+        3 => 40 - half,
+        4 if place % 2 == 0 => 20 - half,
+        4 => 21 + half,
+        5 => 1 + chance.below_64().min(63),
+        6 => return (41 - place, 43 + place),
+        7 => return (1 + 2 * place, 3 + 2 * place),
+        8 => return (79 - 2 * place, 81 - 2 * place),
+        _ => {
+            let lo = 1 + chance.below_64().min(63);
+            return (lo, lo + chance.below_64().min(12));
+        }
+    };
+    (single, single + 1)
+}
+
+#[test]
+fn sets_agree_in_any_order_of_ranges(rt: HostRuntime) -> Result<(), Fail> {
+    for seed in 1..40u64 {
+        let mut chance = Chance(seed);
+        for order in 0..10 {
+            let mut sets = Sets::empty(rt.alloc());
+            assert!(rt; sets.agree());
+            for place in 0..40 {
+                let before = sets.merged.len();
+                let (lo, hi) = range(order, place, &mut chance);
+                sets.add(lo, hi)?;
+                assert!(rt;
+                    sets.agree(),
+                    "order {order}, place {place}, seed {seed}: {lo} to {hi}"
+                );
+                assert!(rt; sets.merged.len() <= before.saturating_add(1));
+            }
+        }
+    }
+    Ok(())
+}
+
+#[test]
+fn even_numbers_are_500_ranges_and_with_the_odd_ones_1(rt: HostRuntime) -> Result<(), Fail> {
+    let mut set = MergedRanges::empty(rt.alloc());
+    for half in 1..501u16 {
+        let even = i64::from(2 * half);
+        set.add(even, even + 1)?;
+    }
+    assert_eq!(rt; set.len(), 500);
+    assert_eq!(rt; set.front(), 1);
+    for half in 1..501u16 {
+        let odd = i64::from(2 * half - 1);
+        set.add(odd, odd + 1)?;
+    }
+    assert_eq!(rt; set.len(), 1);
+    assert_eq!(rt; set.front(), 1001);
+    Ok(())
+}

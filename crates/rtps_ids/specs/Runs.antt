@@ -1,0 +1,21 @@
+-- The runs of numbers in a set.
+use Rattle.std.specs.Prelude.{ℕ, Bool, true, false, ◌≤◌, ◌<◌, pos}
+use Rattle.rtps_ids.specs.NumberSet.{NumberSetValue, IsMember}
+
+-- a bit that is set, or one that is clear
+abbrev pub wanted_bit : Bool → ℕ
+wanted_bit true = 1
+wanted_bit false = 0
+
+-- The first run of members from a number on: each number from lo on and below hi is a member, hi is none, and none
+-- is one from `from` on and below lo.
+pub record IsRunFrom (set : NumberSetValue) (from lo hi : ℕ) : Type 0 where
+  pub onward : from ≤ lo
+  pub some : lo < hi
+  pub before : (n : ℕ) → from ≤ n → n < lo → IsMember set (pos n) → ⊥
+  pub members : (n : ℕ) → lo ≤ n → n < hi → IsMember set (pos n)
+  pub past : IsMember set (pos hi) → ⊥
+
+-- the set has no member from a number on
+abbrev pub HasNoneFrom : NumberSetValue → ℕ → Type 0
+HasNoneFrom set from = (n : ℕ) → from ≤ n → IsMember set (pos n) → ⊥
