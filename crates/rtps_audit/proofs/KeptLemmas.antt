@@ -1,6 +1,6 @@
 -- Ranges in a map.
 use Rattle.std.specs.BTreeMap as tree
-use Rattle.std.proofs.Common.{ℕ, Bool, true, false, cond, ◌≡◌, ◌≤◌, ◌<◌, ◌^◌, ◌&&◌, ◌||◌, nat_le, nat_lt, List, [], ◌∷◌, Option, Some, None, IfSome, All, ◌⊎◌, Result, Ok, Err, OnOk, OnErr, ◌+◌, max, min, pos, refl, ◌∙◌, sym, ap, subst, inl, inr, arith}
+use Rattle.std.proofs.Common.{ℕ, Bool, true, false, cond, ◌≡◌, ◌≤◌, ◌<◌, ◌&&◌, ◌||◌, nat_le, nat_lt, List, [], ◌∷◌, Option, Some, None, IfSome, All, ◌⊎◌, ◌+◌, max, min, pos, refl, ◌∙◌, sym, ap, subst, inl, inr, arith}
 use Rattle.std.specs.List.{list_any}
 use Rattle.std.specs.Map.{keys_of, values_of, lookup, remove_entry}
 use Rattle.std.specs.BTreeMap.{BTreeMap, IsOrdered, Updates, btree_map_len, values, insert_entry, is_at}
@@ -20,12 +20,12 @@ use Rattle.std.proofs.lemmas.Map.Keys.{IsDistinct-from_sorted}
 use Rattle.std.proofs.lemmas.Map.Views.{All-values_from_lookup, tells_apart}
 use Rattle.std.proofs.lemmas.Map.Lookups.{exact_unsigned}
 use Rattle.rtps_audit.specs.Spans.{has_number}
-use Rattle.rtps_audit.specs.KeptSpans.{IsApart, IsKept, IsLastUpTo, IsFirstPast, IsFirstRange, IsRecent, IsClear, kept_has, recent_has}
+use Rattle.rtps_audit.specs.KeptSpans.{IsApart, HasRange, IsLastUpTo, IsFirstPast, IsFirstRange, IsRecent, IsClear, kept_has, recent_has}
 use Rattle.rtps_audit.specs.Coverage.{IsFront}
 use Rattle.std.proofs.lemmas.Int.{ints}
 use Rattle.std.proofs.Math.Nat.{le_refl, le_of_lt, le-max_left, le-max_right, max-eq_left, max-eq_right, min-le_left, min-le_right, min-eq_left, min-eq_right}
 use Rattle.rtps_audit.specs.declared.merged_ranges.Recent.{Recent}
-use Rattle.rtps_audit.specs.declared.plain_ranges.Span.{Span}
+use Rattle.rtps_audit.specs.declared.span.Span.{Span}
 
 -- ---- keys
 
@@ -45,13 +45,13 @@ if_some : (o : Option Span) (P : Span → Type 0) → ((span : Span) → o ≡ S
 if_some None P f = tt
 if_some (Some span) P f = f span refl
 
-pub values_all : (kept : BTreeMap ℕ Span) (P : Span → Type 0) → IsOrdered nat_cmp kept → ((key : ℕ) (span : Span) → IsKept kept key span → P span) → All P (values kept)
+pub values_all : (kept : BTreeMap ℕ Span) (P : Span → Type 0) → IsOrdered nat_cmp kept → ((key : ℕ) (span : Span) → HasRange kept key span → P span) → All P (values kept)
 values_all kept P ordered f =
     All-values_from_lookup (eq_by_cmp_equiv nat_cmp_total) P kept.entries (IsDistinct-from_sorted nat_cmp (keys_of kept.entries) ordered)
     (λ q. if_some (tree.get nat_cmp kept q) P (λ span e. f q span e))
 
 -- no range has a number where none that is kept has it
-pub none_has : (kept : BTreeMap ℕ Span) (n : ℕ) → IsOrdered nat_cmp kept → ((key : ℕ) (span : Span) → IsKept kept key span → has_number n span ≡ false) → kept_has kept n ≡ false
+pub none_has : (kept : BTreeMap ℕ Span) (n : ℕ) → IsOrdered nat_cmp kept → ((key : ℕ) (span : Span) → HasRange kept key span → has_number n span ≡ false) → kept_has kept n ≡ false
 none_has kept n ordered f = list_any_none (has_number n) (values kept) (values_all kept (λ span. has_number n span ≡ false) ordered f)
 
 -- some range has a number where one that is kept has it
@@ -69,7 +69,7 @@ some_has n key span (x ∷ xs) e h = step (λ k. some_has n key span xs k h) (is
 
 -- ---- the numbers after a removal and after an insertion
 
-or_assoc : (a b c d : Bool) → d ≡ (b || c) → (a || d) ≡ ((a || b) || c)
+pub or_assoc : (a b c d : Bool) → d ≡ (b || c) → (a || d) ≡ ((a || b) || c)
 or_assoc true b c d e = refl
 or_assoc false b c d e = e
 
@@ -90,7 +90,7 @@ removal_has n test (x ∷ xs) span e = step (λ k. removal_has n test xs span k)
     step rest true k = or_comm (has_number n x.1) (list_any (has_number n) (values_of xs)) ∙ ap (λ (s : Span). list_any (has_number n) (values_of xs) || has_number n s) (same_Some x.1 span k)
     step rest false k = or_assoc (has_number n x.1) (list_any (has_number n) (values_of (remove_entry test xs))) (has_number n span) _ (rest k)
 
-swap_in : (a b c : Bool) → (a ≡ true → b ≡ true) → (b || c) ≡ ((a || c) || b)
+pub swap_in : (a b c : Bool) → (a ≡ true → b ≡ true) → (b || c) ≡ ((a || c) || b)
 swap_in true b c f = rw (f refl) refl
 swap_in false b c f = or_comm b c
 
@@ -110,25 +110,21 @@ insertion_has n key span (x ∷ xs) f = step (λ g. insertion_has n key span xs 
 
 -- ---- what is kept after a removal and after an insertion
 
-pub kept_after_removal : (old new : BTreeMap ℕ Span) (gone : ℕ) → Updates nat_cmp old new gone None → (key : ℕ) (span : Span) → IsKept new key span → IsKept old key span
+pub kept_after_removal : (old new : BTreeMap ℕ Span) (gone : ℕ) → Updates nat_cmp old new gone None → (key : ℕ) (span : Span) → HasRange new key span → HasRange old key span
 kept_after_removal old new gone updates key span e = step (is_eq (nat_cmp gone key)) (sym (updates.0 key) ∙ e)
   where
     step : (b : Bool) → cond b None (tree.get nat_cmp old key) ≡ Some span → tree.get nat_cmp old key ≡ Some span
     step true k = absurd (none-some span k)
     step false k = k
 
--- the key that was removed is none of those
-pub gone_after_removal : (old new : BTreeMap ℕ Span) (gone : ℕ) → Updates nat_cmp old new gone None → (span : Span) → IsKept new gone span → ⊥
-gone_after_removal old new gone updates span e = none-some span (sym updates.1 ∙ e)
-
-pub stays_after_removal : (old new : BTreeMap ℕ Span) (gone : ℕ) → Updates nat_cmp old new gone None → (key : ℕ) (span : Span) → key < gone → IsKept old key span → IsKept new key span
+pub stays_after_removal : (old new : BTreeMap ℕ Span) (gone : ℕ) → Updates nat_cmp old new gone None → (key : ℕ) (span : Span) → key < gone → HasRange old key span → HasRange new key span
 stays_after_removal old new gone updates key span lt e = updates.2 key (not_at gone key lt) ∙ e
 
-pub kept_after_insertion : (old new : BTreeMap ℕ Span) (at : ℕ) (that : Span) → Updates nat_cmp old new at (Some that) → (key : ℕ) (span : Span) → IsKept new key span
-    → ((at ≡ key) × (that ≡ span)) ⊎ IsKept old key span
+pub kept_after_insertion : (old new : BTreeMap ℕ Span) (at : ℕ) (that : Span) → Updates nat_cmp old new at (Some that) → (key : ℕ) (span : Span) → HasRange new key span
+    → ((at ≡ key) × (that ≡ span)) ⊎ HasRange old key span
 kept_after_insertion old new at that updates key span e = step (is_eq (nat_cmp at key)) refl (sym (updates.0 key) ∙ e)
   where
-    step : (b : Bool) → is_eq (nat_cmp at key) ≡ b → cond b (Some that) (tree.get nat_cmp old key) ≡ Some span → ((at ≡ key) × (that ≡ span)) ⊎ IsKept old key span
+    step : (b : Bool) → is_eq (nat_cmp at key) ≡ b → cond b (Some that) (tree.get nat_cmp old key) ≡ Some span → ((at ≡ key) × (that ≡ span)) ⊎ HasRange old key span
     step true t k = inl (tells_apart exact_unsigned at key t, same_Some that span k)
     step false t k = inr k
 
@@ -142,33 +138,6 @@ removal_apart old new gone h updates ordered =
       to = λ key span k. h.to key span (back key span k);
       bounded = λ key span k. h.bounded key span (back key span k);
       apart = λ low high first second k l lt. h.apart low high first second (back low first k) (back high second l) lt;
-    }
-
--- and as one comes in that is clear of those before it and after it
-pub insertion_apart : (old new : BTreeMap ℕ Span) (at lo hi : ℕ) → IsApart old → Updates nat_cmp old new at (Some (record { lo = lo; hi = hi })) → IsOrdered nat_cmp new
-    → 1 ≤ lo → lo ≤ at → at < hi → hi < 2 ^ 63
-    → ((key : ℕ) (span : Span) → IsKept old key span → key < at → span.hi < lo)
-    → ((key : ℕ) (span : Span) → IsKept old key span → at < key → hi < span.lo)
-    → IsApart new
-insertion_apart old new at lo hi h updates ordered positive from to bounded before after =
-    let that : Span = record { lo = lo; hi = hi } in
-    let back = kept_after_insertion old new at that updates in record {
-      ordered = ordered;
-      positive = λ key span k. elim (back key span k) [ inl e ↦ subst (λ (s : Span). 1 ≤ s.lo) e.1 positive | inr l ↦ h.positive key span l ];
-      from = λ key span k. elim (back key span k) [ inl e ↦ subst (λ (s : Span). s.lo ≤ key) e.1 (subst (λ m. lo ≤ m) e.0 from) | inr l ↦ h.from key span l ];
-      to = λ key span k. elim (back key span k) [ inl e ↦ subst (λ (s : Span). key < s.hi) e.1 (subst (λ m. m < hi) e.0 to) | inr l ↦ h.to key span l ];
-      bounded = λ key span k. elim (back key span k) [ inl e ↦ subst (λ (s : Span). s.hi < 2 ^ 63) e.1 bounded | inr l ↦ h.bounded key span l ];
-      apart = λ low high first second k l lt.
-          elim (back low first k) [
-            | inl e ↦ elim (back high second l) [
-              | inl f ↦ let a : at ≡ low = e.0 in let b : at ≡ high = f.0 in absurd (omega arith)
-              | inr m ↦ subst (λ (s : Span). s.hi < second.lo) e.1 (after high second m (let a : at ≡ low = e.0 in omega arith))
-            ]
-            | inr n ↦ elim (back high second l) [
-              | inl f ↦ subst (λ (s : Span). first.hi < s.lo) f.1 (before low first n (let b : at ≡ high = f.0 in omega arith))
-              | inr m ↦ h.apart low high first second n m lt
-            ]
-          ];
     }
 
 -- ---- numbers in a range
@@ -192,12 +161,12 @@ not_below n span a = without n span.lo span.hi (inl a)
 pub not_past : (n : ℕ) (span : Span) → span.hi ≤ n → has_number n span ≡ false
 not_past n span a = without n span.lo span.hi (inr a)
 
-pub kept_once : (kept : BTreeMap ℕ Span) (key other : ℕ) (span that : Span) → IsKept kept key span → IsKept kept other that → key ≡ other → span ≡ that
+pub kept_once : (kept : BTreeMap ℕ Span) (key other : ℕ) (span that : Span) → HasRange kept key span → HasRange kept other that → key ≡ other → span ≡ that
 kept_once kept key other span that e f same = same_Some span that (sym e ∙ ap (λ k. tree.get nat_cmp kept k) same ∙ f)
 
 -- ---- the ranges before a number and past it
 
-pub last_ends : (kept : BTreeMap ℕ Span) (n key : ℕ) (span : Span) → IsApart kept → IsLastUpTo kept n key span → (other : ℕ) (that : Span) → IsKept kept other that → other ≤ n → that.hi ≤ span.hi
+pub last_ends : (kept : BTreeMap ℕ Span) (n key : ℕ) (span : Span) → IsApart kept → IsLastUpTo kept n key span → (other : ℕ) (that : Span) → HasRange kept other that → other ≤ n → that.hi ≤ span.hi
 last_ends kept n key span h last other that e le =
     elim (cases_lt other key) [
       | inl lt ↦
@@ -211,7 +180,7 @@ last_ends kept n key span h last other that e le =
           subst (λ (s : Span). s.hi ≤ span.hi) (kept_once kept key other span that last.kept_here e same) (le_refl span.hi)
     ]
 
-pub first_begins : (kept : BTreeMap ℕ Span) (n key : ℕ) (span : Span) → IsApart kept → IsFirstPast kept n key span → (other : ℕ) (that : Span) → IsKept kept other that → n < other → span.lo ≤ that.lo
+pub first_begins : (kept : BTreeMap ℕ Span) (n key : ℕ) (span : Span) → IsApart kept → IsFirstPast kept n key span → (other : ℕ) (that : Span) → HasRange kept other that → n < other → span.lo ≤ that.lo
 first_begins kept n key span h first other that e lt =
     elim (cases_lt key other) [
       | inl below ↦
@@ -225,7 +194,7 @@ first_begins kept n key span h first other that e lt =
           subst (λ (s : Span). span.lo ≤ s.lo) (kept_once kept key other span that first.kept_here e same) (le_refl span.lo)
     ]
 
-pub first_least : (kept : BTreeMap ℕ Span) (key other : ℕ) (span that : Span) → IsApart kept → IsKept kept key span → IsKept kept other that → key ≤ other → span.lo ≤ that.lo
+pub first_least : (kept : BTreeMap ℕ Span) (key other : ℕ) (span that : Span) → IsApart kept → HasRange kept key span → HasRange kept other that → key ≤ other → span.lo ≤ that.lo
 first_least kept key other span that h e f le =
     elim (cases_lt key other) [
       | inl below ↦
@@ -238,13 +207,10 @@ first_least kept key other span that h e f le =
           subst (λ (s : Span). span.lo ≤ s.lo) (kept_once kept key other span that e f same) (le_refl span.lo)
     ]
 
-pub past_one : (lo that : ℕ) → 1 ≤ lo → (lo ≡ 1 → ⊥) → lo ≤ that → 1 < that
-past_one lo that a b c = elim (cases_lt 1 lo) [ inl lt ↦ omega arith | inr le ↦ let e : lo ≡ 1 = omega arith in absurd (b e) ]
-
 -- a number at or past the end of the ranges of lower keys, and before the ranges of higher keys
 pub gap_has : (kept : BTreeMap ℕ Span) (n : ℕ) → IsOrdered nat_cmp kept
-    → ((key : ℕ) (span : Span) → IsKept kept key span → key ≤ n → span.hi ≤ n)
-    → ((key : ℕ) (span : Span) → IsKept kept key span → n < key → n < span.lo)
+    → ((key : ℕ) (span : Span) → HasRange kept key span → key ≤ n → span.hi ≤ n)
+    → ((key : ℕ) (span : Span) → HasRange kept key span → n < key → n < span.lo)
     → kept_has kept n ≡ false
 gap_has kept n ordered before after =
     none_has kept n ordered (λ key span e. elim (cases_lt n key) [ inl lt ↦ not_below n span (after key span e lt) | inr le ↦ not_past n span (before key span e le) ])
@@ -285,7 +251,7 @@ first_none kept recent ordered none apart n = or_false (kept_has kept n) (recent
     empty : kept.entries ≡ []
     empty = nil_from_length kept.entries none
 
-    never : (key : ℕ) (span : Span) → IsKept kept key span → ⊥
+    never : (key : ℕ) (span : Span) → HasRange kept key span → ⊥
     never key span e = none-some span (subst (λ es. lookup (is_at (nat_cmp key)) es ≡ Some span) empty e)
 
     nowhere : (key : ℕ) → is_some (tree.get nat_cmp kept key) ≡ true → ⊥
@@ -296,12 +262,12 @@ first_none kept recent ordered none apart n = or_false (kept_has kept n) (recent
     no_recent (Some last) is = absurd (nowhere last.key (is last refl).there)
 
 -- the first one is the recent one
-pub first_recent : (kept : BTreeMap ℕ Span) (recent : Option Recent) (last : Recent) → IsOrdered nat_cmp kept → recent ≡ Some last → IsRecent kept last → ((other : ℕ) (that : Span) → IsKept kept other that → last.key ≤ other)
+pub first_recent : (kept : BTreeMap ℕ Span) (recent : Option Recent) (last : Recent) → IsOrdered nat_cmp kept → recent ≡ Some last → IsRecent kept last → ((other : ℕ) (that : Span) → HasRange kept other that → last.key ≤ other)
     → IsFirstRange (λ n. kept_has kept n || recent_has recent n) last.span
 first_recent kept recent last ordered e is least = subst (λ r. IsFirstRange (λ n. kept_has kept n || recent_has r n) last.span) (sym e) found
   where
-    at : (other : ℕ) (that : Span) → IsKept kept other that → other ≤ last.key → IsKept kept last.key that
-    at other that k le = let a = least other that k in let same : other ≡ last.key = omega arith in subst (λ m. IsKept kept m that) same k
+    at : (other : ℕ) (that : Span) → HasRange kept other that → other ≤ last.key → HasRange kept last.key that
+    at other that k le = let a = least other that k in let same : other ≡ last.key = omega arith in subst (λ m. HasRange kept m that) same k
 
     some : last.span.lo < last.span.hi
     some = let a = is.from in let b = is.to in omega arith
@@ -322,7 +288,7 @@ first_recent kept recent last ordered e is least = subst (λ r. IsFirstRange (λ
     }
 
 -- the first one is another
-pub first_kept : (kept : BTreeMap ℕ Span) (recent : Option Recent) (key : ℕ) (span : Span) → IsApart kept → IsKept kept key span → ((other : ℕ) (that : Span) → IsKept kept other that → key ≤ other)
+pub first_kept : (kept : BTreeMap ℕ Span) (recent : Option Recent) (key : ℕ) (span : Span) → IsApart kept → HasRange kept key span → ((other : ℕ) (that : Span) → HasRange kept other that → key ≤ other)
     → ((last : Recent) → recent ≡ Some last → IsRecent kept last × (key < last.key))
     → IsFirstRange (λ n. kept_has kept n || recent_has recent n) span
 first_kept kept recent key span h e least other = record {
@@ -363,17 +329,10 @@ pub absorbs : (lo from end to reached n : ℕ) (rest : Bool) → lo ≤ from →
 absorbs lo from end to reached n rest a b c d (inl e) = grind (arith, nat_tests)
 absorbs lo from end to reached n rest a b c d (inr e) = grind (arith, nat_tests)
 
-pub joins_none : (rest : Bool) (n lo hi : ℕ) → (lo ≤ n → n < hi → rest ≡ true) → rest ≡ (rest || (nat_le lo n && nat_lt n hi))
-joins_none rest n lo hi f = grind (arith, nat_tests)
-
 pub joined_twice : (a b c : Bool) → a ≡ (b || c) → (a || c) ≡ (b || c)
 joined_twice a true c e = rw e refl
 joined_twice a false true e = rw e refl
 joined_twice a false false e = rw e refl
-
-pub joins_recent : (lo hi from to end n : ℕ) (rest : Bool) → from ≤ lo → lo ≤ to → to ≤ hi → hi ≤ end
-    → ((rest || (nat_le from n && nat_lt n to)) || (nat_le lo n && nat_lt n hi)) ≡ (rest || (nat_le from n && nat_lt n hi))
-joins_recent lo hi from to end n rest a b c d = grind (arith, nat_tests)
 
 pub joins_first : (lo hi from to low high n : ℕ) (rest : Bool) → (from ≤ n → n < to → rest ≡ true) → from ≤ hi → lo ≤ to
     → low ≤ lo → low ≤ from → ((low ≡ lo) ⊎ (low ≡ from)) → hi ≤ high → to ≤ high → ((high ≡ hi) ⊎ (high ≡ to))
@@ -384,21 +343,6 @@ joins_first lo hi from to low high n rest f a b c d (inr e) g h (inl i) = grind 
 joins_first lo hi from to low high n rest f a b c d (inr e) g h (inr i) = grind (arith, nat_tests)
 
 -- ---- an insertion that may be refused
-
-pub either_way : {T E : Type 0} (r : Result T E) (A B C : Type 0) → OnOk r A → OnErr r B → (A → C) → (B → C) → C
-either_way (Ok x) A B C a b f g = f a
-either_way (Err x) A B C a b f g = g b
-
-pub apart_same : (old new : BTreeMap ℕ Span) → IsOrdered nat_cmp new → new.entries ≡ old.entries → IsApart old → IsApart new
-apart_same old new ordered e h =
-    let back : (key : ℕ) (span : Span) → IsKept new key span → IsKept old key span = λ key span k. subst (λ es. lookup (is_at (nat_cmp key)) es ≡ Some span) e k in record {
-      ordered = ordered;
-      positive = λ key span k. h.positive key span (back key span k);
-      from = λ key span k. h.from key span (back key span k);
-      to = λ key span k. h.to key span (back key span k);
-      bounded = λ key span k. h.bounded key span (back key span k);
-      apart = λ low high first second k l lt. h.apart low high first second (back low first k) (back high second l) lt;
-    }
 
 -- ---- the greater and the lesser of two numbers
 

@@ -1,5 +1,6 @@
 pub mod SpanLemmas
 pub mod KeptLemmas
+pub mod NowLemmas
 pub mod CoverageLemmas
 pub mod Gathered
 pub mod SampleLemmas

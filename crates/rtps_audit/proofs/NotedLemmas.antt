@@ -1,6 +1,6 @@
 -- Facts beside facts, and what they stand for.
 use Rattle.std.proofs.Common.{◌≡◌, ℕ, ◌-◌, ◌<◌, ◌≤◌, Bool, true, false, cond, ◌==◌, ◌&&◌, ◌||◌, nat_le, nat_lt, pos, List, [], ◌∷◌, ◌++◌, map, Option, Some, None, All, refl, sym, ◌∙◌, ap, subst, arith, ◌⊎◌, inl, inr, rules}
-use Rattle.std.specs.Prelude.{◌↔◌, ◌≢◌, ◌^◌}
+use Rattle.std.specs.Prelude.{◌↔◌, ◌^◌}
 use Rattle.std.specs.Option.{option_to_list}
 use Rattle.std.specs.List.{filter_map, cons_option}
 use Rattle.std.proofs.lemmas.List.{append-nil, map-append}
@@ -194,29 +194,17 @@ none_if b o (inl nix) = ap (λ t. cond t o None) nix
 none_if true o (inr nix) = nix
 none_if false o (inr nix) = refl
 
-cases_eq : (n m : ℕ) → (n ≡ m) ⊎ (n ≢ m)
-cases_eq n m = elim (cases_lt n m) [
-  | inl lt ↦ inr (λ e. omega arith)
-  | inr le ↦ elim (cases_lt m n) [ inl lt ↦ inr (λ e. omega arith) | inr ge ↦ inl (omega arith) ]
-]
-
 -- what an answer claims
 pub adds_claim : (writer reader : Guid) (act : ActValue) (xs ys : List Fact) (base : ℕ) → ys ≡ xs ++ Claimed base ∷ [] → is_answer act reader writer ≡ true → base_of_body act.body ≡ Some base → base < 2 ^ 63
     → Adds xs ys (option_to_list (base_for writer reader act)) [] (λ n. None)
 adds_claim writer reader act xs ys base is answers body small =
     adds_fact xs ys (Claimed base) _ _ _ is small (ap (λ b. option_to_list (cond b (base_of_body act.body) None)) answers ∙ ap option_to_list body) refl (λ n word positive. (λ h. h, λ h. h))
 
-pub adds_no_claim : (writer reader : Guid) (act : ActValue) (xs : List Fact) → (is_answer act reader writer ≡ false) ⊎ (base_of_body act.body ≡ None) → Adds xs xs (option_to_list (base_for writer reader act)) [] (λ n. None)
-adds_no_claim writer reader act xs nix = adds_none xs _ _ _ (ap option_to_list (none_if (is_answer act reader writer) (base_of_body act.body) nix)) refl (λ n. refl)
-
 -- what a writer announces
 pub adds_number : (writer : Guid) (act : ActValue) (xs ys : List Fact) (number : ℕ) → ys ≡ xs ++ Announced number ∷ [] → is_spoken_by act writer ≡ true → announced_of_body act.body ≡ Some number → number < 2 ^ 63
     → Adds xs ys [] (option_to_list (announced_for writer act)) (λ n. None)
 adds_number writer act xs ys number is spoken body small =
     adds_fact xs ys (Announced number) _ _ _ is small refl (ap (λ b. option_to_list (cond b (announced_of_body act.body) None)) spoken ∙ ap option_to_list body) (λ n word positive. (λ h. h, λ h. h))
-
-pub adds_no_number : (writer : Guid) (act : ActValue) (xs : List Fact) → (is_spoken_by act writer ≡ false) ⊎ (announced_of_body act.body ≡ None) → Adds xs xs [] (option_to_list (announced_for writer act)) (λ n. None)
-adds_no_number writer act xs nix = adds_none xs _ _ _ refl (ap option_to_list (none_if (is_spoken_by act writer) (announced_of_body act.body) nix)) (λ n. refl)
 
 -- numbers that will not come
 pub adds_range : (xs ys : List Fact) (first last : ℕ) (test : ℕ → Bool) → ys ≡ xs ++ Gone first last ∷ [] → 1 ≤ first → last < 2 ^ 63
@@ -239,19 +227,6 @@ adds_told xs ys number other payload is at positive small =
 
 in_list : (set : NumberSetValue) (n : ℕ) → IsMember set (pos n) → is_member set n ≡ true
 in_list set n member = (member_decides set n).1 member
-
--- a row up to the base of the list
-pub row_to_base : (gap : GapBody) (n : ℕ) → (nat_le gap.start n && nat_lt n gap.list.base) ≡ is_in_gap_below gap gap.list.base n
-row_to_base gap n = elim (cases_lt n gap.list.base) [
-  | inl lt ↦ let early : nat_le gap.list.base n ≡ false = grind (arith, nat_tests) in rw early (grind (arith, nat_tests))
-  | inr le ↦ let late : nat_lt n gap.list.base ≡ false = grind (arith, nat_tests) in rw late (or_and_false (nat_le gap.start n) (is_member gap.list n))
-]
-  where
-    or_and_false : (a b : Bool) → (a && false) ≡ ((a && false) || (b && false))
-    or_and_false true true = refl
-    or_and_false true false = refl
-    or_and_false false true = refl
-    or_and_false false false = refl
 
 -- and on to the end of the run that begins there
 pub row_to_run : (gap : GapBody) (past n : ℕ) → gap.start ≤ gap.list.base → IsRunFrom gap.list gap.list.base gap.list.base past
@@ -335,9 +310,6 @@ adds_heard writer reader act xs ys spoken heard adds =
     from : (is_spoken_by act writer && is_heard_by act reader) ≡ true → (n : ℕ) (word : Word) → 1 ≤ n → SomeSays (filter_map act_of xs) n word ⊎ (word_for writer reader act n ≡ Some word) → SomeSays (filter_map act_of ys) n word
     from both n word h (inl old) = (adds.words n word h).1 (inl old)
     from both n word h (inr new) = (adds.words n word h).1 (inr (sym (says both n) ∙ new))
-
-pub adds_unheard : (writer reader : Guid) (act : ActValue) (xs : List Fact) → (is_spoken_by act writer && is_heard_by act reader) ≡ false → Adds xs xs [] [] (word_for writer reader act)
-adds_unheard writer reader act xs nix = adds_none xs _ _ _ refl refl (λ n. ap (λ b. cond b (word_of act.body n) None) nix)
 
 -- a datagram whose header is refused has no acts
 pub no_acts : (datagram : List ℕ) (fault : WireFault) → header_fault datagram ≡ Some fault → acts_of (reading_of datagram) ≡ []

@@ -1,10 +1,11 @@
--- The set that the ranges of a map stand for.
-use Rattle.std.specs.Prelude.{ℕ, Bool, true, false, ◌||◌, ◌≡◌, ◌≤◌, ◌<◌, ◌+◌, ◌-◌, ◌^◌, ℤ, pos, ◌≤ℤ◌, Option, Some, None, IfSome, All, refl}
+-- The set that ranges stand for of which no two overlap or touch.
+-- own: so many ranges are kept as there are gaps between numbers, in whatever order the numbers came.
+use Rattle.std.specs.Prelude.{ℕ, Bool, true, false, ◌||◌, ◌≡◌, ◌≤◌, ◌<◌, ◌+◌, ◌-◌, ◌^◌, ℤ, pos, ◌≤ℤ◌, Option, Some, None, IfSome, List, All, refl}
 use Rattle.std.specs.Option.{ForSome}
 use Rattle.std.proofs.lemmas.Bool.{false≢true}
 use Rattle.std.specs.BTreeMap as tree
-use Rattle.std.specs.BTreeMap.{BTreeMap, btree_map_len, values}
-use Rattle.std.specs.Map.{keys_of}
+use Rattle.std.specs.BTreeMap.{BTreeMap, btree_map_len, is_at, values}
+use Rattle.std.specs.Map.{keys_of, values_of, set_value}
 use Rattle.std.specs.Ordering.{nat_cmp}
 use Rattle.std.specs.Cmp.{eq_by_cmp_equiv}
 use Rattle.std.proofs.lemmas.Cmp.{nat_cmp_total}
@@ -12,7 +13,7 @@ use Rattle.std.proofs.lemmas.Map.Keys.{IsDistinct-from_sorted}
 use Rattle.std.proofs.lemmas.Map.Views.{All-values_from_lookup}
 use Rattle.rtps_audit.specs.Spans.{IsBounded}
 use Rattle.rtps_audit.specs.PlainRanges.{in_first, spans_in_range}
-use Rattle.rtps_audit.specs.declared.plain_ranges.Span.{Span}
+use Rattle.rtps_audit.specs.declared.span.Span.{Span}
 use Rattle.rtps_audit.specs.KeptSpans.{kept_has, recent_has, IsApart, IsRecent}
 use Rattle.rtps_audit.specs.declared.merged_ranges.MergedRanges.{MergedRanges}
 use Rattle.rtps_audit.specs.declared.merged_ranges.Recent.{Recent}
@@ -21,16 +22,26 @@ use Rattle.rtps_audit.specs.declared.merged_ranges.Recent.{Recent}
 abbrev pub covered_of : MergedRanges → ℕ → Bool
 covered_of set n = kept_has set.kept n || recent_has set.recent n
 
+-- the ranges as they are now: those of the map, with the recent one in the place of what it was
+abbrev pub now_of : List (ℕ × Span) → Option Recent → List (ℕ × Span)
+now_of entries None = entries
+now_of entries (Some recent) = set_value (is_at (nat_cmp recent.key)) entries recent.span
+
+abbrev pub ranges_of : MergedRanges → List Span
+ranges_of set = values_of (now_of set.kept.entries set.recent)
+
 -- how many ranges are kept
 abbrev pub count_of : MergedRanges → ℕ
 count_of set = btree_map_len set.kept
 
--- a set has a number from lo - 1 to hi, where lo is below hi
+-- the numbers from lo on and below hi overlap or touch those of a set: it has one from lo - 1 to hi
 pub record Touches (set : ℕ → Bool) (lo hi : ℤ) : Type 0 where
   pub number : ℕ
   pub has : set number ≡ true
   pub from : lo ≤ℤ pos (number + 1)
   pub to : pos number ≤ℤ hi
+
+-- ---- these numbers lie from 1 to 2^63 - 2
 
 if_some : (o : Option Span) (P : Span → Type 0) → ((span : Span) → o ≡ Some span → P span) → IfSome o P
 if_some None P f = tt

@@ -5,7 +5,7 @@ use Rattle.std.proofs.Math.Nat.{le_of_suc-le-suc, le_trans, lt_of_lt_of_le}
 use Rattle.std.proofs.lemmas.Bool.{false≢true, leb-true, ltb-true}
 use Rattle.std.proofs.lemmas.List.Elements.{All-head, All-tail}
 use Rattle.rtps_audit.specs.Spans.{has_number, IsBounded}
-use Rattle.rtps_audit.specs.declared.plain_ranges.Span.{Span}
+use Rattle.rtps_audit.specs.declared.span.Span.{Span}
 use Rattle.rtps_audit.specs.declared.plain_ranges.PlainRanges.{PlainRanges}
 
 -- the positive numbers below the front, and those of the ranges

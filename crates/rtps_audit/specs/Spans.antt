@@ -1,7 +1,7 @@
 -- Ranges of numbers.
 use Rattle.std.specs.Prelude.{ℕ, Bool, true, false, ◌≡◌, ◌≤◌, ◌<◌, ◌^◌, ◌&&◌, nat_le, nat_lt, List}
 use Rattle.std.specs.List.{list_any}
-use Rattle.rtps_audit.specs.declared.plain_ranges.Span.{Span}
+use Rattle.rtps_audit.specs.declared.span.Span.{Span}
 
 -- whether a range has a number
 abbrev pub has_number : ℕ → Span → Bool

@@ -1,4 +1,4 @@
-//! Laws over the definitions of delivery alone. Each function does nothing: its clause is the law, and its
+//! Laws over definitions alone. Each function does nothing: its clause is the law, and its
 //! proof the law's proof.
 
 ghost use Rattle.std.specs.Prelude.{ℕ, ◌≡◌, ◌↔◌, true, pos};
@@ -7,7 +7,7 @@ ghost use Rattle.rtps_ids.specs.declared.identity.Guid.{Guid};
 ghost use Rattle.rtps_receiver.specs.Speech.{IsAnswer, IsHeardBy, IsSpokenBy};
 ghost use Rattle.rtps_receiver.specs.Values.{ActValue};
 ghost use Rattle.rtps_audit.specs.Speech.{is_answer, is_heard_by, is_member, is_spoken_by};
-ghost use Rattle.rtps_audit.specs.Laws.{ReachedStatesAreSound, RunsExistWhereFounded, EagerRunDecides, VerdictsAgree, PlainMeansComplete, HasNoTwoVerdicts, EachHasAVerdict, VerdictsFollowWhatIsSaid};
+ghost use Rattle.rtps_audit.specs.Laws.{ReachedStatesAreSound, RunsExistWhereFounded, EagerRunDecides, VerdictsAgree, PlainMeansComplete, HasNoTwoVerdicts, EachHasAVerdict, VerdictsFollowWhatIsSaid, RangesLieApart};
 
 /// Whatever datagrams are sent and whatever words are taken, in any order: each word that the reader holds was
 /// given by an act of a datagram that was sent, and each number that an answer in such a datagram claims is
@@ -60,4 +60,10 @@ pub fn tests_say_what_relations_say()
     ensures answers { (act : ActValue) (reader : Guid) (writer : Guid)
         → (is_answer act reader writer ≡ true) ↔ IsAnswer act reader writer }
     ensures members { (set : NumberSetValue) (n : ℕ) → (is_member set n ≡ true) ↔ IsMember set (pos n) }
+{}
+
+/// The ranges of [`crate::MergedRanges`], as they are at any time: none is empty, no two overlap or touch, the set has
+/// their numbers and no others, and its length is how many they are.
+pub fn ranges_lie_apart()
+    ensures { RangesLieApart }
 {}

@@ -15,6 +15,7 @@ mod plain_ranges;
 mod report;
 mod said;
 mod sample;
+mod span;
 #[cfg(test)]
 mod tests;
 mod verdict;

@@ -1,12 +1,12 @@
-ghost use Rattle.std.specs.Prelude.{ℕ, ◌≡◌, ◌==◌, ◌≤◌, ◌<◌, ◌^◌, ◌+◌, ◌||◌, MatchOption, nat_le, nat_lt, ◌&&◌, true, false, IsTrue, IsOk, IfOk, OnErr};
+ghost use Rattle.std.specs.Prelude.{ℕ, ◌≡◌, ◌==◌, ◌≤◌, ◌<◌, ◌^◌, ◌+◌, ◌||◌, MatchOption, nat_le, nat_lt, ◌&&◌, ◌↔◌, true, false, IsTrue, IsOk, IfOk, OnErr};
 ghost use Rattle.std.specs.Option.{ForSome};
 ghost use Rattle.std.specs.BTreeMap.{btree_map_len};
 ghost use Rattle.std.proofs.Props.{props};
 ghost use Rattle.rtps_audit.specs.Spans.{has_number};
-ghost use Rattle.rtps_audit.specs.KeptSpans.{IsApart, IsKept, IsLastUpTo, IsFirstPast, IsFirstRange, IsRecent, HasNoneUpTo, HasNonePast, IsFirstTouching, IsClear, BeginsPast, kept_has, recent_has};
+ghost use Rattle.rtps_audit.specs.KeptSpans.{IsApart, HasRange, IsLastUpTo, IsFirstPast, IsFirstRange, IsRecent, HasNoneUpTo, HasNonePast, IsFirstTouching, IsClear, BeginsPast, kept_has, recent_has};
 
 use crate::coverage::Coverage;
-use crate::plain_ranges::Span;
+use crate::span::Span;
 use rtps_ids::Memory;
 use std::alloc::Global;
 use std::collections::BTreeMap;
@@ -55,7 +55,7 @@ fn first_past(kept: &BTreeMap<u64, Span>, number: u64) -> Option<(u64, Span)>
 /// Whether each range ends before a number.
 fn ends_before(kept: &BTreeMap<u64, Span>, number: u64) -> bool
     requires { IsApart kept.now }
-    ensures { IsTrue result → (key : ℕ) (span : Span) → IsKept kept.now key span → span.hi < number }
+    ensures { IsTrue result ↔ ((key : ℕ) (span : Span) → HasRange kept.now key span → span.hi < number) }
 {
     match kept.last_key_value() {
         Some((_, span)) => span.hi < number,
@@ -90,9 +90,7 @@ fn first_range(kept: &BTreeMap<u64, Span>, recent: Option<Recent>) -> Option<Spa
     ensures { MatchOption result ((n : ℕ) → (kept_has kept.now n || recent_has recent n) ≡ false)
         (IsFirstRange (λ n. kept_has kept.now n || recent_has recent n)) }
 {
-    let Some((key, span)) = kept.first_key_value() else {
-        return None;
-    };
+    let (key, span) = kept.first_key_value()?;
     match recent {
         Some(recent) if recent.key == *key => Some(recent.span),
         _ => Some(*span),
@@ -123,8 +121,8 @@ fn is_in_kept(kept: &BTreeMap<u64, Span>, n: u64) -> bool
     }
 }
 
-/// Removes the ranges of keys past `key` that begin up to `hi`, and answers where the last of them ends, if that is past
-/// `hi`.
+/// Removes the ranges of keys past `key` that begin up to `hi`, and answers the greater of `hi` and where the last of
+/// them ends.
 fn absorb(kept: &mut BTreeMap<u64, Span>, key: u64, lo: u64, hi: u64) -> u64
     requires apart { IsApart kept.old }
     requires ordered { lo ≤ hi }
@@ -135,8 +133,8 @@ fn absorb(kept: &mut BTreeMap<u64, Span>, key: u64, lo: u64, hi: u64) -> u64
     ensures bounded { result < 2 ^ 63 }
     ensures past { BeginsPast kept.new key result }
     ensures len { btree_map_len kept.new ≤ btree_map_len kept.old }
-    ensures same { (other : ℕ) (span : Span) → other ≤ key → IsKept kept.old other span → IsKept kept.new other span }
-    ensures within { (other : ℕ) (span : Span) → IsKept kept.new other span → IsKept kept.old other span }
+    ensures same { (other : ℕ) (span : Span) → other ≤ key → HasRange kept.old other span → HasRange kept.new other span }
+    ensures within { (other : ℕ) (span : Span) → HasRange kept.new other span → HasRange kept.old other span }
     ensures has { (n : ℕ)
         → (kept_has kept.new n || (nat_le lo n && nat_lt n result)) ≡ (kept_has kept.old n || (nat_le lo n && nat_lt n hi)) }
 {
@@ -164,9 +162,8 @@ fn settle(kept: &mut BTreeMap<u64, Span>, recent: Option<Recent>)
         return;
     };
     if grown {
-        match kept.insert(key, span) {
-            Ok(_) => {}
-            Err(_) => unreachable!(),
+        if let Some(old) = kept.get_mut(&key) {
+            *old = span;
         }
     }
 }
@@ -230,7 +227,7 @@ fn insert(kept: &mut BTreeMap<u64, Span>, lo: u64, hi: u64) -> Result<Recent, Me
     ensures recent { IfOk result (IsRecent kept.new) }
     ensures has { IfOk result (λ recent. (n : ℕ)
         → (kept_has kept.new n || has_number n recent.span) ≡ (kept_has kept.old n || (nat_le lo n && nat_lt n hi))) }
-    ensures err { OnErr result ((n : ℕ) → kept_has kept.new n ≡ kept_has kept.old n) }
+    ensures err { OnErr result (((n : ℕ) → kept_has kept.new n ≡ kept_has kept.old n) × (btree_map_len kept.new ≡ btree_map_len kept.old)) }
     ensures len { btree_map_len kept.new ≤ btree_map_len kept.old + 1 }
 {
     let span = Span { lo, hi };
@@ -258,7 +255,8 @@ fn join(
     ensures recent { IfOk result (IsRecent kept.new) }
     ensures has { IfOk result (λ found. (n : ℕ) → (kept_has kept.new n || has_number n found.span)
         ≡ ((kept_has kept.old n || recent_has recent n) || (nat_le lo n && nat_lt n hi))) }
-    ensures err { OnErr result ((n : ℕ) → kept_has kept.new n ≡ (kept_has kept.old n || recent_has recent n)) }
+    ensures err { OnErr result (((n : ℕ) → kept_has kept.new n ≡ (kept_has kept.old n || recent_has recent n))
+        × (btree_map_len kept.new ≡ btree_map_len kept.old)) }
     ensures len { btree_map_len kept.new ≤ btree_map_len kept.old + 1 }
     ensures touching { (n : ℕ) → (kept_has kept.old n || recent_has recent n) ≡ true → lo ≤ n + 1 → n ≤ hi
         → IsOk result × (btree_map_len kept.new ≤ btree_map_len kept.old) }
@@ -318,7 +316,7 @@ impl Coverage for MergedRanges {
         requires positive { pos 1 ≤ℤ lo }
         requires ordered { lo ≤ℤ hi }
         ensures ok { OnOk result (JoinsRange (covered_of self.old) (covered_of self.new) lo hi) }
-        ensures err { OnErr result (IsSameSet (covered_of self.old) (covered_of self.new)) }
+        ensures err { OnErr result (IsSameSet (covered_of self.old) (covered_of self.new) × (count_of self.new ≡ count_of self.old)) }
         ensures len { count_of self.new ≤ count_of self.old + 1 }
         ensures nothing { hi ≤ℤ lo → IsOk result × (count_of self.new ≡ count_of self.old) }
         ensures touching { Touches (covered_of self.old) lo hi → IsOk result × (count_of self.new ≤ count_of self.old) }

@@ -3,15 +3,9 @@ ghost use Rattle.std.specs.List.{filter, find, list_any};
 ghost use Rattle.rtps_audit.specs.Spans.{has_number, Reaches, IsBounded};
 
 use crate::coverage::Coverage;
+use crate::span::Span;
 use rtps_ids::Memory;
 use std::alloc::Global;
-
-/// The numbers from `lo` on and below `hi`.
-#[derive(Clone, Copy, Debug)]
-pub(crate) struct Span {
-    pub(crate) lo: u64,
-    pub(crate) hi: u64,
-}
 
 /// A set of sequence numbers as its front, below which each positive number is in the set, and the ranges
 /// beyond it in no order.

@@ -99,7 +99,7 @@ fn row_end(gap: &GapBody) -> u64
     let base = gap.list.base().cast_unsigned();
     let start = gap.start.get().cast_unsigned();
     match gap.list.run_from(base) {
-        Some((first, past)) if start <= base && first == base => past,
+        Some(members) if start <= base && members.start == base => members.end,
         _ => base,
     }
 }
@@ -113,12 +113,12 @@ fn push_gap<'a>(facts: &mut Vec<Fact<'a>>, gap: &GapBody) -> Result<(), Memory>
         first: gap.start.get().cast_unsigned(),
         last: at.saturating_sub(1),
     })?;
-    'runs: while let Some((first, past)) = gap.list.run_from(at) {
+    'runs: while let Some(members) = gap.list.run_from(at) {
         facts.push(Fact::Gone {
-            first,
-            last: past - 1,
+            first: members.start,
+            last: members.end - 1,
         })?;
-        at = past;
+        at = members.end;
     }
     Ok(())
 }

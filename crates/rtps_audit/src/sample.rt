@@ -1,4 +1,4 @@
-ghost use Rattle.std.specs.Prelude.{ℕ, MatchOption, IsTrue};
+ghost use Rattle.std.specs.Prelude.{ℕ, MatchOption, IsTrue, ◌↔◌};
 ghost use Rattle.std.specs.List.Sorted.{IsNonDecreasingBy, IsPermutation};
 ghost use Rattle.rtps_audit.specs.RunVerdict.{IsLeast};
 ghost use Rattle.rtps_audit.specs.Samples.{KeepsTwo, number_of};
@@ -15,14 +15,9 @@ pub(crate) struct Sample<'a> {
 
 /// Whether samples stand in the order of their numbers.
 fn is_in_order(samples: &[Sample<'_>]) -> bool
-    ensures { IsTrue result → IsNonDecreasingBy number_of samples.now }
+    ensures { IsTrue result ↔ IsNonDecreasingBy number_of samples.now }
 {
-    for place in 1..samples.len() {
-        if samples[place].number < samples[place - 1].number {
-            return false;
-        }
-    }
-    true
+    samples.is_sorted_by_key(|sample| sample.number)
 }
 
 /// Puts samples in the order of their numbers. Those that came in order, as most do, are not sorted again.

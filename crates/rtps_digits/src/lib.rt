@@ -14,6 +14,7 @@ fn lane_values(digits: u8x32) -> u8x32
     ensures { result ≡ map lane_value digits }
 {
     let decimal = digits - u8x32::splat(b'0');
+    // The bit that tells lower case from upper case is cleared.
     let letter = (digits & u8x32::splat(0xdf)) - u8x32::splat(b'A');
     decimal.simd_lt(u8x32::splat(10)).select(
         decimal,

@@ -1,5 +1,5 @@
 -- The first bit of a word, and the runs of a set.
-use Rattle.std.proofs.Common.{◌≡◌, ◌<◌, ◌≤◌, ◌+◌, ◌-◌, ◌*◌, ◌/◌, ◌%◌, ◌^◌, ℕ, suc, min, pos, ◌⊎◌, inl, inr, ap, subst, sym, ◌∙◌, arith}
+use Rattle.std.proofs.Common.{◌≡◌, ◌<◌, ◌≤◌, ◌+◌, ◌-◌, ◌*◌, ◌/◌, ◌%◌, ◌^◌, ℕ, suc, min, pos, inl, inr, ap, subst, sym, ◌∙◌, arith}
 use Rattle.std.specs.Int.{bit_at}
 use Rattle.std.specs.Int.Count.{count_leading_zeros, leading_of_zero}
 use Rattle.std.proofs.Math.Nat.{div-add-mod', mod-lt, pow-suc, lt_of_lt_of_le}
@@ -77,13 +77,13 @@ unlike : (a b : ℕ) → a ≡ 1 → a ≡ 0 → ⊥
 unlike a b one none = absurd (omega arith)
 
 -- where the numbers from `from` on stand for the bits from start on
-pub run_at : (set : NumberSetValue) (from start first next past : ℕ) → set.count < 257 → ((from < set.base) × (start ≡ 0)) ⊎ ((set.base ≤ from) × (start ≡ from - set.base))
+pub run_at : (set : NumberSetValue) (from start first next past : ℕ) → set.count < 257 → start ≡ from - set.base
     → start ≤ first → first < set.count → bit_of set.words first ≡ 1 → ((i : ℕ) → start ≤ i → i < first → bit_of set.words i ≡ 0)
     → first ≤ next → (next < 256 → bit_of set.words next ≡ 0) → ((i : ℕ) → first ≤ i → i < next → bit_of set.words i ≡ 1)
     → past ≡ min next set.count → IsRunFrom set from (set.base + first) (set.base + past)
 run_at set from start first next past few starts onward kept one before after none between ends =
     record {
-      onward = elim starts [ inl a ↦ let b = a.0 in omega arith | inr a ↦ let b = a.0 in let d = a.1 in omega arith ];
+      onward = omega arith;
       some = elim (cases_lt first next) [
         | inl lt ↦ omega arith
         | inr ge ↦
@@ -92,7 +92,7 @@ run_at set from start first next past few starts onward kept one before after no
       ];
       before = λ n le lt member.
           let same : n ≡ set.base + member.bit = let e = member.number in omega (arith, ints) in
-          unlike _ 0 member.is_set (before member.bit (elim starts [ inl a ↦ let b = a.1 in omega arith | inr a ↦ let b = a.1 in omega arith ]) (omega arith));
+          unlike _ 0 member.is_set (before member.bit (omega arith) (omega arith));
       members = λ n le lt.
           let same : set.base + (n - set.base) ≡ n = omega arith in
           record {

@@ -6,6 +6,7 @@ use crate::bits::first_bit;
 use crate::octets::{number_at, u32_at};
 use crate::order::Order;
 use std::marker::Model;
+use std::ops::Range;
 
 /// Why octets begin with no set of sequence numbers.
 #[derive(Clone, Copy, PartialEq, Eq, Debug)]
@@ -112,20 +113,14 @@ impl NumberSet {
         }
         is_set(&self.words, (n - self.base) as usize)
     }
-}
 
-impl NumberSet {
-    /// The first run of numbers of the set from `from` on: its first number, and the one past its last, up to 2^63. None
-    /// where no number from `from` on is in the set. Asked again from the end of each run, it gives all of them.
-    pub fn run_from(&self, from: u64) -> Option<(u64, u64)>
-        ensures run { MatchOption result (HasNoneFrom self.now from) (λ run. IsRunFrom self.now from run.0 run.1) }
-        ensures in_range { IfSome result (λ run. (1 ≤ run.0) × (run.1 ≤ 2 ^ 63)) }
+    /// The first run of numbers of the set from `from` on: from its first number up to the one past its last, which may be
+    /// 2^63. None where no number from `from` on is in the set. Asked again from the end of each run, it gives all of them.
+    pub fn run_from(&self, from: u64) -> Option<Range<u64>>
+        ensures run { MatchOption result (HasNoneFrom self.now from) (λ run. IsRunFrom self.now from run.start run.end) }
+        ensures in_range { IfSome result (λ run. (1 ≤ run.start) × (run.end ≤ 2 ^ 63)) }
     {
-        let start = if from < self.base {
-            0
-        } else {
-            from - self.base
-        };
+        let start = from.saturating_sub(self.base);
         if start >= u64::from(self.count) {
             return None;
         }
@@ -134,7 +129,7 @@ impl NumberSet {
             return None;
         }
         let past = first_bit(&self.words, first, false).min(self.count as usize);
-        Some((self.base + first as u64, self.base + past as u64))
+        Some(self.base + first as u64..self.base + past as u64)
     }
 }
 

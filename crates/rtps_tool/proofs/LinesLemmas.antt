@@ -9,16 +9,6 @@ use Rattle.std.proofs.lemmas.Bool.Decides.{nat_tests}
 use Rattle.std.proofs.lemmas.List.Sums.{fails_before_first, position_or_len_is}
 use Rattle.rtps_tool.specs.Lines.{is_line_feed, parts_of, onto_first_line, lines_of}
 
--- a text is cut behind its first line feed
-pub parts_of-cut : (text : List ℕ) (n : ℕ) → n < length text → is_line_feed (get_or text n 0) ≡ true
-    → ((k : ℕ) → k < n → is_line_feed (get_or text k 0) ≡ false) → parts_of text ≡ take n text ∷ parts_of (drop (suc n) text)
-parts_of-cut [] n within feed before = absurd (omega arith)
-parts_of-cut (b ∷ text) zero within feed before = rw feed refl
-parts_of-cut (b ∷ text) (suc n) within feed before =
-    let plain : is_line_feed b ≡ false = before 0 (omega arith) in
-    let rest = parts_of-cut text n (omega arith) feed (λ k h. before (suc k) (omega arith)) in
-    rw plain (ap (onto_first_line b) rest)
-
 -- a text with no line feed is one line, unless it is empty
 pub parts_of-whole : (b : ℕ) (text : List ℕ) → ((k : ℕ) → k < length (b ∷ text) → is_line_feed (get_or (b ∷ text) k 0) ≡ false)
     → parts_of (b ∷ text) ≡ (b ∷ text) ∷ []

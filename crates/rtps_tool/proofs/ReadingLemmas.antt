@@ -10,10 +10,17 @@ use Rattle.rtps_tool.specs.Lines.{lines_of}
 use Rattle.rtps_tool.specs.RecordingText.{recording_of, recording_of_lines}
 use Rattle.rtps_tool.specs.RunFaults.{run_fault_of}
 use Rattle.rtps_tool.specs.Runs.{Reads, ReadsRecording, FailsReading}
-use Rattle.rtps_tool.specs.Unfinished.{HasRead, ReadsOn, recording_behind}
+use Rattle.rtps_tool.specs.Unfinished.{ReadsOn, recording_behind}
 use Rattle.rtps_tool.specs.declared.faults.RecFault.{RecFault}
 use Rattle.rtps_tool.specs.declared.faults.RecFault.TheVariants.{BadHex, TooLong, TooMany, Memory}
 use Rattle.rtps_tool.proofs.UnfinishedLemmas.{recording_behind-start, recording_of-within, recording_of-past}
+
+-- so many octets were read of a text, and with whatever comes later it stands for what is told
+pub record HasRead (old new : Option (List ℕ)) (total : ℕ) (told : List ℕ → Result (List (List ℕ)) RecFault) : Type 0 where
+  pub text : List ℕ
+  pub taken : Consumes old new text
+  pub size : length text ≡ total
+  pub stands : (later : List ℕ) → told later ≡ recording_of_lines 1 0 (lines_of (text ++ later))
 
 -- nothing was read yet
 pub HasRead-start : (a : Option (List ℕ)) (done : List (List ℕ)) (lines : ℕ) (held : List ℕ) → done ≡ [] → lines ≡ 0
@@ -120,12 +127,6 @@ pub FailsReading-last : (a b : Option (List ℕ)) (total lines : ℕ) (done : Li
 FailsReading-last a b total lines done left fault h end within faulty =
     FailsReading-end a b total (λ later. recording_behind done lines (left ++ later)) fault h end within
     (subst (λ (text : List ℕ). IsFaultOf (recording_behind done lines text) fault) (sym (append-nil left)) faulty)
-
--- too much was read
-pub FailsReading-past : (a b : Option (List ℕ)) (total : ℕ) (told : List ℕ → Result (List (List ℕ)) RecFault)
-    → HasRead a b total told → 2 ^ 30 < total → FailsReading a b (run_fault_of TooMany)
-FailsReading-past a b total told h past =
-    FailsReading-text a b h.text TooMany record { taken = h.taken; whole = λ few. absurd (omega (arith, h.size)) } (recording_of-past h.text (omega (arith, h.size)))
 
 -- after a fault of a line reading went on
 pub FailsReading-on-past : (a b c : Option (List ℕ)) (total to : ℕ) (told : List ℕ → Result (List (List ℕ)) RecFault)

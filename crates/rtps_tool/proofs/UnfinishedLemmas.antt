@@ -1,9 +1,9 @@
 -- Facts on a text of which a part was read.
 use Rattle.std.proofs.Common.{◌≡◌, ◌≢◌, ℕ, suc, ◌+◌, ◌-◌, ◌<◌, ◌≤◌, true, false, Bool, List, [], ◌∷◌, ◌++◌, length, take, drop, get_or, None, Some, Ok, Err, refl, sym, ap, ◌∙◌, subst, arith}
-use Rattle.std.specs.Prelude.{if◌then◌else◌, ◌^◌}
+use Rattle.std.specs.Prelude.{if◌then◌else◌, ◌^◌, MatchResult, Result}
 use Rattle.std.specs.List.{position}
 use Rattle.std.specs.Str.Lines.{strip_carriage_return}
-use Rattle.std.proofs.lemmas.List.{length-append, length-take, get_or-take, drop-drop}
+use Rattle.std.proofs.lemmas.List.{append-nil, length-append, length-take, get_or-take, drop-drop}
 use Rattle.std.proofs.lemmas.Bool.Decides.{nat_tests}
 use Rattle.rtps_tool.specs.Answers.{IsFaultOf}
 use Rattle.rtps_tool.specs.Lines.{lines_of, is_line_feed, parts_of}
@@ -40,6 +40,18 @@ unfolding recording_behind
 recording_behind-fault done lines line text left fault cut faulty =
     subst (λ (all : List (List ℕ)). IsFaultOf (with_front done (recording_of_lines (lines + 1) (length done) all)) fault) (sym cut)
     (IsFaultOf-with_front (lines + 1) done line (lines_of left) fault faulty)
+
+-- the last line was read, which no end follows
+pub recording_behind-last : (done new : List (List ℕ)) (lines : ℕ) (line text : List ℕ) (read : Result Unit RecFault) → lines_of text ≡ strip_carriage_return text ∷ []
+    → line ≡ strip_carriage_return text
+    → MatchResult read
+    (λ _. (found : List (List ℕ)) × (recording_of_lines (lines + 1) (length done) (line ∷ []) ≡ Ok found) × (new ≡ done ++ found))
+    (IsFaultOf (recording_of_lines (lines + 1) (length done) (line ∷ [])))
+    → MatchResult read (λ _. recording_behind done lines text ≡ Ok new) (IsFaultOf (recording_behind done lines text))
+recording_behind-last done new lines line text (Ok u) cut is fine =
+    sym (recording_behind-line done fine.0 new lines line text [] (cut ∙ ap (λ (first : List ℕ). first ∷ []) (sym is)) fine.1 fine.2) ∙ recording_behind-end new (lines + 1) [] refl
+recording_behind-last done new lines line text (Err fault) cut is faulty =
+    recording_behind-fault done lines line text [] fault (cut ∙ ap (λ (first : List ℕ). first ∷ []) (sym is)) faulty
 
 -- a line without the carriage return at its end begins as before, and is shorter by one octet at most
 shorter_by_one : (line : List ℕ) (b : Bool) → length line ≤ suc (length (if b then take (length line - 1) line else line))
@@ -132,8 +144,11 @@ recording_of-within text within = grind (arith, nat_tests)
 pub recording_of-past : (text : List ℕ) → 2 ^ 30 < length text → recording_of text ≡ Err TooMany
 recording_of-past text past = grind (arith, nat_tests)
 
-pub recording_behind-whole : (done : List (List ℕ)) (text : List ℕ) → length text ≤ 2 ^ 30 → done ≡ [] → recording_behind done 0 text ≡ recording_of text
-recording_behind-whole done text within none = rw none (recording_behind-start text ∙ sym (recording_of-within text within))
+-- so does one of which nothing was read
+pub recording_behind-whole : (done : List (List ℕ)) (lines : ℕ) (text : List ℕ) → length text ≤ 2 ^ 30 → done ≡ [] → lines ≡ 0
+    → recording_behind done lines (text ++ []) ≡ recording_of text
+recording_behind-whole done lines text within none first =
+    rw (append-nil text, none, first) (recording_behind-start text ∙ sym (recording_of-within text within))
 
 -- a line that ends within what is left of a text, whatever comes later
 pub line_within : (text later line : List ℕ) (from end : ℕ) → position is_line_feed (drop from text) ≡ Some end → line ≡ strip_carriage_return (take end (drop from text))

@@ -1,9 +1,13 @@
 -- What a text stands for of which a part was read.
-use Rattle.std.specs.Prelude.{◌≡◌, ℕ, ◌+◌, ◌≤◌, ◌^◌, List, ◌++◌, length, Option, Result, Ok, Err}
+-- own: a recording may come in pieces, and stands for the same however it is cut into them.
+use Rattle.std.specs.Prelude.{◌≡◌, ℕ, ◌+◌, ◌≤◌, ◌^◌, List, ◌++◌, length, Option, None, Result, Ok, Err}
+use Rattle.std.specs.List.{position}
 use Rattle.std.specs.Io.KnownBytes.{Consumes, IsAtEnd}
-use Rattle.rtps_tool.specs.Lines.{lines_of}
+use Rattle.rtps_tool.specs.Answers.{IsFaultOf}
+use Rattle.rtps_tool.specs.Lines.{is_line_feed, lines_of}
 use Rattle.rtps_tool.specs.RecordingText.{recording_of_lines}
 use Rattle.rtps_tool.specs.declared.faults.RecFault.{RecFault}
+use Rattle.rtps_tool.specs.declared.line_reader.LineReader.{LineReader}
 
 -- datagrams in front of a recording, which a fault keeps as it is
 abbrev pub with_front : List (List ℕ) → Result (List (List ℕ)) RecFault → Result (List (List ℕ)) RecFault
@@ -14,12 +18,15 @@ with_front front (Err fault) = Err fault
 unfoldable pub recording_behind : List (List ℕ) → ℕ → List ℕ → Result (List (List ℕ)) RecFault
 recording_behind done lines left = with_front done (recording_of_lines (lines + 1) (length done) (lines_of left))
 
--- so many octets were read of a text, and whatever comes later, with that it stands for what is told
-pub record HasRead (old new : Option (List ℕ)) (total : ℕ) (told : List ℕ → Result (List (List ℕ)) RecFault) : Type 0 where
-  pub text : List ℕ
-  pub taken : Consumes old new text
-  pub size : length text ≡ total
-  pub stands : (later : List ℕ) → told later ≡ recording_of_lines 1 0 (lines_of (text ++ later))
+-- A text was read up to what is left of it, in which no line ends. With whatever comes later, it stands for the same.
+pub record IsReadUpTo (old : LineReader) (text : List ℕ) (new : LineReader) (left : List ℕ) : Type 0 where
+  pub goes_on : position is_line_feed left ≡ None
+  pub counted : new.lines + length left ≤ old.lines + length text
+  pub stands : (later : List ℕ) → recording_behind new.recording new.lines (left ++ later) ≡ recording_behind old.recording old.lines (text ++ later)
+
+-- with whatever comes later, this is the first fault
+abbrev pub IsFaultWithin : LineReader → List ℕ → RecFault → Type 0
+IsFaultWithin reader text fault = (later : List ℕ) → IsFaultOf (recording_behind reader.recording reader.lines (text ++ later)) fault
 
 -- reading went on from so many octets to so many: to the end of the input, or past the most that a text may have
 pub record ReadsOn (old new : Option (List ℕ)) (from to : ℕ) : Type 0 where

@@ -85,8 +85,8 @@ impl Recording {
     }
 }
 
-// Makes room for so many items more: for an eighth of those that are there besides, so that the room of a recording is
-// never much more than what it needs, and is seldom asked for. Nothing changes after an `Err`.
+// Makes room for so many items more, and besides for an eighth of those that are there, `ROOM_MIN` at least: so the room
+// of a recording is never much more than what it needs, and is seldom asked for. Nothing changes after an `Err`.
 fn make_room<T>(items: &mut Vec<T>, more: usize) -> Result<(), AllocError>
     ensures items { items.new.items ≡ items.old.items }
     ensures room { OnOk result (vec_len items.new + more ≤ vec_capacity items.new) }

@@ -1,14 +1,12 @@
-ghost use Rattle.std.specs.Prelude.{◌≡◌, ◌+◌, ◌^◌, ◌<◌, ◌≤◌, ◌++◌, ℕ, List, [], None, Ok, length, take, drop, IfOk, MatchResult};
+ghost use Rattle.std.specs.Prelude.{◌≡◌, ◌+◌, ◌^◌, ◌<◌, ◌≤◌, [], None, Ok, length, take, drop, IfOk, MatchResult};
 ghost use Rattle.std.specs.List.{position};
 ghost use Rattle.rtps_tool.specs.Answers.{IsFaultOf};
 ghost use Rattle.rtps_tool.specs.Lines.{is_line_feed};
-ghost use Rattle.rtps_tool.specs.Unfinished.{recording_behind};
+ghost use Rattle.rtps_tool.specs.Unfinished.{IsFaultWithin, IsReadUpTo, recording_behind};
 
 use crate::datagrams::Recording;
 use crate::faults::RecFault;
-use crate::lines::{
-    DATAGRAMS_MAX, DIGITS_MAX, line_end_behind, read_line, read_lines, without_return,
-};
+use crate::lines::{DATAGRAMS_MAX, DIGITS_MAX, line_end_behind, read_line, without_return};
 use std::alloc::{AllocError, Global};
 
 /// The most octets of a line that are kept while it is unfinished: its digits and a carriage return.
@@ -49,11 +47,8 @@ impl LineReader {
         requires within { known ≤ length text.old }
         requires goes_on { position is_line_feed (take known text.old) ≡ None }
         ensures { MatchResult result
-            (λ kept. (kept ≤ 131071) × (kept ≤ length text.new) × (self.new.lines + kept ≤ self.old.lines + length text.old)
-            × (position is_line_feed (take kept text.new) ≡ None)
-            × ((later : List ℕ) → recording_behind self.new.recording self.new.lines (take kept text.new ++ later)
-            ≡ recording_behind self.old.recording self.old.lines (text.old ++ later)))
-            (λ fault. (later : List ℕ) → IsFaultOf (recording_behind self.old.recording self.old.lines (text.old ++ later)) fault) }
+            (λ kept. (kept ≤ 131071) × (kept ≤ length text.new) × IsReadUpTo self.old text.old self.new (take kept text.new))
+            (IsFaultWithin self.old text.old) }
     {
         let from = self.read_complete(text, known)?;
         let kept = self.kept_of(&text[from..])?;
@@ -63,26 +58,29 @@ impl LineReader {
         Ok(kept)
     }
 
-    /// Reads the end of a text.
+    /// Reads the end of a text: its last line, where that has no end.
     pub(crate) fn finish(&mut self, left: &[u8]) -> Result<(), RecFault>
-        requires { self.old.lines + length left.now < 2 ^ 64 }
+        requires in_range { self.old.lines + length left.now < 2 ^ 64 }
+        requires goes_on { position is_line_feed left.now ≡ None }
         ensures { MatchResult result
             (λ _. recording_behind self.old.recording self.old.lines left.now ≡ Ok self.new.recording)
             (IsFaultOf (recording_behind self.old.recording self.old.lines left.now)) }
     {
-        read_lines(&mut self.recording, self.lines, left)
+        if left.is_empty() {
+            return Ok(());
+        }
+        self.lines += 1;
+        read_line(&mut self.recording, self.lines, without_return(left))
     }
 
-    // Reads the lines of a text that have an end, and answers where the rest begins.
-    fn read_complete(&mut self, text: &[u8], known: usize) -> Result<usize, RecFault>
+    /// Reads the lines of a text that have an end, and answers where the rest begins. So much at the front has none.
+    pub(crate) fn read_complete(&mut self, text: &[u8], known: usize) -> Result<usize, RecFault>
         requires in_range { self.old.lines + length text.now < 2 ^ 64 }
         requires within { known ≤ length text.now }
         requires goes_on { position is_line_feed (take known text.now) ≡ None }
         ensures { MatchResult result
-            (λ from. (from ≤ length text.now) × (self.new.lines ≤ self.old.lines + from) × (position is_line_feed (drop from text.now) ≡ None)
-            × ((later : List ℕ) → recording_behind self.new.recording self.new.lines (drop from text.now ++ later)
-            ≡ recording_behind self.old.recording self.old.lines (text.now ++ later)))
-            (λ fault. (later : List ℕ) → IsFaultOf (recording_behind self.old.recording self.old.lines (text.now ++ later)) fault) }
+            (λ from. (from ≤ length text.now) × IsReadUpTo self.old text.now self.new (drop from text.now))
+            (IsFaultWithin self.old text.now) }
     {
         let mut from = 0;
         let mut known = known;
@@ -102,11 +100,8 @@ impl LineReader {
         requires goes_on { position is_line_feed line.now ≡ None }
         requires in_range { self.now.lines + length line.now < 2 ^ 64 }
         ensures { MatchResult result
-            (λ kept. (kept ≤ 131071) × (kept ≤ length line.now)
-            × (position is_line_feed (take kept line.now) ≡ None)
-            × ((later : List ℕ) → recording_behind self.now.recording self.now.lines (take kept line.now ++ later)
-            ≡ recording_behind self.now.recording self.now.lines (line.now ++ later)))
-            (λ fault. (later : List ℕ) → IsFaultOf (recording_behind self.now.recording self.now.lines (line.now ++ later)) fault) }
+            (λ kept. (kept ≤ 131071) × (kept ≤ length line.now) × IsReadUpTo self.now line.now self.now (take kept line.now))
+            (IsFaultWithin self.now line.now) }
     {
         if line.len() <= KEPT_MAX {
             return Ok(line.len());

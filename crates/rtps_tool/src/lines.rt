@@ -4,10 +4,10 @@ ghost use Rattle.std.specs.Str.Lines.{strip_carriage_return};
 ghost use Rattle.rtps_tool.specs.Answers.{IsFaultOf};
 ghost use Rattle.rtps_tool.specs.Lines.{lines_of, is_line_feed};
 ghost use Rattle.rtps_tool.specs.RecordingText.{is_datagram_line as is_datagram_line_lem, recording_of, recording_of_lines};
-ghost use Rattle.rtps_tool.specs.Unfinished.{recording_behind};
 
 use crate::datagrams::Recording;
 use crate::faults::RecFault;
+use crate::line_reader::LineReader;
 use std::alloc::Global;
 
 // The most octets of a text.
@@ -32,10 +32,7 @@ pub(crate) fn line_end_behind(text: &[u8], known: usize) -> Option<usize>
     requires none { position is_line_feed (take known text.now) ≡ None }
     ensures { result ≡ position is_line_feed text.now }
 {
-    match line_end(&text[known..]) {
-        Some(end) => Some(known + end),
-        None => None,
-    }
+    Some(known + line_end(&text[known..])?)
 }
 
 // The line without the one carriage return at its end, if it has one.
@@ -45,18 +42,6 @@ pub(crate) fn without_return(line: &[u8]) -> &[u8]
     match line {
         [front @ .., b'\r'] => front,
         _ => line,
-    }
-}
-
-// The first line of a text that has one, and the text behind it.
-fn first_line(text: &[u8]) -> (&[u8], &[u8])
-    requires { 0 < length text.now }
-    ensures lines { lines_of text.now ≡ result.0.now ∷ lines_of result.1.now }
-    ensures shorter { length result.1.now < length text.now }
-{
-    match line_end(text) {
-        Some(end) => (without_return(&text[..end]), &text[end + 1..]),
-        None => (without_return(text), &text[text.len()..]),
     }
 }
 
@@ -70,27 +55,10 @@ pub fn read_recording(alloc: Global, text: &[u8]) -> Result<Recording, RecFault>
     if text.len() > TEXT_MAX {
         return Err(RecFault::TooMany);
     }
-    let mut recording = Recording::new(alloc)?;
-    read_lines(&mut recording, 0, text)?;
-    Ok(recording)
-}
-
-// Appends the datagrams of what is left of a text, behind so many lines.
-pub(crate) fn read_lines(recording: &mut Recording, lines: u64, left: &[u8]) -> Result<(), RecFault>
-    requires { lines + length left.now < 2 ^ 64 }
-    ensures { MatchResult result
-        (λ _. recording_behind recording.old lines left.now ≡ Ok recording.new)
-        (IsFaultOf (recording_behind recording.old lines left.now)) }
-{
-    let mut rest = left;
-    let mut number = lines;
-    'lines: while !rest.is_empty() {
-        let (line, behind) = first_line(rest);
-        rest = behind;
-        number += 1;
-        read_line(recording, number, line)?;
-    }
-    Ok(())
+    let mut reader = LineReader::new(alloc)?;
+    let from = reader.read_complete(text, 0)?;
+    reader.finish(&text[from..])?;
+    Ok(reader.into_recording())
 }
 
 // Appends the datagram that a line stands for, if it stands for one.

@@ -60,6 +60,7 @@ fn read_pieces<R: Read>(
         total += got;
         match reader.feed(&mut held[..kept + got], kept) {
             Ok(left) => kept = left,
+            Err(RecFault::Memory) => return Err(RunFault::Memory),
             Err(fault) => {
                 let total = read_on(input, held, total)?;
                 let first = if total > TEXT_MAX {

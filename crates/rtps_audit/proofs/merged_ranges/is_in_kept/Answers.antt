@@ -1,8 +1,8 @@
 use Rattle.std.proofs.Common.{ℕ, Bool, true, false, nat_le, ◌≤◌, ◌<◌, ◌≡◌, sym, inl, inr, arith}
 use Rattle.std.proofs.lemmas.Bool.{cases_lt}
 use Rattle.std.proofs.lemmas.Bool.Decides.{nat_tests}
-use Rattle.rtps_audit.specs.KeptSpans.{IsKept}
-use Rattle.rtps_audit.specs.declared.plain_ranges.Span.{Span}
+use Rattle.rtps_audit.specs.KeptSpans.{HasRange}
+use Rattle.rtps_audit.specs.declared.span.Span.{Span}
 use Rattle.rtps_audit.proofs.KeptLemmas.{some_has, is_in, gap_has, last_ends, first_begins}
 use Rattle.rtps_audit.proofs.merged_ranges.is_in_kept.Goals as goal
 use Rattle.rtps_audit.proofs.merged_ranges.is_in_kept.Goals.{in_default-via-in-Some+else-n-span, in_default-via-in_default}
@@ -26,7 +26,7 @@ returns-in-Some-first_past c =
     let first = c.in-Some-first_past.ensures in
     let high = c.requires.to c.in-Some-first_past.field-0-0 span first.kept_here in
     let key = first.past in
-    let before : (other : ℕ) (that : Span) → IsKept kept other that → other ≤ n → that.hi ≤ n = λ other that e le. elim c.in_default.branch [
+    let before : (other : ℕ) (that : Span) → HasRange kept other that → other ≤ n → that.hi ≤ n = λ other that e le. elim c.in_default.branch [
       | in_default-via-in-Some+else-n-span w ↦ let a = last_ends kept n _ _ c.requires w.in-Some.ensures other that e le in let b = w.if-n-span.false in omega arith
       | in_default-via-in_default w ↦ let a = w.in_default.ensures other that e in absurd (omega arith)
     ] in
@@ -38,7 +38,7 @@ pub returns-in-None : goal.returns-in-None
 returns-in-None c =
     let kept = c.args.kept.now in
     let n = c.args.n in
-    let before : (other : ℕ) (that : Span) → IsKept kept other that → other ≤ n → that.hi ≤ n = λ other that e le. elim c.in_default.branch [
+    let before : (other : ℕ) (that : Span) → HasRange kept other that → other ≤ n → that.hi ≤ n = λ other that e le. elim c.in_default.branch [
       | in_default-via-in-Some+else-n-span w ↦ let a = last_ends kept n _ _ c.requires w.in-Some.ensures other that e le in let b = w.if-n-span.false in omega arith
       | in_default-via-in_default w ↦ let a = w.in_default.ensures other that e in absurd (omega arith)
     ] in

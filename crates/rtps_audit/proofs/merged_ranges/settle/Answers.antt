@@ -3,17 +3,17 @@ use Rattle.std.specs.List.{list_any}
 use Rattle.std.specs.Map.{values_of}
 use Rattle.rtps_audit.specs.Spans.{has_number}
 use Rattle.rtps_audit.specs.KeptSpans.{kept_has, recent_has}
-use Rattle.rtps_audit.proofs.KeptLemmas.{insertion_has, in_larger, some_has, or_same}
+use Rattle.rtps_audit.proofs.KeptLemmas.{some_has, or_same}
+use Rattle.rtps_audit.proofs.NowLemmas.{larger, now_has}
 use Rattle.rtps_audit.proofs.merged_ranges.settle.Goals as goal
 
-pub returns-in-Ok-clause-has : goal.returns-in-Ok-clause-has
-returns-in-Ok-clause-has c = λ n.
+pub returns-in-Some-get_mut-clause-has : goal.returns-in-Some-get_mut-clause-has
+returns-in-Some-get_mut-clause-has c = λ n.
     let kept = c.args.kept.now in
     let last = c.in-Some.field-0 in
     let is = c.requires.recent last c.in-Some.is in
-    ap (λ es. list_any (has_number n) (values_of es)) c.in-Ok.ensures.entries
-    ∙ insertion_has n last.key last.span kept.entries
-    (λ old e h. in_larger n old.lo old.hi last.span.lo last.span.hi (is.lower old e) (is.upper old e) h)
+    ap (λ es. list_any (has_number n) (values_of es)) (c.get_mut.follows.holds last.span).0
+    ∙ now_has n last.key last.span kept.entries is.there (larger kept last n is)
     ∙ ap (λ r. kept_has kept n || recent_has r n) (sym c.in-Some.is)
 
 pub returns-else-grown-clause-has : goal.returns-else-grown-clause-has

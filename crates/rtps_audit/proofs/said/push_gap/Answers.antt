@@ -11,7 +11,7 @@ runs-init c =
 pub runs-preserved : goal.runs-preserved
 runs-preserved c =
     let run = c.in-Some.ensures in
-    gap_run c.args.facts.now.items c.runs.facts.items _ c.args.gap.now c.runs.at c.in-Some.first c.in-Some.past _ c.runs.invariant c.in_ok-push-2.ensures.items (omega arith) run.run run.in_range.0 run.in_range.1
+    gap_run c.args.facts.now.items c.runs.facts.items _ c.args.gap.now c.runs.at c.in-Some.members.start c.in-Some.members.end _ c.runs.invariant c.in_ok-push-2.ensures.items (omega arith) run.run run.in_range.0 run.in_range.1
 
 pub returns : goal.returns
 returns c = gap_end c.args.facts.now.items c.runs.facts.items c.args.gap.now c.runs.at c.in_default.ensures.run c.runs.invariant

@@ -1,7 +1,8 @@
-use Rattle.std.proofs.Common.{arith}
-use Rattle.std.proofs.lemmas.List.Sorted.{IsNonDecreasingBy-from_all_adjacent}
+use Rattle.std.proofs.Common.{rules}
+use Rattle.std.proofs.lemmas.Fn.{always_returns_same}
 use Rattle.rtps_audit.specs.Samples.{number_of}
+use Rattle.rtps_audit.proofs.SampleLemmas.{in_order_from_answer}
 use Rattle.rtps_audit.proofs.sample.is_in_order.Goals as goal
 
 pub returns : goal.returns
-returns c = λ yes. IsNonDecreasingBy-from_all_adjacent number_of c.args.samples.now (λ k d lt. c.loop-place.invariant k d (omega arith))
+returns c = in_order_from_answer _ _ (c.is_sorted_by_key.ensures.cases number_of (always_returns_same _ _ _ (λ a r q k. search rules)))

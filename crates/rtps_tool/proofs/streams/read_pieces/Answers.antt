@@ -23,12 +23,12 @@ pieces-preserved g c =
     let grown = HasRead-read _ _ _ c.pieces.total kept got (kept + 65536 - kept) _ _ c.pieces.held c.read.new.buf c.pieces.invariant.3
     c.in-Ok.ensures.bytes.0 (sym c.in-Ok.ensures.bound.1) (omega arith) c.in-Ok.ensures.bound.0 in
     let new = c.feed.new.self in
+    let front = take-append-le c.in-Ok-feed.left c.feed.new.text _ fed.1 in
     let both = put_mid kept (kept + 65536 - kept) c.pieces.held c.read.new.buf in (
       fed.0,
-      omega (arith, fed.2, c.pieces.invariant.1, length-take (kept + got) both),
-      ap (position is_line_feed) (take-append-le c.in-Ok-feed.left c.feed.new.text _ fed.1) ∙ fed.3,
-      HasRead-told _ _ _ _ _ grown (λ later.
-          ap (λ (text : List ℕ). recording_behind new.recording new.lines (text ++ later)) (take-append-le c.in-Ok-feed.left c.feed.new.text _ fed.1) ∙ fed.4 later),
+      omega (arith, fed.1, fed.2.counted, c.pieces.invariant.1, length-take (kept + got) both, length-take c.in-Ok-feed.left c.feed.new.text),
+      ap (position is_line_feed) front ∙ fed.2.goes_on,
+      HasRead-told _ _ _ _ _ grown (λ later. ap (λ (text : List ℕ). recording_behind new.recording new.lines (text ++ later)) front ∙ fed.2.stands later),
     )
 
 pub feed-requires-clause-goes_on : goal.feed-requires-clause-goes_on

@@ -1,7 +1,8 @@
 use Rattle.std.proofs.Common.{◌≡◌, None, ◌+◌, ◌-◌, ◌≤◌, ◌^◌, ◌++◌, take}
 use Rattle.std.specs.List.{position}
 use Rattle.rtps_tool.specs.Lines.{is_line_feed}
-use Rattle.rtps_tool.specs.Unfinished.{HasRead, recording_behind}
+use Rattle.rtps_tool.specs.Unfinished.{recording_behind}
+use Rattle.rtps_tool.proofs.ReadingLemmas.{HasRead}
 use Rattle.rtps_tool.proofs.streams.read_pieces.Given as goal
 
 -- the front of what is held is all that is kept of the text behind the lines that were read
