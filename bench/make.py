@@ -1,8 +1,10 @@
 #!/usr/bin/env python3
 """Writes recordings to measure with.
 
-    make.py heartbeats|large|hostile|one_data|in_order|every_second|pairs FILE [MEGABYTES]
+    make.py heartbeats|packed|large|hostile|one_data|pairs FILE [MEGABYTES]
+    make.py in_order|odd_then_even|random|descending|inside_out FILE [THOUSANDS]    of numbers, each in a sample
 """
+import random
 import sys
 
 A, B = b'\xaa' * 12, b'\xbb' * 12
@@ -52,6 +54,20 @@ def samples(numbers, total, writer=WRITER, reader=READER):
     yield header(B) + to(A) + ack_nack(reader, writer, total + 1)
 
 
+ORDERS = {
+    'in_order': lambda n: range(1, n + 1),
+    'odd_then_even': lambda n: [*range(1, n + 1, 2), *range(2, n + 1, 2)],
+    'random': lambda n: random.Random(n).sample(range(1, n + 1), n),
+    'descending': lambda n: range(n, 0, -1),
+    'inside_out': lambda n: sorted(range(1, n + 1), key=lambda number: abs(2 * number - n)),
+}
+
+
+def numbers(order, total):
+    """A recording of one pair whose writer sends this many numbers in this order."""
+    return (*announcements(1), *samples(ORDERS[order](total), total))
+
+
 def datagrams(kind, octets):
     if kind == 'heartbeats':
         one = header(A) + heartbeat(WRITER, 1, 3)
@@ -67,11 +83,6 @@ def datagrams(kind, octets):
         return (header(A) + b'\1\0\0\0' * 16378 + b'\0\0\0' for _ in range(octets // 131071))
     if kind == 'one_data':
         return (header(A) + data(WRITER, 7, bytes(65535 - 44)) for _ in range(octets // 131071))
-    total = 200000
-    if kind == 'in_order':
-        return (*announcements(1), *samples(range(1, total + 1), total))
-    if kind == 'every_second':
-        return (*announcements(1), *samples([*range(2, total + 1, 2), *range(1, total, 2)], total))
     if kind == 'pairs':
         sent = []
         for i in range(20):
@@ -80,12 +91,16 @@ def datagrams(kind, octets):
     raise SystemExit(__doc__)
 
 
+def write(path, sent):
+    with open(path, 'wb') as f:
+        for datagram in sent:
+            f.write(datagram.hex().encode() + b'\n')
+
+
 def main():
     kind, path = sys.argv[1:3]
-    octets = int(sys.argv[3] if len(sys.argv) > 3 else 200) * 1000000
-    with open(path, 'wb') as f:
-        for datagram in datagrams(kind, octets):
-            f.write(datagram.hex().encode() + b'\n')
+    size = int(sys.argv[3] if len(sys.argv) > 3 else 200)
+    write(path, numbers(kind, size * 1000) if kind in ORDERS else datagrams(kind, size * 1000000))
 
 
 if __name__ == '__main__':

@@ -23,7 +23,8 @@ struct Recent {
 /// A set of sequence numbers as ranges of which no two overlap or touch.
 ///
 /// The key of a range is a number in it, and stays as the range grows at either end. So only a range that is apart from
-/// all others needs memory.
+/// all others needs memory. An addition takes time in proportion to the logarithm of the ranges, in whatever order they
+/// come, and to those that it joins, each of which is gone then.
 #[derive(Drop)]
 pub struct MergedRanges {
     kept: BTreeMap<u64, Span>,

@@ -1,0 +1,79 @@
+#!/usr/bin/env python3
+"""Measures the program beside other programs on the same files in the same run, and prints the ratios.
+
+    ratios.py list PROGRAM FILE.. [-- OTHER]    `list` beside `cat`, `xxd -r -p` and `list` of another program, with the
+                                                peak memory and what the octets of the datagrams allow
+    ratios.py orders PROGRAM [N] [-- OTHER]     `audit` of n, 2n and 4n numbers that come in different orders, beside
+                                                `show` of the same file and `audit` of another program
+
+Each figure is the best of some runs that take turns. Nothing here passes or fails.
+"""
+import os
+import sys
+import tempfile
+
+import make
+from measure import run
+
+RUNS = 5
+MIB = 1 << 20
+
+
+def best(commands):
+    """The least time and the greatest memory of each command."""
+    times, peaks = [float('inf')] * len(commands), [0] * len(commands)
+    for _ in range(RUNS):
+        for i, command in enumerate(commands):
+            seconds, peak, _ = run(command)
+            times[i], peaks[i] = min(times[i], seconds), max(peaks[i], peak * 1024)
+    return times, peaks
+
+
+def octets_of(path):
+    """The octets of the datagrams of a recording."""
+    with open(path, 'rb') as f:
+        return sum(len(line.strip()) // 2 for line in f if not line.startswith(b'#'))
+
+
+def lists(program, paths, other):
+    for path in paths:
+        others = [[other, 'list', path]] if other else []
+        commands = [[program, 'list', path], ['cat', path], ['xxd', '-r', '-p', path]] + others
+        times, peaks = best(commands)
+        allowed = octets_of(path) * 5 / 4 + 32 * MIB
+        beside = ', '.join(f'{times[0] / t:.2f} of {c[0] if c[0] != other else "the other"}'
+                           for c, t in zip(commands[1:], times[1:]))
+        print(f'{os.path.basename(path)}: {times[0] * 1000:.1f} ms, {beside}; '
+              f'{peaks[0] / MIB:.0f} MiB, {peaks[0] / allowed:.2f} of what is allowed'
+              + (f', {peaks[0] / peaks[3]:.2f} of the other' if other else ''))
+
+
+def orders(program, n, other):
+    with tempfile.TemporaryDirectory() as folder:
+        for order in make.ORDERS:
+            ratios = []
+            for total in (n, 2 * n, 4 * n):
+                path = os.path.join(folder, 'numbers')
+                make.write(path, make.numbers(order, total))
+                others = [[other, 'audit', path]] if other else []
+                times, _ = best([[program, 'audit', path], [program, 'show', path]] + others)
+                ratios.append(f'{times[0] / times[1]:.2f}' + (f' ({times[0] / times[2]:.2f})' if other else ''))
+            print(f'{order}: {", ".join(ratios)}', flush=True)
+
+
+def main():
+    words = sys.argv[1:]
+    other = None
+    if '--' in words:
+        cut = words.index('--')
+        words, other = words[:cut], words[cut + 1]
+    if words[:1] == ['list'] and len(words) > 2:
+        lists(words[1], words[2:], other)
+    elif words[:1] == ['orders'] and len(words) in (2, 3):
+        orders(words[1], int(words[2]) if len(words) == 3 else 50000, other)
+    else:
+        raise SystemExit(__doc__)
+
+
+if __name__ == '__main__':
+    main()
