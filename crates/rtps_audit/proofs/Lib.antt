@@ -6,7 +6,6 @@ pub mod Gathered
 pub mod SampleLemmas
 pub mod OneMore
 pub mod FactLemmas
-pub mod SpeechTests
 pub mod NotedLemmas
 pub mod Runs
 pub mod Sound

@@ -24,12 +24,13 @@ use Rattle.rtps_receiver.specs.Values.ActBodyValue.{Gap}
 use Rattle.rtps_audit.specs.Delivery.{Word}
 use Rattle.rtps_audit.specs.Delivery.Word.{Told as told, Gone as gone}
 use Rattle.rtps_audit.specs.Facts.{IsInRange, act_of, announced_of, base_of}
-use Rattle.rtps_audit.specs.Speech.{announced_for, announced_of_body, base_for, base_of_body, is_answer, is_heard_by, is_in_gap, is_member, is_spoken_by, word_for, word_of}
+use Rattle.rtps_audit.specs.Speech.{announced_for, announced_of_body, base_for, base_of_body, is_in_gap, word_for, word_of}
+use Rattle.rtps_receiver.specs.Speech.{is_answer, is_heard_by, is_spoken_by}
 use Rattle.rtps_audit.specs.Noted.{Adds, SomeSays, StandFor, acts_among, gone_where, is_in_gap_below}
 use Rattle.rtps_audit.specs.declared.fact.Fact.{Fact}
 use Rattle.rtps_audit.specs.declared.fact.Fact.TheVariants.{Told, Gone, Claimed, Announced}
 use Rattle.rtps_audit.proofs.Gathered.{cons_option-nil}
-use Rattle.rtps_audit.proofs.SpeechTests.{member_decides, not_member}
+use Rattle.rtps_ids.proofs.Offered.{member_decides, not_member}
 
 pub says_cases : (xs ys : List (ℕ → Option Word)) (n : ℕ) (word : Word) → SomeSays (xs ++ ys) n word → SomeSays xs n word ⊎ SomeSays ys n word
 says_cases [] ys n word says = inr says

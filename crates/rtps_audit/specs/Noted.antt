@@ -1,6 +1,7 @@
 -- What facts say, one beside another.
 use Rattle.std.specs.Prelude.{ℕ, Bool, ◌&&◌, ◌||◌, nat_lt, if◌then◌else◌, ◌≡◌, ◌≤◌, ◌⊎◌, ◌↔◌, ◌++◌, List, [], ◌∷◌, map, Option, Some, None, Ok, Err, All}
 use Rattle.std.specs.List.{filter_map}
+use Rattle.rtps_ids.specs.NumberSet.{is_member}
 use Rattle.rtps_ids.specs.declared.identity.Guid.{Guid}
 use Rattle.rtps_wire.specs.declared.body.GapBody.{GapBody}
 use Rattle.rtps_receiver.specs.Acts.{ActOutcome}
@@ -8,7 +9,7 @@ use Rattle.rtps_receiver.specs.Values.{ActValue}
 use Rattle.rtps_audit.specs.Delivery.{Word}
 use Rattle.rtps_audit.specs.Delivery.Word.{Gone}
 use Rattle.rtps_audit.specs.Facts.{IsInRange, act_of, announced_of, base_of}
-use Rattle.rtps_audit.specs.Speech.{announced_for, base_for, is_below_list, is_member, word_for}
+use Rattle.rtps_audit.specs.Speech.{announced_for, base_for, is_below_list, word_for}
 use Rattle.rtps_audit.specs.declared.fact.Fact.{Fact}
 
 -- some act has the word for n

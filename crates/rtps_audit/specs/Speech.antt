@@ -2,59 +2,16 @@
 -- and 8.3.8.6 "Heartbeat", by the datagrams' acts (8.3.4 "The RTPS Message Receiver").
 use Rattle.std.specs.Prelude.{ℕ, ℤ, pos, negsuc, Bool, true, false, ◌-◌, ◌==◌, ◌&&◌, ◌||◌, nat_le, nat_lt, if◌then◌else◌, List, map, Option, Some, None}
 use Rattle.std.specs.List.{filter_map}
-use Rattle.std.specs.Str.{bytes_eq}
-use Rattle.rtps_ids.specs.NumberSet.{NumberSetValue, bit_of}
-use Rattle.rtps_ids.specs.declared.identity.EntityId.{EntityId}
+use Rattle.rtps_ids.specs.NumberSet.{is_member}
 use Rattle.rtps_ids.specs.declared.identity.Guid.{Guid}
-use Rattle.rtps_ids.specs.declared.identity.GuidPrefix.{GuidPrefix}
 use Rattle.rtps_wire.specs.Reading.{reading_of}
 use Rattle.rtps_wire.specs.declared.body.GapBody.{GapBody}
 use Rattle.rtps_receiver.specs.Acts.{acts_of}
-use Rattle.rtps_receiver.specs.Speech.{reader_named, writer_named, unknown_entity}
+use Rattle.rtps_receiver.specs.Speech.{is_answer, is_heard_by, is_spoken_by}
 use Rattle.rtps_receiver.specs.Values.{ActBodyValue, ActValue}
 use Rattle.rtps_receiver.specs.Values.ActBodyValue.{Data, Heartbeat, AckNack, Gap}
 use Rattle.rtps_audit.specs.Delivery.{Word, Datagram, Speech}
 use Rattle.rtps_audit.specs.Delivery.Word.{Told, Gone}
-
--- who speaks, who hears and who answers, as tests. That they are what rtps_receiver says by equations is a law
-abbrev pub is_prefix : GuidPrefix → GuidPrefix → Bool
-is_prefix one other = bytes_eq one.0 other.0
-
-abbrev pub is_entity : EntityId → EntityId → Bool
-is_entity one other = bytes_eq one.0 other.0
-
-abbrev pub names : Option EntityId → EntityId → Bool
-names (Some named) entity = is_entity named entity
-names None entity = false
-
--- by name, and not as one of everyone
-abbrev pub is_for : Option GuidPrefix → GuidPrefix → Bool
-is_for (Some dest) prefix = is_prefix dest prefix
-is_for None prefix = false
-
-abbrev pub is_for_all : Option GuidPrefix → Bool
-is_for_all (Some dest) = false
-is_for_all None = true
-
-abbrev pub is_spoken_by : ActValue → Guid → Bool
-is_spoken_by act writer = is_prefix act.source writer.prefix && names (writer_named act.body) writer.entity
-
-abbrev pub is_heard_by : ActValue → Guid → Bool
-is_heard_by act reader =
-    (is_for_all act.dest || is_for act.dest reader.prefix) && (names (reader_named act.body) unknown_entity || names (reader_named act.body) reader.entity)
-
-abbrev pub names_pair : ActBodyValue → EntityId → EntityId → Bool
-names_pair (AckNack value) reader writer = is_entity value.reader reader && is_entity value.writer writer
-names_pair (Data value) reader writer = false
-names_pair (Heartbeat value) reader writer = false
-names_pair (Gap value) reader writer = false
-
-abbrev pub is_answer : ActValue → Guid → Guid → Bool
-is_answer act reader writer = is_prefix act.source reader.prefix && (is_for act.dest writer.prefix && names_pair act.body reader.entity writer.entity)
-
--- whether a number is in a set. That this is what rtps_ids says by an equation is a law
-abbrev pub is_member : NumberSetValue → ℕ → Bool
-is_member set n = nat_le set.base n && (nat_lt (n - set.base) set.count && (bit_of set.words (n - set.base) == 1))
 
 -- a GAP says that the numbers from its start on and below the base of its list will not come, nor those of the list
 abbrev pub is_below_list : GapBody → ℕ → Bool

@@ -1,12 +1,6 @@
 //! Laws over definitions alone. Each function does nothing: its clause is the law, and its
 //! proof the law's proof.
 
-ghost use Rattle.std.specs.Prelude.{ℕ, ◌≡◌, ◌↔◌, true, pos};
-ghost use Rattle.rtps_ids.specs.NumberSet.{IsMember, NumberSetValue};
-ghost use Rattle.rtps_ids.specs.declared.identity.Guid.{Guid};
-ghost use Rattle.rtps_receiver.specs.Speech.{IsAnswer, IsHeardBy, IsSpokenBy};
-ghost use Rattle.rtps_receiver.specs.Values.{ActValue};
-ghost use Rattle.rtps_audit.specs.Speech.{is_answer, is_heard_by, is_member, is_spoken_by};
 ghost use Rattle.rtps_audit.specs.Laws.{ReachedStatesAreSound, RunsExistWhereFounded, EagerRunDecides, VerdictsAgree, PlainMeansComplete, HasNoTwoVerdicts, EachHasAVerdict, VerdictsFollowWhatIsSaid, RangesLieApart};
 
 /// Whatever datagrams are sent and whatever words are taken, in any order: each word that the reader holds was
@@ -51,15 +45,6 @@ pub fn each_has_a_verdict()
 /// The verdict does not depend on how the words of a datagram are shared out among its acts.
 pub fn verdicts_follow_what_is_said()
     ensures { VerdictsFollowWhatIsSaid }
-{}
-
-/// The tests of who speaks, who hears, who answers and what is in a set say what the relations say.
-pub fn tests_say_what_relations_say()
-    ensures spoken { (act : ActValue) (writer : Guid) → (is_spoken_by act writer ≡ true) ↔ IsSpokenBy act writer }
-    ensures heard { (act : ActValue) (reader : Guid) → (is_heard_by act reader ≡ true) ↔ IsHeardBy act reader }
-    ensures answers { (act : ActValue) (reader : Guid) (writer : Guid)
-        → (is_answer act reader writer ≡ true) ↔ IsAnswer act reader writer }
-    ensures members { (set : NumberSetValue) (n : ℕ) → (is_member set n ≡ true) ↔ IsMember set (pos n) }
 {}
 
 /// The ranges of [`crate::MergedRanges`], as they are at any time: none is empty, no two overlap or touch, the set has

@@ -4,7 +4,7 @@ ghost use Rattle.rtps_wire.specs.Reading.{reading_of};
 ghost use Rattle.rtps_receiver.specs.Acts.{acts_left, acts_of};
 ghost use Rattle.rtps_receiver.specs.Values.{ActValue, act_body_value, act_value};
 ghost use Rattle.rtps_receiver.specs.Values.ActBodyValue.{Gap};
-ghost use Rattle.rtps_audit.specs.Speech.{announced_for, announced_of_body, base_for, base_of_body, is_answer, is_heard_by, is_spoken_by, word_for, word_of};
+ghost use Rattle.rtps_audit.specs.Speech.{announced_for, announced_of_body, base_for, base_of_body, word_for, word_of};
 ghost use Rattle.rtps_audit.specs.Noted.{Adds, StandFor, acts_among, is_in_gap_below};
 
 use crate::fact::Fact;
@@ -35,27 +35,6 @@ fn number_in(body: &ActBody<'_>) -> Option<u64>
     }
 }
 
-/// Whether an act answers, as a test.
-fn is_answered(act: &Act<'_>, writer: Guid, reader: Guid) -> bool
-    ensures { result ≡ is_answer (act_value act.now) reader writer }
-{
-    act.answers(reader, writer)
-}
-
-/// Whether an act is spoken by the writer, as a test.
-fn is_spoken(act: &Act<'_>, writer: Guid) -> bool
-    ensures { result ≡ is_spoken_by (act_value act.now) writer }
-{
-    act.spoken_by(writer)
-}
-
-/// Whether an act is heard by the reader, as a test.
-fn is_heard(act: &Act<'_>, reader: Guid) -> bool
-    ensures { result ≡ is_heard_by (act_value act.now) reader }
-{
-    act.heard_by(reader)
-}
-
 /// What the reader claims by an act.
 fn push_claim<'a>(
     facts: &mut Vec<Fact<'a>>,
@@ -66,7 +45,7 @@ fn push_claim<'a>(
     ensures { OnOk result (Adds facts.old.items facts.new.items
         (option_to_list (base_for writer reader (act_value act.now))) [] (λ n. None)) }
 {
-    if !is_answered(act, writer, reader) {
+    if !act.answers(reader, writer) {
         return Ok(());
     }
     if let Some(base) = base_in(&act.body) {
@@ -80,7 +59,7 @@ fn push_number<'a>(facts: &mut Vec<Fact<'a>>, act: &Act<'_>, writer: Guid) -> Re
     ensures { OnOk result (Adds facts.old.items facts.new.items
         [] (option_to_list (announced_for writer (act_value act.now))) (λ n. None)) }
 {
-    if !is_spoken(act, writer) {
+    if !act.spoken_by(writer) {
         return Ok(());
     }
     if let Some(number) = number_in(&act.body) {
@@ -156,7 +135,7 @@ fn push_heard<'a>(
 ) -> Result<(), Memory>
     ensures { OnOk result (Adds facts.old.items facts.new.items [] [] (word_for writer reader (act_value act.now))) }
 {
-    if is_spoken(act, writer) && is_heard(act, reader) {
+    if act.spoken_by(writer) && act.heard_by(reader) {
         push_words(facts, &act.body)?;
     }
     Ok(())

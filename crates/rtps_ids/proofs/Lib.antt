@@ -1,3 +1,3 @@
+pub mod Offered
 pub mod SetBits
-pub mod Sets
 pub mod RunBits

@@ -1,6 +1,6 @@
 -- The bits of the words of a set.
 use Rattle.std.proofs.Common.{◌≡◌, ◌<◌, ◌≤◌, ◌+◌, ◌-◌, ◌*◌, ◌/◌, ◌%◌, ◌^◌, ℕ, zero, List, Bool, true, false, refl, ap, subst, sym, ◌∙◌, arith}
-use Rattle.std.specs.Prelude.{nat_lt, slice_index, map}
+use Rattle.std.specs.Prelude.{◌↔◌, None, nat_lt, pos, slice_index, map}
 use Rattle.std.specs.Int.{bit_at}
 use Rattle.std.specs.List.{range_with_len}
 use Rattle.std.proofs.Math.Nat.{div-add-mod', mod-lt, mul-add-div, zero-div}
@@ -8,7 +8,10 @@ use Rattle.std.proofs.Math.Pow.{pow_pos}
 use Rattle.std.proofs.lemmas.Bool.Decides.{nat_tests}
 use Rattle.std.proofs.lemmas.List.FromFn.{fill_by_all, get_or-map-range_with_len}
 use Rattle.std.proofs.lemmas.Nat.Bits.{bit_at-zero, bit_at_cat_high, bit_at_cat_low}
-use Rattle.rtps_ids.specs.NumberSet.{bit_of, cleared, cleared_words, kept_bits}
+use Rattle.std.proofs.lemmas.Int.{ints}
+use Rattle.rtps_ids.specs.NumberSet.{IsMember, NumberSetValue, bit_of, cleared, cleared_words, is_bad, kept_bits, set_fault, spelled_count, spelled_set, spelled_word}
+use Rattle.rtps_ids.specs.declared.order.Order.{Order}
+use Rattle.rtps_ids.proofs.Offered.{at_most_256, good_set_found}
 
 -- a word without its low m bits
 abbrev without_low : ℕ → ℕ → ℕ
@@ -87,3 +90,22 @@ cleared_words-twice count word =
 
 pub clear_as_made : (count : ℕ) (word : ℕ → ℕ) (words : List ℕ) → words ≡ cleared_words count word → words ≡ cleared_words count (λ i. slice_index words i)
 clear_as_made count word words made = subst (λ (ws : List ℕ). ws ≡ cleared_words count (λ i. slice_index ws i)) (sym made) (cleared_words-twice count word)
+
+-- of octets that spell a set: the number at bit i is a member where the bit is below the count and is set
+pub member_of_bit : (order : Order) (octets : List ℕ) (i : ℕ) → set_fault order octets ≡ None
+    → IsMember (spelled_set order octets) (pos ((spelled_set order octets).base + i))
+    ↔ ((i < spelled_count order octets) × (bit_at (spelled_word order octets (i / 32)) (31 - i % 32) ≡ 1))
+member_of_bit order octets i good = (to, from)
+  where
+    set : NumberSetValue
+    set = spelled_set order octets
+    few : spelled_count order octets ≤ 256
+    few = at_most_256 _ _ (good_set_found order octets good).0
+    to : IsMember set (pos (set.base + i)) → (i < spelled_count order octets) × (bit_at (spelled_word order octets (i / 32)) (31 - i % 32) ≡ 1)
+    to member =
+        let same : member.bit ≡ i = omega (arith, ints, member.number) in
+        let below : i < spelled_count order octets = subst (λ bit. bit < spelled_count order octets) same member.in_count in
+        (below, sym (kept_bit (spelled_count order octets) i (spelled_word order octets) below (omega (arith, few))) ∙ ap (bit_of set.words) (sym same) ∙ member.is_set)
+    from : (i < spelled_count order octets) × (bit_at (spelled_word order octets (i / 32)) (31 - i % 32) ≡ 1) → IsMember set (pos (set.base + i))
+    from there =
+        record { bit = i; in_count = there.0; number = refl; is_set = kept_bit (spelled_count order octets) i (spelled_word order octets) there.0 (omega (arith, few, there.0)) ∙ there.1 }

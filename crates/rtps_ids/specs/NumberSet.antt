@@ -1,6 +1,6 @@
 -- Sets of sequence numbers. DDSI-RTPS 2.5, 8.3.5.5 "SequenceNumberSet" and 9.4.2.6 "SequenceNumberSet": a base, how
 -- many numbers from the base on have a bit, and words of 32 bits, the bit of the base highest in the first.
-use Rattle.std.specs.Prelude.{ℕ, ℤ, pos, ◌+◌, ◌-◌, ◌*◌, ◌/◌, ◌%◌, ◌^◌, ◌+ℤ◌, ◌<◌, ◌≡◌, ◌||◌, ◌&&◌, int_lt, nat_lt, Bool, if◌then◌else◌, List, drop, length, map, min, slice_index, Option, Some, None}
+use Rattle.std.specs.Prelude.{ℕ, ℤ, pos, ◌+◌, ◌-◌, ◌*◌, ◌/◌, ◌%◌, ◌^◌, ◌+ℤ◌, ◌<◌, ◌≡◌, ◌||◌, ◌&&◌, ◌==◌, int_lt, nat_le, nat_lt, Bool, if◌then◌else◌, List, drop, length, map, min, slice_index, Option, Some, None}
 use Rattle.std.specs.Int.{bit_at}
 use Rattle.std.specs.Int.RustNames.{unsigned_abs}
 use Rattle.std.specs.List.{range_with_len}
@@ -25,6 +25,10 @@ pub record IsMember (set : NumberSetValue) (n : ℤ) : Type 0 where
   pub in_count : bit < set.count
   pub number : n ≡ pos (set.base + bit)
   pub is_set : bit_of set.words bit ≡ 1
+
+-- the same as a test. That it says what the relation says is a law
+abbrev pub is_member : NumberSetValue → ℕ → Bool
+is_member set n = nat_le set.base n && (nat_lt (n - set.base) set.count && (bit_of set.words (n - set.base) == 1))
 
 -- how many of the bits of word i stand for a number
 abbrev pub kept_bits : ℕ → ℕ → ℕ

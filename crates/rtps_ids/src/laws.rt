@@ -1,8 +1,9 @@
 //! Laws of the definitions, as contracts of functions that do nothing.
 
-ghost use Rattle.std.specs.Prelude.{◌≡◌, ◌<◌, ◌/◌, ◌%◌, ◌-◌, ℕ};
+ghost use Rattle.std.specs.Prelude.{◌≡◌, ◌↔◌, ◌<◌, ◌+◌, ◌/◌, ◌%◌, ◌-◌, ℕ, List, None, pos, true};
 ghost use Rattle.std.specs.Int.{bit_at};
-ghost use Rattle.rtps_ids.specs.NumberSet.{bit_of, cleared_words};
+ghost use Rattle.rtps_ids.specs.NumberSet.{IsMember, NumberSetValue, bit_of, cleared_words, is_member, set_fault, spelled_count, spelled_set, spelled_word};
+ghost use Rattle.rtps_ids.specs.declared.order.Order.{Order};
 
 /// The bits of a set that is kept are those of the words that it was made from, up to its count; later ones are
 /// clear.
@@ -10,4 +11,19 @@ ghost use Rattle.rtps_ids.specs.NumberSet.{bit_of, cleared_words};
 pub fn bits_up_to_the_count_are_kept()
     ensures kept { (count i : ℕ) (word : ℕ → ℕ) → i < count → i < 256 → bit_of (cleared_words count word) i ≡ bit_at (word (i / 32)) (31 - i % 32) }
     ensures clear { (count i : ℕ) (word : ℕ → ℕ) → i < 256 → (i < count → ⊥) → bit_of (cleared_words count word) i ≡ 0 }
+{}
+
+/// The test of what is in a set says what the relation says.
+#[tactic(auto, using(crate::proofs::Offered::member_decides))]
+pub fn test_of_members_says_what_the_relation_says()
+    ensures { (set : NumberSetValue) (n : ℕ) → (is_member set n ≡ true) ↔ IsMember set (pos n) }
+{}
+
+/// Of octets that spell a set: the number at bit i is in the set exactly where the bit is below the count and is set,
+/// counted from the highest bit of the first word.
+#[tactic(auto, using(crate::proofs::SetBits::member_of_bit))]
+pub fn members_are_the_bits_that_are_set()
+    ensures { (order : Order) (octets : List ℕ) (i : ℕ) → set_fault order octets ≡ None
+        → IsMember (spelled_set order octets) (pos ((spelled_set order octets).base + i))
+        ↔ ((i < spelled_count order octets) × (bit_at (spelled_word order octets (i / 32)) (31 - i % 32) ≡ 1)) }
 {}

@@ -1,1 +1,2 @@
 pub mod ActSteps
+pub mod SpeechTests

@@ -1,9 +1,10 @@
 -- Who speaks an act, who hears it, and whom an ACKNACK answers. DDSI-RTPS 2.5, 8.3.4 "The RTPS Message Receiver",
 -- 8.3.8.1 "AckNack", 8.3.8.2 "Data", 8.3.8.4 "Gap" and 8.3.8.6 "Heartbeat".
-use Rattle.std.specs.Prelude.{◌≡◌, ◌∷◌, [], Option, Some, None}
-use Rattle.std.specs.Prelude.{◌⊎◌}
+use Rattle.std.specs.Prelude.{◌≡◌, ◌⊎◌, ◌&&◌, ◌||◌, ◌∷◌, [], Bool, true, false, Option, Some, None}
+use Rattle.std.specs.Str.{bytes_eq}
 use Rattle.rtps_ids.specs.declared.identity.EntityId.{EntityId}
 use Rattle.rtps_ids.specs.declared.identity.Guid.{Guid}
+use Rattle.rtps_ids.specs.declared.identity.GuidPrefix.{GuidPrefix}
 use Rattle.rtps_receiver.specs.Values.{ActBodyValue, ActValue}
 use Rattle.rtps_receiver.specs.Values.ActBodyValue.{Data, Heartbeat, AckNack, Gap}
 
@@ -46,3 +47,39 @@ pub record IsAnswer (act : ActValue) (reader writer : Guid) : Type 0 where
   pub source : act.source ≡ reader.prefix
   pub dest : act.dest ≡ Some writer.prefix
   pub entities : NamesPair act.body reader.entity writer.entity
+
+-- The same three as tests. That each test says what its relation says is a law.
+abbrev pub is_prefix : GuidPrefix → GuidPrefix → Bool
+is_prefix one other = bytes_eq one.0 other.0
+
+abbrev pub is_entity : EntityId → EntityId → Bool
+is_entity one other = bytes_eq one.0 other.0
+
+abbrev pub names : Option EntityId → EntityId → Bool
+names (Some named) entity = is_entity named entity
+names None entity = false
+
+-- by name, and not as one of everyone
+abbrev pub is_for : Option GuidPrefix → GuidPrefix → Bool
+is_for (Some dest) prefix = is_prefix dest prefix
+is_for None prefix = false
+
+abbrev pub is_for_all : Option GuidPrefix → Bool
+is_for_all (Some dest) = false
+is_for_all None = true
+
+abbrev pub is_spoken_by : ActValue → Guid → Bool
+is_spoken_by act writer = is_prefix act.source writer.prefix && names (writer_named act.body) writer.entity
+
+abbrev pub is_heard_by : ActValue → Guid → Bool
+is_heard_by act reader =
+    (is_for_all act.dest || is_for act.dest reader.prefix) && (names (reader_named act.body) unknown_entity || names (reader_named act.body) reader.entity)
+
+abbrev pub names_pair : ActBodyValue → EntityId → EntityId → Bool
+names_pair (AckNack value) reader writer = is_entity value.reader reader && is_entity value.writer writer
+names_pair (Data value) reader writer = false
+names_pair (Heartbeat value) reader writer = false
+names_pair (Gap value) reader writer = false
+
+abbrev pub is_answer : ActValue → Guid → Guid → Bool
+is_answer act reader writer = is_prefix act.source reader.prefix && (is_for act.dest writer.prefix && names_pair act.body reader.entity writer.entity)

@@ -3,6 +3,7 @@
 #![tactic(auto)]
 
 mod act;
+pub mod laws;
 mod receiver;
 mod speech;
 mod state;

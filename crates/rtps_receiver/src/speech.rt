@@ -7,13 +7,14 @@ const UNKNOWN: EntityId = EntityId([0; 4]);
 impl<'a> Act<'a> {
     ghost use Rattle.std.specs.Prelude.{◌↔◌, ◌≡◌, IsTrue};
     ghost use Rattle.std.specs.Option.{option_map};
-    ghost use Rattle.rtps_receiver.specs.Speech.{IsAnswer, IsHeardBy, IsSpokenBy, reader_named, writer_named};
+    ghost use Rattle.rtps_receiver.specs.Speech.{IsAnswer, IsHeardBy, IsSpokenBy, is_answer, is_heard_by, is_spoken_by, reader_named, writer_named};
     ghost use Rattle.rtps_receiver.specs.Values.{act_value};
 
     /// Whether this writer speaks the act: it is a DATA, HEARTBEAT or GAP of its participant that names it. False of
     /// an ACKNACK.
     pub fn spoken_by(&self, writer: Guid) -> bool
         ensures { IsTrue result ↔ IsSpokenBy (act_value self.now) writer }
+        ensures test { result ≡ is_spoken_by (act_value self.now) writer }
     {
         self.source == writer.prefix && self.writer_named() == Some(writer.entity)
     }
@@ -22,6 +23,7 @@ impl<'a> Act<'a> {
     /// names the reader or every reader. False of an ACKNACK.
     pub fn heard_by(&self, reader: Guid) -> bool
         ensures { IsTrue result ↔ IsHeardBy (act_value self.now) reader }
+        ensures test { result ≡ is_heard_by (act_value self.now) reader }
     {
         let for_it = match self.dest {
             None => true,
@@ -37,6 +39,7 @@ impl<'a> Act<'a> {
     /// participant by name. False of anything else, and of an ACKNACK for everyone.
     pub fn answers(&self, reader: Guid, writer: Guid) -> bool
         ensures { IsTrue result ↔ IsAnswer (act_value self.now) reader writer }
+        ensures test { result ≡ is_answer (act_value self.now) reader writer }
     {
         let ActBody::AckNack(ack_nack) = &self.body else {
             return false;

@@ -1,0 +1,14 @@
+//! Laws of the definitions, as contracts of functions that do nothing.
+
+ghost use Rattle.std.specs.Prelude.{◌≡◌, ◌↔◌, true};
+ghost use Rattle.rtps_ids.specs.declared.identity.Guid.{Guid};
+ghost use Rattle.rtps_receiver.specs.Speech.{IsAnswer, IsHeardBy, IsSpokenBy, is_answer, is_heard_by, is_spoken_by};
+ghost use Rattle.rtps_receiver.specs.Values.{ActValue};
+
+/// The tests of who speaks, who hears and who answers say what the relations say.
+#[tactic(auto, using(crate::proofs::SpeechTests::spoken_decides, crate::proofs::SpeechTests::heard_decides, crate::proofs::SpeechTests::answer_decides))]
+pub fn tests_say_what_relations_say()
+    ensures spoken { (act : ActValue) (writer : Guid) → (is_spoken_by act writer ≡ true) ↔ IsSpokenBy act writer }
+    ensures heard { (act : ActValue) (reader : Guid) → (is_heard_by act reader ≡ true) ↔ IsHeardBy act reader }
+    ensures answers { (act : ActValue) (reader : Guid) (writer : Guid) → (is_answer act reader writer ≡ true) ↔ IsAnswer act reader writer }
+{}
