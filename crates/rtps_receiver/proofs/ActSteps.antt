@@ -1,16 +1,18 @@
 -- The acts that are left, one item at a time.
-use Rattle.std.proofs.Common.{◌≡◌, ℕ, List, [], ◌∷◌, ◌++◌, Option, Some, None, Ok, Err, drop, refl, ap, sym, ◌∙◌, append_assoc, unwrap_or}
-use Rattle.rtps_wire.proofs.Readings.{reading_opened, refusal-last}
-use Rattle.rtps_wire.specs.Reading.{Outcome, Unread, items_among, outcomes_left, reading_of, refusal_among}
-use Rattle.rtps_wire.specs.Header.{header_fault, header_of}
+use Rattle.std.proofs.Common.{◌≡◌, ℕ, List, [], ◌∷◌, ◌++◌, Option, Some, None, Ok, Err, length, ◌+◌, ◌≤◌, arith, refl, ap, sym, ◌∙◌, append_assoc, option_to_list, unwrap_or}
+use Rattle.std.proofs.lemmas.List.{length-append}
+use Rattle.rtps_wire.proofs.Offered.{refusal_is_last}
+use Rattle.rtps_wire.specs.Reading.{Outcome, Unread, items_among, outcomes_left, read_as, refusal_among, refused_with}
+use Rattle.rtps_wire.specs.Message.{Reading}
 use Rattle.rtps_wire.specs.Values.{BodyValue, ItemValue}
 use Rattle.rtps_wire.specs.Values.BodyValue.{Data, Heartbeat, AckNack, Gap, InfoTs, InfoDst, InfoSrc, Skipped}
 use Rattle.rtps_wire.specs.declared.fault.Refusal.{Refusal}
+use Rattle.rtps_wire.specs.declared.fault.WireFault.{WireFault}
 use Rattle.rtps_wire.specs.declared.header.Header.{Header}
 use Rattle.rtps_ids.specs.declared.identity.GuidPrefix.{GuidPrefix}
 use Rattle.rtps_ids.specs.declared.identity.Stamp.{Stamp}
-use Rattle.rtps_receiver.specs.Acts.{ActOutcome, Awaited, act_at, act_body, acts_behind, acts_in, acts_left, acts_of, acts_then, gathered, last_said, later, says_destination, says_source, says_time, state_at_start, state_behind}
-use Rattle.rtps_receiver.specs.Values.{ActBodyValue}
+use Rattle.rtps_receiver.specs.Acts.{ActOutcome, Awaited, act_at, act_body, acts_among, acts_behind, acts_of_item, acts_left, acts_of, acts_then, gathered, last_said, later, says_destination, says_source, says_time, state_at_start, state_behind}
+use Rattle.rtps_receiver.specs.Values.{ActBodyValue, ActValue}
 use Rattle.rtps_receiver.specs.declared.state.State.{State}
 
 later-assoc : {X : Type 0} (x y z : Option X) → later x (later y z) ≡ later (later x y) z
@@ -65,7 +67,7 @@ gathered-one gives state item items = gathered-append gives state (item ∷ []) 
 
 -- the acts behind one item
 acts_behind-one : (state : State) (item : ItemValue) (items : List ItemValue) → acts_behind state (item ∷ []) items ≡ acts_behind (state_behind state (item ∷ [])) [] items
-acts_behind-one state item items = gathered-one (λ s i. acts_in s i (act_body i.body)) state item items
+acts_behind-one state item items = gathered-one (λ s i. acts_of_item s i (act_body i.body)) state item items
 
 -- an act leaves the state as it is
 act_says_nothing : (state : State) (item : ItemValue) (body : BodyValue) (act : ActBodyValue) → item.body ≡ body → act_body body ≡ Some act → state_behind state (item ∷ []) ≡ state
@@ -97,7 +99,7 @@ pub acts_left-heard : (state : State) (old new : Unread) (item : ItemValue) → 
 unfolding acts_left
 acts_left-heard state old new item next none =
     ap (left_of state) next
-    ∙ (ap (λ body. acts_then (acts_in state item body ++ acts_behind state (item ∷ []) (items_among (outcomes_left new))) (refusal_among (outcomes_left new))) none
+    ∙ (ap (λ body. acts_then (acts_of_item state item body ++ acts_behind state (item ∷ []) (items_among (outcomes_left new))) (refusal_among (outcomes_left new))) none
     ∙ ap (λ acts. acts_then acts (refusal_among (outcomes_left new))) (acts_behind-one state item (items_among (outcomes_left new))))
 
 -- an act
@@ -106,7 +108,7 @@ pub acts_left-act : (state : State) (old new : Unread) (item : ItemValue) (body 
 unfolding acts_left
 acts_left-act state old new item body next is =
     ap (left_of state) next
-    ∙ (ap (λ b. acts_then (acts_in state item b ++ acts_behind state (item ∷ []) (items_among (outcomes_left new))) (refusal_among (outcomes_left new))) is
+    ∙ (ap (λ b. acts_then (acts_of_item state item b ++ acts_behind state (item ∷ []) (items_among (outcomes_left new))) (refusal_among (outcomes_left new))) is
     ∙ ap (λ acts. acts_then (act_at state item.at item.order body ∷ acts) (refusal_among (outcomes_left new)))
     (acts_behind-one state item (items_among (outcomes_left new))
     ∙ ap (λ s. acts_behind s [] (items_among (outcomes_left new))) (act_says_nothing state item item.body body refl is)))
@@ -116,12 +118,56 @@ pub acts_left-refused : (state : State) (old new : Unread) (refusal : Refusal) �
     → acts_left (awaited state old) ≡ Err refusal ∷ acts_left (awaited state new)
 unfolding acts_left
 acts_left-refused state old new refusal next =
-    let done : outcomes_left new ≡ [] = refusal-last old.rest old.at refusal (outcomes_left new) next in
+    let done : outcomes_left new ≡ [] = refusal_is_last old refusal (outcomes_left new) next in
     ap (left_of state) next ∙ (ap (λ results. left_of state (Err refusal ∷ results)) done ∙ ap (λ results. Err refusal ∷ left_of state results) (sym done))
 
 -- what is left behind the header is all
-pub acts_left-opened : (datagram : List ℕ) (state : State) (unread : Unread) → header_fault datagram ≡ None → state ≡ state_at_start (header_of datagram)
-    → unread ≡ record { rest = drop 20 datagram; at = 20 } → acts_left (awaited state unread) ≡ acts_then (acts_of (reading_of datagram)) (reading_of datagram).ending
+pub acts_left-opened : (reading : Reading) (header : Header) (state : State) (unread : Unread) → reading ≡ read_as header (outcomes_left unread) → state ≡ state_at_start header
+    → acts_left (awaited state unread) ≡ acts_then (acts_of reading) reading.ending
 unfolding acts_left acts_of
-acts_left-opened datagram state unread good state_is unread_is =
-    rw (reading_opened datagram good, state_is, unread_is) refl
+acts_left-opened reading header state unread is state_is = rw (is, state_is) refl
+
+pub acts_of-refused : (reading : Reading) (fault : WireFault) → reading ≡ refused_with fault → acts_of reading ≡ []
+unfolding acts_of
+acts_of-refused reading fault is = rw is refl
+
+pub acts_among-then : (acts : List ActValue) (ending : Option Refusal) → acts_among (acts_then acts ending) ≡ acts
+acts_among-then [] None = refl
+acts_among-then [] (Some refusal) = refl
+acts_among-then (act ∷ acts) ending = ap (λ more. act ∷ more) (acts_among-then acts ending)
+
+-- ---- how many there are: an item is one act at most
+
+one_act : (state : State) (item : ItemValue) (body : Option ActBodyValue) → length (acts_of_item state item body) ≤ 1
+one_act state item None = omega arith
+one_act state item (Some body) = omega arith
+
+few_behind : (start : State) (before items : List ItemValue) → length (acts_behind start before items) ≤ length items
+few_behind start before [] = omega arith
+few_behind start before (item ∷ items) =
+    omega (
+      arith,
+      length-append (acts_of_item (state_behind start before) item (act_body item.body)) (acts_behind start (before ++ item ∷ []) items),
+      one_act (state_behind start before) item (act_body item.body),
+      few_behind start (before ++ item ∷ []) items,
+    )
+
+items_and_refusal : (results : List Outcome) → length (items_among results) + length (option_to_list (refusal_among results)) ≤ length results
+items_and_refusal [] = omega arith
+items_and_refusal (Ok item ∷ results) = omega (arith, items_and_refusal results)
+items_and_refusal (Err refusal ∷ results) = omega (arith, items_and_refusal results)
+
+length-then : (acts : List ActValue) (ending : Option Refusal) → length (acts_then acts ending) ≡ length acts + length (option_to_list ending)
+length-then [] None = refl
+length-then [] (Some refusal) = refl
+length-then (act ∷ acts) ending = omega (arith, length-then acts ending)
+
+pub few_left : (state : State) (unread : Unread) → length (acts_left (awaited state unread)) ≤ length (outcomes_left unread)
+unfolding acts_left
+few_left state unread =
+    omega (
+      arith,
+      length-then (acts_behind state [] (items_among (outcomes_left unread))) (refusal_among (outcomes_left unread)),
+      few_behind state [] (items_among (outcomes_left unread)),
+      items_and_refusal (outcomes_left unread),
+    )

@@ -1,11 +1,11 @@
 -- Acts: the DATA, HEARTBEAT, ACKNACK and GAP of a datagram with the receiver's state at their places. DDSI-RTPS 2.5,
 -- 8.3.4 "The RTPS Message Receiver" and 8.3.4.1 "Rules Followed By The Message Receiver".
-use Rattle.std.specs.Prelude.{ℕ, ◌≡◌, if◌then◌else◌, List, [], ◌∷◌, ◌++◌, map, Option, Some, None, unwrap_or, option_to_list, Result, Ok, Err}
+use Rattle.std.specs.Prelude.{ℕ, ◌≡◌, if◌then◌else◌, List, [], ◌∷◌, ◌++◌, flat_map, map, Option, Some, None, unwrap_or, option_to_list, Result, Ok, Err}
 use Rattle.rtps_ids.specs.declared.identity.GuidPrefix.{GuidPrefix}
 use Rattle.rtps_ids.specs.declared.identity.Stamp.{Stamp}
 use Rattle.rtps_ids.specs.declared.order.Order.{Order}
 use Rattle.rtps_wire.specs.Message.{Reading}
-use Rattle.rtps_wire.specs.Reading.{Unread, items_among, outcomes_left, refusal_among}
+use Rattle.rtps_wire.specs.Reading.{Unread, items_among, outcomes_left, reading_of, refusal_among}
 use Rattle.rtps_wire.specs.Values.{BodyValue, ItemValue}
 use Rattle.rtps_wire.specs.Values.BodyValue.{Data, Heartbeat, AckNack, Gap, InfoTs, InfoDst, InfoSrc}
 use Rattle.rtps_wire.specs.declared.fault.Refusal.{Refusal}
@@ -82,9 +82,10 @@ act_at state at order body =
 abbrev pub IsActIn : State → ItemValue → Act → Type 0
 IsActIn state item act = (body : ActBodyValue) × (act_body item.body ≡ Some body) × (act_value act ≡ act_at state item.at item.order body)
 
-abbrev pub acts_in : State → ItemValue → Option ActBodyValue → List ActValue
-acts_in state item (Some body) = act_at state item.at item.order body ∷ []
-acts_in state item None = []
+-- the act that an item is, if it is one
+abbrev pub acts_of_item : State → ItemValue → Option ActBodyValue → List ActValue
+acts_of_item state item (Some body) = act_at state item.at item.order body ∷ []
+acts_of_item state item None = []
 
 -- what `gives` makes of each item in the state behind all items before it, one after another
 abbrev pub gathered : {X : Type 0} → (State → ItemValue → List X) → State → List ItemValue → List ItemValue → List X
@@ -93,7 +94,7 @@ gathered gives start before (item ∷ items) = gives (state_behind start before)
 
 -- the acts among items, each in the state behind all items before it
 abbrev pub acts_behind : State → List ItemValue → List ItemValue → List ActValue
-acts_behind start before items = gathered (λ state item. acts_in state item (act_body item.body)) start before items
+acts_behind start before items = gathered (λ state item. acts_of_item state item (act_body item.body)) start before items
 
 -- the acts of a reading; one without a header has none
 abbrev pub acts_with : Option Header → List ItemValue → List ActValue
@@ -102,6 +103,10 @@ acts_with (Some header) items = acts_behind (state_at_start header) [] items
 
 unfoldable pub acts_of : Reading → List ActValue
 acts_of reading = acts_with reading.header reading.items
+
+-- the acts of a recording, which is the octets of its datagrams in the order of sending
+abbrev pub acts_in : List (List ℕ) → List ActValue
+acts_in recording = flat_map (λ datagram. acts_of (reading_of datagram)) recording
 
 -- what is still to come of a message
 pub record Awaited : Type 0 where
@@ -115,6 +120,12 @@ ActOutcome = Result ActValue Refusal
 -- acts, and then the refusal where there is one
 abbrev pub acts_then : List ActValue → Option Refusal → List ActOutcome
 acts_then acts ending = map Ok acts ++ map Err (option_to_list ending)
+
+-- the acts among what is read of a message
+abbrev pub acts_among : List ActOutcome → List ActValue
+acts_among [] = []
+acts_among (Ok act ∷ rest) = act ∷ acts_among rest
+acts_among (Err refusal ∷ rest) = acts_among rest
 
 -- the acts of the unread items from the state on, and the refusal
 unfoldable pub acts_left : Awaited → List ActOutcome

@@ -1,9 +1,8 @@
-ghost use Rattle.std.specs.Prelude.{◌≡◌, MatchResult, None, Some};
+ghost use Rattle.std.specs.Prelude.{◌≡◌, ◌≤◌, [], length, MatchResult};
 ghost use Rattle.std.specs.Iterator.{YieldsFirstBy, item_count};
-ghost use Rattle.rtps_receiver.specs.Acts.{acts_left, acts_of, acts_then};
+ghost use Rattle.rtps_receiver.specs.Acts.{acts_among, acts_left, acts_of, acts_then};
 ghost use Rattle.rtps_receiver.specs.Values.{act_outcome_value};
-ghost use Rattle.rtps_wire.specs.Header.{header_fault};
-ghost use Rattle.rtps_wire.specs.Reading.{reading_of};
+ghost use Rattle.rtps_wire.specs.Reading.{reading_of, refused_with};
 
 use crate::act::Act;
 use crate::state::State;
@@ -27,13 +26,14 @@ impl<'a> Model for Acts<'a> {
 }
 
 impl<'a> Acts<'a> {
-    /// Reads the header of a datagram, of any length, and leaves its acts to be read. The refusal, at place 0, is
-    /// `Short`, `NotRtps` or `BadVersion`.
+    /// Reads the header of a datagram, of any length, and leaves its acts to be read, no more than it has octets. The
+    /// refusal, at place 0, is `Short`, `NotRtps` or `BadVersion`, and then there are no acts.
     #[inline(always)]
     pub fn open(bytes: &'a [u8]) -> Result<Acts<'a>, Refusal>
         ensures { MatchResult result
-            (λ acts. (header_fault bytes.now ≡ None) × (acts_left acts ≡ acts_then (acts_of (reading_of bytes.now)) (reading_of bytes.now).ending))
-            (λ refusal. (header_fault bytes.now ≡ Some refusal.fault) × (refusal.at ≡ 0)) }
+            (λ acts. (acts_left acts ≡ acts_then (acts_of (reading_of bytes.now)) (reading_of bytes.now).ending)
+            × (acts_among (acts_left acts) ≡ acts_of (reading_of bytes.now)) × (length (acts_left acts) ≤ length bytes.now))
+            (λ refusal. (reading_of bytes.now ≡ refused_with refusal.fault) × (refusal.at ≡ 0) × (acts_of (reading_of bytes.now) ≡ [])) }
     {
         match Items::open(bytes) {
             Ok((header, items)) => {

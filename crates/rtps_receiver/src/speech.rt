@@ -13,7 +13,7 @@ impl<'a> Act<'a> {
     /// Whether this writer speaks the act: it is a DATA, HEARTBEAT or GAP of its participant that names it. False of
     /// an ACKNACK.
     pub fn spoken_by(&self, writer: Guid) -> bool
-        ensures { IsTrue result ↔ IsSpokenBy (act_value self.now) writer }
+        ensures relation { IsTrue result ↔ IsSpokenBy (act_value self.now) writer }
         ensures test { result ≡ is_spoken_by (act_value self.now) writer }
     {
         self.source == writer.prefix && self.writer_named() == Some(writer.entity)
@@ -22,7 +22,7 @@ impl<'a> Act<'a> {
     /// Whether this reader hears the act: it is a DATA, HEARTBEAT or GAP for everyone or for its participant, and
     /// names the reader or every reader. False of an ACKNACK.
     pub fn heard_by(&self, reader: Guid) -> bool
-        ensures { IsTrue result ↔ IsHeardBy (act_value self.now) reader }
+        ensures relation { IsTrue result ↔ IsHeardBy (act_value self.now) reader }
         ensures test { result ≡ is_heard_by (act_value self.now) reader }
     {
         let for_it = match self.dest {
@@ -38,7 +38,7 @@ impl<'a> Act<'a> {
     /// Whether the act is an ACKNACK of this reader that answers this writer: its destination is the writer's
     /// participant by name. False of anything else, and of an ACKNACK for everyone.
     pub fn answers(&self, reader: Guid, writer: Guid) -> bool
-        ensures { IsTrue result ↔ IsAnswer (act_value self.now) reader writer }
+        ensures relation { IsTrue result ↔ IsAnswer (act_value self.now) reader writer }
         ensures test { result ≡ is_answer (act_value self.now) reader writer }
     {
         let ActBody::AckNack(ack_nack) = &self.body else {

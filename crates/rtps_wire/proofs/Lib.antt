@@ -2,3 +2,4 @@ pub mod OneReading
 pub mod Readings
 pub mod SetFields
 pub mod Submessages
+pub mod Offered

@@ -5,9 +5,8 @@ use Rattle.std.proofs.lemmas.Bool.Decides.{nat_tests}
 use Rattle.std.proofs.lemmas.List.{length-drop}
 use Rattle.rtps_wire.specs.Message.{body_fault, body_length, body_octets, fault_at, flags_of, id_of, item_at, next_rest, octets_to_next_header}
 use Rattle.rtps_wire.specs.Values.{ItemValue}
-use Rattle.rtps_wire.specs.Reading.{Outcome, items_among, outcomes, outcomes_with, outcomes_within, reading_of, reading_with, refusal_among}
+use Rattle.rtps_wire.specs.Reading.{Outcome, items_among, outcomes, outcomes_with, outcomes_within, read_as, reading_of, reading_with, refused_with}
 use Rattle.rtps_wire.specs.Header.{header_fault, header_of}
-use Rattle.rtps_wire.specs.declared.fault.Refusal.{Refusal}
 use Rattle.rtps_wire.specs.declared.fault.WireFault.{WireFault}
 
 -- what is behind a submessage is shorter
@@ -94,24 +93,11 @@ length-outcomes_within (suc n) (x ∷ xs) at enough =
 pub length-outcomes : (rest : List ℕ) (at : ℕ) → length (outcomes rest at) ≤ length rest
 length-outcomes rest at = length-outcomes_within (length rest) rest at (omega arith)
 
--- nothing is read behind a refusal
-last_with : (more : List ℕ → ℕ → List Outcome) (fault : Option WireFault) (rest : List ℕ) (at : ℕ) (refusal : Refusal) (behind : List Outcome)
-    → outcomes_with more fault rest at ≡ Err refusal ∷ behind → behind ≡ []
-last_with more (Some fault) rest at refusal behind same = cc
-last_with more None rest at refusal behind same = cc
-
-pub refusal-last : (rest : List ℕ) (at : ℕ) (refusal : Refusal) (behind : List Outcome) → outcomes rest at ≡ Err refusal ∷ behind → behind ≡ []
-refusal-last [] at refusal behind same = let empty : outcomes [] at ≡ [] = outcomes-done at in cc
-refusal-last (x ∷ xs) at refusal behind same =
-    last_with outcomes (fault_at (x ∷ xs)) (x ∷ xs) at refusal behind (sym (outcomes-step (x ∷ xs) at (omega arith)) ∙ same)
-
 -- the reading of a datagram whose header is refused, and of another
-pub reading_refused : (datagram : List ℕ) (fault : WireFault) → header_fault datagram ≡ Some fault
-    → reading_of datagram ≡ record { header = None; items = []; ending = Some (record { at = 0; fault = fault }) }
+pub reading_refused : (datagram : List ℕ) (fault : WireFault) → header_fault datagram ≡ Some fault → reading_of datagram ≡ refused_with fault
 unfolding reading_of
 reading_refused datagram fault is = ap (λ fault. reading_with fault datagram) is
 
-pub reading_opened : (datagram : List ℕ) → header_fault datagram ≡ None
-    → reading_of datagram ≡ record { header = Some (header_of datagram); items = items_among (outcomes (drop 20 datagram) 20); ending = refusal_among (outcomes (drop 20 datagram) 20) }
+pub reading_opened : (datagram : List ℕ) → header_fault datagram ≡ None → reading_of datagram ≡ read_as (header_of datagram) (outcomes (drop 20 datagram) 20)
 unfolding reading_of
 reading_opened datagram is = ap (λ fault. reading_with fault datagram) is

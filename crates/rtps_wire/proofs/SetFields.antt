@@ -5,7 +5,7 @@ use Rattle.std.specs.Int.RustNames.{unsigned_abs}
 use Rattle.std.proofs.lemmas.Bool.Decides.{nat_tests}
 use Rattle.std.proofs.lemmas.List.{length-drop}
 use Rattle.rtps_ids.specs.NumberSet.{NumberSetValue, is_bad, octets_of_count, set_fault, spelled_base, spelled_count, spelled_set}
-use Rattle.rtps_ids.proofs.Sets.{bad_set_found, cut_words_found, good_set_found, no_bits_at_zero, positive_base}
+use Rattle.rtps_ids.proofs.Offered.{bad_set_found, cut_words_found, good_set_found, no_bits_at_zero, positive_base}
 use Rattle.rtps_ids.specs.declared.order.Order.{Order}
 use Rattle.rtps_ids.specs.declared.set.SetFault.TheVariants.{BadSet, CutWords}
 use Rattle.rtps_wire.specs.declared.fault.WireFault.{WireFault}

@@ -7,6 +7,7 @@ use Rattle.rtps_wire.specs.Values.{ItemValue, item_value}
 use Rattle.rtps_wire.specs.declared.body.Item.{Item}
 use Rattle.rtps_wire.specs.declared.fault.Refusal.{Refusal}
 use Rattle.rtps_wire.specs.declared.fault.WireFault.{WireFault}
+use Rattle.rtps_wire.specs.declared.header.Header.{Header}
 
 -- what is read next: an item, or the refusal that ends the message
 abbrev pub Outcome : Type 0
@@ -51,14 +52,16 @@ refusal_among [] = None
 refusal_among (Ok item ∷ rest) = refusal_among rest
 refusal_among (Err refusal ∷ rest) = Some refusal
 
+-- what a datagram says whose header is refused, and one of this header behind which this is read
+abbrev pub refused_with : WireFault → Reading
+refused_with fault = record { header = None; items = []; ending = Some (record { at = 0; fault = fault }) }
+
+abbrev pub read_as : Header → List Outcome → Reading
+read_as header read = record { header = Some header; items = items_among read; ending = refusal_among read }
+
 abbrev pub reading_with : Option WireFault → List ℕ → Reading
-reading_with (Some fault) datagram = record { header = None; items = []; ending = Some (record { at = 0; fault = fault }) }
-reading_with None datagram =
-    record {
-      header = Some (header_of datagram);
-      items = items_among (outcomes (drop 20 datagram) 20);
-      ending = refusal_among (outcomes (drop 20 datagram) 20);
-    }
+reading_with (Some fault) datagram = refused_with fault
+reading_with None datagram = read_as (header_of datagram) (outcomes (drop 20 datagram) 20)
 
 -- the reading of a datagram
 unfoldable pub reading_of : List ℕ → Reading

@@ -6,7 +6,6 @@ use crate::counts::Tally;
 use crate::message::Items;
 
 /// Counts one datagram, of any length. Items before a refusal count.
-#[tactic(auto, using(crate::proofs::Readings::reading_refused, crate::proofs::Readings::reading_opened))]
 pub fn tally(bytes: &[u8]) -> Tally
     ensures { result ≡ tally_of (reading_of bytes.now) }
 {

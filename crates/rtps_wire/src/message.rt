@@ -1,9 +1,8 @@
-ghost use Rattle.std.specs.Prelude.{◌≡◌, ◌≤◌, ◌+◌, drop, length, IfOk, MatchResult, Some, None};
+ghost use Rattle.std.specs.Prelude.{◌≡◌, ◌≤◌, ◌+◌, length, IfOk, MatchResult};
 ghost use Rattle.std.specs.Iterator.{YieldsFirstBy, item_count};
 ghost use Rattle.rtps_wire.specs.Fault.{Answers};
-ghost use Rattle.rtps_wire.specs.Header.{header_fault, header_of};
 ghost use Rattle.rtps_wire.specs.Message.{body_fault, body_length, body_of, extent_of, fault_at, item_at, order_of as order_of_lem};
-ghost use Rattle.rtps_wire.specs.Reading.{outcome_value, outcomes_left};
+ghost use Rattle.rtps_wire.specs.Reading.{outcome_value, outcomes_left, read_as, reading_of, refused_with};
 ghost use Rattle.rtps_wire.specs.Values.{body_value, item_value};
 
 use crate::body::{Body, Item};
@@ -35,13 +34,13 @@ impl<'a> Model for Items<'a> {
 }
 
 impl<'a> Items<'a> {
-    /// Reads the header of a datagram, of any length, and leaves all behind it to be read. The refusal, at place 0,
-    /// is `Short`, `NotRtps` or `BadVersion`.
+    /// Reads the header of a datagram, of any length, and leaves all behind it to be read, in no more items than there
+    /// are octets. The refusal, at place 0, is `Short`, `NotRtps` or `BadVersion`, and then there is nothing to read.
     #[inline(always)]
     pub fn open(bytes: &'a [u8]) -> Result<(Header, Items<'a>), Refusal>
         ensures { MatchResult result
-            (λ opened. (header_fault bytes.now ≡ None) × (opened.0 ≡ header_of bytes.now) × (opened.1 ≡ record { rest = drop 20 bytes.now; at = 20 }))
-            (λ refusal. (header_fault bytes.now ≡ Some refusal.fault) × (refusal.at ≡ 0)) }
+            (λ opened. (reading_of bytes.now ≡ read_as opened.0 (outcomes_left opened.1)) × (length (outcomes_left opened.1) ≤ length bytes.now))
+            (λ refusal. (reading_of bytes.now ≡ refused_with refusal.fault) × (refusal.at ≡ 0)) }
     {
         match read_header(bytes) {
             Ok(header) => {

@@ -45,7 +45,7 @@ pub(crate) fn vendor_at(octets: &[u8], at: usize) -> Vendor
 }
 
 /// The sequence number set at this place, and how many octets it takes. Its base and its count are known to be there.
-#[tactic(auto, using(rtps_ids::proofs::Sets::bad_set_found, rtps_ids::proofs::Sets::cut_words_found, rtps_ids::proofs::Sets::good_set_found))]
+#[tactic(auto, using(rtps_ids::proofs::Offered::bad_set_found, rtps_ids::proofs::Offered::cut_words_found, rtps_ids::proofs::Offered::good_set_found))]
 pub(crate) fn set_at(
     order: Order,
     octets: &[u8],
