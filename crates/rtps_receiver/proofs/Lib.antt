@@ -1,2 +1,3 @@
 pub mod ActSteps
 pub mod SpeechTests
+pub mod ItemLaws

@@ -2,3 +2,4 @@ pub mod Acts
 pub mod Destination
 pub mod Speech
 pub mod Values
+pub mod Laws

@@ -1,0 +1,48 @@
+-- What the receiver's state at a place is, and which acts a message has, by its items alone. DDSI-RTPS 2.5, 8.3.4.1
+-- "Rules Followed By The Message Receiver".
+use Rattle.std.specs.Prelude.{◌≡◌, ◌⊎◌, ◌↔◌, List, ◌∷◌, ◌++◌, All, Contains, Option, Some, None}
+use Rattle.rtps_wire.specs.Message.{Reading}
+use Rattle.rtps_wire.specs.Values.{BodyValue, ItemValue}
+use Rattle.rtps_wire.specs.declared.header.Header.{Header}
+use Rattle.rtps_receiver.specs.Acts.{act_at, act_body, acts_of, says_destination, says_source, says_time, state_at_start, state_behind}
+use Rattle.rtps_receiver.specs.Values.{ActBodyValue, ActValue}
+use Rattle.rtps_receiver.specs.declared.state.State.{State}
+
+-- none of these items says anything
+abbrev pub IsSilent : {X : Type 0} → (BodyValue → Option X) → List ItemValue → Type 0
+IsSilent says items = All (λ item. says item.body ≡ None) items
+
+-- an item says x, and none behind it says anything
+pub record IsLastSaid {X : Type 0} (says : BodyValue → Option X) (items : List ItemValue) (x : X) : Type 0 where
+  pub before : List ItemValue
+  pub item : ItemValue
+  pub behind : List ItemValue
+  pub split : items ≡ before ++ item ∷ behind
+  pub said : says item.body ≡ Some x
+  pub silent : IsSilent says behind
+
+-- it is what was said last, or what it was at the start where nothing was said
+abbrev pub Stands : {X : Type 0} → (BodyValue → Option X) → List ItemValue → X → X → Type 0
+Stands says items start x = IsLastSaid says items x ⊎ (IsSilent says items × (x ≡ start))
+
+-- the state behind items is what stands of the source, of the destination and of the time
+pub record StandsBehind (start : State) (items : List ItemValue) (state : State) : Type 0 where
+  pub source : Stands says_source items start.source state.source
+  pub destination : Stands says_destination items start.dest state.dest
+  pub time : Stands says_time items start.stamp state.stamp
+
+-- an act of a message with this header: one of its items, which is an act, with the state behind all items before it
+pub record IsActOf (header : Header) (items : List ItemValue) (act : ActValue) : Type 0 where
+  pub before : List ItemValue
+  pub item : ItemValue
+  pub behind : List ItemValue
+  pub split : items ≡ before ++ item ∷ behind
+  pub body : ActBodyValue
+  pub is_act : act_body item.body ≡ Some body
+  pub value : act ≡ act_at (state_behind (state_at_start header) before) item.at item.order body
+
+abbrev pub TheStateIsWhatStands : Type 0
+TheStateIsWhatStands = (start : State) (items : List ItemValue) → StandsBehind start items (state_behind start items)
+
+abbrev pub ActsAreOfItems : Type 0
+ActsAreOfItems = (reading : Reading) (header : Header) (act : ActValue) → reading.header ≡ Some header → Contains (acts_of reading) act ↔ IsActOf header reading.items act
