@@ -5,7 +5,7 @@ use Rattle.rtps_params.specs.Grammar.{IsList}
 use Rattle.rtps_params.specs.Reading.{list_end, pairs_of}
 use Rattle.rtps_params.specs.Shown.{list_octets, list_order}
 use Rattle.rtps_params.specs.declared.list.ParamList.{ParamList}
-use Rattle.rtps_params.proofs.Agreement.{IsList-pairs}
+use Rattle.rtps_params.proofs.Offered.{pairs_of_list}
 use Rattle.rtps_discovery.specs.Announcement.{fields_of, order_of}
 use Rattle.rtps_discovery.specs.Fields.{fields_value}
 use Rattle.rtps_discovery.proofs.Slices.{take_behind}
@@ -13,7 +13,7 @@ use Rattle.rtps_discovery.proofs.Slices.{take_behind}
 -- what follows a list changes none of its pairs
 pairs_of-take : (order : Order) (used : ℕ) (octets : List ℕ) → IsList order (pairs_of order octets) (take used octets) → pairs_of order (take used octets) ≡ pairs_of order octets
 pairs_of-take order used octets h =
-    let e : pairs_of order (take used octets ++ []) ≡ pairs_of order octets = IsList-pairs order (pairs_of order octets) (take used octets) [] h in
+    let e : pairs_of order (take used octets ++ []) ≡ pairs_of order octets = pairs_of_list order (pairs_of order octets) (take used octets) [] h in
     rw (append-nil (take used octets)) at e
 
 -- what was read of a list in the rest of a payload

@@ -2,3 +2,4 @@ pub mod Ending
 pub mod Agreement
 pub mod Front
 pub mod Texts
+pub mod Offered
