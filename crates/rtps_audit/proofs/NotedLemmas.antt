@@ -7,7 +7,7 @@ use Rattle.std.proofs.lemmas.List.{append-nil, map-append}
 use Rattle.std.proofs.lemmas.List.Elements.{filter_map-append, All-append}
 use Rattle.std.proofs.lemmas.Bool.Decides.{nat_tests}
 use Rattle.std.proofs.lemmas.Bool.{cases_lt}
-use Rattle.rtps_ids.specs.NumberSet.{IsMember, NumberSetValue}
+use Rattle.rtps_ids.specs.NumberSet.{IsMember, NumberSetValue, is_member}
 use Rattle.rtps_ids.specs.Runs.{IsRunFrom, HasNoneFrom}
 use Rattle.rtps_ids.specs.declared.identity.Guid.{Guid}
 use Rattle.rtps_wire.specs.Values.{payload_value}
@@ -17,7 +17,6 @@ use Rattle.rtps_wire.specs.declared.fault.Refusal.{Refusal}
 use Rattle.rtps_wire.specs.declared.fault.WireFault.{WireFault}
 use Rattle.rtps_wire.specs.Header.{header_fault}
 use Rattle.rtps_wire.specs.Reading.{reading_of}
-use Rattle.rtps_wire.proofs.Readings.{reading_refused}
 use Rattle.rtps_receiver.specs.Acts.{acts_of, acts_then}
 use Rattle.rtps_receiver.specs.Values.{ActValue}
 use Rattle.rtps_receiver.specs.Values.ActBodyValue.{Gap}
@@ -26,7 +25,7 @@ use Rattle.rtps_audit.specs.Delivery.Word.{Told as told, Gone as gone}
 use Rattle.rtps_audit.specs.Facts.{IsInRange, act_of, announced_of, base_of}
 use Rattle.rtps_audit.specs.Speech.{announced_for, announced_of_body, base_for, base_of_body, is_in_gap, word_for, word_of}
 use Rattle.rtps_receiver.specs.Speech.{is_answer, is_heard_by, is_spoken_by}
-use Rattle.rtps_audit.specs.Noted.{Adds, SomeSays, StandFor, acts_among, gone_where, is_in_gap_below}
+use Rattle.rtps_audit.specs.Noted.{Adds, SomeSays, StandFor, gone_where, is_in_gap_below}
 use Rattle.rtps_audit.specs.declared.fact.Fact.{Fact}
 use Rattle.rtps_audit.specs.declared.fact.Fact.TheVariants.{Told, Gone, Claimed, Announced}
 use Rattle.rtps_audit.proofs.Gathered.{cons_option-nil}
@@ -182,12 +181,6 @@ stand_more writer reader a b c d acts act claims numbers words stand = record {
 pub stand_for_none : (writer reader : Guid) → StandFor writer reader [] []
 stand_for_none writer reader = record { in_range = search rules; bases = refl; announced = refl; words = λ n word positive. (λ says. says, λ says. says) }
 
--- the acts among all that is read
-pub acts_among-then : (acts : List ActValue) (ending : Option Refusal) → acts_among (acts_then acts ending) ≡ acts
-acts_among-then [] None = refl
-acts_among-then [] (Some refusal) = refl
-acts_among-then (act ∷ acts) ending = ap (λ l. act ∷ l) (acts_among-then acts ending)
-
 -- ---- single facts
 
 none_if : {X : Type 0} (b : Bool) (o : Option X) → (b ≡ false) ⊎ (o ≡ None) → cond b o None ≡ None
@@ -311,8 +304,3 @@ adds_heard writer reader act xs ys spoken heard adds =
     from : (is_spoken_by act writer && is_heard_by act reader) ≡ true → (n : ℕ) (word : Word) → 1 ≤ n → SomeSays (filter_map act_of xs) n word ⊎ (word_for writer reader act n ≡ Some word) → SomeSays (filter_map act_of ys) n word
     from both n word h (inl old) = (adds.words n word h).1 (inl old)
     from both n word h (inr new) = (adds.words n word h).1 (inr (sym (says both n) ∙ new))
-
--- a datagram whose header is refused has no acts
-pub no_acts : (datagram : List ℕ) (fault : WireFault) → header_fault datagram ≡ Some fault → acts_of (reading_of datagram) ≡ []
-unfolding acts_of
-no_acts datagram fault refused = ap acts_of (reading_refused datagram fault refused)

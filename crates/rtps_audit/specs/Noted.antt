@@ -4,7 +4,6 @@ use Rattle.std.specs.List.{filter_map}
 use Rattle.rtps_ids.specs.NumberSet.{is_member}
 use Rattle.rtps_ids.specs.declared.identity.Guid.{Guid}
 use Rattle.rtps_wire.specs.declared.body.GapBody.{GapBody}
-use Rattle.rtps_receiver.specs.Acts.{ActOutcome}
 use Rattle.rtps_receiver.specs.Values.{ActValue}
 use Rattle.rtps_audit.specs.Delivery.{Word}
 use Rattle.rtps_audit.specs.Delivery.Word.{Gone}
@@ -30,12 +29,6 @@ pub record StandFor (writer reader : Guid) (facts : List Fact) (acts : List ActV
   pub bases : filter_map base_of facts ≡ filter_map (base_for writer reader) acts
   pub announced : filter_map announced_of facts ≡ filter_map (announced_for writer) acts
   pub words : (n : ℕ) (word : Word) → 1 ≤ n → SomeSays (filter_map act_of facts) n word ↔ SomeSays (map (word_for writer reader) acts) n word
-
--- the acts among what is read of a datagram
-abbrev pub acts_among : List ActOutcome → List ActValue
-acts_among [] = []
-acts_among (Ok act ∷ rest) = act ∷ acts_among rest
-acts_among (Err refusal ∷ rest) = acts_among rest
 
 -- a word that says that a number will not come, where the test holds
 abbrev pub gone_where : (ℕ → Bool) → ℕ → Option Word

@@ -1,21 +1,18 @@
 -- What a report says of a recording: one row for each reliable pair, and what was counted.
-use Rattle.std.specs.Prelude.{ℕ, Bool, true, false, ◌≡◌, ◌&&◌, List, length, map, All, count_by, sum_by, flat_map}
+use Rattle.std.specs.Prelude.{ℕ, Bool, true, false, ◌≡◌, ◌&&◌, List, length, map, All, count_by, sum_by}
 use Rattle.rtps_wire.specs.Reading.{reading_of}
 use Rattle.rtps_wire.specs.Tally.{tally_of}
-use Rattle.rtps_receiver.specs.Acts.{acts_of}
+use Rattle.rtps_receiver.specs.Acts.{acts_in, acts_of}
+use Rattle.rtps_receiver.specs.Speech.{is_for_all}
 use Rattle.rtps_receiver.specs.Values.{ActBodyValue, ActValue}
 use Rattle.rtps_receiver.specs.Values.ActBodyValue.{Data, Heartbeat, AckNack, Gap}
 use Rattle.rtps_discovery.specs.Directory.{DirectoryValue, IsMapOf, settled_in, unsettled_in}
 use Rattle.rtps_discovery.specs.Matching.{matches_among, reliable_pairs}
 use Rattle.rtps_audit.specs.RunVerdict.{IsVerdict}
-use Rattle.rtps_audit.specs.Speech.{is_for_all, speech_of}
+use Rattle.rtps_audit.specs.Speech.{speech_of}
 use Rattle.rtps_audit.specs.declared.report.Counts.{Counts}
 use Rattle.rtps_audit.specs.declared.report.Report.{Report}
 use Rattle.rtps_audit.specs.declared.report.Row.{Row}
-
--- all acts of a recording, which is the octets of its datagrams in the order of sending
-abbrev pub acts_in : List (List ℕ) → List ActValue
-acts_in recording = flat_map (λ datagram. acts_of (reading_of datagram)) recording
 
 abbrev pub is_ack_nack : ActBodyValue → Bool
 is_ack_nack (AckNack value) = true

@@ -1,11 +1,10 @@
 ghost use Rattle.std.specs.Prelude.{ℤ, ◌≡◌, ◌↔◌, ◌++◌, List, map, All, IfOk, OnOk};
-ghost use Rattle.rtps_receiver.specs.Acts.{acts_left, acts_of};
+ghost use Rattle.rtps_receiver.specs.Acts.{acts_among, acts_in, acts_left, acts_of};
 ghost use Rattle.rtps_receiver.specs.Values.{ActValue};
 ghost use Rattle.rtps_wire.specs.Reading.{reading_of};
 ghost use Rattle.rtps_discovery.specs.Directory.{IsMapOf};
 ghost use Rattle.rtps_audit.specs.Delivered.{IsDelivered};
-ghost use Rattle.rtps_audit.specs.Noted.{acts_among};
-ghost use Rattle.rtps_audit.specs.Report.{IsJudged, IsReport, acts_in};
+ghost use Rattle.rtps_audit.specs.Report.{IsJudged, IsReport};
 ghost use Rattle.rtps_audit.specs.Speech.{speech_of};
 
 use crate::counting::counts_in;

@@ -1,8 +1,7 @@
 ghost use Rattle.std.specs.Prelude.{◌≡◌, ◌<◌, ◌^◌, length, map, count_by, if◌then◌else◌};
-ghost use Rattle.rtps_receiver.specs.Acts.{acts_left, acts_of};
+ghost use Rattle.rtps_receiver.specs.Acts.{acts_among, acts_left, acts_of};
 ghost use Rattle.rtps_receiver.specs.Values.{act_value};
 ghost use Rattle.rtps_wire.specs.Reading.{reading_of};
-ghost use Rattle.rtps_audit.specs.Noted.{acts_among};
 ghost use Rattle.rtps_audit.specs.Report.{counts_of, is_undirected as is_undirected_lem};
 
 use crate::report::Counts;

@@ -1,11 +1,11 @@
 ghost use Rattle.std.specs.Prelude.{ℕ, ◌≡◌, ◌+◌, ◌<◌, ◌≤◌, ◌^◌, ◌&&◌, nat_le, nat_lt, ◌++◌, [], ◌∷◌, List, None, OnOk, IfSome};
 ghost use Rattle.std.specs.Option.{option_to_list};
 ghost use Rattle.rtps_wire.specs.Reading.{reading_of};
-ghost use Rattle.rtps_receiver.specs.Acts.{acts_left, acts_of};
+ghost use Rattle.rtps_receiver.specs.Acts.{acts_among, acts_left, acts_of};
 ghost use Rattle.rtps_receiver.specs.Values.{ActValue, act_body_value, act_value};
 ghost use Rattle.rtps_receiver.specs.Values.ActBodyValue.{Gap};
 ghost use Rattle.rtps_audit.specs.Speech.{announced_for, announced_of_body, base_for, base_of_body, word_for, word_of};
-ghost use Rattle.rtps_audit.specs.Noted.{Adds, StandFor, acts_among, is_in_gap_below};
+ghost use Rattle.rtps_audit.specs.Noted.{Adds, StandFor, is_in_gap_below};
 
 use crate::fact::Fact;
 use rtps_ids::{Guid, Memory};

@@ -1,6 +1,6 @@
 use Rattle.std.proofs.Common.{sym, subst, map, take}
 use Rattle.rtps_discovery.specs.Directory.{IsMapOf}
-use Rattle.rtps_audit.specs.Report.{acts_in}
+use Rattle.rtps_receiver.specs.Acts.{acts_in}
 use Rattle.rtps_audit.proofs.RecordingActs.{acts_in_more}
 use Rattle.rtps_audit.proofs.auditing.directory_of.Goals as goal
 

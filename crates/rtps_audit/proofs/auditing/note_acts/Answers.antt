@@ -2,7 +2,7 @@ use Rattle.std.proofs.Common.{◌∷◌, [], ◌++◌, sym, ◌∙◌, ap, appen
 use Rattle.rtps_discovery.specs.Directory.{IsMapOf}
 use Rattle.rtps_receiver.specs.Acts.{acts_left}
 use Rattle.rtps_receiver.specs.Values.{act_value, act_outcome_value}
-use Rattle.rtps_audit.specs.Noted.{acts_among}
+use Rattle.rtps_receiver.specs.Acts.{acts_among}
 use Rattle.rtps_audit.proofs.auditing.note_acts.Goals as goal
 
 pub loop-outcome-preserved-in-Ok : goal.loop-outcome-preserved-in-Ok

@@ -2,7 +2,7 @@ use Rattle.std.proofs.Common.{◌≡◌, ◌++◌, List}
 use Rattle.rtps_discovery.specs.Directory.{IsMapOf}
 use Rattle.rtps_receiver.specs.Acts.{acts_left}
 use Rattle.rtps_receiver.specs.Values.{ActValue}
-use Rattle.rtps_audit.specs.Noted.{acts_among}
+use Rattle.rtps_receiver.specs.Acts.{acts_among}
 use Rattle.rtps_audit.proofs.auditing.note_acts.Given as goal
 
 -- the acts so far are noted

@@ -1,7 +1,7 @@
 use Rattle.std.proofs.Common.{◌≡◌, ◌<◌, ◌≤◌, ◌^◌, ◌+◌, length}
 use Rattle.std.specs.Prelude.{count_by}
 use Rattle.rtps_receiver.specs.Acts.{acts_left}
-use Rattle.rtps_audit.specs.Noted.{acts_among}
+use Rattle.rtps_receiver.specs.Acts.{acts_among}
 use Rattle.rtps_audit.specs.Report.{is_undirected}
 use Rattle.rtps_audit.proofs.counting.undirected_left.Given as goal
 

@@ -1,7 +1,7 @@
 use Rattle.std.proofs.Common.{◌∷◌, [], ◌++◌, sym, ◌∙◌, ap, append_assoc}
 use Rattle.rtps_receiver.specs.Acts.{acts_left}
 use Rattle.rtps_receiver.specs.Values.{act_value, act_outcome_value}
-use Rattle.rtps_audit.specs.Noted.{acts_among}
+use Rattle.rtps_receiver.specs.Acts.{acts_among}
 use Rattle.rtps_audit.proofs.said.push_acts.Goals as goal
 
 pub loop-outcome-preserved-in-Continue-1 : goal.loop-outcome-preserved-in-Continue-1

@@ -1,7 +1,8 @@
 use Rattle.std.proofs.Common.{◌≡◌, ◌++◌, List}
 use Rattle.rtps_receiver.specs.Acts.{acts_left}
 use Rattle.rtps_receiver.specs.Values.{ActValue}
-use Rattle.rtps_audit.specs.Noted.{StandFor, acts_among}
+use Rattle.rtps_audit.specs.Noted.{StandFor}
+use Rattle.rtps_receiver.specs.Acts.{acts_among}
 use Rattle.rtps_audit.proofs.said.push_acts.Given as goal
 
 -- the facts stand for the acts so far

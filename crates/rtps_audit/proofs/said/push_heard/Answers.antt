@@ -5,4 +5,4 @@ use Rattle.rtps_audit.proofs.said.push_heard.Goals as goal
 
 pub returns-in_ok-push_words : goal.returns-in_ok-push_words
 returns-in_ok-push_words c =
-    adds_heard c.args.writer c.args.reader (act_value c.args.act.now) c.args.facts.now.items _ (sym c.is_spoken.ensures ∙ c.if-is_spoken.true) (sym c.is_heard.ensures ∙ c.if-is_heard.true) c.in_ok-push_words.ensures
+    adds_heard c.args.writer c.args.reader (act_value c.args.act.now) c.args.facts.now.items _ (sym c.spoken_by.ensures.test ∙ c.if-spoken_by.true) (sym c.heard_by.ensures.test ∙ c.if-heard_by.true) c.in_ok-push_words.ensures
