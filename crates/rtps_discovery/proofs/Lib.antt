@@ -14,3 +14,4 @@ pub mod MapLaws
 pub mod ListingLaws
 pub mod EachHasAMap
 pub mod Told
+pub mod Faults

@@ -1,6 +1,6 @@
 -- Which acts are announcements, and what they announce. DDSI-RTPS 2.5, 8.5.3 "The Simple Participant Discovery
 -- Protocol", 8.5.4 "The Simple Endpoint Discovery Protocol" and 9.3.1.3 "Predefined EntityIds".
-use Rattle.std.specs.Prelude.{ℕ, Bool, if◌then◌else◌, nat_eq, List, [], ◌∷◌, Option, Some, None, Result, Ok, Err}
+use Rattle.std.specs.Prelude.{ℕ, Bool, true, false, if◌then◌else◌, nat_eq, count_by, List, [], ◌∷◌, Option, Some, None, Result, Ok, Err}
 use Rattle.std.specs.Cmp.Lexicographic.{pointwise}
 use Rattle.std.specs.List.{filter_map}
 use Rattle.std.specs.Option.{option_map}
@@ -62,6 +62,15 @@ abbrev pub answer_of : Option (Result Announced NoticeFault) → Noted
 answer_of None = noted.Nothing
 answer_of (Some (Ok announced)) = noted.Kept
 answer_of (Some (Err fault)) = noted.Fault fault
+
+-- how many acts are answered with a fault
+abbrev pub is_fault : Noted → Bool
+is_fault noted.Nothing = false
+is_fault noted.Kept = false
+is_fault (noted.Fault fault) = true
+
+abbrev pub faults_in : List ActValue → ℕ
+faults_in acts = count_by (λ act. is_fault (answer_of (announcement_of act))) acts
 
 -- an announcement of a participant, and one of an endpoint
 abbrev pub participant_in : Option (Result Announced NoticeFault) → Option Guid

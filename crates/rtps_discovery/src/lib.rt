@@ -3,6 +3,7 @@
 #![tactic(auto)]
 
 mod announcement;
+mod datagram;
 mod directory_map;
 mod endpoint;
 mod fault;

@@ -5,15 +5,11 @@ use Rattle.std.specs.Fmt.{decimal}
 use Rattle.std.specs.List.{flat_map}
 use Rattle.hex.specs.Hex.{encode_lower}
 use Rattle.rtps_ids.specs.declared.identity.Guid.{Guid}
-use Rattle.rtps_wire.specs.Reading.{reading_of}
-use Rattle.rtps_receiver.specs.Acts.{ActOutcome, acts_of}
-use Rattle.rtps_receiver.specs.Values.{ActValue}
+use Rattle.rtps_receiver.specs.Acts.{acts_in}
 use Rattle.rtps_discovery.specs.Directory.{DirectoryValue, IsMapOf, settled_in, unsettled_in}
 use Rattle.rtps_discovery.specs.Endpoint.{EndpointValue}
 use Rattle.rtps_discovery.specs.Matching.{matches_among}
-use Rattle.rtps_discovery.specs.Notice.{announcement_of, answer_of}
-use Rattle.rtps_discovery.specs.declared.notice.Noted.{Noted}
-use Rattle.rtps_discovery.specs.declared.notice.Noted.TheVariants as noted
+use Rattle.rtps_discovery.specs.Notice.{faults_in}
 use Rattle.rtps_discovery.specs.declared.endpoint.Durability.{Durability}
 use Rattle.rtps_discovery.specs.declared.endpoint.Durability.TheVariants.{Volatile, TransientLocal, Transient, Persistent}
 use Rattle.rtps_discovery.specs.declared.endpoint.Reliability.{Reliability}
@@ -74,25 +70,6 @@ match_line found = line_of (codes "pair" ∷ guid_text found.pair.writer ∷ gui
 abbrev pub counts_line : ℕ → ℕ → ℕ → ℕ → List ℕ
 counts_line participants endpoints unsettled faults = line_of (codes "participants" ∷ decimal participants ∷ codes "endpoints" ∷ decimal endpoints
     ∷ codes "unsettled" ∷ decimal unsettled ∷ codes "faults" ∷ decimal faults ∷ [])
-
--- the acts of datagrams, in order
-abbrev pub acts_in : List (List ℕ) → List ActValue
-acts_in datagrams = flat_map (λ datagram. acts_of (reading_of datagram)) datagrams
-
--- the acts among what is left of a datagram
-abbrev pub acts_among : List ActOutcome → List ActValue
-acts_among [] = []
-acts_among (Ok act ∷ outcomes) = act ∷ acts_among outcomes
-acts_among (Err refusal ∷ outcomes) = acts_among outcomes
-
--- the acts that are answered with a fault
-abbrev pub is_fault : Noted → Bool
-is_fault noted.Nothing = false
-is_fault noted.Kept = false
-is_fault (noted.Fault fault) = true
-
-abbrev pub faults_in : List ActValue → ℕ
-faults_in acts = count_by (λ act. is_fault (answer_of (announcement_of act))) acts
 
 -- the lines of a directory, and of so many faults
 abbrev pub directory_text : DirectoryValue → ℕ → List ℕ
