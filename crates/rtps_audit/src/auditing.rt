@@ -1,7 +1,5 @@
-ghost use Rattle.std.specs.Prelude.{ℤ, ◌≡◌, ◌↔◌, ◌++◌, List, map, All, IfOk, OnOk};
-ghost use Rattle.rtps_receiver.specs.Acts.{acts_among, acts_in, acts_left, acts_of};
-ghost use Rattle.rtps_receiver.specs.Values.{ActValue};
-ghost use Rattle.rtps_wire.specs.Reading.{reading_of};
+ghost use Rattle.std.specs.Prelude.{ℤ, ◌≡◌, ◌↔◌, map, All, IfOk};
+ghost use Rattle.rtps_receiver.specs.Acts.{acts_in};
 ghost use Rattle.rtps_discovery.specs.Directory.{IsMapOf};
 ghost use Rattle.rtps_audit.specs.Delivered.{IsDelivered};
 ghost use Rattle.rtps_audit.specs.Report.{IsJudged, IsReport};
@@ -13,36 +11,7 @@ use crate::report::{Report, Row};
 use crate::verdict::Verdict;
 use rtps_discovery::{Directory, Pair};
 use rtps_ids::Memory;
-use rtps_receiver::Acts;
 use std::alloc::Global;
-
-/// Notes what is still to come of a datagram.
-fn note_acts<'a>(directory: &mut Directory<'a>, acts: Acts<'a>) -> Result<(), Memory>
-    ensures { OnOk result ((before : List ActValue) → IsMapOf before directory.old
-        → IsMapOf (before ++ acts_among (acts_left acts.entry)) directory.new) }
-{
-    for outcome in acts {
-        match outcome {
-            Ok(act) => {
-                let _ = directory.note(&act)?;
-            }
-            Err(_) => {}
-        }
-    }
-    Ok(())
-}
-
-/// Notes a datagram.
-fn note_datagram<'a>(directory: &mut Directory<'a>, datagram: &'a [u8]) -> Result<(), Memory>
-    ensures { OnOk result ((before : List ActValue) → IsMapOf before directory.old
-        → IsMapOf (before ++ acts_of (reading_of datagram.now)) directory.new) }
-{
-    match Acts::open(datagram) {
-        Ok(acts) => note_acts(directory, acts)?,
-        Err(_) => {}
-    }
-    Ok(())
-}
 
 /// What a recording announces.
 fn directory_of<'a>(alloc: Global, recording: &[&'a [u8]]) -> Result<Directory<'a>, Memory>
@@ -50,7 +19,7 @@ fn directory_of<'a>(alloc: Global, recording: &[&'a [u8]]) -> Result<Directory<'
 {
     let mut directory = Directory::new(alloc);
     for datagram in recording {
-        note_datagram(&mut directory, datagram)?;
+        let _ = directory.note_datagram(datagram)?;
     }
     Ok(directory)
 }

@@ -8,5 +8,5 @@ pub loop-datagram-preserved : goal.loop-datagram-preserved
 loop-datagram-preserved c =
     let i = c.loop-datagram.datagram-index in
     let recording = c.args.recording.now in
-    subst (λ l. IsMapOf l c.note_datagram.new.directory) (sym (acts_in_more recording i _ c.loop-datagram-test.true))
-    (c.in_ok-note_datagram.ensures (acts_in (map (λ datagram. datagram.now) (take i recording))) c.loop-datagram.invariant)
+    subst (λ l. IsMapOf l c.note_datagram.new.self) (sym (acts_in_more recording i _ c.loop-datagram-test.true))
+    (c.in_ok-note_datagram.ensures.map (acts_in (map (λ datagram. datagram.now) (take i recording))) c.loop-datagram.invariant)
