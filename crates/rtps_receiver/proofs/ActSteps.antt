@@ -61,13 +61,13 @@ gathered-append gives start before middle (item ∷ items) =
     ∙ ap (λ more. gives (state_behind (state_behind start before) middle) item ++ more) rest
 
 -- what is gathered behind one item is gathered from the state behind it on
-pub gathered-one : {X : Type 0} (gives : State → ItemValue → List X) (state : State) (item : ItemValue) (items : List ItemValue)
+pub gathered-behind : {X : Type 0} (gives : State → ItemValue → List X) (state : State) (item : ItemValue) (items : List ItemValue)
     → gathered gives state (item ∷ []) items ≡ gathered gives (state_behind state (item ∷ [])) [] items
-gathered-one gives state item items = gathered-append gives state (item ∷ []) [] items
+gathered-behind gives state item items = gathered-append gives state (item ∷ []) [] items
 
 -- the acts behind one item
 acts_behind-one : (state : State) (item : ItemValue) (items : List ItemValue) → acts_behind state (item ∷ []) items ≡ acts_behind (state_behind state (item ∷ [])) [] items
-acts_behind-one state item items = gathered-one (λ s i. acts_of_item s i (act_body i.body)) state item items
+acts_behind-one state item items = gathered-behind (λ s i. acts_of_item s i (act_body i.body)) state item items
 
 -- an act leaves the state as it is
 act_says_nothing : (state : State) (item : ItemValue) (body : BodyValue) (act : ActBodyValue) → item.body ≡ body → act_body body ≡ Some act → state_behind state (item ∷ []) ≡ state

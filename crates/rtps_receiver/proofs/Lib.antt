@@ -1,3 +1,4 @@
 pub mod ActSteps
 pub mod SpeechTests
 pub mod ItemLaws
+pub mod Offered

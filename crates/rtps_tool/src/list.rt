@@ -1,18 +1,16 @@
-ghost use Rattle.std.specs.Prelude.{◌≡◌, ◌++◌, ◌<◌, ◌^◌, if◌then◌else◌, [], IfOk, OnOk, List, length};
+ghost use Rattle.std.specs.Prelude.{◌≡◌, ◌++◌, [], IfOk, OnOk};
 ghost use Rattle.std.specs.String.{string_bytes};
 ghost use Rattle.rtps_discovery.specs.Directory.{IsMapOf};
 ghost use Rattle.rtps_discovery.specs.Endpoint.{endpoint_value};
 ghost use Rattle.std.specs.List.{flat_map};
-ghost use Rattle.rtps_receiver.specs.Acts.{acts_left, acts_of};
-ghost use Rattle.rtps_receiver.specs.Values.{ActValue};
-ghost use Rattle.rtps_wire.specs.Reading.{reading_of};
-ghost use Rattle.rtps_tool.specs.ListText.{IsListOf, acts_among, acts_in, directory_text as directory_text_lem, endpoint_line, faults_in, is_fault, match_line, participant_line};
+ghost use Rattle.rtps_receiver.specs.Acts.{acts_in};
+ghost use Rattle.rtps_discovery.specs.Notice.{faults_in};
+ghost use Rattle.rtps_tool.specs.ListText.{IsListOf, directory_text as directory_text_lem, endpoint_line, match_line, participant_line};
 
 use crate::datagrams::Recording;
 use crate::list_lines::{CountsLine, EndpointLine, MatchLine, ParticipantLine};
-use rtps_discovery::{Directory, Endpoint, Match, Noted};
+use rtps_discovery::{Directory, Endpoint, Match};
 use rtps_ids::{Guid, Memory};
-use rtps_receiver::Acts;
 use std::alloc::{AllocError, Global};
 
 /// What `list` prints of a recording.
@@ -36,52 +34,10 @@ fn note_datagrams<'a>(
     let mut faults = 0u128;
     'datagrams: for i in 0..recording.len() {
         if let Some(octets) = recording.datagram(i) {
-            faults += u128::from(note_datagram(directory, octets)?);
+            faults += u128::from(directory.note_datagram(octets)?);
         }
     }
     Ok(faults)
-}
-
-// Notes the acts of a datagram, and answers how many had a fault.
-fn note_datagram<'a>(directory: &mut Directory<'a>, octets: &'a [u8]) -> Result<u64, Memory>
-    ensures map { OnOk result ((acts : List ActValue)
-        → IsMapOf acts directory.old → IsMapOf (acts ++ acts_of (reading_of octets.now)) directory.new) }
-    ensures faults { IfOk result (λ faults. faults ≡ faults_in (acts_of (reading_of octets.now))) }
-{
-    match Acts::open(octets) {
-        Ok(acts) => note_acts(directory, acts),
-        Err(_) => Ok(0),
-    }
-}
-
-// Notes what is left of the acts of a datagram, and answers how many had a fault.
-fn note_acts<'a>(directory: &mut Directory<'a>, left: Acts<'a>) -> Result<u64, Memory>
-    requires { length (acts_left left) < 2 ^ 64 }
-    ensures map { OnOk result ((acts : List ActValue)
-        → IsMapOf acts directory.old → IsMapOf (acts ++ acts_among (acts_left left.entry)) directory.new) }
-    ensures faults { IfOk result (λ faults. faults ≡ faults_in (acts_among (acts_left left.entry))) }
-{
-    let mut faults = 0;
-    for outcome in left {
-        match outcome {
-            Ok(act) => {
-                let noted = directory.note(&act)?;
-                faults += fault_count(noted);
-            }
-            Err(_) => {}
-        }
-    }
-    Ok(faults)
-}
-
-// One for an act that is answered with a fault, and else none.
-fn fault_count(noted: Noted) -> u64
-    ensures { result ≡ (if is_fault noted then 1 else 0) }
-{
-    match noted {
-        Noted::Nothing | Noted::Kept => 0,
-        Noted::Fault(_) => 1,
-    }
 }
 
 // The lines of a directory, and of so many faults.

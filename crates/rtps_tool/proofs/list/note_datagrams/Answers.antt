@@ -2,7 +2,8 @@ use Rattle.std.proofs.Common.{◌≡◌, ◌++◌, ◌+◌, ◌∙◌, ap, arith
 use Rattle.rtps_discovery.specs.Directory.{IsMapOf}
 use Rattle.rtps_receiver.specs.Acts.{acts_of}
 use Rattle.rtps_wire.specs.Reading.{reading_of}
-use Rattle.rtps_tool.specs.ListText.{acts_in, faults_in}
+use Rattle.rtps_receiver.specs.Acts.{acts_in}
+use Rattle.rtps_discovery.specs.Notice.{faults_in}
 use Rattle.rtps_tool.proofs.ListLemmas.{acts_in-more, faults_in-append}
 use Rattle.rtps_tool.proofs.ShowLemmas.{not_none_within}
 use Rattle.rtps_tool.proofs.list.note_datagrams.Goals as goal

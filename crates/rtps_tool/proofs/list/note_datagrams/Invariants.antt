@@ -1,6 +1,7 @@
 use Rattle.std.proofs.Common.{◌≡◌, ◌*◌, ◌≤◌, ◌^◌, take}
 use Rattle.rtps_discovery.specs.Directory.{IsMapOf}
-use Rattle.rtps_tool.specs.ListText.{acts_in, faults_in}
+use Rattle.rtps_receiver.specs.Acts.{acts_in}
+use Rattle.rtps_discovery.specs.Notice.{faults_in}
 use Rattle.rtps_tool.proofs.list.note_datagrams.Given as goal
 
 -- the map of the acts so far, and how many had a fault

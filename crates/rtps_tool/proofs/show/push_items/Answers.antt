@@ -5,7 +5,7 @@ use Rattle.rtps_wire.specs.Reading.{Outcome, outcome_value, outcomes_left}
 use Rattle.rtps_tool.specs.ShowText.{item_line, outcomes_text}
 use Rattle.rtps_receiver.specs.Acts.{state_behind}
 use Rattle.rtps_tool.proofs.ShowLemmas.{outcomes_text-item}
-use Rattle.rtps_wire.proofs.Readings.{refusal-last}
+use Rattle.rtps_wire.proofs.Offered.{refusal_is_last}
 use Rattle.rtps_wire.specs.Values.{item_value}
 use Rattle.rtps_tool.proofs.show.push_items.Goals as goal
 
@@ -15,7 +15,7 @@ loop-outcome-preserved c =
     let left = c.loop-outcome.outcome-iterator in
     let later = outcomes_left c.next.new.self in
     let step : outcomes_left left ≡ Err c.in-Err.refusal ∷ later = c.in-Some.ensures.steps ∙ ap (λ o. outcome_value o ∷ later) c.in-Err.is in
-    let none : later ≡ [] = refusal-last left.rest left.at c.in-Err.refusal later step in
+    let none : later ≡ [] = refusal_is_last left c.in-Err.refusal later step in
     let last : outcomes_left left ≡ Err c.in-Err.refusal ∷ [] = step ∙ ap (λ (more : List Outcome). Err c.in-Err.refusal ∷ more) none in (
       tt,
       tt,
