@@ -7,38 +7,41 @@ use Rattle.rtps_ids.specs.declared.order.Order.{Order}
 use Rattle.rtps_params.specs.Reading.{list_end}
 use Rattle.rtps_params.specs.Shown.{ListValue}
 use Rattle.rtps_wire.specs.Fault.{first_fault}
+use Rattle.rtps_wire.specs.Fields.{entity_at}
 use Rattle.rtps_wire.specs.Values.{DataValue, PayloadValue}
 use Rattle.rtps_wire.specs.Values.PayloadValue.{Absent, Whole, Key}
 use Rattle.rtps_wire.specs.declared.fault.WireFault.{WireFault}
 use Rattle.rtps_wire.specs.declared.fault.WireFault.TheVariants.{ShortBody, BadFlags, BadOffset, BadNumber, BadInlineQos}
+use Rattle.rtps_wire.specs.declared.flags.TheConstants.DataFlags.{D, K, Q}
+use Rattle.rtps_wire.specs.declared.layout.data.TheConstants.{NUMBER, OCTETS_TO_QOS, QOS_FROM, READER, SIZE, WRITER}
 
 -- flags Q (inline QoS), D (data) and K (key); N has no effect
 abbrev pub has_qos : ℕ → Bool
-has_qos flags = bit_and flags 2 == 2
+has_qos flags = bit_and flags Q.0 == Q.0
 
 abbrev pub has_data : ℕ → Bool
-has_data flags = bit_and flags 4 == 4
+has_data flags = bit_and flags D.0 == D.0
 
 abbrev pub has_key : ℕ → Bool
-has_key flags = bit_and flags 8 == 8
+has_key flags = bit_and flags K.0 == K.0
 
--- extraFlags (ignored), octetsToInlineQos at 2, readerId at 4, writerId at 8, writerSN at 12
+-- extraFlags (ignored), octetsToInlineQos, readerId, writerId, writerSN
 abbrev pub octets_to_inline_qos : Order → List ℕ → ℕ
-octets_to_inline_qos order body = number_of order 2 (drop 2 body)
+octets_to_inline_qos order body = number_of order 2 (drop OCTETS_TO_QOS body)
 
 abbrev pub data_number : Order → List ℕ → ℤ
-data_number order body = sequence_number_of order (drop 12 body)
+data_number order body = sequence_number_of order (drop NUMBER body)
 
 -- octetsToInlineQos counts from the octet behind it
 abbrev pub behind_fields : Order → List ℕ → List ℕ
-behind_fields order body = drop (4 + octets_to_inline_qos order body) body
+behind_fields order body = drop (QOS_FROM + octets_to_inline_qos order body) body
 
 -- own: an offset into the named fields is bad, since what it would name is read already
 abbrev pub data_fault : Order → ℕ → List ℕ → Option WireFault
 data_fault order flags body = first_fault (
-    (ShortBody, nat_lt (length body) 20)
+    (ShortBody, nat_lt (length body) SIZE)
     ∷ (BadFlags, has_data flags && has_key flags)
-    ∷ (BadOffset, nat_lt (octets_to_inline_qos order body) 16 || nat_lt (length body) (4 + octets_to_inline_qos order body))
+    ∷ (BadOffset, nat_lt (QOS_FROM + octets_to_inline_qos order body) SIZE || nat_lt (length body) (QOS_FROM + octets_to_inline_qos order body))
     ∷ (BadNumber, int_le (data_number order body) (pos 0))
     ∷ (BadInlineQos, has_qos flags && is_err (list_end order (behind_fields order body)))
     ∷ [])
@@ -62,8 +65,8 @@ behind_qos order flags octets = drop (qos_length order flags octets) octets
 abbrev pub data_of : Order → ℕ → List ℕ → DataValue
 data_of order flags body =
     record {
-      reader = record { 0 = take 4 (drop 4 body) };
-      writer = record { 0 = take 4 (drop 8 body) };
+      reader = entity_at READER body;
+      writer = entity_at WRITER body;
       number = unsigned_abs (data_number order body);
       qos = qos_of order flags (behind_fields order body);
       payload = payload_of flags (behind_qos order flags (behind_fields order body));

@@ -5,19 +5,21 @@ use Rattle.rtps_ids.specs.NumberSet.{is_bad, octets_of_count, spelled_base, spel
 use Rattle.rtps_ids.specs.Octets.{sequence_number_of}
 use Rattle.rtps_ids.specs.declared.order.Order.{Order}
 use Rattle.rtps_wire.specs.Fault.{first_fault}
+use Rattle.rtps_wire.specs.Fields.{entity_at}
 use Rattle.rtps_wire.specs.declared.body.GapBody.{GapBody}
 use Rattle.rtps_wire.specs.declared.fault.WireFault.{WireFault}
 use Rattle.rtps_wire.specs.declared.fault.WireFault.TheVariants.{ShortBody, BadNumber, BadSet}
+use Rattle.rtps_wire.specs.declared.layout.gap.TheConstants.{LEAST, LIST, READER, START, WRITER}
 
--- readerId, writerId, gapStart at 8, gapList at 16
+-- readerId, writerId, gapStart, gapList
 abbrev pub start_number : Order → List ℕ → ℤ
-start_number order body = sequence_number_of order (drop 8 body)
+start_number order body = sequence_number_of order (drop START body)
 
 -- own: a gapList of base 0 is bad also without a bit, since only a reader that has seen nothing sends such a set
 abbrev pub list_faults : Order → List ℕ → List (WireFault × Bool)
 list_faults order body =
-    (BadSet, is_bad (spelled_base order (drop 16 body)) (spelled_count order (drop 16 body)) || int_le (spelled_base order (drop 16 body)) (pos 0))
-    ∷ (ShortBody, nat_lt (length body) (16 + octets_of_count (spelled_count order (drop 16 body))))
+    (BadSet, is_bad (spelled_base order (drop LIST body)) (spelled_count order (drop LIST body)) || int_le (spelled_base order (drop LIST body)) (pos 0))
+    ∷ (ShortBody, nat_lt (length body) (LIST + octets_of_count (spelled_count order (drop LIST body))))
     ∷ []
 
 abbrev pub list_fault : Order → List ℕ → Option WireFault
@@ -25,7 +27,7 @@ list_fault order body = first_fault (list_faults order body)
 
 abbrev pub gap_fault : Order → List ℕ → Option WireFault
 gap_fault order body = first_fault (
-    (ShortBody, nat_lt (length body) 28)
+    (ShortBody, nat_lt (length body) LEAST)
     ∷ (BadNumber, int_le (start_number order body) (pos 0))
     ∷ list_faults order body)
 
@@ -33,8 +35,8 @@ gap_fault order body = first_fault (
 abbrev pub gap_of : Order → List ℕ → GapBody
 gap_of order body =
     record {
-      reader = record { 0 = take 4 body };
-      writer = record { 0 = take 4 (drop 4 body) };
+      reader = entity_at READER body;
+      writer = entity_at WRITER body;
       start = unsigned_abs (start_number order body);
-      list = spelled_set order (drop 16 body);
+      list = spelled_set order (drop LIST body);
     }

@@ -7,33 +7,38 @@ use Rattle.rtps_ids.specs.declared.identity.GuidPrefix.{GuidPrefix}
 use Rattle.rtps_ids.specs.declared.identity.Stamp.{Stamp}
 use Rattle.rtps_ids.specs.declared.order.Order.{Order}
 use Rattle.rtps_wire.specs.Fault.{first_fault}
+use Rattle.rtps_wire.specs.Fields.{prefix_at, vendor_at}
 use Rattle.rtps_wire.specs.declared.fault.WireFault.{WireFault}
 use Rattle.rtps_wire.specs.declared.fault.WireFault.TheVariants.{ShortBody}
 use Rattle.rtps_wire.specs.declared.header.Header.{Header}
+use Rattle.rtps_wire.specs.declared.layout.header.TheConstants as header
+use Rattle.rtps_wire.specs.declared.layout.info_dst.TheConstants as destination
+use Rattle.rtps_wire.specs.declared.layout.info_ts.TheConstants as time
+use Rattle.rtps_wire.specs.declared.layout.info_ts.TheConstants.{FRACTION, INVALIDATE, SECONDS}
 
--- INFO_TS: flag I, 0x02, says that there is no time, and then no octet of the body is looked at
+-- INFO_TS: flag I says that there is no time, and then no octet of the body is looked at
 abbrev pub info_ts_fault : ℕ → List ℕ → Option WireFault
-info_ts_fault flags body = first_fault ((ShortBody, (bit_and flags 2 == 0) && nat_lt (length body) 8) ∷ [])
+info_ts_fault flags body = first_fault ((ShortBody, (bit_and flags INVALIDATE == 0) && nat_lt (length body) time.SIZE) ∷ [])
 
 -- seconds, fraction
 abbrev pub info_ts_of : Order → ℕ → List ℕ → Option Stamp
 info_ts_of order flags body =
-    if bit_and flags 2 == 0 then Some (record { seconds = number_of order 4 body; fraction = number_of order 4 (drop 4 body) }) else None
+    if bit_and flags INVALIDATE == 0 then Some (record { seconds = number_of order 4 (drop SECONDS body); fraction = number_of order 4 (drop FRACTION body) }) else None
 
 abbrev pub info_dst_fault : List ℕ → Option WireFault
-info_dst_fault body = first_fault ((ShortBody, nat_lt (length body) 12) ∷ [])
+info_dst_fault body = first_fault ((ShortBody, nat_lt (length body) destination.SIZE) ∷ [])
 
 abbrev pub info_dst_of : List ℕ → GuidPrefix
-info_dst_of body = record { 0 = take 12 body }
+info_dst_of body = prefix_at destination.PREFIX body
 
 abbrev pub info_src_fault : List ℕ → Option WireFault
-info_src_fault body = first_fault ((ShortBody, nat_lt (length body) 20) ∷ [])
+info_src_fault body = first_fault ((ShortBody, nat_lt (length body) header.SIZE) ∷ [])
 
--- four unused octets, the version, the vendor id, the prefix: behind the first four, as in a header
+-- four unused octets, and then the version, the vendor id and the prefix as in a header
 abbrev pub info_src_of : List ℕ → Header
 info_src_of body =
     record {
-      version = record { major = slice_index body 4; minor = slice_index body 5 };
-      vendor = record { 0 = take 2 (drop 6 body) };
-      prefix = record { 0 = take 12 (drop 8 body) };
+      version = record { major = slice_index body header.MAJOR; minor = slice_index body header.MINOR };
+      vendor = vendor_at header.VENDOR body;
+      prefix = prefix_at header.PREFIX body;
     }

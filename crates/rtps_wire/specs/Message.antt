@@ -16,47 +16,51 @@ use Rattle.rtps_wire.specs.declared.fault.Refusal.{Refusal}
 use Rattle.rtps_wire.specs.declared.fault.WireFault.{WireFault}
 use Rattle.rtps_wire.specs.declared.fault.WireFault.TheVariants.{CutHeader, Overrun}
 use Rattle.rtps_wire.specs.declared.header.Header.{Header}
+use Rattle.rtps_wire.specs.declared.layout.header.TheConstants as header
+use Rattle.rtps_wire.specs.declared.layout.id.TheConstants.{ACKNACK, DATA, GAP, HEARTBEAT, INFO_DST, INFO_SRC, INFO_TS, PAD}
+use Rattle.rtps_wire.specs.declared.layout.submessage.TheConstants as submessage
+use Rattle.rtps_wire.specs.declared.layout.submessage.TheConstants.{E, OCTETS_TO_NEXT}
 
 -- A submessage header is submessageId, flags and octetsToNextHeader. In what follows, `rest` are the octets from the
 -- first of a submessage on.
 abbrev pub id_of : List ℕ → ℕ
-id_of rest = slice_index rest 0
+id_of rest = slice_index rest submessage.ID
 
 abbrev pub flags_of : List ℕ → ℕ
-flags_of rest = slice_index rest 1
+flags_of rest = slice_index rest submessage.FLAGS
 
--- flag E, 0x01, tells the order of the submessage, and that of its octetsToNextHeader too
+-- flag E tells the order of the submessage, and that of its octetsToNextHeader too
 abbrev pub order_of : ℕ → Order
-order_of flags = if bit_and flags 1 == 1 then Little else Big
+order_of flags = if bit_and flags E == E then Little else Big
 
 abbrev pub octets_to_next_header : List ℕ → ℕ
-octets_to_next_header rest = number_of (order_of (flags_of rest)) 2 (drop 2 rest)
+octets_to_next_header rest = number_of (order_of (flags_of rest)) 2 (drop OCTETS_TO_NEXT rest)
 
--- A submessage's extent comes from octetsToNextHeader alone: 0 is an empty body of PAD (0x01) and of INFO_TS (0x09),
+-- A submessage's extent comes from octetsToNextHeader alone: 0 is an empty body of PAD and of INFO_TS,
 -- and of any other id all octets that are left.
 abbrev pub extent_of : ℕ → ℕ → ℕ → ℕ
-extent_of id declared left = if declared == 0 then (if id == 1 || id == 9 then 0 else left) else declared
+extent_of id declared left = if declared == 0 then (if id == PAD || id == INFO_TS then 0 else left) else declared
 
 abbrev pub body_length : List ℕ → ℕ
-body_length rest = extent_of (id_of rest) (octets_to_next_header rest) (length (drop 4 rest))
+body_length rest = extent_of (id_of rest) (octets_to_next_header rest) (length (drop submessage.SIZE rest))
 
 abbrev pub body_octets : List ℕ → List ℕ
-body_octets rest = take (body_length rest) (drop 4 rest)
+body_octets rest = take (body_length rest) (drop submessage.SIZE rest)
 
 -- the octets from the next submessage on
 abbrev pub next_rest : List ℕ → List ℕ
-next_rest rest = drop (4 + body_length rest) rest
+next_rest rest = drop (submessage.SIZE + body_length rest) rest
 
 -- the fault of a body, and what a body without one says; ids that are not read have no fault
 abbrev pub body_fault : ℕ → ℕ → List ℕ → Option WireFault
 body_fault id flags body =
-    if id == 6 then ack_nack_fault (order_of flags) body
-    else if id == 7 then heartbeat_fault (order_of flags) body
-    else if id == 8 then gap_fault (order_of flags) body
-    else if id == 9 then info_ts_fault flags body
-    else if id == 12 then info_src_fault body
-    else if id == 14 then info_dst_fault body
-    else if id == 21 then data_fault (order_of flags) flags body
+    if id == ACKNACK then ack_nack_fault (order_of flags) body
+    else if id == HEARTBEAT then heartbeat_fault (order_of flags) body
+    else if id == GAP then gap_fault (order_of flags) body
+    else if id == INFO_TS then info_ts_fault flags body
+    else if id == INFO_SRC then info_src_fault body
+    else if id == INFO_DST then info_dst_fault body
+    else if id == DATA then data_fault (order_of flags) flags body
     else None
 
 abbrev pub source_value : Header → BodyValue
@@ -64,20 +68,20 @@ source_value source = InfoSrc source.version source.vendor source.prefix
 
 abbrev pub body_of : ℕ → ℕ → List ℕ → BodyValue
 body_of id flags body =
-    if id == 6 then AckNack (ack_nack_of (order_of flags) flags body)
-    else if id == 7 then Heartbeat (heartbeat_of (order_of flags) flags body)
-    else if id == 8 then Gap (gap_of (order_of flags) body)
-    else if id == 9 then InfoTs (info_ts_of (order_of flags) flags body)
-    else if id == 12 then source_value (info_src_of body)
-    else if id == 14 then InfoDst (info_dst_of body)
-    else if id == 21 then Data (data_of (order_of flags) flags body)
+    if id == ACKNACK then AckNack (ack_nack_of (order_of flags) flags body)
+    else if id == HEARTBEAT then Heartbeat (heartbeat_of (order_of flags) flags body)
+    else if id == GAP then Gap (gap_of (order_of flags) body)
+    else if id == INFO_TS then InfoTs (info_ts_of (order_of flags) flags body)
+    else if id == INFO_SRC then source_value (info_src_of body)
+    else if id == INFO_DST then InfoDst (info_dst_of body)
+    else if id == DATA then Data (data_of (order_of flags) flags body)
     else Skipped id
 
 -- the fault of the first submessage
 unfoldable pub fault_at : List ℕ → Option WireFault
 fault_at rest =
-    if nat_lt (length rest) 4 then Some CutHeader
-    else if nat_lt (length (drop 4 rest)) (octets_to_next_header rest) then Some Overrun
+    if nat_lt (length rest) submessage.SIZE then Some CutHeader
+    else if nat_lt (length (drop submessage.SIZE rest)) (octets_to_next_header rest) then Some Overrun
     else body_fault (id_of rest) (flags_of rest) (body_octets rest)
 
 -- the first submessage, at this place, where it has no fault
@@ -89,7 +93,7 @@ abbrev pub ReadsFrom : List ℕ → ℕ → List ItemValue → Option Refusal �
 ReadsFrom rest at [] None = rest ≡ []
 ReadsFrom rest at [] (Some refusal) = (0 < length rest) × (refusal.at ≡ at) × (fault_at rest ≡ Some refusal.fault)
 ReadsFrom rest at (item ∷ items) ending =
-    (0 < length rest) × (fault_at rest ≡ None) × (item ≡ item_at rest at) × ReadsFrom (next_rest rest) (at + 4 + body_length rest) items ending
+    (0 < length rest) × (fault_at rest ≡ None) × (item ≡ item_at rest at) × ReadsFrom (next_rest rest) (at + submessage.SIZE + body_length rest) items ending
 
 -- what a datagram says: its header, the items at their places, and the refusal that ends it, if one does
 pub record Reading : Type 0 where
@@ -102,7 +106,7 @@ abbrev pub ReadsWith : Option WireFault → List ℕ → Reading → Type 0
 ReadsWith (Some fault) datagram reading =
     (reading.header ≡ None) × (reading.items ≡ []) × (reading.ending ≡ Some (record { at = 0; fault = fault }))
 ReadsWith None datagram reading =
-    (reading.header ≡ Some (header_of datagram)) × ReadsFrom (drop 20 datagram) 20 reading.items reading.ending
+    (reading.header ≡ Some (header_of datagram)) × ReadsFrom (drop header.SIZE datagram) header.SIZE reading.items reading.ending
 
 abbrev pub Reads : List ℕ → Reading → Type 0
 Reads datagram reading = ReadsWith (header_fault datagram) datagram reading

@@ -8,6 +8,8 @@ use Rattle.rtps_wire.specs.declared.body.Item.{Item}
 use Rattle.rtps_wire.specs.declared.fault.Refusal.{Refusal}
 use Rattle.rtps_wire.specs.declared.fault.WireFault.{WireFault}
 use Rattle.rtps_wire.specs.declared.header.Header.{Header}
+use Rattle.rtps_wire.specs.declared.layout.header.TheConstants as header
+use Rattle.rtps_wire.specs.declared.layout.submessage.TheConstants as submessage
 
 -- what is read next: an item, or the refusal that ends the message
 abbrev pub Outcome : Type 0
@@ -25,7 +27,7 @@ pub record Unread : Type 0 where
 -- an item and what `more` reads behind it, or a refusal and nothing more
 abbrev pub outcomes_with : (List ℕ → ℕ → List Outcome) → Option WireFault → List ℕ → ℕ → List Outcome
 outcomes_with more (Some fault) rest at = Err (record { at = at; fault = fault }) ∷ []
-outcomes_with more None rest at = Ok (item_at rest at) ∷ more (next_rest rest) (at + 4 + body_length rest)
+outcomes_with more None rest at = Ok (item_at rest at) ∷ more (next_rest rest) (at + submessage.SIZE + body_length rest)
 
 -- at most so many of them
 unfoldable pub outcomes_within : ℕ → List ℕ → ℕ → List Outcome
@@ -61,7 +63,7 @@ read_as header read = record { header = Some header; items = items_among read; e
 
 abbrev pub reading_with : Option WireFault → List ℕ → Reading
 reading_with (Some fault) datagram = refused_with fault
-reading_with None datagram = read_as (header_of datagram) (outcomes (drop 20 datagram) 20)
+reading_with None datagram = read_as (header_of datagram) (outcomes (drop header.SIZE datagram) header.SIZE)
 
 -- the reading of a datagram
 unfoldable pub reading_of : List ℕ → Reading

@@ -6,10 +6,11 @@ use Rattle.rtps_wire.specs.Reading.{Outcome, items_among, refusal_among}
 use Rattle.rtps_wire.specs.Values.{BodyValue, ItemValue}
 use Rattle.rtps_wire.specs.Values.BodyValue.{Skipped}
 use Rattle.rtps_wire.specs.declared.counts.Tally.{Tally}
+use Rattle.rtps_wire.specs.declared.layout.id.TheConstants.{DATA_FRAG, HEARTBEAT_FRAG, NACK_FRAG}
 
 -- NACK_FRAG, HEARTBEAT_FRAG and DATA_FRAG (DDSI-RTPS 2.5, 9.4.5.1.1 "SubmessageIds")
 abbrev pub is_fragment_id : ℕ → Bool
-is_fragment_id id = id == 18 || id == 19 || id == 22
+is_fragment_id id = id == NACK_FRAG || id == HEARTBEAT_FRAG || id == DATA_FRAG
 
 abbrev pub is_fragment : BodyValue → Bool
 is_fragment (Skipped id) = is_fragment_id id

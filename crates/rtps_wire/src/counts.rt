@@ -2,6 +2,7 @@ ghost use Rattle.std.specs.Prelude.{◌≡◌, ◌+◌, ◌<◌, ◌^◌};
 ghost use Rattle.rtps_wire.specs.Values.{body_value};
 
 use crate::body::Body;
+use crate::layout::id;
 
 /// What is counted of one datagram.
 #[derive(Clone, Copy, PartialEq, Eq, Debug)]
@@ -31,7 +32,7 @@ impl Tally {
     {
         match body {
             Body::Skipped {
-                id: 0x12 | 0x13 | 0x16,
+                id: id::NACK_FRAG | id::HEARTBEAT_FRAG | id::DATA_FRAG,
             } => self.fragments += 1,
             Body::Skipped { id: _ } => self.skipped += 1,
             _ => {}

@@ -1,8 +1,10 @@
 ghost use Rattle.std.specs.Prelude.{◌≡◌, ◌≤◌, length, IfOk};
 ghost use Rattle.rtps_wire.specs.Fault.{Answers};
 ghost use Rattle.rtps_wire.specs.Header.{header_fault, header_of};
+ghost use Rattle.rtps_wire.specs.declared.layout.header.TheConstants.{SIZE};
 
 use crate::fault::WireFault;
+use crate::layout::header;
 use crate::read::fields::{prefix_at, vendor_at};
 use rtps_ids::{GuidPrefix, Vendor, Version};
 
@@ -14,30 +16,27 @@ pub struct Header {
     pub prefix: GuidPrefix,
 }
 
-/// How many octets a header has.
-pub(crate) const HEADER_SIZE: usize = 20;
-
 /// Reads the header at the beginning of a datagram.
 #[tactic(auto, unfolding(crate::specs::Header::header_fault, crate::specs::Header::header_of))]
 pub(crate) fn read_header(bytes: &[u8]) -> Result<Header, WireFault>
     ensures header { Answers (λ header. header) result (header_fault bytes.now) (header_of bytes.now) }
-    ensures size { IfOk result (λ header. 20 ≤ length bytes.now) }
+    ensures size { IfOk result (λ header. SIZE ≤ length bytes.now) }
 {
-    if bytes.len() < HEADER_SIZE {
+    if bytes.len() < header::SIZE {
         return Err(WireFault::Short);
     }
     if bytes[0] != b'R' || bytes[1] != b'T' || bytes[2] != b'P' || bytes[3] != b'S' {
         return Err(WireFault::NotRtps);
     }
-    if bytes[4] != 2 {
+    if bytes[header::MAJOR] != header::VERSION {
         return Err(WireFault::BadVersion);
     }
     Ok(Header {
         version: Version {
-            major: bytes[4],
-            minor: bytes[5],
+            major: bytes[header::MAJOR],
+            minor: bytes[header::MINOR],
         },
-        vendor: vendor_at(bytes, 6),
-        prefix: prefix_at(bytes, 8),
+        vendor: vendor_at(bytes, header::VENDOR),
+        prefix: prefix_at(bytes, header::PREFIX),
     })
 }

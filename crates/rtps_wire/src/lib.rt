@@ -8,6 +8,7 @@ mod fault;
 mod flags;
 mod header;
 pub mod laws;
+mod layout;
 mod message;
 mod read;
 #[cfg(test)]

@@ -7,7 +7,8 @@ ghost use Rattle.rtps_wire.specs.Values.{body_value, item_value};
 
 use crate::body::{Body, Item};
 use crate::fault::{Refusal, WireFault};
-use crate::header::{HEADER_SIZE, Header, read_header};
+use crate::header::{Header, read_header};
+use crate::layout::{header, id, submessage};
 use crate::read;
 use crate::read::fields::rest_at;
 use rtps_ids::{Order, u16_at};
@@ -44,8 +45,8 @@ impl<'a> Items<'a> {
     {
         match read_header(bytes) {
             Ok(header) => {
-                let rest = rest_at(bytes, HEADER_SIZE);
-                let at = HEADER_SIZE;
+                let rest = rest_at(bytes, header::SIZE);
+                let at = header::SIZE;
                 Ok((header, Items { rest, at }))
             }
             Err(fault) => Err(Refusal { at: 0, fault }),
@@ -88,12 +89,16 @@ fn read_item(rest: &[u8], at: usize) -> Result<(Item<'_>, usize), WireFault>
     ensures item { Answers (λ found. item_value found.0) result (fault_at rest.now) (item_at rest.now at) }
     ensures size { IfOk result (λ found. (found.1 ≡ 4 + body_length rest.now) × (found.1 ≤ length rest.now)) }
 {
-    if rest.len() < 4 {
+    if rest.len() < submessage::SIZE {
         return Err(WireFault::CutHeader);
     }
-    let (id, flags, behind) = (rest[0], rest[1], rest_at(rest, 4));
+    let (id, flags, behind) = (
+        rest[submessage::ID],
+        rest[submessage::FLAGS],
+        rest_at(rest, submessage::SIZE),
+    );
     let order = order_of(flags);
-    let Some(declared) = u16_at(order, rest, 2) else {
+    let Some(declared) = u16_at(order, rest, submessage::OCTETS_TO_NEXT) else {
         return Err(WireFault::CutHeader);
     };
     let declared = declared as usize;
@@ -103,7 +108,7 @@ fn read_item(rest: &[u8], at: usize) -> Result<(Item<'_>, usize), WireFault>
     let size = extent(id, declared, behind.len());
     let (octets, _) = behind.split_at(size);
     match read_body(id, flags, octets) {
-        Ok(body) => Ok((Item { at, order, body }, 4 + size)),
+        Ok(body) => Ok((Item { at, order, body }, submessage::SIZE + size)),
         Err(fault) => Err(fault),
     }
 }
@@ -114,7 +119,7 @@ fn extent(id: u8, declared: usize, left: usize) -> usize
     ensures { result ≡ extent_of id declared left }
 {
     match (declared, id) {
-        (0, 1 | 9) => 0,
+        (0, id::PAD | id::INFO_TS) => 0,
         (0, _) => left,
         _ => declared,
     }
@@ -125,7 +130,7 @@ fn extent(id: u8, declared: usize, left: usize) -> usize
 fn order_of(flags: u8) -> Order
     ensures { result ≡ order_of_lem flags }
 {
-    if flags & 1 == 1 {
+    if flags & submessage::E != 0 {
         Order::Little
     } else {
         Order::Big
@@ -139,11 +144,11 @@ fn read_body(id: u8, flags: u8, octets: &[u8]) -> Result<Body<'_>, WireFault>
 {
     let order = order_of(flags);
     match id {
-        6 => Ok(Body::AckNack(read::ack_nack(order, flags, octets)?)),
-        7 => Ok(Body::Heartbeat(read::heartbeat(order, flags, octets)?)),
-        8 => Ok(Body::Gap(read::gap(order, octets)?)),
-        9 => Ok(Body::InfoTs(read::info_ts(order, flags, octets)?)),
-        12 => {
+        id::ACKNACK => Ok(Body::AckNack(read::ack_nack(order, flags, octets)?)),
+        id::HEARTBEAT => Ok(Body::Heartbeat(read::heartbeat(order, flags, octets)?)),
+        id::GAP => Ok(Body::Gap(read::gap(order, octets)?)),
+        id::INFO_TS => Ok(Body::InfoTs(read::info_ts(order, flags, octets)?)),
+        id::INFO_SRC => {
             let Header {
                 version,
                 vendor,
@@ -155,8 +160,8 @@ fn read_body(id: u8, flags: u8, octets: &[u8]) -> Result<Body<'_>, WireFault>
                 prefix,
             })
         }
-        14 => Ok(Body::InfoDst(read::info_dst(octets)?)),
-        21 => match read::data(order, flags, octets) {
+        id::INFO_DST => Ok(Body::InfoDst(read::info_dst(octets)?)),
+        id::DATA => match read::data(order, flags, octets) {
             Ok(data) => Ok(Body::Data(data)),
             Err(fault) => Err(fault),
         },

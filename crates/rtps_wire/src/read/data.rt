@@ -8,6 +8,7 @@ use super::fields::{entity_at, rest_at};
 use crate::body::{DataBody, Payload};
 use crate::fault::WireFault;
 use crate::flags::DataFlags;
+use crate::layout::data;
 use bitflags::Flags;
 use rtps_ids::{Order, SeqNum, number_at, u16_at};
 use rtps_params::ParamList;
@@ -18,14 +19,17 @@ pub(crate) fn data(order: Order, flags: u8, body: &[u8]) -> Result<DataBody<'_>,
     ensures { Answers data_value result (data_fault order flags body.now) (data_of order flags body.now) }
 {
     let flags = DataFlags::from_bits_retain(flags);
-    let (Some(offset), Some(number)) = (u16_at(order, body, 2), number_at(order, body, 12)) else {
+    let (Some(offset), Some(number)) = (
+        u16_at(order, body, data::OCTETS_TO_QOS),
+        number_at(order, body, data::NUMBER),
+    ) else {
         return Err(WireFault::ShortBody);
     };
     if flags.contains(DataFlags::D) && flags.contains(DataFlags::K) {
         return Err(WireFault::BadFlags);
     }
-    let start = 4 + offset as usize;
-    if start < 20 || start > body.len() {
+    let start = data::QOS_FROM + offset as usize;
+    if start < data::SIZE || start > body.len() {
         return Err(WireFault::BadOffset);
     }
     let Some(number) = SeqNum::new(number) else {
@@ -36,8 +40,8 @@ pub(crate) fn data(order: Order, flags: u8, body: &[u8]) -> Result<DataBody<'_>,
         Err(fault) => return Err(fault),
     };
     Ok(DataBody {
-        reader: entity_at(body, 4),
-        writer: entity_at(body, 8),
+        reader: entity_at(body, data::READER),
+        writer: entity_at(body, data::WRITER),
         number,
         qos,
         payload: payload(flags, octets),

@@ -2,28 +2,30 @@ ghost use Rattle.std.specs.Prelude.{◌≤◌, drop, length};
 ghost use Rattle.rtps_ids.specs.NumberSet.{spelled_set};
 ghost use Rattle.rtps_wire.specs.Fault.{Answers};
 ghost use Rattle.rtps_wire.specs.Gap.{gap_fault, gap_of, list_fault};
+ghost use Rattle.rtps_wire.specs.declared.layout.gap.TheConstants.{LEAST, LIST};
 
 use super::fields::{entity_at, set_at};
 use crate::body::GapBody;
 use crate::fault::WireFault;
+use crate::layout::gap;
 use rtps_ids::{NumberSet, Order, SeqNum, number_at};
 
 /// Reads the body of a GAP.
 pub(crate) fn gap(order: Order, body: &[u8]) -> Result<GapBody, WireFault>
     ensures { Answers (λ gap. gap) result (gap_fault order body.now) (gap_of order body.now) }
 {
-    if body.len() < 28 {
+    if body.len() < gap::LEAST {
         return Err(WireFault::ShortBody);
     }
-    let Some(start) = number_at(order, body, 8) else {
+    let Some(start) = number_at(order, body, gap::START) else {
         return Err(WireFault::ShortBody);
     };
     let Some(start) = SeqNum::new(start) else {
         return Err(WireFault::BadNumber);
     };
     Ok(GapBody {
-        reader: entity_at(body, 0),
-        writer: entity_at(body, 4),
+        reader: entity_at(body, gap::READER),
+        writer: entity_at(body, gap::WRITER),
         start,
         list: list(order, body)?,
     })
@@ -31,10 +33,10 @@ pub(crate) fn gap(order: Order, body: &[u8]) -> Result<GapBody, WireFault>
 
 /// Reads the list of a GAP.
 fn list(order: Order, body: &[u8]) -> Result<NumberSet, WireFault>
-    requires { 28 ≤ length body.now }
-    ensures { Answers (λ list. list) result (list_fault order body.now) (spelled_set order (drop 16 body.now)) }
+    requires { LEAST ≤ length body.now }
+    ensures { Answers (λ list. list) result (list_fault order body.now) (spelled_set order (drop LIST body.now)) }
 {
-    let (list, _) = set_at(order, body, 16)?;
+    let (list, _) = set_at(order, body, gap::LIST)?;
     if list.base() == 0 {
         return Err(WireFault::BadSet);
     }

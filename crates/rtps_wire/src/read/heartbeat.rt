@@ -4,6 +4,7 @@ ghost use Rattle.rtps_wire.specs.Heartbeat.{heartbeat_fault, heartbeat_of};
 use super::fields::entity_at;
 use crate::body::HeartbeatBody;
 use crate::fault::WireFault;
+use crate::layout::heartbeat;
 use rtps_ids::{Order, SeqNum, number_at, u32_at};
 
 /// Reads the body of a HEARTBEAT.
@@ -12,9 +13,9 @@ pub(crate) fn heartbeat(order: Order, flags: u8, body: &[u8]) -> Result<Heartbea
     ensures { Answers (λ heartbeat. heartbeat) result (heartbeat_fault order body.now) (heartbeat_of order flags body.now) }
 {
     let (Some(first), Some(last), Some(count)) = (
-        number_at(order, body, 8),
-        number_at(order, body, 16),
-        u32_at(order, body, 24),
+        number_at(order, body, heartbeat::FIRST),
+        number_at(order, body, heartbeat::LAST),
+        u32_at(order, body, heartbeat::COUNT),
     ) else {
         return Err(WireFault::ShortBody);
     };
@@ -28,12 +29,12 @@ pub(crate) fn heartbeat(order: Order, flags: u8, body: &[u8]) -> Result<Heartbea
         return Err(WireFault::BadRange);
     }
     Ok(HeartbeatBody {
-        reader: entity_at(body, 0),
-        writer: entity_at(body, 4),
+        reader: entity_at(body, heartbeat::READER),
+        writer: entity_at(body, heartbeat::WRITER),
         first,
         last,
         count,
-        is_final: flags & 2 != 0,
-        live: flags & 4 != 0,
+        is_final: flags & heartbeat::FINAL != 0,
+        live: flags & heartbeat::LIVELINESS != 0,
     })
 }

@@ -5,7 +5,7 @@ use Rattle.rtps_wire.proofs.message.read_item.Goals.{After-read_body}
 
 apart : (c : After-read_body) → IsTakenApart c.args.rest.now c.split_at.result.0.now c.extent-size.result
 apart c =
-    taken_apart _ _ _ _ _ _ c.if-rest-lt4.false c.rest_at-behind.ensures c.order_of-order.ensures (sym c.in-Some.ensures)
+    taken_apart _ _ _ _ _ _ c.if-rest-lt-SIZE.false c.rest_at-behind.ensures c.order_of-order.ensures (sym c.in-Some.ensures)
     c.if-declared-behind.false c.extent-size.ensures c.split_at.ensures.front
 
 pub returns-in-Ok-clause-item : goal.returns-in-Ok-clause-item

@@ -1,0 +1,134 @@
+//! How messages lie in octets: ids, flags, sizes and places, each named once for the readers and for the definitions.
+//! Places count from 0 at the first octet of a header or of a submessage's body.
+
+/// The header of a message (DDSI-RTPS 2.5, 9.4.4 "Mapping of the RTPS Header"). An INFO_SRC's body has its version,
+/// vendor id and prefix at the same places.
+pub(crate) mod header {
+    pub(crate) const SIZE: usize = 20;
+
+    pub(crate) const MAJOR: usize = 4;
+
+    pub(crate) const MINOR: usize = 5;
+
+    pub(crate) const VENDOR: usize = 6;
+
+    pub(crate) const PREFIX: usize = 8;
+    /// The major version of the messages that are read.
+    pub(crate) const VERSION: u8 = 2;
+}
+
+/// The header of a submessage (DDSI-RTPS 2.5, 9.4.5.1 "Submessage Header").
+pub(crate) mod submessage {
+    pub(crate) const SIZE: usize = 4;
+
+    pub(crate) const ID: usize = 0;
+
+    pub(crate) const FLAGS: usize = 1;
+
+    pub(crate) const OCTETS_TO_NEXT: usize = 2;
+    /// Flag E: numbers lie with the lowest octet first.
+    pub(crate) const E: u8 = 1;
+}
+
+/// The ids of submessages (DDSI-RTPS 2.5, 9.4.5.1.1 "SubmessageId").
+pub(crate) mod id {
+    pub(crate) const PAD: u8 = 0x01;
+
+    pub(crate) const ACKNACK: u8 = 0x06;
+
+    pub(crate) const HEARTBEAT: u8 = 0x07;
+
+    pub(crate) const GAP: u8 = 0x08;
+
+    pub(crate) const INFO_TS: u8 = 0x09;
+
+    pub(crate) const INFO_SRC: u8 = 0x0c;
+
+    pub(crate) const INFO_DST: u8 = 0x0e;
+
+    pub(crate) const NACK_FRAG: u8 = 0x12;
+
+    pub(crate) const HEARTBEAT_FRAG: u8 = 0x13;
+
+    pub(crate) const DATA: u8 = 0x15;
+
+    pub(crate) const DATA_FRAG: u8 = 0x16;
+}
+
+/// ACKNACK (DDSI-RTPS 2.5, 9.4.5.3 "AckNack Submessage"). Its count lies behind the set.
+pub(crate) mod ack_nack {
+    pub(crate) const READER: usize = 0;
+
+    pub(crate) const WRITER: usize = 4;
+
+    pub(crate) const SET: usize = 8;
+    /// The size with a set that has no words.
+    pub(crate) const LEAST: usize = 24;
+    /// Flag F.
+    pub(crate) const FINAL: u8 = 2;
+}
+
+/// DATA (DDSI-RTPS 2.5, 9.4.5.4 "Data Submessage"). Its flags are [`crate::DataFlags`].
+pub(crate) mod data {
+    pub(crate) const OCTETS_TO_QOS: usize = 2;
+    /// Where octetsToInlineQos counts from.
+    pub(crate) const QOS_FROM: usize = 4;
+
+    pub(crate) const READER: usize = 4;
+
+    pub(crate) const WRITER: usize = 8;
+
+    pub(crate) const NUMBER: usize = 12;
+    /// The size of the fields.
+    pub(crate) const SIZE: usize = 20;
+}
+
+/// GAP (DDSI-RTPS 2.5, 9.4.5.6 "Gap Submessage").
+pub(crate) mod gap {
+    pub(crate) const READER: usize = 0;
+
+    pub(crate) const WRITER: usize = 4;
+
+    pub(crate) const START: usize = 8;
+
+    pub(crate) const LIST: usize = 16;
+    /// The size with a list that has no words.
+    pub(crate) const LEAST: usize = 28;
+}
+
+/// HEARTBEAT (DDSI-RTPS 2.5, 9.4.5.7 "Heartbeat Submessage").
+pub(crate) mod heartbeat {
+    pub(crate) const READER: usize = 0;
+
+    pub(crate) const WRITER: usize = 4;
+
+    pub(crate) const FIRST: usize = 8;
+
+    pub(crate) const LAST: usize = 16;
+
+    pub(crate) const COUNT: usize = 24;
+
+    pub(crate) const SIZE: usize = 28;
+    /// Flag F.
+    pub(crate) const FINAL: u8 = 2;
+    /// Flag L.
+    pub(crate) const LIVELINESS: u8 = 4;
+}
+
+/// INFO_TS (DDSI-RTPS 2.5, 9.4.5.12 "InfoTimestamp Submessage").
+pub(crate) mod info_ts {
+    pub(crate) const SECONDS: usize = 0;
+
+    pub(crate) const FRACTION: usize = 4;
+
+    pub(crate) const SIZE: usize = 8;
+    /// Flag I: there is no time.
+    pub(crate) const INVALIDATE: u8 = 2;
+}
+
+/// INFO_DST (DDSI-RTPS 2.5, 9.4.5.9 "InfoDestination Submessage").
+pub(crate) mod info_dst {
+    pub(crate) const PREFIX: usize = 0;
+
+    pub(crate) const SIZE: usize = 12;
+}
