@@ -9,3 +9,4 @@ pub mod Matching
 pub mod Notice
 pub mod TopicIndex
 pub mod Told
+pub mod FaultText

@@ -1,3 +1,9 @@
+ghost use Rattle.std.specs.Prelude.{◌≡◌, Some};
+ghost use Rattle.rtps_discovery.specs.FaultText.{fault_name, fault_number};
+
+use std::error::Error;
+use std::fmt;
+
 /// Why a payload announces nothing: the first of these, in this order, that holds (DDSI-RTPS 2.5, 10 "Serialized
 /// Payload Representation" and 9.6 "Mapping of the RTPS Protocol"). A participant has the first four alone.
 #[derive(Clone, Copy, PartialEq, Eq, Debug)]
@@ -21,3 +27,35 @@ pub enum NoticeFault {
     /// A durability of under four octets, or of a kind that is none.
     BadDurability = 9,
 }
+
+impl NoticeFault {
+    /// Its number, from 1 on, in the order in which faults can be met.
+    pub fn number(self) -> u8
+        ensures { result ≡ fault_number self }
+    {
+        self as u8
+    }
+}
+
+impl fmt::Display for NoticeFault {
+    ghost output = { λ fault. Some (fault_name fault) };
+
+    /// Its name.
+    #[tactic(auto, unfolding(crate::specs::FaultText::fault_name))]
+    fn fmt<W: fmt::Write>(&self, f: &mut fmt::Formatter<W>) -> fmt::Result {
+        let name = match self {
+            NoticeFault::CutRepresentation => "CutRepresentation",
+            NoticeFault::Representation => "Representation",
+            NoticeFault::List => "List",
+            NoticeFault::NoGuid => "NoGuid",
+            NoticeFault::NoTopic => "NoTopic",
+            NoticeFault::NoType => "NoType",
+            NoticeFault::BadText => "BadText",
+            NoticeFault::BadReliability => "BadReliability",
+            NoticeFault::BadDurability => "BadDurability",
+        };
+        f.write_str(name)
+    }
+}
+
+impl Error for NoticeFault {}

@@ -8,7 +8,7 @@ use Rattle.std.proofs.lemmas.Bool.Decides.{nat_tests}
 use Rattle.std.proofs.lemmas.Int.{ints}
 use Rattle.rtps_ids.specs.NumberSet.{IsMember, NumberSetValue, bit_of, is_bad, is_member, octets_of_count, set_fault, spelled_base, spelled_count}
 use Rattle.rtps_ids.specs.declared.order.Order.{Order}
-use Rattle.rtps_ids.specs.declared.set.SetFault.TheVariants.{BadSet, CutWords}
+use Rattle.rtps_ids.specs.declared.set_fault.SetFault.TheVariants.{BadSet, CutWords}
 
 -- the octets hold a count, and the set is bad
 pub bad_set_found : (order : Order) (octets : List ℕ) → set_fault order octets ≡ Some BadSet → is_bad (spelled_base order octets) (spelled_count order octets) ≡ true

@@ -1,3 +1,4 @@
 pub mod NumberSet
 pub mod Octets
 pub mod Runs
+pub mod SetFaultText

@@ -6,8 +6,8 @@ use Rattle.std.specs.Int.RustNames.{unsigned_abs}
 use Rattle.std.specs.List.{range_with_len}
 use Rattle.rtps_ids.specs.Octets.{number_of, sequence_number_of}
 use Rattle.rtps_ids.specs.declared.order.Order.{Order}
-use Rattle.rtps_ids.specs.declared.set.SetFault.{SetFault}
-use Rattle.rtps_ids.specs.declared.set.SetFault.TheVariants.{BadSet, CutWords}
+use Rattle.rtps_ids.specs.declared.set_fault.SetFault.{SetFault}
+use Rattle.rtps_ids.specs.declared.set_fault.SetFault.TheVariants.{BadSet, CutWords}
 
 -- a set as it is kept: the base, how many bits, and eight words, in which no bit past those is set
 pub record NumberSetValue : Type 0 where

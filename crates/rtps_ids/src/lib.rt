@@ -9,6 +9,7 @@ mod number;
 mod octets;
 mod order;
 mod set;
+mod set_fault;
 #[cfg(test)]
 mod tests;
 
@@ -17,4 +18,5 @@ pub use memory::Memory;
 pub use number::SeqNum;
 pub use octets::{number_at, u16_at, u32_at};
 pub use order::Order;
-pub use set::{NumberSet, SetFault};
+pub use set::NumberSet;
+pub use set_fault::SetFault;

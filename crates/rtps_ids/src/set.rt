@@ -5,17 +5,9 @@ ghost use Rattle.rtps_ids.specs.Runs.{IsRunFrom, HasNoneFrom};
 use crate::bits::first_bit;
 use crate::octets::{number_at, u32_at};
 use crate::order::Order;
+use crate::set_fault::SetFault;
 use std::marker::Model;
 use std::ops::Range;
-
-/// Why octets begin with no set of sequence numbers.
-#[derive(Clone, Copy, PartialEq, Eq, Debug)]
-pub enum SetFault {
-    /// A base below 0, more than 256 bits, bits at base 0, or a number past 2^63 - 1.
-    BadSet = 1,
-    /// The octets end before the set does.
-    CutWords = 2,
-}
 
 /// A set of sequence numbers: those of 0 to 256 numbers from a base on whose bit is set (DDSI-RTPS 2.5, 8.3.5.5
 /// "SequenceNumberSet" and 9.4.2.6 "SequenceNumberSet").

@@ -4,3 +4,4 @@ pub mod Parameter
 pub mod Shown
 pub mod Item
 pub mod Values
+pub mod FaultText

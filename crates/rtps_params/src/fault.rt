@@ -1,3 +1,9 @@
+ghost use Rattle.std.specs.Prelude.{◌≡◌, Some};
+ghost use Rattle.rtps_params.specs.FaultText.{fault_name, fault_number};
+
+use std::error::Error;
+use std::fmt;
+
 /// Why octets begin with no parameter list (DDSI-RTPS 2.5, 9.4.2.11 "ParameterList").
 #[derive(Clone, Copy, PartialEq, Eq, Debug)]
 pub enum ParamFault {
@@ -6,3 +12,28 @@ pub enum ParamFault {
     /// The length of a parameter passes the octets left.
     CutValue = 2,
 }
+
+impl ParamFault {
+    /// Its number, from 1 on, in the order in which faults can be met.
+    pub fn number(self) -> u8
+        ensures { result ≡ fault_number self }
+    {
+        self as u8
+    }
+}
+
+impl fmt::Display for ParamFault {
+    ghost output = { λ fault. Some (fault_name fault) };
+
+    /// Its name.
+    #[tactic(auto, unfolding(crate::specs::FaultText::fault_name))]
+    fn fmt<W: fmt::Write>(&self, f: &mut fmt::Formatter<W>) -> fmt::Result {
+        let name = match self {
+            ParamFault::CutHeader => "CutHeader",
+            ParamFault::CutValue => "CutValue",
+        };
+        f.write_str(name)
+    }
+}
+
+impl Error for ParamFault {}

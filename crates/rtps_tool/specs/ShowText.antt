@@ -25,8 +25,7 @@ use Rattle.rtps_wire.specs.declared.body.AckNackBody.{AckNackBody}
 use Rattle.rtps_wire.specs.declared.body.GapBody.{GapBody}
 use Rattle.rtps_wire.specs.declared.body.HeartbeatBody.{HeartbeatBody}
 use Rattle.rtps_wire.specs.declared.fault.Refusal.{Refusal}
-use Rattle.rtps_wire.specs.declared.fault.WireFault.{WireFault}
-use Rattle.rtps_wire.specs.declared.fault.WireFault.TheVariants.{Short, NotRtps, BadVersion, CutHeader, Overrun, ShortBody, BadFlags, BadOffset, BadNumber, BadRange, BadSet, BadInlineQos}
+use Rattle.rtps_wire.specs.FaultText.{fault_name}
 use Rattle.rtps_wire.specs.declared.header.Header.{Header}
 use Rattle.rtps_tool.specs.declared.faults.Ending.{Ending}
 use Rattle.rtps_tool.specs.declared.faults.Ending.TheVariants.{Clean}
@@ -74,20 +73,6 @@ time_text (Some stamp) = decimal stamp.seconds ++ codes " " ++ decimal stamp.fra
 unfoldable pub destination_text : Option GuidPrefix → List ℕ
 destination_text None = codes "all"
 destination_text (Some prefix) = encode_lower prefix.0
-
-unfoldable pub fault_name : WireFault → List ℕ
-fault_name Short = codes "Short"
-fault_name NotRtps = codes "NotRtps"
-fault_name BadVersion = codes "BadVersion"
-fault_name CutHeader = codes "CutHeader"
-fault_name Overrun = codes "Overrun"
-fault_name ShortBody = codes "ShortBody"
-fault_name BadFlags = codes "BadFlags"
-fault_name BadOffset = codes "BadOffset"
-fault_name BadNumber = codes "BadNumber"
-fault_name BadRange = codes "BadRange"
-fault_name BadSet = codes "BadSet"
-fault_name BadInlineQos = codes "BadInlineQos"
 
 -- what the line of an act ends with: from whom, for whom, and when, by the receiver's state at its place
 unfoldable pub state_text : State → List ℕ

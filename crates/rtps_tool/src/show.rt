@@ -5,7 +5,7 @@ ghost use Rattle.rtps_tool.specs.ShowText.{datagram_line, outcomes_text, reading
 
 use crate::datagrams::Recording;
 use crate::item_lines::ItemLine;
-use crate::words::{FaultName, VersionText};
+use crate::words::VersionText;
 use rtps_receiver::State;
 use rtps_wire::{Header, Items, Refusal};
 use std::alloc::{AllocError, Global};
@@ -97,6 +97,6 @@ impl fmt::Display for RefusalLine {
     ghost output = { λ line. Some (refusal_line line.0) };
 
     fn fmt<W: fmt::Write>(&self, f: &mut fmt::Formatter<W>) -> fmt::Result {
-        writeln!(f, "refused {} {}", self.0.at, FaultName(self.0.fault))
+        writeln!(f, "refused {} {}", self.0.at, self.0.fault)
     }
 }

@@ -1,11 +1,11 @@
 ghost use Rattle.std.specs.Prelude.{◌≡◌, ◌++◌, ◌∷◌, [], codes, Some};
 ghost use Rattle.std.specs.Fmt.{decimal};
 ghost use Rattle.rtps_wire.specs.Values.{payload_value};
-ghost use Rattle.rtps_tool.specs.ShowText.{order_name, digit_of, version_text, payload_text, time_text, destination_text, state_text, fault_name};
+ghost use Rattle.rtps_tool.specs.ShowText.{order_name, digit_of, version_text, payload_text, time_text, destination_text, state_text};
 
 use rtps_ids::{GuidPrefix, Order, Stamp, Version};
 use rtps_receiver::State;
-use rtps_wire::{Payload, WireFault};
+use rtps_wire::Payload;
 use std::fmt;
 
 /// The name of an order of octets.
@@ -124,32 +124,5 @@ impl fmt::Display for StateText {
             DestinationText(dest),
             TimeText(stamp)
         )
-    }
-}
-
-/// The name of a fault.
-#[derive(Drop)]
-pub(crate) struct FaultName(pub(crate) WireFault);
-
-impl fmt::Display for FaultName {
-    ghost output = { λ name. Some (fault_name name.0) };
-
-    #[tactic(auto, unfolding(crate::specs::ShowText::fault_name))]
-    fn fmt<W: fmt::Write>(&self, f: &mut fmt::Formatter<W>) -> fmt::Result {
-        let name = match self.0 {
-            WireFault::Short => "Short",
-            WireFault::NotRtps => "NotRtps",
-            WireFault::BadVersion => "BadVersion",
-            WireFault::CutHeader => "CutHeader",
-            WireFault::Overrun => "Overrun",
-            WireFault::ShortBody => "ShortBody",
-            WireFault::BadFlags => "BadFlags",
-            WireFault::BadOffset => "BadOffset",
-            WireFault::BadNumber => "BadNumber",
-            WireFault::BadRange => "BadRange",
-            WireFault::BadSet => "BadSet",
-            WireFault::BadInlineQos => "BadInlineQos",
-        };
-        f.write_str(name)
     }
 }

@@ -7,7 +7,7 @@ use Rattle.std.proofs.lemmas.List.{length-drop}
 use Rattle.rtps_ids.specs.NumberSet.{NumberSetValue, is_bad, octets_of_count, set_fault, spelled_base, spelled_count, spelled_set}
 use Rattle.rtps_ids.proofs.Offered.{bad_set_found, cut_words_found, good_set_found, no_bits_at_zero, positive_base}
 use Rattle.rtps_ids.specs.declared.order.Order.{Order}
-use Rattle.rtps_ids.specs.declared.set.SetFault.TheVariants.{BadSet, CutWords}
+use Rattle.rtps_ids.specs.declared.set_fault.SetFault.TheVariants.{BadSet, CutWords}
 use Rattle.rtps_wire.specs.declared.fault.WireFault.{WireFault}
 use Rattle.rtps_wire.specs.declared.fault.WireFault.TheVariants as wire
 use Rattle.rtps_wire.specs.Gap.{list_fault}

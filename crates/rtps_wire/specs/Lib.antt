@@ -1,6 +1,7 @@
 pub mod AckNack
 pub mod Data
 pub mod Fault
+pub mod FaultText
 pub mod Fields
 pub mod Gap
 pub mod Header

@@ -1,3 +1,9 @@
+ghost use Rattle.std.specs.Prelude.{◌≡◌, Some};
+ghost use Rattle.rtps_wire.specs.FaultText.{fault_name, fault_number};
+
+use std::error::Error;
+use std::fmt;
+
 /// Why a datagram, or a submessage and all that follows it, is refused. The conditions of one submessage are looked
 /// at in a fixed order, and the first that holds is named.
 #[derive(Clone, Copy, PartialEq, Eq, Debug)]
@@ -27,6 +33,41 @@ pub enum WireFault {
     /// An inline QoS that is no parameter list.
     BadInlineQos = 12,
 }
+
+impl WireFault {
+    /// Its number, from 1 on, in the order in which faults can be met.
+    pub fn number(self) -> u8
+        ensures { result ≡ fault_number self }
+    {
+        self as u8
+    }
+}
+
+impl fmt::Display for WireFault {
+    ghost output = { λ fault. Some (fault_name fault) };
+
+    /// Its name.
+    #[tactic(auto, unfolding(crate::specs::FaultText::fault_name))]
+    fn fmt<W: fmt::Write>(&self, f: &mut fmt::Formatter<W>) -> fmt::Result {
+        let name = match self {
+            WireFault::Short => "Short",
+            WireFault::NotRtps => "NotRtps",
+            WireFault::BadVersion => "BadVersion",
+            WireFault::CutHeader => "CutHeader",
+            WireFault::Overrun => "Overrun",
+            WireFault::ShortBody => "ShortBody",
+            WireFault::BadFlags => "BadFlags",
+            WireFault::BadOffset => "BadOffset",
+            WireFault::BadNumber => "BadNumber",
+            WireFault::BadRange => "BadRange",
+            WireFault::BadSet => "BadSet",
+            WireFault::BadInlineQos => "BadInlineQos",
+        };
+        f.write_str(name)
+    }
+}
+
+impl Error for WireFault {}
 
 /// Where a datagram is refused: the place of the submessage's first octet (0 for the header), and why.
 #[derive(Clone, Copy, PartialEq, Eq, Debug)]
