@@ -11,3 +11,4 @@ pub mod Statuses
 pub mod Words
 pub mod ShowText
 pub mod Unfinished
+pub mod FaultText

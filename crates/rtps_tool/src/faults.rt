@@ -1,24 +1,36 @@
-ghost use Rattle.std.specs.Prelude.{◌≡◌};
+ghost use Rattle.std.specs.Prelude.{◌≡◌, Some};
+ghost use Rattle.rtps_tool.specs.FaultText.{rec_fault_text, run_fault_text};
 
 use rtps_ids::Memory;
 use std::alloc::{AllocError, AllocFailed};
+use std::fmt;
 use thiserror::Error;
 
 /// Why a text is no recording. Lines are counted from 1, skipped ones too.
 #[derive(Clone, Copy, Debug, PartialEq, Eq, Error)]
 pub enum RecFault {
     /// A datagram line has an odd number of digits, or an octet that is no hexadecimal digit.
-    #[error("line {line}: bad hex")]
     BadHex { line: u64 },
     /// A datagram line has more than 131,070 digits.
-    #[error("line {line}: too long")]
     TooLong { line: u64 },
     /// There are more than 1,000,000 datagrams, or more than 1,073,741,824 octets of text.
-    #[error("too many datagrams")]
     TooMany,
     /// There was no memory for the recording.
-    #[error("out of memory")]
     Memory,
+}
+
+impl fmt::Display for RecFault {
+    ghost output = { λ fault. Some (rec_fault_text fault) };
+
+    #[tactic(auto, unfolding(crate::specs::FaultText::rec_fault_text))]
+    fn fmt<W: fmt::Write>(&self, f: &mut fmt::Formatter<W>) -> fmt::Result {
+        match self {
+            RecFault::BadHex { line } => write!(f, "line {line}: bad hex"),
+            RecFault::TooLong { line } => write!(f, "line {line}: too long"),
+            RecFault::TooMany => write!(f, "too many datagrams"),
+            RecFault::Memory => write!(f, "out of memory"),
+        }
+    }
 }
 
 impl From<AllocError> for RecFault {
@@ -54,17 +66,27 @@ pub enum Ending {
 #[derive(Clone, Copy, Debug, PartialEq, Eq, Error)]
 pub enum RunFault {
     /// What was read is no recording. Want of memory is [`RunFault::Memory`] in every answer.
-    #[error(transparent)]
     Recording(RecFault),
     /// A read failed.
-    #[error("cannot read input")]
     Input,
     /// A write failed or took no octet: the first `written` octets of the text were written before.
-    #[error("cannot write output")]
     Output { written: u64 },
     /// There was no memory for the input, the recording or the text.
-    #[error("out of memory")]
     Memory,
+}
+
+impl fmt::Display for RunFault {
+    ghost output = { λ fault. Some (run_fault_text fault) };
+
+    #[tactic(auto, unfolding(crate::specs::FaultText::run_fault_text))]
+    fn fmt<W: fmt::Write>(&self, f: &mut fmt::Formatter<W>) -> fmt::Result {
+        match self {
+            RunFault::Recording(fault) => write!(f, "{fault}"),
+            RunFault::Input => write!(f, "cannot read input"),
+            RunFault::Output { written: _ } => write!(f, "cannot write output"),
+            RunFault::Memory => write!(f, "out of memory"),
+        }
+    }
 }
 
 impl From<RecFault> for RunFault {

@@ -1,5 +1,6 @@
-ghost use Rattle.std.specs.Prelude.{◌≡◌, ◌++◌, ◌∷◌, [], codes, List, ℕ, IsTrue};
+ghost use Rattle.std.specs.Prelude.{◌≡◌, true};
 ghost use Rattle.std.specs.Io.KnownBytes.{Appends};
+ghost use Rattle.rtps_tool.specs.FaultText.{fault_line};
 ghost use Rattle.rtps_tool.specs.Statuses.{status_of};
 
 use crate::faults::{Ending, RecFault, RunFault};
@@ -19,7 +20,10 @@ pub fn status(outcome: &Result<Ending, RunFault>) -> u8
     }
 }
 
-/// Writes the line that tells of a fault: `rtps-audit: `, the fault's text and LF. False where a write failed.
-pub fn write_fault<W: Write>(fault: &RunFault, output: &mut W) -> bool {
+/// Writes the line that tells of a fault: `rtps-audit: `, the fault's text and LF. False where a write failed, which may
+/// have left a part of it.
+pub fn write_fault<W: Write>(fault: &RunFault, output: &mut W) -> bool
+    ensures { result ≡ true → Appends (W.contents output.old) (W.contents output.new) (fault_line fault.now) }
+{
     writeln!(output, "rtps-audit: {fault}").is_ok()
 }

@@ -1,0 +1,23 @@
+-- What is told of a fault. own: one line on standard error, the same for the same fault.
+use Rattle.std.specs.Prelude.{ℕ, List, [], ◌∷◌, ◌++◌, codes}
+use Rattle.std.specs.Fmt.{decimal}
+use Rattle.rtps_tool.specs.declared.faults.RecFault.{RecFault}
+use Rattle.rtps_tool.specs.declared.faults.RecFault.TheVariants.{BadHex, TooLong, TooMany, Memory}
+use Rattle.rtps_tool.specs.declared.faults.RunFault.{RunFault}
+use Rattle.rtps_tool.specs.declared.faults.RunFault.TheVariants.{Recording, Input, Output, Memory as RunMemory}
+
+unfoldable pub rec_fault_text : RecFault → List ℕ
+rec_fault_text (BadHex line) = codes "line " ++ (decimal line ++ codes ": bad hex")
+rec_fault_text (TooLong line) = codes "line " ++ (decimal line ++ codes ": too long")
+rec_fault_text TooMany = codes "too many datagrams"
+rec_fault_text Memory = codes "out of memory"
+
+unfoldable pub run_fault_text : RunFault → List ℕ
+run_fault_text (Recording fault) = rec_fault_text fault
+run_fault_text Input = codes "cannot read input"
+run_fault_text (Output written) = codes "cannot write output"
+run_fault_text RunMemory = codes "out of memory"
+
+-- the line of a fault, with LF (10)
+abbrev pub fault_line : RunFault → List ℕ
+fault_line fault = codes "rtps-audit: " ++ (run_fault_text fault ++ 10 ∷ [])
