@@ -1,12 +1,10 @@
 //! The program `rtps-audit`: opens what its words name, runs, and ends with the status of the run.
 #![tactic(auto)]
 
-use rtps_tool::{
-    Choice, Ending, RunFault, WordFault, read_words, run_audit, run_list, run_show, status,
-    write_fault,
-};
+use rtps_tool::{Choice, Ending, RunFault, WordFault, read_words, run_choice, status, write_fault};
 use std::alloc::AllocError;
 use std::fs::File;
+use std::io::Write;
 use std::process::ExitCode;
 use std::{env, io};
 
@@ -45,9 +43,7 @@ fn run_args(rt: &HostRuntime, args: &[String]) -> Result<u8, AllocError> {
         words.push(arg.as_str())?;
     }
     Ok(match read_words(rt.alloc(), &words) {
-        Ok(Choice::Show { file }) => finish(rt, &show(rt, file.as_str())),
-        Ok(Choice::List { file }) => finish(rt, &list(rt, file.as_str())),
-        Ok(Choice::Audit { file }) => finish(rt, &audit(rt, file.as_str())),
+        Ok(choice) => finish(rt, &run_on_file(rt, &choice)),
         Err(WordFault::Refused(refusal)) => {
             let _ = refusal.print(rt);
             2
@@ -60,34 +56,19 @@ fn run_args(rt: &HostRuntime, args: &[String]) -> Result<u8, AllocError> {
     })
 }
 
-fn show(rt: &HostRuntime, file: &str) -> Result<Ending, RunFault> {
+// Runs what was chosen on its FILE. Where that cannot be opened, it is named with the reason.
+fn run_on_file(rt: &HostRuntime, choice: &Choice) -> Result<Ending, RunFault> {
+    let file = choice.file();
     if file == "-" {
-        return run_show(rt.alloc(), &mut rt.stdin(), &mut rt.stdout());
+        return run_choice(rt.alloc(), choice, &mut rt.stdin(), &mut rt.stdout());
     }
-    let Ok(mut input) = File::open(rt, file) else {
-        return Err(RunFault::Input);
-    };
-    run_show(rt.alloc(), &mut input, &mut rt.stdout())
-}
-
-fn list(rt: &HostRuntime, file: &str) -> Result<Ending, RunFault> {
-    if file == "-" {
-        return run_list(rt.alloc(), &mut rt.stdin(), &mut rt.stdout());
+    match File::open(rt, file) {
+        Ok(mut input) => run_choice(rt.alloc(), choice, &mut input, &mut rt.stdout()),
+        Err(error) => {
+            let _ = writeln!(rt.stderr(), "rtps-audit: {file}: {error}");
+            Err(RunFault::Input)
+        }
     }
-    let Ok(mut input) = File::open(rt, file) else {
-        return Err(RunFault::Input);
-    };
-    run_list(rt.alloc(), &mut input, &mut rt.stdout())
-}
-
-fn audit(rt: &HostRuntime, file: &str) -> Result<Ending, RunFault> {
-    if file == "-" {
-        return run_audit(rt.alloc(), &mut rt.stdin(), &mut rt.stdout());
-    }
-    let Ok(mut input) = File::open(rt, file) else {
-        return Err(RunFault::Input);
-    };
-    run_audit(rt.alloc(), &mut input, &mut rt.stdout())
 }
 
 // Tells of a fault, if there is one, and answers the status to end with.

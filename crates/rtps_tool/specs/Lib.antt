@@ -12,3 +12,4 @@ pub mod Words
 pub mod ShowText
 pub mod Unfinished
 pub mod FaultText
+pub mod Choices

@@ -4,6 +4,7 @@
 mod audit;
 mod audit_lines;
 mod auditing;
+mod choices;
 mod command;
 mod datagrams;
 mod faults;
@@ -23,6 +24,7 @@ mod tests;
 mod words;
 
 pub use auditing::run_audit;
+pub use choices::run_choice;
 pub use command::{Choice, WordFault, read_words};
 pub use datagrams::Recording;
 pub use faults::{Ending, RecFault, RunFault};
