@@ -65,10 +65,20 @@ fn run_on_file(rt: &HostRuntime, choice: &Choice) -> Result<Ending, RunFault> {
     match File::open(rt, file) {
         Ok(mut input) => run_choice(rt.alloc(), choice, &mut input, &mut rt.stdout()),
         Err(error) => {
-            let _ = writeln!(rt.stderr(), "rtps-audit: {file}: {error}");
+            tell_reason(rt, file, &error);
             Err(RunFault::Input)
         }
     }
+}
+
+// Names a file that cannot be opened, with the reason but without the number that the system gives it.
+fn tell_reason(rt: &HostRuntime, file: &str, error: &io::Error) {
+    let mut text = String::new(rt.alloc());
+    if write!(text, "{error}").is_err() {
+        return;
+    }
+    let reason = text.as_str().split(" (os error ").next().unwrap_or("");
+    let _ = writeln!(rt.stderr(), "rtps-audit: {file}: {reason}");
 }
 
 // Tells of a fault, if there is one, and answers the status to end with.
