@@ -1,6 +1,11 @@
 -- Facts on what `clap` found.
-use Rattle.std.proofs.Common.{◌≡◌, Option, None, Some, refl, unwrap_or}
+use Rattle.std.proofs.Common.{◌≡◌, ◌⊎◌, inl, inr, Option, None, Some, refl, unwrap_or}
 use Rattle.std.specs.Option.{option_map}
+use Rattle.clap.specs.Words.{HasKind, IsAmong, Kinds, kind_of}
+use Rattle.clap.specs.declared.error.Error.{Error}
+use Rattle.clap.specs.declared.error.kind.ErrorKind.{ErrorKind}
+use Rattle.clap.specs.declared.error.kind.ErrorKind.TheVariants.{InvalidValue, UnknownArgument, InvalidSubcommand, NoEquals, ValueValidation, TooManyValues, TooFewValues, WrongNumberOfValues, ArgumentConflict, MissingRequiredArgument, MissingSubcommand, DisplayHelp, DisplayHelpOnMissingArgumentOrSubcommand, DisplayVersion, Io, Format, OutOfMemory}
+use Rattle.rtps_tool.specs.Words.{IsOneOf, word_fault_by, word_fault_of}
 
 -- a name with its rows
 abbrev pub named_rows : {A X Y : Type 0} → (A → X) → (A → Y) → A → X × Y
@@ -10,3 +15,26 @@ named_rows name rows a = (name a, rows a)
 pub unwrap_or-view : {A X : Type 0} (view : A → X) (found : Option A) (default : A) → view (unwrap_or found default) ≡ unwrap_or (option_map view found) (view default)
 unwrap_or-view view None default = refl
 unwrap_or-view view (Some a) default = refl
+
+-- a fault of one of these kinds is one of them as a fault of words
+by_kind : (kinds : Kinds) (error : Error) (kind : ErrorKind) → kind_of error ≡ kind → (kind ≡ OutOfMemory) ⊎ IsAmong kind kinds → IsOneOf kinds (word_fault_by kind error)
+by_kind kinds error OutOfMemory is has = tt
+by_kind kinds error DisplayHelp is has = elim has [ inl other ↦ absurd cc | inr among ↦ among ]
+by_kind kinds error InvalidValue is has = elim has [ inl other ↦ absurd cc | inr among ↦ rw is among ]
+by_kind kinds error UnknownArgument is has = elim has [ inl other ↦ absurd cc | inr among ↦ rw is among ]
+by_kind kinds error InvalidSubcommand is has = elim has [ inl other ↦ absurd cc | inr among ↦ rw is among ]
+by_kind kinds error NoEquals is has = elim has [ inl other ↦ absurd cc | inr among ↦ rw is among ]
+by_kind kinds error ValueValidation is has = elim has [ inl other ↦ absurd cc | inr among ↦ rw is among ]
+by_kind kinds error TooManyValues is has = elim has [ inl other ↦ absurd cc | inr among ↦ rw is among ]
+by_kind kinds error TooFewValues is has = elim has [ inl other ↦ absurd cc | inr among ↦ rw is among ]
+by_kind kinds error WrongNumberOfValues is has = elim has [ inl other ↦ absurd cc | inr among ↦ rw is among ]
+by_kind kinds error ArgumentConflict is has = elim has [ inl other ↦ absurd cc | inr among ↦ rw is among ]
+by_kind kinds error MissingRequiredArgument is has = elim has [ inl other ↦ absurd cc | inr among ↦ rw is among ]
+by_kind kinds error MissingSubcommand is has = elim has [ inl other ↦ absurd cc | inr among ↦ rw is among ]
+by_kind kinds error DisplayHelpOnMissingArgumentOrSubcommand is has = elim has [ inl other ↦ absurd cc | inr among ↦ rw is among ]
+by_kind kinds error DisplayVersion is has = elim has [ inl other ↦ absurd cc | inr among ↦ rw is among ]
+by_kind kinds error Io is has = elim has [ inl other ↦ absurd cc | inr among ↦ rw is among ]
+by_kind kinds error Format is has = elim has [ inl other ↦ absurd cc | inr among ↦ rw is among ]
+
+pub one_of : (kinds : Kinds) (error : Error) → HasKind kinds error → IsOneOf kinds (word_fault_of error)
+one_of kinds error has = by_kind kinds error (kind_of error) refl has

@@ -1,11 +1,10 @@
 -- The words of the command line, as `clap` reads them.
-use Rattle.std.specs.Prelude.{◌≡◌, ◌≢◌, codes, true, List, [], Option, Some, unwrap_or}
-use Rattle.clap.specs.Words.{App, Row, Rule, Text, first_of, new_app, new_rule, with_rule, with_subcommand}
+use Rattle.std.specs.Prelude.{◌≡◌, ◌≢◌, codes, true, List, [], ◌∷◌, Option, Some, unwrap_or}
+use Rattle.clap.specs.Words.{App, IsAmong, Kinds, Row, Rule, Text, fault_of, first_of, kind_of, new_app, new_rule, with_rule, with_subcommand}
 use Rattle.clap.specs.declared.builder.action.ArgAction.TheVariants.{Set}
 use Rattle.clap.specs.declared.error.Error.{Error}
 use Rattle.clap.specs.declared.error.kind.ErrorKind.{ErrorKind}
-use Rattle.clap.specs.declared.error.kind.ErrorKind.TheVariants.{DisplayHelp, OutOfMemory}
-use Rattle.clap.specs.Words.{kind_of}
+use Rattle.clap.specs.declared.error.kind.ErrorKind.TheVariants.{DisplayHelp, MissingRequiredArgument, MissingSubcommand, OutOfMemory}
 use Rattle.std.specs.String.{string_bytes}
 use Rattle.rtps_tool.specs.declared.command.Choice.{Choice}
 use Rattle.rtps_tool.specs.declared.command.Choice.TheVariants.{Show, List as ListChoice, Audit}
@@ -59,3 +58,22 @@ abbrev pub HasItsKind : WordFault → Type 0
 HasItsKind (Refused error) = (kind_of error ≢ DisplayHelp) × (kind_of error ≢ OutOfMemory)
 HasItsKind (Help error) = kind_of error ≡ DisplayHelp
 HasItsKind Memory = Unit {0}
+
+-- the fault is one of these kinds, unless it is want of memory
+abbrev pub IsOneOf : Kinds → WordFault → Type 0
+IsOneOf kinds (Refused error) = IsAmong (kind_of error) kinds
+IsOneOf kinds (Help error) = IsAmong DisplayHelp kinds
+IsOneOf kinds Memory = Unit {0}
+
+-- what is wrong with these words, behind the program's name
+abbrev pub faults_of_words : List Text → Kinds
+faults_of_words words = fault_of program (codes "rtps-audit" ∷ words)
+
+-- Without a subcommand, and without its FILE, words are refused; `--help` is answered.
+pub record WordsAreWanted : Type 0 where
+  pub no_subcommand : faults_of_words [] ≡ MissingSubcommand ∷ []
+  pub no_file_to_show : faults_of_words (codes "show" ∷ []) ≡ MissingRequiredArgument ∷ []
+  pub no_file_to_list : faults_of_words (codes "list" ∷ []) ≡ MissingRequiredArgument ∷ []
+  pub no_file_to_audit : faults_of_words (codes "audit" ∷ []) ≡ MissingRequiredArgument ∷ []
+  pub help : faults_of_words (codes "--help" ∷ []) ≡ DisplayHelp ∷ []
+  pub whole : faults_of_words (codes "audit" ∷ codes "a.rec" ∷ []) ≡ []

@@ -1,14 +1,14 @@
-ghost use Rattle.std.specs.Prelude.{◌≡◌, true, false, codes, IfOk, IfErr, List, [], MatchOption, map, unwrap_or};
+ghost use Rattle.std.specs.Prelude.{◌≡◌, ◌⊎◌, true, false, codes, IfOk, IfErr, OnOk, List, [], MatchOption, map, unwrap_or};
 ghost use Rattle.std.specs.String.{string_bytes};
-ghost use Rattle.clap.specs.Words.{app_of, first_of, found_of, rows_of, subcommand_of, subcommand_rows_of, takes};
+ghost use Rattle.clap.specs.Words.{app_of, fault_of, first_of, found_of, rows_of, subcommand_of, subcommand_rows_of, takes};
 ghost use Rattle.clap.specs.declared.builder.command.Command.TheViews.{out-Command};
-ghost use Rattle.rtps_tool.specs.Words.{program as program_app, reading_app, IsChoice, HasItsKind};
+ghost use Rattle.rtps_tool.specs.Words.{program as program_app, reading_app, IsChoice, IsOneOf, HasItsKind};
 
 use clap::error::ErrorKind;
 use clap::{Arg, ArgAction, ArgMatches, Command};
 use std::alloc::{AllocError, Global};
 
-/// What the words ask for. A FILE of `-` is standard input; where `clap` takes words that give none, it is empty.
+/// What the words ask for. A FILE of `-` is standard input.
 #[derive(Debug, Drop)]
 pub enum Choice {
     /// Show each datagram and its submessages.
@@ -132,6 +132,11 @@ fn choice_of(alloc: Global, matches: &ArgMatches) -> Result<Option<Choice>, Allo
 pub fn read_words<'a>(alloc: Global, words: &'a [&'a str]) -> Result<Choice, WordFault>
     // The subcommand and the FILE are those of the matches that `clap` defines for the words.
     ensures chosen { IfOk result (IsChoice (subcommand_of program_app (map (λ word. word.now) words.now))) }
+
+    // Words with a fault are refused, and the refusal is of its kind.
+    ensures faultless { OnOk result (fault_of program_app (map (λ word. word.now) words.now) ≡ []) }
+    ensures fault { IfErr result (λ fault. (fault_of program_app (map (λ word. word.now) words.now) ≡ [])
+        ⊎ IsOneOf (fault_of program_app (map (λ word. word.now) words.now)) fault) }
 
     // Words that `clap` takes and that name a subcommand are refused for want of memory alone.
     ensures taken { IfErr result (λ fault. takes program_app (map (λ word. word.now) words.now) ≡ true

@@ -10,6 +10,7 @@ mod datagrams;
 mod faults;
 mod hexadecimal;
 mod item_lines;
+pub mod laws;
 mod line_reader;
 mod lines;
 mod list;

@@ -1,15 +1,21 @@
-use Rattle.std.proofs.Common.{◌≡◌, ◌∙◌, sym, refl, true, ap, subst, map, Bor, List, ℕ}
+use Rattle.std.proofs.Common.{◌≡◌, ◌∙◌, inl, inr, sym, refl, true, ap, subst, map, Bor, List, ℕ}
 use Rattle.std.proofs.lemmas.Option.{MatchOption-at_some, MatchOption-at_none}
 use Rattle.std.proofs.lemmas.Result.{err_from_is_err_and}
-use Rattle.clap.specs.Words.{App, is_simple, subcommand_of, takes}
+use Rattle.clap.specs.Words.{App, FailsBy, HasKind, Kinds, fault_of, is_simple, is_simple_and_free, subcommand_of, takes}
 use Rattle.clap.proofs.OnLiterals.{clap_on_literals}
-use Rattle.rtps_tool.specs.Words.{program, IsChoice, word_fault_by}
+use Rattle.rtps_tool.specs.Words.{program, IsChoice, IsOneOf, word_fault_by}
+use Rattle.rtps_tool.proofs.WordsLemmas.{one_of}
 use Rattle.rtps_tool.proofs.command.read_words.Goals as goal
 
 -- the program's command line is one of which the definition gives the matches
 is_simple-program : is_simple program ≡ true
 unfolding clap_on_literals
 is_simple-program = refl
+
+-- and of which it gives the kinds of refusals
+is_free-program : is_simple_and_free program ≡ true
+unfolding clap_on_literals
+is_free-program = refl
 
 pub returns-in_err-matches-clause-taken : goal.returns-in_err-matches-clause-taken
 returns-in_err-matches-clause-taken c =
@@ -38,3 +44,24 @@ returns-clause-taken c =
     let words = map (λ (word : Bor (List ℕ)). word.now) c.args.words.now in
     let none = MatchOption-at_none _ _ c.in-None.is c.in_ok-choice.ensures in
     λ taken choice is. absurd (none choice (subst (λ found. IsChoice found choice) (sym (found.1 ∙ ap (λ (a : App). subcommand_of a words) made)) is))
+
+pub returns-in_err-matches-clause-fault : goal.returns-in_err-matches-clause-fault
+returns-in_err-matches-clause-fault c =
+    let words = map (λ (word : Bor (List ℕ)). word.now) c.args.words.now in
+    let p = err_from_is_err_and c.from_residual-in_err-matches.result c.from_residual-in_err-matches.ensures.1 in
+    let made = c.in_ok-program.ensures in
+    let has = c.in_err-matches.ensures.kinds (ap is_simple_and_free made ∙ is_free-program) in
+    rw p.1 (inr (subst (IsOneOf (fault_of program words)) (sym p.2)
+    (one_of (fault_of program words) c.in_err-matches.field-0.0 (subst (λ (kinds : Kinds). HasKind kinds c.in_err-matches.field-0.0) (ap (λ (a : App). fault_of a words) made) has))))
+
+pub returns-in-Some-clause-faultless : goal.returns-in-Some-clause-faultless
+returns-in-Some-clause-faultless c =
+    let words = map (λ (word : Bor (List ℕ)). word.now) c.args.words.now in
+    let made = c.in_ok-program.ensures in
+    sym (ap (λ (a : App). fault_of a words) made) ∙ c.in_ok-matches.ensures.kinds (ap is_simple_and_free made ∙ is_free-program)
+
+pub returns-clause-fault : goal.returns-clause-fault
+returns-clause-fault c =
+    let words = map (λ (word : Bor (List ℕ)). word.now) c.args.words.now in
+    let made = c.in_ok-program.ensures in
+    inl (sym (ap (λ (a : App). fault_of a words) made) ∙ c.in_ok-matches.ensures.kinds (ap is_simple_and_free made ∙ is_free-program))
