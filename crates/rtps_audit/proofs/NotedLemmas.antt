@@ -13,11 +13,6 @@ use Rattle.rtps_ids.specs.declared.identity.Guid.{Guid}
 use Rattle.rtps_wire.specs.Values.{payload_value}
 use Rattle.rtps_wire.specs.declared.body.GapBody.{GapBody}
 use Rattle.rtps_wire.specs.declared.body.Payload.{Payload}
-use Rattle.rtps_wire.specs.declared.fault.Refusal.{Refusal}
-use Rattle.rtps_wire.specs.declared.fault.WireFault.{WireFault}
-use Rattle.rtps_wire.specs.Header.{header_fault}
-use Rattle.rtps_wire.specs.Reading.{reading_of}
-use Rattle.rtps_receiver.specs.Acts.{acts_of, acts_then}
 use Rattle.rtps_receiver.specs.Values.{ActValue}
 use Rattle.rtps_receiver.specs.Values.ActBodyValue.{Gap}
 use Rattle.rtps_audit.specs.Delivery.{Word}

@@ -1,14 +1,9 @@
 -- The acts of a recording, and the pairs of its rows, one more at a time.
-use Rattle.std.proofs.Common.{◌≡◌, ℕ, ◌+◌, ◌<◌, ◌≤◌, List, [], ◌∷◌, ◌++◌, length, map, take, drop, get_or, Bor, Option, Some, None, Ok, Err, refl, sym, ◌∙◌, ap, arith}
-use Rattle.std.proofs.lemmas.List.{map-append, take_more, length-append, length-drop, append-nil}
+use Rattle.std.proofs.Common.{◌≡◌, ℕ, ◌+◌, ◌<◌, ◌≤◌, List, [], ◌∷◌, ◌++◌, length, map, take, get_or, Bor, Ok, Err, sym, ◌∙◌, ap, arith}
+use Rattle.std.proofs.lemmas.List.{map-append, take_more, append-nil}
 use Rattle.std.proofs.lemmas.Grind.{flat_map-append}
-use Rattle.rtps_wire.specs.Header.{header_fault, header_of}
-use Rattle.rtps_wire.specs.Reading.{Outcome, items_among, outcomes, reading_of}
-use Rattle.rtps_wire.specs.Values.{ItemValue}
-use Rattle.rtps_wire.specs.declared.fault.WireFault.{WireFault}
+use Rattle.rtps_wire.specs.Reading.{reading_of}
 use Rattle.rtps_receiver.specs.Acts.{ActOutcome, acts_among, acts_in, acts_of}
-use Rattle.rtps_receiver.specs.Values.{ActBodyValue}
-use Rattle.rtps_receiver.specs.declared.state.State.{State}
 use Rattle.rtps_discovery.specs.declared.matching.Pair.{Pair}
 use Rattle.rtps_audit.specs.declared.report.Row.{Row}
 

@@ -1,6 +1,6 @@
 -- Lemmas about the definitions of this crate, for the crates above it: what octets without a set, or with one, say of
 -- it, and whether a number is in a set.
-use Rattle.std.proofs.Common.{◌≡◌, ◌+◌, ◌-◌, ◌<◌, ◌≤◌, List, ℕ, zero, suc, ℤ, pos, negsuc, Bool, true, false, Some, None, length, refl, sym, ◌∙◌, ap, arith}
+use Rattle.std.proofs.Common.{◌≡◌, ◌+◌, ◌-◌, ◌<◌, ◌≤◌, List, ℕ, zero, suc, ℤ, pos, negsuc, Bool, true, false, Some, None, length, refl, ◌∙◌, ap, arith}
 use Rattle.std.specs.Prelude.{int_le}
 use Rattle.std.specs.Bool.{Decides}
 use Rattle.std.specs.Int.RustNames.{unsigned_abs}

@@ -9,7 +9,7 @@ use Rattle.std.proofs.lemmas.Bool.Decides.{nat_tests}
 use Rattle.std.proofs.lemmas.List.FromFn.{fill_by_all, get_or-map-range_with_len}
 use Rattle.std.proofs.lemmas.Nat.Bits.{bit_at-zero, bit_at_cat_high, bit_at_cat_low}
 use Rattle.std.proofs.lemmas.Int.{ints}
-use Rattle.rtps_ids.specs.NumberSet.{IsMember, NumberSetValue, bit_of, cleared, cleared_words, is_bad, kept_bits, set_fault, spelled_count, spelled_set, spelled_word}
+use Rattle.rtps_ids.specs.NumberSet.{IsMember, NumberSetValue, bit_of, cleared, cleared_words, kept_bits, set_fault, spelled_count, spelled_set, spelled_word}
 use Rattle.rtps_ids.specs.declared.order.Order.{Order}
 use Rattle.rtps_ids.proofs.Offered.{at_most_256, good_set_found}
 
@@ -99,13 +99,16 @@ member_of_bit order octets i good = (to, from)
   where
     set : NumberSetValue
     set = spelled_set order octets
+
     few : spelled_count order octets ≤ 256
     few = at_most_256 _ _ (good_set_found order octets good).0
+
     to : IsMember set (pos (set.base + i)) → (i < spelled_count order octets) × (bit_at (spelled_word order octets (i / 32)) (31 - i % 32) ≡ 1)
     to member =
         let same : member.bit ≡ i = omega (arith, ints, member.number) in
         let below : i < spelled_count order octets = subst (λ bit. bit < spelled_count order octets) same member.in_count in
         (below, sym (kept_bit (spelled_count order octets) i (spelled_word order octets) below (omega (arith, few))) ∙ ap (bit_of set.words) (sym same) ∙ member.is_set)
+
     from : (i < spelled_count order octets) × (bit_at (spelled_word order octets (i / 32)) (31 - i % 32) ≡ 1) → IsMember set (pos (set.base + i))
     from there =
         record { bit = i; in_count = there.0; number = refl; is_set = kept_bit (spelled_count order octets) i (spelled_word order octets) there.0 (omega (arith, few, there.0)) ∙ there.1 }

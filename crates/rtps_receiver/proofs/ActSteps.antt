@@ -1,5 +1,5 @@
 -- The acts that are left, one item at a time.
-use Rattle.std.proofs.Common.{◌≡◌, ℕ, List, [], ◌∷◌, ◌++◌, Option, Some, None, Ok, Err, length, ◌+◌, ◌≤◌, arith, refl, ap, sym, ◌∙◌, append_assoc, option_to_list, unwrap_or}
+use Rattle.std.proofs.Common.{◌≡◌, List, [], ◌∷◌, ◌++◌, Option, Some, None, Ok, Err, length, ◌+◌, ◌≤◌, arith, refl, ap, sym, ◌∙◌, append_assoc, option_to_list, unwrap_or}
 use Rattle.std.proofs.lemmas.List.{length-append}
 use Rattle.rtps_wire.proofs.Offered.{refusal_is_last}
 use Rattle.rtps_wire.specs.Reading.{Outcome, Unread, items_among, outcomes_left, read_as, refusal_among, refused_with}

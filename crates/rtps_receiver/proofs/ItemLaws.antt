@@ -1,5 +1,5 @@
 -- The state at a place, and the acts of a message, by its items.
-use Rattle.std.proofs.Common.{◌≡◌, ◌⊎◌, inl, inr, List, [], ◌∷◌, ◌++◌, Contains, Option, Some, None, refl, sym, ◌∙◌, ap, subst, append_assoc, arith, unwrap_or}
+use Rattle.std.proofs.Common.{◌≡◌, inl, inr, List, [], ◌∷◌, ◌++◌, Contains, Option, Some, None, refl, sym, ◌∙◌, ap, subst, append_assoc, arith, unwrap_or}
 use Rattle.std.proofs.lemmas.List.{append-nil}
 use Rattle.std.proofs.lemmas.List.Elements.{All-cons, All-nil, Contains-append_cases, Contains-append_left, Contains-append_right, Contains-push, Contains-push_cases}
 use Rattle.std.specs.Prelude.{◌↔◌}
@@ -115,6 +115,7 @@ acts_are_of_items reading header act is = (to, from)
     to there =
         let it = to_item (state_at_start header) [] reading.items act (subst (λ h. Contains (acts_with h reading.items) act) is there) in
         record { before = it.between; item = it.item; behind = it.behind; split = it.split; body = it.body; is_act = it.is_act; value = it.value }
+
     from : IsActOf header reading.items act → Contains (acts_with reading.header reading.items) act
     from it =
         subst (λ h. Contains (acts_with h reading.items) act) (sym is)

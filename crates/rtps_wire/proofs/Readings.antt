@@ -5,7 +5,7 @@ use Rattle.std.proofs.lemmas.Bool.Decides.{nat_tests}
 use Rattle.std.proofs.lemmas.List.{length-drop}
 use Rattle.rtps_wire.specs.Message.{body_fault, body_length, body_octets, fault_at, flags_of, id_of, item_at, next_rest, octets_to_next_header}
 use Rattle.rtps_wire.specs.Values.{ItemValue}
-use Rattle.rtps_wire.specs.Reading.{Outcome, items_among, outcomes, outcomes_with, outcomes_within, read_as, reading_of, reading_with, refused_with}
+use Rattle.rtps_wire.specs.Reading.{Outcome, outcomes, outcomes_with, outcomes_within, read_as, reading_of, reading_with, refused_with}
 use Rattle.rtps_wire.specs.Header.{header_fault, header_of}
 use Rattle.rtps_wire.specs.declared.fault.WireFault.{WireFault}
 

@@ -1,5 +1,5 @@
 -- ACKNACK. DDSI-RTPS 2.5, 8.3.8.1 "AckNack" and 9.4.5.3 "AckNack Submessage".
-use Rattle.std.specs.Prelude.{ℕ, ◌==◌, ◌+◌, bit_and, not, nat_lt, List, [], ◌∷◌, length, take, drop, Option}
+use Rattle.std.specs.Prelude.{ℕ, ◌==◌, ◌+◌, bit_and, not, nat_lt, List, [], ◌∷◌, length, drop, Option}
 use Rattle.rtps_ids.specs.NumberSet.{is_bad, octets_of_count, spelled_base, spelled_count, spelled_set}
 use Rattle.rtps_ids.specs.Octets.{number_of}
 use Rattle.rtps_ids.specs.declared.order.Order.{Order}

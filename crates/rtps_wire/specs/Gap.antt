@@ -1,5 +1,5 @@
 -- GAP. DDSI-RTPS 2.5, 8.3.8.4 "Gap" and 9.4.5.6 "Gap Submessage".
-use Rattle.std.specs.Prelude.{ℕ, ℤ, ◌||◌, ◌+◌, int_le, pos, nat_lt, Bool, List, [], ◌∷◌, length, take, drop, Option}
+use Rattle.std.specs.Prelude.{ℕ, ℤ, ◌||◌, ◌+◌, int_le, pos, nat_lt, Bool, List, [], ◌∷◌, length, drop, Option}
 use Rattle.std.specs.Int.RustNames.{unsigned_abs}
 use Rattle.rtps_ids.specs.NumberSet.{is_bad, octets_of_count, spelled_base, spelled_count, spelled_set}
 use Rattle.rtps_ids.specs.Octets.{sequence_number_of}

@@ -1,5 +1,5 @@
 -- The header of a message. DDSI-RTPS 2.5, 8.3.6 "The RTPS Header" and 9.4.4 "Mapping of the RTPS Header".
-use Rattle.std.specs.Prelude.{ℕ, ◌==◌, not, nat_lt, List, [], ◌∷◌, ◌||◌, drop, length, slice_index, take, Option}
+use Rattle.std.specs.Prelude.{ℕ, ◌==◌, not, nat_lt, List, [], ◌∷◌, ◌||◌, length, slice_index, Option}
 use Rattle.rtps_wire.specs.Fault.{first_fault}
 use Rattle.rtps_wire.specs.Fields.{prefix_at, vendor_at}
 use Rattle.rtps_wire.specs.declared.fault.WireFault.{WireFault}

@@ -1,5 +1,5 @@
 -- HEARTBEAT. DDSI-RTPS 2.5, 8.3.8.6 "Heartbeat" and 9.4.5.7 "Heartbeat Submessage".
-use Rattle.std.specs.Prelude.{ℕ, ℤ, ◌-ℤ◌, ◌==◌, ◌||◌, bit_and, not, pos, int_lt, int_le, nat_lt, List, [], ◌∷◌, length, take, drop, Option}
+use Rattle.std.specs.Prelude.{ℕ, ℤ, ◌-ℤ◌, ◌==◌, ◌||◌, bit_and, not, pos, int_lt, int_le, nat_lt, List, [], ◌∷◌, length, drop, Option}
 use Rattle.std.specs.Int.RustNames.{unsigned_abs}
 use Rattle.rtps_ids.specs.Octets.{number_of, sequence_number_of}
 use Rattle.rtps_ids.specs.declared.order.Order.{Order}

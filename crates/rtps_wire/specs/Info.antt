@@ -1,7 +1,7 @@
 -- INFO_TS, INFO_DST and INFO_SRC. DDSI-RTPS 2.5, 8.3.8.11 "InfoTimestamp" and 9.4.5.12 "InfoTimestamp Submessage",
 -- 8.3.8.8 "InfoDestination" and 9.4.5.9 "InfoDestination Submessage", 8.3.8.10 "InfoSource" and 9.4.5.11 "InfoSource
 -- Submessage".
-use Rattle.std.specs.Prelude.{ℕ, ◌==◌, ◌&&◌, bit_and, nat_lt, List, [], ◌∷◌, length, slice_index, take, drop, Option, Some, None, if◌then◌else◌}
+use Rattle.std.specs.Prelude.{ℕ, ◌==◌, ◌&&◌, bit_and, nat_lt, List, [], ◌∷◌, length, slice_index, drop, Option, Some, None, if◌then◌else◌}
 use Rattle.rtps_ids.specs.Octets.{number_of}
 use Rattle.rtps_ids.specs.declared.identity.GuidPrefix.{GuidPrefix}
 use Rattle.rtps_ids.specs.declared.identity.Stamp.{Stamp}

@@ -1,4 +1,4 @@
-use Rattle.std.proofs.Common.{◌≡◌, ◌∙◌, ◌≤◌, ap, sym, refl, arith, drop, length}
+use Rattle.std.proofs.Common.{◌≡◌, ◌∙◌, ap, sym, refl, arith, drop}
 use Rattle.std.proofs.lemmas.List.{length-drop}
 use Rattle.rtps_wire.specs.Reading.{outcomes, read_as}
 use Rattle.rtps_wire.proofs.Readings.{length-outcomes, reading_opened, reading_refused}
