@@ -1,7 +1,11 @@
--- An act is one fault at most.
-use Rattle.std.proofs.Common.{◌≤◌, ℕ, arith}
+-- How many faults there are among acts, one act more: one at most.
+use Rattle.std.proofs.Common.{◌≡◌, ◌+◌, ◌≤◌, ℕ, List, [], ◌∷◌, ◌++◌, ◌<◌, ◌∙◌, ap, arith, get_or, length, map, take}
+use Rattle.std.proofs.lemmas.List.{map-append, take_more}
+use Rattle.std.proofs.lemmas.List.Sums.{sum_by-cons}
+use Rattle.rtps_receiver.specs.Values.{ActValue, act_value}
 use Rattle.std.specs.Prelude.{if◌then◌else◌}
-use Rattle.rtps_discovery.specs.Notice.{is_fault}
+use Rattle.rtps_receiver.specs.declared.act.Act.{Act}
+use Rattle.rtps_discovery.specs.Notice.{announcement_of, answer_of, faults_in, is_fault}
 use Rattle.rtps_discovery.specs.declared.notice.Noted.{Noted}
 use Rattle.rtps_discovery.specs.declared.notice.Noted.TheVariants.{Nothing, Kept, Fault}
 
@@ -12,3 +16,17 @@ pub one_fault : (answer : Noted) → faults_of answer ≤ 1
 one_fault Nothing = omega arith
 one_fault Kept = omega arith
 one_fault (Fault fault) = omega arith
+
+pub faults_more : (acts : List ActValue) (act : ActValue) → faults_in (acts ++ act ∷ []) ≡ faults_in acts + faults_of (answer_of (announcement_of act))
+faults_more [] act = omega arith
+faults_more (first ∷ acts) act =
+    omega (
+      arith,
+      faults_more acts act,
+      sum_by-cons (λ (a : ActValue). faults_of (answer_of (announcement_of a))) first (acts ++ act ∷ []),
+      sum_by-cons (λ (a : ActValue). faults_of (answer_of (announcement_of a))) first acts,
+    )
+
+-- the first acts of a list, one more
+pub acts_more : (acts : List Act) (i : ℕ) (d : Act) → i < length acts → map act_value (take (i + 1) acts) ≡ map act_value (take i acts) ++ act_value (get_or acts i d) ∷ []
+acts_more acts i d lt = ap (map act_value) (take_more acts i d lt) ∙ map-append act_value (take i acts) (get_or acts i d ∷ [])

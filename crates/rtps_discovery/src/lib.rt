@@ -3,7 +3,7 @@
 #![tactic(auto)]
 
 mod announcement;
-mod datagram;
+mod noting;
 mod directory_map;
 mod endpoint;
 mod fault;

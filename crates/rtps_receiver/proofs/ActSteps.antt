@@ -80,6 +80,19 @@ act_says_nothing state item (InfoDst prefix) act is said = cc
 act_says_nothing state item (InfoSrc version vendor prefix) act is said = cc
 act_says_nothing state item (Skipped id) act is said = cc
 
+-- the acts of items, by the first of them
+pub acts_behind-act : (state : State) (item : ItemValue) (items : List ItemValue) (body : ActBodyValue) → act_body item.body ≡ Some body
+    → acts_behind state [] (item ∷ items) ≡ act_at state item.at item.order body ∷ acts_behind state [] items
+acts_behind-act state item items body is =
+    ap (λ b. acts_of_item state item b ++ acts_behind state (item ∷ []) items) is
+    ∙ ap (λ acts. act_at state item.at item.order body ∷ acts)
+    (acts_behind-one state item items ∙ ap (λ s. acts_behind s [] items) (act_says_nothing state item item.body body refl is))
+
+pub acts_behind-other : (state : State) (item : ItemValue) (items : List ItemValue) → act_body item.body ≡ None
+    → acts_behind state [] (item ∷ items) ≡ acts_behind (state_behind state (item ∷ [])) [] items
+acts_behind-other state item items none =
+    ap (λ b. acts_of_item state item b ++ acts_behind state (item ∷ []) items) none ∙ acts_behind-one state item items
+
 -- ---- what is left, by what is read next
 
 abbrev awaited : State → Unread → Awaited
@@ -98,20 +111,14 @@ pub acts_left-heard : (state : State) (old new : Unread) (item : ItemValue) → 
     → acts_left (awaited state old) ≡ acts_left (awaited (state_behind state (item ∷ [])) new)
 unfolding acts_left
 acts_left-heard state old new item next none =
-    ap (left_of state) next
-    ∙ (ap (λ body. acts_then (acts_of_item state item body ++ acts_behind state (item ∷ []) (items_among (outcomes_left new))) (refusal_among (outcomes_left new))) none
-    ∙ ap (λ acts. acts_then acts (refusal_among (outcomes_left new))) (acts_behind-one state item (items_among (outcomes_left new))))
+    ap (left_of state) next ∙ ap (λ acts. acts_then acts (refusal_among (outcomes_left new))) (acts_behind-other state item (items_among (outcomes_left new)) none)
 
 -- an act
 pub acts_left-act : (state : State) (old new : Unread) (item : ItemValue) (body : ActBodyValue) → outcomes_left old ≡ Ok item ∷ outcomes_left new → act_body item.body ≡ Some body
     → acts_left (awaited state old) ≡ Ok (act_at state item.at item.order body) ∷ acts_left (awaited state new)
 unfolding acts_left
 acts_left-act state old new item body next is =
-    ap (left_of state) next
-    ∙ (ap (λ b. acts_then (acts_of_item state item b ++ acts_behind state (item ∷ []) (items_among (outcomes_left new))) (refusal_among (outcomes_left new))) is
-    ∙ ap (λ acts. acts_then (act_at state item.at item.order body ∷ acts) (refusal_among (outcomes_left new)))
-    (acts_behind-one state item (items_among (outcomes_left new))
-    ∙ ap (λ s. acts_behind s [] (items_among (outcomes_left new))) (act_says_nothing state item item.body body refl is)))
+    ap (left_of state) next ∙ ap (λ acts. acts_then acts (refusal_among (outcomes_left new))) (acts_behind-act state item (items_among (outcomes_left new)) body is)
 
 -- a refusal
 pub acts_left-refused : (state : State) (old new : Unread) (refusal : Refusal) → outcomes_left old ≡ Err refusal ∷ outcomes_left new
@@ -126,6 +133,11 @@ pub acts_left-opened : (reading : Reading) (header : Header) (state : State) (un
     → acts_left (awaited state unread) ≡ acts_then (acts_of reading) reading.ending
 unfolding acts_left acts_of
 acts_left-opened reading header state unread is state_is = rw (is, state_is) refl
+
+pub acts_of-read : (reading : Reading) (header : Header) (state : State) (unread : Unread) → reading ≡ read_as header (outcomes_left unread) → state ≡ state_at_start header
+    → acts_of reading ≡ acts_behind state [] (items_among (outcomes_left unread))
+unfolding acts_of
+acts_of-read reading header state unread is state_is = rw (is, state_is) refl
 
 pub acts_of-refused : (reading : Reading) (fault : WireFault) → reading ≡ refused_with fault → acts_of reading ≡ []
 unfolding acts_of

@@ -7,7 +7,9 @@ pub mod laws;
 mod receiver;
 mod speech;
 mod state;
+mod walk;
 
 pub use act::{Act, ActBody};
 pub use receiver::Acts;
 pub use state::State;
+pub use walk::Walk;

@@ -61,7 +61,7 @@ impl<'a> Iterator for Acts<'a> {
                     if let Some(act) = self.state.act(&item) {
                         return Some(Ok(act));
                     }
-                    self.state.hear(&item);
+                    self.state.interpret(&item);
                 }
                 Err(refusal) => return Some(Err(refusal)),
             }

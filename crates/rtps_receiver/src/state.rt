@@ -56,7 +56,7 @@ impl State {
 
     /// Takes what this item says of the state of what follows it.
     #[inline(always)]
-    pub fn hear(&mut self, item: &Item<'_>)
+    pub fn interpret(&mut self, item: &Item<'_>)
         ensures { self.new ≡ state_behind self.old (item_value item.now ∷ []) }
     {
         match &item.body {

@@ -57,7 +57,7 @@ fn push_items(text: &mut String, start: State, items: Items<'_>) -> Result<(), A
             Ok(item) => {
                 let item = &item;
                 write!(text, "{}", ItemLine { item, state })?;
-                state.hear(item);
+                state.interpret(item);
             }
             Err(refusal) => write!(text, "{}", RefusalLine(refusal))?,
         }

@@ -29,15 +29,6 @@ skipped_in items = count_by (λ item. is_skipped item.body) items
 abbrev pub tally_of : Reading → Tally
 tally_of reading = record { refused = is_some reading.ending; skipped = skipped_in reading.items; fragments = fragments_in reading.items }
 
--- the tally with one item more
-abbrev pub after_body : Tally → BodyValue → Tally
-after_body tally body =
-    record {
-      refused = tally.refused;
-      skipped = tally.skipped + (if is_skipped body then 1 else 0);
-      fragments = tally.fragments + (if is_fragment body then 1 else 0);
-    }
-
 -- the tally of what is read
 abbrev pub tally_of_outcomes : List Outcome → Tally
 tally_of_outcomes results =

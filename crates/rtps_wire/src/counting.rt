@@ -24,10 +24,17 @@ fn tally_items(items: Items<'_>) -> Tally
     requires { length (outcomes_left items) < 2 ^ 64 }
     ensures { result ≡ tally_of_outcomes (outcomes_left items.entry) }
 {
-    let mut tally = Tally::NOTHING;
+    let mut tally = Tally {
+        refused: false,
+        skipped: 0,
+        fragments: 0,
+    };
     for outcome in items {
         match outcome {
-            Ok(item) => tally.add(&item.body),
+            Ok(item) => {
+                tally.skipped += u64::from(item.body.is_skipped());
+                tally.fragments += u64::from(item.body.is_fragment());
+            }
             Err(_) => tally.refused = true,
         }
     }

@@ -1,4 +1,4 @@
-ghost use Rattle.std.specs.Prelude.{◌≡◌, ◌+◌, ◌<◌, ◌^◌};
+ghost use Rattle.std.specs.Prelude.{◌≡◌};
 ghost use Rattle.rtps_wire.specs.Values.{body_value};
 
 use crate::body::Body;
@@ -15,27 +15,31 @@ pub struct Tally {
     pub fragments: u64,
 }
 
-impl Tally {
-    ghost use Rattle.rtps_wire.specs.Tally.{after_body};
+impl<'a> Body<'a> {
+    ghost use Rattle.rtps_wire.specs.Tally.{is_fragment as is_fragment_lem, is_skipped as is_skipped_lem};
 
-    pub(crate) const NOTHING: Tally = Tally {
-        refused: false,
-        skipped: 0,
-        fragments: 0,
-    };
-
-    /// Counts one item.
-    pub(crate) fn add(&mut self, body: &Body<'_>)
-        requires skipped { self.old.skipped + 1 < 2 ^ 64 }
-        requires fragments { self.old.fragments + 1 < 2 ^ 64 }
-        ensures { self.new ≡ after_body self.old (body_value body.now) }
+    /// Whether it is a NACK_FRAG, HEARTBEAT_FRAG or DATA_FRAG, which are skipped and counted apart (DDSI-RTPS 2.5,
+    /// 9.4.5.1.1 "SubmessageIds").
+    #[inline(always)]
+    pub fn is_fragment(&self) -> bool
+        ensures { result ≡ is_fragment_lem (body_value self.now) }
     {
-        match body {
+        match self {
             Body::Skipped {
                 id: id::NACK_FRAG | id::HEARTBEAT_FRAG | id::DATA_FRAG,
-            } => self.fragments += 1,
-            Body::Skipped { id: _ } => self.skipped += 1,
-            _ => {}
+            } => true,
+            _ => false,
+        }
+    }
+
+    /// Whether it is skipped and is no fragment. PAD is.
+    #[inline(always)]
+    pub fn is_skipped(&self) -> bool
+        ensures { result ≡ is_skipped_lem (body_value self.now) }
+    {
+        match self {
+            Body::Skipped { .. } => !self.is_fragment(),
+            _ => false,
         }
     }
 }

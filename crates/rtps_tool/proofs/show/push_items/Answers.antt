@@ -34,7 +34,7 @@ loop-outcome-preserved-in-Ok c =
     let step : outcomes_left c.loop-outcome.outcome-iterator ≡ Ok item ∷ later = c.in-Some.ensures.steps ∙ ap (λ o. outcome_value o ∷ later) c.in-Ok.is in (
       tt,
       tt,
-      ap (λ s. string_bytes c.write.new.self ++ outcomes_text s later) c.hear.ensures
+      ap (λ s. string_bytes c.write.new.self ++ outcomes_text s later) c.interpret.ensures
           ∙ ap (λ bytes. bytes ++ outcomes_text (state_behind state (item ∷ [])) later) c.in_ok-write-in-Ok.ensures.bytes
           ∙ append_assoc old (item_line state item) (outcomes_text (state_behind state (item ∷ [])) later)
           ∙ ap (λ bytes. old ++ bytes) (sym (outcomes_text-item state item later))

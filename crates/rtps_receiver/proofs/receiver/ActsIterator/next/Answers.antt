@@ -20,7 +20,7 @@ returns-in-Some-act-clause-goes c =
 pub loop-outcome-preserved : goal.loop-outcome-preserved
 loop-outcome-preserved c =
     let next = c.in-Some.ensures.steps ∙ ap (λ o. outcome_value o ∷ outcomes_left c.next.new.self) c.in-Ok.is in
-    ap (λ state. acts_left (record { state = state; unread = c.next.new.self })) c.hear.ensures
+    ap (λ state. acts_left (record { state = state; unread = c.next.new.self })) c.interpret.ensures
     ∙ (sym (acts_left-heard c.loop-outcome.self-inside.state _ _ _ next c.in_default-act.ensures) ∙ c.loop-outcome.invariant)
 
 pub returns-in-Err-clause-steps : goal.returns-in-Err-clause-steps

@@ -1,0 +1,36 @@
+ghost use Rattle.std.specs.Prelude.{◌≡◌, ◌++◌, if◌then◌else◌, map, IfOk, OnOk, List};
+ghost use Rattle.rtps_receiver.specs.Values.{ActValue, act_value};
+ghost use Rattle.rtps_discovery.specs.Directory.{IsMapOf};
+ghost use Rattle.rtps_discovery.specs.Notice.{faults_in, is_fault};
+
+use crate::directory_map::Directory;
+use crate::notice::Noted;
+use rtps_ids::Memory;
+use rtps_receiver::Act;
+
+impl<'a> Directory<'a> {
+    /// Notes acts in their order, as [`Directory::note`] does, and says how many are announcements with a fault. After
+    /// `Memory` the directory has kept those before the one that was too many.
+    pub fn note_all(&mut self, acts: &[Act<'a>]) -> Result<u64, Memory>
+        ensures map { OnOk result ((before : List ActValue)
+            → IsMapOf before self.old → IsMapOf (before ++ map act_value acts.now) self.new) }
+        ensures faults { IfOk result (λ faults. faults ≡ faults_in (map act_value acts.now)) }
+    {
+        let mut faults = 0u64;
+        for act in acts {
+            let noted = self.note(act)?;
+            faults += fault_count(noted);
+        }
+        Ok(faults)
+    }
+}
+
+// One for an act that is answered with a fault, and else none.
+fn fault_count(noted: Noted) -> u64
+    ensures { result ≡ (if is_fault noted then 1 else 0) }
+{
+    match noted {
+        Noted::Nothing | Noted::Kept => 0,
+        Noted::Fault(_) => 1,
+    }
+}

@@ -1,0 +1,105 @@
+ghost use Rattle.std.specs.Prelude.{◌≡◌, ◌<◌, ◌^◌, [], length, map, if◌then◌else◌, IfOk, OnOk};
+ghost use Rattle.rtps_receiver.specs.Acts.{acts_behind, acts_of};
+ghost use Rattle.rtps_receiver.specs.Values.{act_value};
+ghost use Rattle.rtps_wire.specs.Reading.{items_among, outcomes_left, reading_of};
+ghost use Rattle.rtps_wire.specs.Tally.{tally_of, tally_of_outcomes};
+
+use crate::act::Act;
+use crate::state::State;
+use rtps_ids::Memory;
+use rtps_wire::{Items, Tally};
+use std::alloc::Global;
+use std::marker::Model;
+use std::slice;
+
+/// Reads the datagrams of a recording, one after another and each of them once: the acts of the datagram that was read
+/// last stand side by side until the next one is read. It takes room for the acts of one datagram.
+#[derive(Drop)]
+pub struct Walk<'a> {
+    acts: Vec<Act<'a>>,
+}
+
+impl<'a> Model for Walk<'a> {
+    ghost use Rattle.std.specs.Prelude.{List, map};
+    ghost use Rattle.rtps_receiver.specs.Values.{ActValue, act_value};
+
+    ghost Value = { List ActValue };
+
+    ghost view = { λ walk. map act_value walk.acts.items };
+}
+
+impl<'a> Walk<'a> {
+    /// A walk that has read nothing. It takes no memory.
+    pub fn new(alloc: Global) -> Self
+        ensures { result ≡ [] }
+    {
+        Walk {
+            acts: Vec::new(alloc),
+        }
+    }
+
+    /// Reads a datagram, of any length, up to its refusal if one ends it: its acts take the place of those of the last
+    /// one, and its tally is answered. After `Memory` the acts are some of its first ones.
+    pub fn read(&mut self, datagram: &'a [u8]) -> Result<Tally, Memory>
+        ensures acts { OnOk result (self.new ≡ acts_of (reading_of datagram.now)) }
+        ensures tally { IfOk result (λ tally. tally ≡ tally_of (reading_of datagram.now)) }
+    {
+        self.acts.clear();
+        match Items::open(datagram) {
+            Ok((header, items)) => push_acts(&mut self.acts, State::at_start(header), items),
+            Err(_) => Ok(Tally {
+                refused: true,
+                skipped: 0,
+                fragments: 0,
+            }),
+        }
+    }
+
+    /// The acts of the datagram that was read last, in order, each with the receiver's state at its place.
+    pub fn acts(&self) -> &[Act<'a>]
+        ensures { map act_value result.now ≡ self.now }
+    {
+        &self.acts
+    }
+}
+
+// Appends the acts of what is unread of a datagram, from this state on, and counts its items.
+fn push_acts<'a>(
+    acts: &mut Vec<Act<'a>>,
+    start: State,
+    items: Items<'a>,
+) -> Result<Tally, Memory>
+    requires empty { acts.old.items ≡ [] }
+    requires few { length (outcomes_left items) < 2 ^ 64 }
+    ensures acts { OnOk result (map act_value acts.new.items ≡ acts_behind start [] (items_among (outcomes_left items.entry))) }
+    ensures tally { IfOk result (λ tally. tally ≡ tally_of_outcomes (outcomes_left items.entry)) }
+{
+    let mut state = start;
+    let mut tally = Tally {
+        refused: false,
+        skipped: 0,
+        fragments: 0,
+    };
+    for outcome in items {
+        match outcome {
+            Ok(item) => {
+                tally.skipped += one_if(item.body.is_skipped());
+                tally.fragments += one_if(item.body.is_fragment());
+                if let Some(act) = state.act(&item) {
+                    acts.extend_from_slice(slice::from_ref(&act))?;
+                } else {
+                    state.interpret(&item);
+                }
+            }
+            Err(_) => tally.refused = true,
+        }
+    }
+    Ok(tally)
+}
+
+#[inline(always)]
+fn one_if(test: bool) -> u64
+    ensures { result ≡ (if test then 1 else 0) }
+{
+    if test { 1 } else { 0 }
+}
