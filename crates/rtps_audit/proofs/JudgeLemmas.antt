@@ -1,6 +1,6 @@
 -- What a judge knows after one datagram more, and what follows for the verdict.
-use Rattle.std.proofs.Common.{◌≡◌, ℕ, zero, suc, ◌+◌, ◌-◌, ◌<◌, ◌≤◌, ◌^◌, Bool, true, false, ◌||◌, List, [], ◌∷◌, ◌++◌, length, Option, Some, None, All, refl, sym, ◌∙◌, ap, subst, arith, inl, inr, max, ℤ, pos, negsuc, MatchOption}
-use Rattle.std.specs.Prelude.{Contains, ◌↔◌, if◌then◌else◌, int_lt, nat_le}
+use Rattle.std.proofs.Common.{◌≡◌, ℕ, ◌+◌, ◌-◌, ◌<◌, ◌≤◌, ◌^◌, Bool, true, false, ◌||◌, List, [], ◌∷◌, ◌++◌, length, Option, Some, None, All, refl, sym, ◌∙◌, ap, subst, arith, inl, inr, max, ℤ, pos, negsuc, MatchOption}
+use Rattle.std.specs.Prelude.{◌↔◌, if◌then◌else◌, int_lt, nat_le}
 use Rattle.std.specs.List.{list_any, filter_map}
 use Rattle.std.proofs.lemmas.Int.{ints}
 use Rattle.std.proofs.lemmas.Bool.Decides.{nat_tests}
@@ -15,7 +15,7 @@ use Rattle.rtps_audit.specs.PlainVerdict.{IsFounded, IsSpoken, SpeaksTwo, IsClai
 use Rattle.rtps_audit.specs.Facts.{IsInRange, said, tells, base_of, announced_of}
 use Rattle.rtps_audit.specs.Samples.{IsKept, KeepsTwo, sample_of}
 use Rattle.rtps_audit.specs.Claims.{FindsUntold}
-use Rattle.rtps_audit.specs.Judge.{Knows, greatest_base}
+use Rattle.rtps_audit.specs.Judge.{Knows}
 use Rattle.rtps_audit.specs.declared.fact.Fact.{Fact}
 use Rattle.rtps_audit.specs.declared.claims.Untold.{Untold}
 use Rattle.rtps_audit.specs.declared.judge_state.Judge.{Judge}

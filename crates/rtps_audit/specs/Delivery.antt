@@ -1,5 +1,6 @@
 -- Delivery of one writer's numbers to one reader. DDSI-RTPS 2.5, 8.4 "Behavior Module", and 8.3.8.1 "AckNack",
--- 8.3.8.2 "Data", 8.3.8.4 "Gap" and 8.3.8.6 "Heartbeat", which say what each submessage tells.
+-- 8.3.8.2 "Data", 8.3.8.4 "Gap" and 8.3.8.6 "Heartbeat", which say what each submessage tells. A definition with a number
+-- `from` speaks of the writer's numbers from that one on, and of no smaller one; with 1 it speaks of all.
 use Rattle.std.specs.Prelude.{ℕ, suc, ◌<◌, ◌≤◌, ◌≡◌, ◌-◌, List, [], ◌∷◌, ◌++◌, length, max, Option, Some, slice_get, Contains}
 use Rattle.rtps_wire.specs.Values.{PayloadValue}
 
@@ -20,7 +21,7 @@ pub record Datagram : Type 0 where
 abbrev pub Speech : Type 0
 Speech = List Datagram
 
--- the numbers that are asked for: those from this one on. Numbers begin at 1
+-- the number n is asked for: it is one of those from `from` on. Numbers begin at 1
 abbrev pub IsAsked : ℕ → ℕ → Type 0
 IsAsked from n = (1 ≤ n) × (from ≤ n)
 
@@ -48,7 +49,7 @@ abbrev pub greatest : List ℕ → ℕ
 greatest [] = 0
 greatest (n ∷ ns) = max n (greatest ns)
 
--- the greatest of the numbers that the writer announced and from - 1, below which none is asked for
+-- the greatest of from - 1 and the numbers that the writer announced
 abbrev pub last_announced_from : ℕ → Speech → ℕ
 last_announced_from from [] = from - 1
 last_announced_from from (datagram ∷ speech) = max (greatest datagram.announced) (last_announced_from from speech)
@@ -70,8 +71,8 @@ start = record { sent = 0; held = [] }
 abbrev pub Holds : State → ℕ → Type 0
 Holds state n = (word : Word) × Contains state.held (n, word)
 
--- what may happen next: the next datagram is sent, or the reader takes one asked number's word from an act of a datagram
--- that was sent. A loss is a word that is never taken; words come in any order and any number of times
+-- what may happen next: the next datagram is sent, or the reader takes one number's word from an act of a datagram that
+-- was sent. A loss is a word that is never taken; words come in any order and any number of times
 pub data Event : Type 0 where
   Send : Event
   Take : (i k n : ℕ) (word : Word) → Event
@@ -80,7 +81,7 @@ pub data Event : Type 0 where
 abbrev pub MaySend : ℕ → Speech → State → Type 0
 MaySend from speech state = (state.sent < length speech) × ((n : ℕ) → Claims from speech state.sent n → Holds state n)
 
--- the event is allowed in the old state, and leaves the new one
+-- the event is allowed in the old state, and leaves the new one. Words are taken only for numbers that are asked for
 abbrev pub Step : ℕ → Speech → State → Event → State → Type 0
 Step from speech old Send new = MaySend from speech old × (new ≡ record { sent = suc old.sent; held = old.held })
 Step from speech old (Take i k n word) new = (i < old.sent) × Gives from speech i k n word × (new ≡ record { sent = old.sent; held = old.held ++ (n, word) ∷ [] })

@@ -12,7 +12,7 @@ take_of i k n (Some word) = Take i k n word ∷ []
 abbrev pub asked_word : ℕ → (ℕ → Option Word) → ℕ → Option Word
 asked_word from act n = if nat_le 1 n && nat_le from n then act n else None
 
--- a take for each number that is asked for, is below the bound and has a word by the act
+-- a take for each number below the bound that is asked for and that the act has a word for
 abbrev pub takes_of_act : ℕ → ℕ → ℕ → (ℕ → Option Word) → ℕ → List Event
 takes_of_act from i k act zero = []
 takes_of_act from i k act (suc n) = takes_of_act from i k act n ++ take_of i k n (asked_word from act n)
@@ -30,7 +30,7 @@ eager_at from i (datagram ∷ speech) bound = (Send ∷ takes_of_acts from i 0 d
 abbrev pub eager_run : ℕ → Speech → ℕ → List Event
 eager_run from speech bound = eager_at from 0 speech bound
 
--- each word that the recording gives is for a number below the bound
+-- each word of the recording for a number that is asked for is for one below the bound
 abbrev pub IsBoundedBy : ℕ → Speech → ℕ → Type 0
 IsBoundedBy from speech bound = (i k n : ℕ) (word : Word) → Gives from speech i k n word → n < bound
 

@@ -1,4 +1,4 @@
--- Laws over definitions alone. Each holds whatever number it is from which on numbers are asked for.
+-- Laws over definitions alone. Those on deliveries hold whatever the number is from which on numbers are asked for.
 use Rattle.std.specs.Prelude.{ℕ, ◌<◌, ◌≤◌, ◌≡◌, ◌↔◌, pos, List, [], ◌∷◌, length, All, Contains}
 use Rattle.std.specs.List.{list_any}
 use Rattle.rtps_audit.specs.Delivery.{Word, Speech, State, IsAsked, Gives, Claims, Holds, IsReached, HasRun, last_announced_from}

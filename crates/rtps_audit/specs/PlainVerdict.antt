@@ -29,6 +29,7 @@ IsClaimed from speech n = (j : ℕ) × Claims from speech j n
 abbrev pub IsUnclaimed : ℕ → Speech → ℕ → Type 0
 IsUnclaimed from speech n = IsAsked from n × (n ≤ last_announced_from from speech) × ¬ IsClaimed from speech n
 
+-- what a verdict says of the numbers from `from` on
 abbrev pub IsPlainVerdictFrom : ℕ → Speech → Verdict → Type 0
 IsPlainVerdictFrom from speech (Unfounded datagram number) =
     (j : ℕ) × (datagram ≡ j + 1) × IsLeast (λ i. (n : ℕ) × ClaimsUntold from speech i n) j × OnNatural number (IsLeast (ClaimsUntold from speech j))
@@ -38,6 +39,6 @@ IsPlainVerdictFrom from speech (Complete last) =
     (last ≡ pos (last_announced_from from speech)) × IsFounded from speech × ((n : ℕ) → ¬ SpeaksTwo from speech n)
     × ((n : ℕ) → IsAsked from n → n ≤ last_announced_from from speech → IsClaimed from speech n)
 
--- and of all numbers
+-- what it says of all numbers
 abbrev pub IsPlainVerdict : Speech → Verdict → Type 0
 IsPlainVerdict speech verdict = IsPlainVerdictFrom 1 speech verdict

@@ -40,7 +40,7 @@ EndsInConflict from speech n = (end : State) × (x : PayloadValue) × (y : Paylo
 abbrev pub EndsWithout : ℕ → Speech → ℕ → Type 0
 EndsWithout from speech n = IsAsked from n × (n ≤ last_announced_from from speech) × ((end : State) × Ends from speech end × ¬ Holds end n)
 
--- what a verdict says of the numbers from this one on. A datagram counts from 1
+-- what a verdict says of the numbers from `from` on. A datagram counts from 1
 abbrev pub IsVerdictFrom : ℕ → Speech → Verdict → Type 0
 IsVerdictFrom from speech (Unfounded datagram number) =
     ¬ HasRun from speech × ((j : ℕ) × (datagram ≡ j + 1) × IsLeast (IsUnsendable from speech) j × OnNatural number (IsLeast (ClaimsUntold from speech j)))
@@ -50,6 +50,6 @@ IsVerdictFrom from speech (Complete last) =
     (last ≡ pos (last_announced_from from speech)) × HasRun from speech × ((n : ℕ) → ¬ EndsInConflict from speech n)
     × ((end : State) → Ends from speech end → (n : ℕ) → IsAsked from n → n ≤ last_announced_from from speech → Holds end n)
 
--- and of all numbers
+-- what it says of all numbers
 abbrev pub IsVerdict : Speech → Verdict → Type 0
 IsVerdict speech verdict = IsVerdictFrom 1 speech verdict
