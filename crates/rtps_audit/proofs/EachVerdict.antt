@@ -5,10 +5,10 @@ use Rattle.std.specs.Cmp.Lexicographic.{bytes_decides}
 use Rattle.std.proofs.lemmas.Bool.{cases_lt}
 use Rattle.std.proofs.lemmas.Option.{slice_get_cases, slice_get_within}
 use Rattle.rtps_wire.specs.Values.{PayloadValue}
-use Rattle.rtps_audit.specs.Delivery.{Word, Datagram, Speech, Gives, Claims, greatest, last_announced}
+use Rattle.rtps_audit.specs.Delivery.{Word, Datagram, Speech, IsAsked, Gives, Claims, greatest, last_announced_from}
 use Rattle.rtps_wire.specs.Values.PayloadValue.{Absent, Whole, Key}
 use Rattle.rtps_audit.specs.Delivery.Word.{Told, Gone}
-use Rattle.rtps_audit.specs.RunVerdict.{IsLeast, ClaimsUntold, IsVerdict}
+use Rattle.rtps_audit.specs.RunVerdict.{IsLeast, ClaimsUntold, IsVerdictFrom}
 use Rattle.rtps_audit.specs.PlainVerdict.{IsFounded, IsSpoken, SpeaksTwo, IsClaimed, IsUnclaimed}
 use Rattle.rtps_audit.specs.EagerRun.{IsBoundedBy}
 use Rattle.rtps_audit.specs.Judge.{greatest_base}
@@ -16,7 +16,8 @@ use Rattle.rtps_audit.specs.Laws.{EachHasAVerdict}
 use Rattle.rtps_audit.specs.declared.verdict.Verdict.{Verdict}
 use Rattle.rtps_audit.specs.declared.verdict.Verdict.TheVariants.{Unfounded, Conflict, Open, Complete}
 use Rattle.rtps_audit.proofs.FactLemmas.{below_greatest, greatest_below, Has, has_here, has_later, has_cases, has_none}
-use Rattle.rtps_audit.proofs.JudgeLemmas.{claimed_from_below, below_from_claims}
+use Rattle.rtps_audit.proofs.BelowBase.{claimed_from_below, below_from_claims}
+use Rattle.rtps_audit.proofs.Runs.{asked_or_not}
 use Rattle.rtps_audit.proofs.Verdicts.{told_or_not, from_plain}
 
 -- a fact holds or does not
@@ -42,43 +43,48 @@ least_search P decide (suc b) = next (least_search P decide b) (decide b)
     next (inr none) (inl p) = inl (b, record { holds = p; least = first none })
     next (inr none) (inr nor) = inr (neither none nor)
 
-claims_or_not : (speech : Speech) (j n : ℕ) → Decided (Claims speech j n)
-claims_or_not speech j zero = inr (λ claims. let positive = claims.positive in omega arith)
-claims_or_not speech j (suc m) = elim (slice_get_cases speech j).1 [
+asked_claims_or_not : {from : ℕ} (speech : Speech) (j n : ℕ) → IsAsked from n → Decided (Claims from speech j n)
+asked_claims_or_not {from} speech j n asked = elim (slice_get_cases speech j).1 [
   | inl found ↦ at found.0 found.2
   | inr past ↦ inr (λ claims. let within = slice_get_within speech j claims.datagram claims.stands in let out = past.0 in omega arith)
 ]
   where
-    at : (d : Datagram) → slice_get speech j ≡ Some d → Decided (Claims speech j (suc m))
-    at d stands = elim (cases_lt (suc m) (greatest d.bases)) [
+    at : (d : Datagram) → slice_get speech j ≡ Some d → Decided (Claims from speech j n)
+    at d stands = elim (cases_lt n (greatest d.bases)) [
       | inl lt ↦
-          let base = below_greatest (suc m) d.bases lt in
-          inl (record { datagram = d; base = base.0; stands = stands; answers = base.1; positive = omega arith; below = base.2 })
+          let base = below_greatest n d.bases lt in
+          inl (record { datagram = d; base = base.0; stands = stands; answers = base.1; asked = asked; below = base.2 })
       | inr le ↦ inr (λ claims.
           let both : Some claims.datagram ≡ Some d = sym claims.stands ∙ stands in
           let same : claims.datagram ≡ d = cc in
           let among = subst (λ (x : Datagram). Contains x.bases claims.base) same claims.answers in
-          let below = greatest_below (suc m) claims.base d.bases among claims.below in
+          let below = greatest_below n claims.base d.bases among claims.below in
           omega arith)
     ]
 
-untold_or_not : (speech : Speech) (j n : ℕ) → Decided (ClaimsUntold speech j n)
+claims_or_not : {from : ℕ} (speech : Speech) (j n : ℕ) → Decided (Claims from speech j n)
+claims_or_not {from} speech j n = elim (asked_or_not from n) [
+  | inl asked ↦ asked_claims_or_not speech j n asked
+  | inr never ↦ inr (λ claims. never claims.asked)
+]
+
+untold_or_not : {from : ℕ} (speech : Speech) (j n : ℕ) → Decided (ClaimsUntold from speech j n)
 untold_or_not speech j n = elim (claims_or_not speech j n) [
-  | inl claims ↦ elim (told_or_not speech j n claims.positive) [
+  | inl claims ↦ elim (told_or_not speech j n claims.asked) [
     | inl told ↦ inr (λ h. h.1 told)
     | inr untold ↦ inl (claims, untold)
   ]
   | inr none ↦ inr (λ h. none h.0)
 ]
 
-least_untold : (speech : Speech) (j : ℕ) → ((n : ℕ) × IsLeast (ClaimsUntold speech j) n) ⊎ ((n : ℕ) → ClaimsUntold speech j n → ⊥)
-least_untold speech j = elim (least_search (ClaimsUntold speech j) (untold_or_not speech j) (greatest_base speech)) [
+least_untold : {from : ℕ} (speech : Speech) (j : ℕ) → ((n : ℕ) × IsLeast (ClaimsUntold from speech j) n) ⊎ ((n : ℕ) → ClaimsUntold from speech j n → ⊥)
+least_untold {from} speech j = elim (least_search (ClaimsUntold from speech j) (untold_or_not speech j) (greatest_base speech)) [
   | inl found ↦ inl found
   | inr none ↦ inr (λ n claims. none n (below_from_claims n j speech claims.0) claims)
 ]
 
-unfounded_or_not : (speech : Speech) (j : ℕ) → Decided ((n : ℕ) × ClaimsUntold speech j n)
-unfounded_or_not speech j = elim (least_untold speech j) [
+unfounded_or_not : {from : ℕ} (speech : Speech) (j : ℕ) → Decided ((n : ℕ) × ClaimsUntold from speech j n)
+unfounded_or_not {from} speech j = elim (least_untold {from = from} speech j) [
   | inl found ↦ inl (found.0, found.1.holds)
   | inr none ↦ inr (λ h. none h.0 h.1)
 ]
@@ -131,97 +137,104 @@ acts_speak (act ∷ acts) n P decide = first (act n) refl (acts_speak acts n P d
     ]
 
 -- some payload with P is spoken for n
-abbrev Speaks : Speech → ℕ → (PayloadValue → Type 0) → Type 0
-Speaks speech n P = (p : PayloadValue) × IsSpoken speech n (Told p) × P p
+abbrev Speaks : ℕ → Speech → ℕ → (PayloadValue → Type 0) → Type 0
+Speaks from speech n P = (p : PayloadValue) × IsSpoken from speech n (Told p) × P p
 
-speaks : (speech : Speech) (n : ℕ) → 1 ≤ n → (P : PayloadValue → Type 0) → ((p : PayloadValue) → Decided (P p)) → Decided (Speaks speech n P)
-speaks [] n positive P decide = inr (λ (p, spoken, h). let none = spoken.gives.stands in cc)
-speaks (d ∷ speech) n positive P decide = first (acts_speak d.acts n P decide) (speaks speech n positive P decide)
+speaks : {from : ℕ} (speech : Speech) (n : ℕ) → IsAsked from n → (P : PayloadValue → Type 0) → ((p : PayloadValue) → Decided (P p)) → Decided (Speaks from speech n P)
+speaks [] n asked P decide = inr (λ (p, spoken, h). let none = spoken.gives.stands in cc)
+speaks {from} (d ∷ speech) n asked P decide = first (acts_speak d.acts n P decide) (speaks speech n asked P decide)
   where
-    later : (i k : ℕ) (w : Word) → Gives speech i k n w → Gives (d ∷ speech) (suc i) k n w
-    later i k w gives = record { datagram = gives.datagram; act = gives.act; stands = gives.stands; speaks = gives.speaks; positive = gives.positive; says = gives.says }
+    later : (i k : ℕ) (w : Word) → Gives from speech i k n w → Gives from (d ∷ speech) (suc i) k n w
+    later i k w gives = record { datagram = gives.datagram; act = gives.act; stands = gives.stands; speaks = gives.speaks; asked = gives.asked; says = gives.says }
 
-    cases : (i k : ℕ) (p : PayloadValue) → Gives (d ∷ speech) i k n (Told p) → P p → Decided (ActsSpeak d.acts n P) → (Speaks speech n P → ⊥) → (ActsSpeak d.acts n P → ⊥) → ⊥
+    cases : (i k : ℕ) (p : PayloadValue) → Gives from (d ∷ speech) i k n (Told p) → P p → Decided (ActsSpeak d.acts n P) → (Speaks from speech n P → ⊥) → (ActsSpeak d.acts n P → ⊥) → ⊥
     cases zero k p gives h here none nor =
         let both : Some d ≡ Some gives.datagram = gives.stands in
         let same : gives.datagram ≡ d = cc in
         nor (subst (λ (x : Datagram). ActsSpeak x.acts n P) same (k, p, record { act = gives.act; speaks = gives.speaks; says = gives.says }, h))
     cases (suc i) k p gives h here none nor =
-        none (p, record { place = i; act = k; gives = record { datagram = gives.datagram; act = gives.act; stands = gives.stands; speaks = gives.speaks; positive = gives.positive; says = gives.says } }, h)
+        none (p, record { place = i; act = k; gives = record { datagram = gives.datagram; act = gives.act; stands = gives.stands; speaks = gives.speaks; asked = gives.asked; says = gives.says } }, h)
 
-    first : Decided (ActsSpeak d.acts n P) → Decided (Speaks speech n P) → Decided (Speaks (d ∷ speech) n P)
+    first : Decided (ActsSpeak d.acts n P) → Decided (Speaks from speech n P) → Decided (Speaks from (d ∷ speech) n P)
     first (inl (k, p, has, h)) rest =
-        inl (p, record { place = 0; act = k; gives = record { datagram = d; act = has.act; stands = refl; speaks = has.speaks; positive = positive; says = has.says } }, h)
+        inl (p, record { place = 0; act = k; gives = record { datagram = d; act = has.act; stands = refl; speaks = has.speaks; asked = asked; says = has.says } }, h)
     first (inr nor) (inl (p, spoken, h)) = inl (p, record { place = suc spoken.place; act = spoken.act; gives = later spoken.place spoken.act (Told p) spoken.gives }, h)
     first (inr nor) (inr none) = inr (λ (p, spoken, h). cases spoken.place spoken.act p spoken.gives h (inr nor) none nor)
 
-two_or_not : (speech : Speech) (n : ℕ) → Decided (SpeaksTwo speech n)
-two_or_not speech zero = inr (λ (x, y, one, two, differ). let positive = one.gives.positive in omega arith)
-two_or_not speech (suc m) = first (speaks speech (suc m) (omega arith) (λ p. Unit {0}) (λ p. inl tt))
+asked_two_or_not : {from : ℕ} (speech : Speech) (n : ℕ) → IsAsked from n → Decided (SpeaksTwo from speech n)
+asked_two_or_not {from} speech n asked = first (speaks speech n asked (λ p. Unit {0}) (λ p. inl tt))
   where
-    other : (p : PayloadValue) → IsSpoken speech (suc m) (Told p) → Decided (Speaks speech (suc m) (λ q. p ≢ q)) → Decided (SpeaksTwo speech (suc m))
+    other : (p : PayloadValue) → IsSpoken from speech n (Told p) → Decided (Speaks from speech n (λ q. p ≢ q)) → Decided (SpeaksTwo from speech n)
     other p spoken (inl (q, also, differ)) = inl (p, q, spoken, also, differ)
     other p spoken (inr none) = inr (λ (x, y, one, two, differ). differ (sym (same x one) ∙ same y two))
       where
-        same : (x : PayloadValue) → IsSpoken speech (suc m) (Told x) → p ≡ x
+        same : (x : PayloadValue) → IsSpoken from speech n (Told x) → p ≡ x
         same x said = elim (payload_same p x) [ inl e ↦ e | inr apart ↦ absurd (none (x, said, apart)) ]
 
     unlike : (p q : PayloadValue) → Decided (p ≢ q)
     unlike p q = elim (payload_same p q) [ inl e ↦ inr (λ differ. differ e) | inr apart ↦ inl apart ]
 
-    first : Decided (Speaks speech (suc m) (λ p. Unit {0})) → Decided (SpeaksTwo speech (suc m))
-    first (inl (p, spoken, u)) = other p spoken (speaks speech (suc m) (omega arith) (λ q. p ≢ q) (unlike p))
+    first : Decided (Speaks from speech n (λ p. Unit {0})) → Decided (SpeaksTwo from speech n)
+    first (inl (p, spoken, u)) = other p spoken (speaks speech n asked (λ q. p ≢ q) (unlike p))
     first (inr none) = inr (λ (x, y, one, two, differ). none (x, one, tt))
 
-claimed_or_not : (speech : Speech) (n : ℕ) → 1 ≤ n → Decided (IsClaimed speech n)
-claimed_or_not speech n positive = elim (cases_lt n (greatest_base speech)) [
-  | inl lt ↦ inl (claimed_from_below n speech positive lt)
+two_or_not : {from : ℕ} (speech : Speech) (n : ℕ) → Decided (SpeaksTwo from speech n)
+two_or_not {from} speech n = elim (asked_or_not from n) [
+  | inl asked ↦ asked_two_or_not speech n asked
+  | inr never ↦ inr (λ (x, y, one, two, differ). never one.gives.asked)
+]
+
+claimed_or_not : {from : ℕ} (speech : Speech) (n : ℕ) → IsAsked from n → Decided (IsClaimed from speech n)
+claimed_or_not speech n asked = elim (cases_lt n (greatest_base speech)) [
+  | inl lt ↦ inl (claimed_from_below n speech asked lt)
   | inr le ↦ inr (λ claimed. let below = below_from_claims n claimed.0 speech claimed.1 in omega arith)
 ]
 
-unclaimed_or_not : (speech : Speech) (n : ℕ) → Decided (IsUnclaimed speech n)
-unclaimed_or_not speech zero = inr (λ h. let positive = h.0 in omega arith)
-unclaimed_or_not speech (suc m) = elim (cases_lt (last_announced speech) (suc m)) [
-  | inl past ↦ inr (λ h. let announced = h.1 in omega arith)
-  | inr announced ↦ elim (claimed_or_not speech (suc m) (omega arith)) [
-    | inl claimed ↦ inr (λ h. h.2 claimed)
-    | inr none ↦ inl (omega arith, announced, none)
+unclaimed_or_not : {from : ℕ} (speech : Speech) (n : ℕ) → Decided (IsUnclaimed from speech n)
+unclaimed_or_not {from} speech n = elim (asked_or_not from n) [
+  | inl asked ↦ elim (cases_lt (last_announced_from from speech) n) [
+    | inl past ↦ inr (λ h. let announced = h.1 in omega arith)
+    | inr announced ↦ elim (claimed_or_not speech n asked) [
+      | inl claimed ↦ inr (λ h. h.2 claimed)
+      | inr none ↦ inl (asked, announced, none)
+    ]
   ]
+  | inr never ↦ inr (λ h. never h.0)
 ]
 
 -- a verdict, if each answer is founded
-founded_verdict : (speech : Speech) (bound : ℕ) → IsBoundedBy speech bound → IsFounded speech → (verdict : Verdict) × IsVerdict speech verdict
-founded_verdict speech bound bounded founded = conflict (least_search (SpeaksTwo speech) (two_or_not speech) bound)
+founded_verdict : {from : ℕ} (speech : Speech) (bound : ℕ) → IsBoundedBy from speech bound → IsFounded from speech → (verdict : Verdict) × IsVerdictFrom from speech verdict
+founded_verdict {from} speech bound bounded founded = conflict (least_search (SpeaksTwo from speech) (two_or_not speech) bound)
   where
-    last : ((n : ℕ) → ¬ SpeaksTwo speech n) → ((n : ℕ) × IsLeast (IsUnclaimed speech) n) ⊎ ((n : ℕ) → n < suc (last_announced speech) → IsUnclaimed speech n → ⊥) → (verdict : Verdict) × IsVerdict speech verdict
-    last never (inl (n, least)) = (Open (pos n), from_plain speech (Open (pos n)) (founded, never, least))
-    last never (inr none) = (Complete (pos (last_announced speech)), from_plain speech (Complete (pos (last_announced speech))) (refl, founded, never, all))
+    last : ((n : ℕ) → ¬ SpeaksTwo from speech n) → ((n : ℕ) × IsLeast (IsUnclaimed from speech) n) ⊎ ((n : ℕ) → n < suc (last_announced_from from speech) → IsUnclaimed from speech n → ⊥) → (verdict : Verdict) × IsVerdictFrom from speech verdict
+    last never (inl (n, least)) = (Open (pos n), from_plain from speech (Open (pos n)) (founded, never, least))
+    last never (inr none) = (Complete (pos (last_announced_from from speech)), from_plain from speech (Complete (pos (last_announced_from from speech))) (refl, founded, never, all))
       where
-        all : (n : ℕ) → 1 ≤ n → n ≤ last_announced speech → IsClaimed speech n
-        all n positive announced = elim (claimed_or_not speech n positive) [
+        all : (n : ℕ) → IsAsked from n → n ≤ last_announced_from from speech → IsClaimed from speech n
+        all n asked announced = elim (claimed_or_not speech n asked) [
           | inl claimed ↦ claimed
-          | inr unclaimed ↦ absurd (none n (omega arith) (positive, announced, unclaimed))
+          | inr unclaimed ↦ absurd (none n (omega arith) (asked, announced, unclaimed))
         ]
 
-    conflict : ((n : ℕ) × IsLeast (SpeaksTwo speech) n) ⊎ ((n : ℕ) → n < bound → SpeaksTwo speech n → ⊥) → (verdict : Verdict) × IsVerdict speech verdict
-    conflict (inl (n, least)) = (Conflict (pos n), from_plain speech (Conflict (pos n)) (founded, least))
+    conflict : ((n : ℕ) × IsLeast (SpeaksTwo from speech) n) ⊎ ((n : ℕ) → n < bound → SpeaksTwo from speech n → ⊥) → (verdict : Verdict) × IsVerdictFrom from speech verdict
+    conflict (inl (n, least)) = (Conflict (pos n), from_plain from speech (Conflict (pos n)) (founded, least))
     conflict (inr none) =
-        let never : (n : ℕ) → ¬ SpeaksTwo speech n = λ n two. let (x, y, one, also, differ) = two in none n (bounded one.place one.act n (Told x) one.gives) two in
-        last never (least_search (IsUnclaimed speech) (unclaimed_or_not speech) (suc (last_announced speech)))
+        let never : (n : ℕ) → ¬ SpeaksTwo from speech n = λ n two. let (x, y, one, also, differ) = two in none n (bounded one.place one.act n (Told x) one.gives) two in
+        last never (least_search (IsUnclaimed from speech) (unclaimed_or_not speech) (suc (last_announced_from from speech)))
 
 pub each_has_a_verdict : EachHasAVerdict
-each_has_a_verdict speech bound bounded = first (least_search (λ j. (n : ℕ) × ClaimsUntold speech j n) (unfounded_or_not speech) (length speech))
+each_has_a_verdict from speech bound bounded = first (least_search (λ j. (n : ℕ) × ClaimsUntold from speech j n) (unfounded_or_not speech) (length speech))
   where
-    number : (j : ℕ) → IsLeast (λ i. (n : ℕ) × ClaimsUntold speech i n) j → ((n : ℕ) × IsLeast (ClaimsUntold speech j) n) ⊎ ((n : ℕ) → ClaimsUntold speech j n → ⊥) → (verdict : Verdict) × IsVerdict speech verdict
-    number j found (inl (n, least)) = (Unfounded (j + 1) (pos n), from_plain speech (Unfounded (j + 1) (pos n)) (j, refl, found, least))
+    number : (j : ℕ) → IsLeast (λ i. (n : ℕ) × ClaimsUntold from speech i n) j → ((n : ℕ) × IsLeast (ClaimsUntold from speech j) n) ⊎ ((n : ℕ) → ClaimsUntold from speech j n → ⊥) → (verdict : Verdict) × IsVerdictFrom from speech verdict
+    number j found (inl (n, least)) = (Unfounded (j + 1) (pos n), from_plain from speech (Unfounded (j + 1) (pos n)) (j, refl, found, least))
     number j found (inr none) = absurd (none found.holds.0 found.holds.1)
 
-    founded : ((j : ℕ) → j < length speech → ((n : ℕ) × ClaimsUntold speech j n) → ⊥) → IsFounded speech
-    founded none j n claims = elim (told_or_not speech j n claims.positive) [
+    founded : ((j : ℕ) → j < length speech → ((n : ℕ) × ClaimsUntold from speech j n) → ⊥) → IsFounded from speech
+    founded none j n claims = elim (told_or_not speech j n claims.asked) [
       | inl told ↦ told
       | inr untold ↦ absurd (none j (slice_get_within speech j claims.datagram claims.stands) (n, (claims, untold)))
     ]
 
-    first : ((j : ℕ) × IsLeast (λ i. (n : ℕ) × ClaimsUntold speech i n) j) ⊎ ((j : ℕ) → j < length speech → ((n : ℕ) × ClaimsUntold speech j n) → ⊥) → (verdict : Verdict) × IsVerdict speech verdict
+    first : ((j : ℕ) × IsLeast (λ i. (n : ℕ) × ClaimsUntold from speech i n) j) ⊎ ((j : ℕ) → j < length speech → ((n : ℕ) × ClaimsUntold from speech j n) → ⊥) → (verdict : Verdict) × IsVerdictFrom from speech verdict
     first (inl (j, found)) = number j found (least_untold speech j)
     first (inr none) = founded_verdict speech bound bounded (founded none)

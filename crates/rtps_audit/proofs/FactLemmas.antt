@@ -89,12 +89,12 @@ tells_from_has n k word (Claimed base ∷ facts) has = tells_from_has n k word f
 tells_from_has n k word (Announced number ∷ facts) has = tells_from_has n k word facts has
 
 -- the datagram that the facts say has a word for n where some fact tells it
-pub Tells-said : (n : ℕ) (facts : List Fact) → 1 ≤ n → list_any (tells n) facts ≡ true → Tells (said facts) n
+pub Tells-said : (n : ℕ) (facts : List Fact) → 1 ≤ n → list_any (tells n) facts ≡ true → Tells 1 (said facts) n
 Tells-said n facts positive e =
     let (k, word, has) = has_from_tells n facts e in
-    (k, word, record { act = has.act; speaks = has.speaks; positive = positive; says = has.says })
+    (k, word, record { act = has.act; speaks = has.speaks; asked = (positive, positive); says = has.says })
 
-pub tells_from_said : (n : ℕ) (facts : List Fact) → Tells (said facts) n → list_any (tells n) facts ≡ true
+pub tells_from_said : (n : ℕ) (facts : List Fact) → Tells 1 (said facts) n → list_any (tells n) facts ≡ true
 tells_from_said n facts (k, word, says) = tells_from_has n k word facts (record { act = says.act; speaks = says.speaks; says = says.says })
 
 -- a sample that is kept, with more behind it or before it
@@ -192,12 +192,12 @@ kept_positive n p (Claimed base ∷ facts) bounds kept = kept_positive n p facts
 kept_positive n p (Announced number ∷ facts) bounds kept = kept_positive n p facts (All-tail IsInRange (Announced number) facts bounds) kept
 
 -- the payloads of the facts are those that the datagram says
-pub Says-said : (n : ℕ) (p : PayloadValue) (facts : List Fact) → All IsInRange facts → IsKept (filter_map sample_of facts) n p → (k : ℕ) × Says (said facts) k n (told p)
+pub Says-said : (n : ℕ) (p : PayloadValue) (facts : List Fact) → All IsInRange facts → IsKept (filter_map sample_of facts) n p → (k : ℕ) × Says 1 (said facts) k n (told p)
 Says-said n p facts bounds kept =
     let (k, has) = has_from_kept n p facts kept in
-    (k, record { act = has.act; speaks = has.speaks; positive = kept_positive n p facts bounds kept; says = has.says })
+    (k, record { act = has.act; speaks = has.speaks; asked = let positive = kept_positive n p facts bounds kept in (positive, positive); says = has.says })
 
-pub kept_from_said : (n k : ℕ) (p : PayloadValue) (facts : List Fact) → Says (said facts) k n (told p) → IsKept (filter_map sample_of facts) n p
+pub kept_from_said : (n k : ℕ) (p : PayloadValue) (facts : List Fact) → Says 1 (said facts) k n (told p) → IsKept (filter_map sample_of facts) n p
 kept_from_said n k p facts says = kept_from_has n k p facts (record { act = says.act; speaks = says.speaks; says = says.says })
 
 -- a number below the greatest of a list is below one of its elements, and the other way round

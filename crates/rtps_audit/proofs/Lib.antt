@@ -6,6 +6,7 @@ pub mod Gathered
 pub mod SampleLemmas
 pub mod OneMore
 pub mod FactLemmas
+pub mod BelowBase
 pub mod NotedLemmas
 pub mod Runs
 pub mod Sound

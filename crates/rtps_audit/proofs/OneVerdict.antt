@@ -1,7 +1,7 @@
 -- A recording has no two verdicts.
 use Rattle.std.proofs.Common.{◌≡◌, ℕ, ◌+◌, sym, ◌∙◌, ap, subst, arith, ℤ, pos, negsuc}
 use Rattle.rtps_audit.specs.Delivery.{Speech}
-use Rattle.rtps_audit.specs.RunVerdict.{IsLeast, OnNatural, IsUnsendable, EndsInConflict, EndsWithout, ClaimsUntold, IsVerdict}
+use Rattle.rtps_audit.specs.RunVerdict.{IsLeast, OnNatural, IsUnsendable, EndsInConflict, EndsWithout, ClaimsUntold, IsVerdictFrom}
 use Rattle.rtps_audit.specs.Laws.{HasNoTwoVerdicts}
 use Rattle.rtps_audit.specs.declared.verdict.Verdict.TheVariants.{Unfounded, Conflict, Open, Complete}
 
@@ -21,35 +21,35 @@ some_natural : (P : ℕ → Type 0) (x : ℤ) → OnNatural x (IsLeast P) → (n
 some_natural P (pos n) a = (n, a.holds)
 some_natural P (negsuc n) a = absurd a
 
-same_unfounded : (speech : Speech) (d e : ℕ) (x y : ℤ) → IsVerdict speech (Unfounded d x) → IsVerdict speech (Unfounded e y) → Unfounded d x ≡ Unfounded e y
-same_unfounded speech d e x y (none, (i, at, first, least)) (never, (j, is, second, other)) =
-    let place : i ≡ j = one_least (IsUnsendable speech) i j first second in
+same_unfounded : {from : ℕ} (speech : Speech) (d e : ℕ) (x y : ℤ) → IsVerdictFrom from speech (Unfounded d x) → IsVerdictFrom from speech (Unfounded e y) → Unfounded d x ≡ Unfounded e y
+same_unfounded {from} speech d e x y (none, (i, at, first, least)) (never, (j, is, second, other)) =
+    let place : i ≡ j = one_least (IsUnsendable from speech) i j first second in
     let datagram : d ≡ e = at ∙ ap (λ k. k + 1) place ∙ sym is in
-    let number : x ≡ y = one_natural (ClaimsUntold speech i) x y least (subst (λ k. OnNatural y (IsLeast (ClaimsUntold speech k))) (sym place) other) in
+    let number : x ≡ y = one_natural (ClaimsUntold from speech i) x y least (subst (λ k. OnNatural y (IsLeast (ClaimsUntold from speech k))) (sym place) other) in
     ap (λ k. Unfounded k x) datagram ∙ ap (Unfounded e) number
 
-not_open : (speech : Speech) (x y : ℤ) → IsVerdict speech (Open x) → IsVerdict speech (Complete y) → ⊥
-not_open speech x y (run, none, least) (same, some, never, all) =
-    let (n, (positive, announced, (end, ends, without))) = some_natural (EndsWithout speech) x least in
-    without (all end ends n positive announced)
+not_open : {from : ℕ} (speech : Speech) (x y : ℤ) → IsVerdictFrom from speech (Open x) → IsVerdictFrom from speech (Complete y) → ⊥
+not_open {from} speech x y (run, none, least) (same, some, never, all) =
+    let (n, (asked, announced, (end, ends, without))) = some_natural (EndsWithout from speech) x least in
+    without (all end ends n asked announced)
 
-not_conflict : (speech : Speech) (x : ℤ) → OnNatural x (IsLeast (EndsInConflict speech)) → ((n : ℕ) → ¬ EndsInConflict speech n) → ⊥
-not_conflict speech x least none = let (n, two) = some_natural (EndsInConflict speech) x least in none n two
+not_conflict : {from : ℕ} (speech : Speech) (x : ℤ) → OnNatural x (IsLeast (EndsInConflict from speech)) → ((n : ℕ) → ¬ EndsInConflict from speech n) → ⊥
+not_conflict {from} speech x least none = let (n, two) = some_natural (EndsInConflict from speech) x least in none n two
 
 pub has_no_two_verdicts : HasNoTwoVerdicts
-has_no_two_verdicts speech (Unfounded d x) (Unfounded e y) a b = same_unfounded speech d e x y a b
-has_no_two_verdicts speech (Unfounded d x) (Conflict y) a b = absurd (a.0 b.0)
-has_no_two_verdicts speech (Unfounded d x) (Open y) a b = absurd (a.0 b.0)
-has_no_two_verdicts speech (Unfounded d x) (Complete y) a b = absurd (a.0 b.1)
-has_no_two_verdicts speech (Conflict x) (Unfounded e y) a b = absurd (b.0 a.0)
-has_no_two_verdicts speech (Conflict x) (Conflict y) a b = ap Conflict (one_natural (EndsInConflict speech) x y a.1 b.1)
-has_no_two_verdicts speech (Conflict x) (Open y) a b = absurd (not_conflict speech x a.1 b.1)
-has_no_two_verdicts speech (Conflict x) (Complete y) a b = absurd (not_conflict speech x a.1 b.2)
-has_no_two_verdicts speech (Open x) (Unfounded e y) a b = absurd (b.0 a.0)
-has_no_two_verdicts speech (Open x) (Conflict y) a b = absurd (not_conflict speech y b.1 a.1)
-has_no_two_verdicts speech (Open x) (Open y) a b = ap Open (one_natural (EndsWithout speech) x y a.2 b.2)
-has_no_two_verdicts speech (Open x) (Complete y) a b = absurd (not_open speech x y a b)
-has_no_two_verdicts speech (Complete x) (Unfounded e y) a b = absurd (b.0 a.1)
-has_no_two_verdicts speech (Complete x) (Conflict y) a b = absurd (not_conflict speech y b.1 a.2)
-has_no_two_verdicts speech (Complete x) (Open y) a b = absurd (not_open speech y x b a)
-has_no_two_verdicts speech (Complete x) (Complete y) a b = ap Complete (a.0 ∙ sym b.0)
+has_no_two_verdicts from speech (Unfounded d x) (Unfounded e y) a b = same_unfounded speech d e x y a b
+has_no_two_verdicts from speech (Unfounded d x) (Conflict y) a b = absurd (a.0 b.0)
+has_no_two_verdicts from speech (Unfounded d x) (Open y) a b = absurd (a.0 b.0)
+has_no_two_verdicts from speech (Unfounded d x) (Complete y) a b = absurd (a.0 b.1)
+has_no_two_verdicts from speech (Conflict x) (Unfounded e y) a b = absurd (b.0 a.0)
+has_no_two_verdicts from speech (Conflict x) (Conflict y) a b = ap Conflict (one_natural (EndsInConflict from speech) x y a.1 b.1)
+has_no_two_verdicts from speech (Conflict x) (Open y) a b = absurd (not_conflict speech x a.1 b.1)
+has_no_two_verdicts from speech (Conflict x) (Complete y) a b = absurd (not_conflict speech x a.1 b.2)
+has_no_two_verdicts from speech (Open x) (Unfounded e y) a b = absurd (b.0 a.0)
+has_no_two_verdicts from speech (Open x) (Conflict y) a b = absurd (not_conflict speech y b.1 a.1)
+has_no_two_verdicts from speech (Open x) (Open y) a b = ap Open (one_natural (EndsWithout from speech) x y a.2 b.2)
+has_no_two_verdicts from speech (Open x) (Complete y) a b = absurd (not_open speech x y a b)
+has_no_two_verdicts from speech (Complete x) (Unfounded e y) a b = absurd (b.0 a.1)
+has_no_two_verdicts from speech (Complete x) (Conflict y) a b = absurd (not_conflict speech y b.1 a.2)
+has_no_two_verdicts from speech (Complete x) (Open y) a b = absurd (not_open speech y x b a)
+has_no_two_verdicts from speech (Complete x) (Complete y) a b = ap Complete (a.0 ∙ sym b.0)

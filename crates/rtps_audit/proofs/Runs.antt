@@ -1,27 +1,35 @@
 -- The run that takes a word for each number that the next datagram's answers claim, and no other.
-use Rattle.std.proofs.Common.{◌≡◌, ℕ, zero, suc, ◌+◌, ◌<◌, ◌≤◌, List, [], ◌∷◌, ◌++◌, length, Some, slice_get, refl, sym, ◌∙◌, ap, subst, arith, below_more, inl, inr}
+use Rattle.std.proofs.Common.{◌≡◌, ℕ, zero, suc, ◌+◌, ◌<◌, ◌≤◌, List, [], ◌∷◌, ◌++◌, length, Some, slice_get, refl, sym, ◌∙◌, ap, subst, arith, below_more, ◌⊎◌, inl, inr, max}
 use Rattle.std.specs.Prelude.{Contains}
 use Rattle.std.proofs.lemmas.List.Elements.{Contains-append_left, Contains-append_right, Contains-append_cases, Contains-push, Contains-push_cases}
 use Rattle.std.proofs.lemmas.Option.{slice_get_cases}
-use Rattle.rtps_audit.specs.Delivery.{Word, Datagram, Speech, State, start, Holds, Event, Claims, MaySend, Step, Follows, Ends}
+use Rattle.std.proofs.lemmas.Bool.{cases_lt}
+use Rattle.rtps_audit.specs.Delivery.{Word, Datagram, Speech, State, start, IsAsked, Holds, Event, Claims, MaySend, Step, Follows, Ends}
 use Rattle.rtps_audit.specs.Delivery.Event.{Send, Take}
 use Rattle.rtps_audit.specs.RunVerdict.{IsTold}
 use Rattle.rtps_audit.specs.PlainVerdict.{IsFounded, IsSpoken, IsClaimed}
 
+-- a number is asked for or not
+pub asked_or_not : (from n : ℕ) → IsAsked from n ⊎ (IsAsked from n → ⊥)
+asked_or_not from n = elim (cases_lt n (max 1 from)) [
+  | inl below ↦ inr (λ (one, le). omega arith)
+  | inr above ↦ inl (omega arith, omega arith)
+]
+
 -- each number that is held is claimed by some answer
-abbrev pub IsFrugal : Speech → State → Type 0
-IsFrugal speech state = (n : ℕ) → Holds state n → IsClaimed speech n
+abbrev pub IsFrugal : ℕ → Speech → State → Type 0
+IsFrugal from speech state = (n : ℕ) → Holds state n → IsClaimed from speech n
 
 -- what the reader held it still holds, nothing more was sent, and what it took was claimed
-pub record Grows (speech : Speech) (old new : State) : Type 0 where
+pub record Grows (from : ℕ) (speech : Speech) (old new : State) : Type 0 where
   pub sent : new.sent ≡ old.sent
   pub held : (n : ℕ) → Holds old n → Holds new n
-  pub frugal : IsFrugal speech old → IsFrugal speech new
+  pub frugal : IsFrugal from speech old → IsFrugal from speech new
 
-grows_refl : (speech : Speech) (s : State) → Grows speech s s
+grows_refl : {from : ℕ} (speech : Speech) (s : State) → Grows from speech s s
 grows_refl speech s = record { sent = refl; held = λ n h. h; frugal = λ h. h }
 
-grows_trans : (speech : Speech) (a b c : State) → Grows speech a b → Grows speech b c → Grows speech a c
+grows_trans : {from : ℕ} (speech : Speech) (a b c : State) → Grows from speech a b → Grows from speech b c → Grows from speech a c
 grows_trans speech a b c h k = record {
   sent = k.sent ∙ h.sent;
   held = λ n x. k.held n (h.held n x);
@@ -29,13 +37,13 @@ grows_trans speech a b c h k = record {
 }
 
 -- events one after another
-pub Follows-append : (speech : Speech) (a b c : State) (es fs : List Event) → Follows speech a es b → Follows speech b fs c → Follows speech a (es ++ fs) c
-Follows-append speech a b c [] fs h k = subst (λ s. Follows speech s fs c) h k
-Follows-append speech a b c (e ∷ es) fs h k = (h.0, h.1, Follows-append speech h.0 b c es fs h.2 k)
+pub Follows-append : (from : ℕ) (speech : Speech) (a b c : State) (es fs : List Event) → Follows from speech a es b → Follows from speech b fs c → Follows from speech a (es ++ fs) c
+Follows-append from speech a b c [] fs h k = subst (λ s. Follows from speech s fs c) h k
+Follows-append from speech a b c (e ∷ es) fs h k = (h.0, h.1, Follows-append from speech h.0 b c es fs h.2 k)
 
 -- from a state on, the reader comes to hold what it wants
-abbrev pub Reaches : Speech → State → (State → Type 0) → Type 0
-Reaches speech s P = (events : List Event) × (t : State) × Follows speech s events t × P t
+abbrev pub Reaches : ℕ → Speech → State → (State → Type 0) → Type 0
+Reaches from speech s P = (events : List Event) × (t : State) × Follows from speech s events t × P t
 
 -- the state after a word for n is taken
 abbrev pub took : State → ℕ → Word → State
@@ -44,14 +52,14 @@ took t n word = record { sent = t.sent; held = t.held ++ (n, word) ∷ [] }
 took-holds : (t : State) (n : ℕ) (word : Word) → Holds (took t n word) n
 took-holds t n word = (word, Contains-push t.held (n, word))
 
-took-frugal : (speech : Speech) (t : State) (n : ℕ) (word : Word) → IsClaimed speech n → IsFrugal speech t → IsFrugal speech (took t n word)
-took-frugal speech t n word claimed frugal m (other, among) =
+took-frugal : {from : ℕ} (speech : Speech) (t : State) (n : ℕ) (word : Word) → IsClaimed from speech n → IsFrugal from speech t → IsFrugal from speech (took t n word)
+took-frugal {from} speech t n word claimed frugal m (other, among) =
     elim (Contains-push_cases t.held (n, word) (m, other) among) [
       | inl before ↦ frugal m (other, before)
-      | inr here ↦ subst (IsClaimed speech) (ap (λ (p : ℕ × Word). p.0) here) claimed
+      | inr here ↦ subst (IsClaimed from speech) (ap (λ (p : ℕ × Word). p.0) here) claimed
     ]
 
-took-grows : (speech : Speech) (t : State) (n : ℕ) (word : Word) → IsClaimed speech n → Grows speech t (took t n word)
+took-grows : {from : ℕ} (speech : Speech) (t : State) (n : ℕ) (word : Word) → IsClaimed from speech n → Grows from speech t (took t n word)
 took-grows speech t n word claimed = record {
   sent = refl;
   held = λ m h. (h.0, Contains-append_left t.held _ _ h.1);
@@ -59,38 +67,55 @@ took-grows speech t n word claimed = record {
 }
 
 -- what is wanted of a number: an earlier word, and an answer that claims it
-abbrev IsWanted : Speech → State → ℕ → Type 0
-IsWanted speech s n = IsTold speech s.sent n × IsClaimed speech n
+abbrev IsWanted : ℕ → Speech → State → ℕ → Type 0
+IsWanted from speech s n = IsTold from speech s.sent n × IsClaimed from speech n
 
 -- one more word
-taken : (speech : Speech) (s : State) (m : ℕ) → Reaches speech s (λ t. Grows speech s t × ((n : ℕ) → 1 ≤ n → n < m → Holds t n)) → IsWanted speech s m
-    → Reaches speech s (λ t. Grows speech s t × ((n : ℕ) → 1 ≤ n → n < suc m → Holds t n))
-taken speech s m (es, t, follows, had) (told, claimed) =
+taken : {from : ℕ} (speech : Speech) (s : State) (m : ℕ) → Reaches from speech s (λ t. Grows from speech s t × ((n : ℕ) → IsAsked from n → n < m → Holds t n)) → IsWanted from speech s m
+    → Reaches from speech s (λ t. Grows from speech s t × ((n : ℕ) → IsAsked from n → n < suc m → Holds t n))
+taken {from} speech s m (es, t, follows, had) (told, claimed) =
     let next : State = took t m told.word in
     let before : told.place < t.sent = rw had.0.sent told.earlier in
-    let step : Step speech t (Take told.place told.act m told.word) next = (before, told.gives, refl) in
-    let all : (n : ℕ) → n < m + 1 → 1 ≤ n → Holds next n =
-    below_more (λ n. 1 ≤ n → Holds next n) m
+    let step : Step from speech t (Take told.place told.act m told.word) next = (before, told.gives, refl) in
+    let all : (n : ℕ) → n < m + 1 → IsAsked from n → Holds next n =
+    below_more (λ n. IsAsked from n → Holds next n) m
     (λ n lower a. (took-grows speech t m told.word claimed).held n (had.1 n a lower))
     (λ _. took-holds t m told.word) in (
       es ++ Take told.place told.act m told.word ∷ [],
       next,
-      Follows-append speech s t next es (Take told.place told.act m told.word ∷ []) follows (next, step, refl),
+      Follows-append from speech s t next es (Take told.place told.act m told.word ∷ []) follows (next, step, refl),
       (
         grows_trans speech s t next had.0 (took-grows speech t m told.word claimed),
         λ n a b. all n (omega arith) a,
       ),
     )
 
+-- a number that is not asked for needs none
+not_taken : {from : ℕ} (speech : Speech) (s : State) (m : ℕ) → (IsAsked from m → ⊥) → Reaches from speech s (λ t. Grows from speech s t × ((n : ℕ) → IsAsked from n → n < m → Holds t n))
+    → Reaches from speech s (λ t. Grows from speech s t × ((n : ℕ) → IsAsked from n → n < suc m → Holds t n))
+not_taken {from} speech s m never (es, t, follows, had) = (
+  es,
+  t,
+  follows,
+  (
+    had.0,
+    λ n a b. elim (cases_lt n m) [
+      | inl below ↦ had.1 n a below
+      | inr here ↦ let same : n ≡ m = omega arith in absurd (never (subst (IsAsked from) same a))
+    ],
+  ),
+)
+
 -- it takes a word for each number below a bound
-take_below : (speech : Speech) (s : State) (bound : ℕ) → ((n : ℕ) → 1 ≤ n → n < bound → IsWanted speech s n)
-    → Reaches speech s (λ t. Grows speech s t × ((n : ℕ) → 1 ≤ n → n < bound → Holds t n))
+take_below : {from : ℕ} (speech : Speech) (s : State) (bound : ℕ) → ((n : ℕ) → IsAsked from n → n < bound → IsWanted from speech s n)
+    → Reaches from speech s (λ t. Grows from speech s t × ((n : ℕ) → IsAsked from n → n < bound → Holds t n))
 take_below speech s zero h = ([], s, refl, (grows_refl speech s, λ n a b. absurd (omega arith)))
-take_below speech s (suc zero) h = ([], s, refl, (grows_refl speech s, λ n a b. absurd (omega arith)))
-take_below speech s (suc (suc m)) h =
-    let below = take_below speech s (suc m) (λ n a b. h n a (omega arith)) in
-    let word = h (suc m) (omega arith) (omega arith) in
-    taken speech s (suc m) below word
+take_below {from} speech s (suc m) h =
+    let below = take_below speech s m (λ n a b. h n a (omega arith)) in
+    elim (asked_or_not from m) [
+      | inl asked ↦ taken speech s m below (h m asked (omega arith))
+      | inr never ↦ not_taken speech s m never below
+    ]
 
 one_element : {X : Type 0} (b x : X) → Contains (b ∷ []) x → x ≡ b
 one_element b x (zero, lt, e) = sym e
@@ -114,17 +139,17 @@ place_within speech j d e = elim (slice_get_cases speech j).1 [
 ]
 
 -- it takes a word for each number that some base claims
-take_bases : (speech : Speech) (s : State) (bases : List ℕ) → ((base : ℕ) → Contains bases base → (n : ℕ) → 1 ≤ n → n < base → IsWanted speech s n)
-    → Reaches speech s (λ t. Grows speech s t × ((base : ℕ) → Contains bases base → (n : ℕ) → 1 ≤ n → n < base → Holds t n))
+take_bases : {from : ℕ} (speech : Speech) (s : State) (bases : List ℕ) → ((base : ℕ) → Contains bases base → (n : ℕ) → IsAsked from n → n < base → IsWanted from speech s n)
+    → Reaches from speech s (λ t. Grows from speech s t × ((base : ℕ) → Contains bases base → (n : ℕ) → IsAsked from n → n < base → Holds t n))
 take_bases speech s [] h = ([], s, refl, (grows_refl speech s, λ base c. absurd (no_element base c)))
-take_bases speech s (b ∷ bs) h =
+take_bases {from} speech s (b ∷ bs) h =
     let first = take_below speech s b (h b (Contains-append_left (b ∷ []) bs b (Contains-push [] b))) in
     let t : State = first.1 in
     let rest = take_bases speech t bs (λ base c n a l. rw first.3.0.sent (h base (Contains-append_right (b ∷ []) bs base c) n a l)) in
     let u : State = rest.1 in (
       first.0 ++ rest.0,
       u,
-      Follows-append speech s t u first.0 rest.0 first.2 rest.2,
+      Follows-append from speech s t u first.0 rest.0 first.2 rest.2,
       (
         grows_trans speech s t u first.3.0 rest.3.0,
         λ base c n a l. elim (Contains-append_cases (b ∷ []) bs base c) [
@@ -135,73 +160,73 @@ take_bases speech s (b ∷ bs) h =
     )
 
 -- all that is claimed where the reader stands is held
-may_send : (speech : Speech) (t : State) (j : ℕ) (d : Datagram) → t.sent ≡ j → j < length speech → slice_get speech j ≡ Some d
-    → ((base : ℕ) → Contains d.bases base → (n : ℕ) → 1 ≤ n → n < base → Holds t n) → MaySend speech t
+may_send : {from : ℕ} (speech : Speech) (t : State) (j : ℕ) (d : Datagram) → t.sent ≡ j → j < length speech → slice_get speech j ≡ Some d
+    → ((base : ℕ) → Contains d.bases base → (n : ℕ) → IsAsked from n → n < base → Holds t n) → MaySend from speech t
 may_send speech t j d is_at lt stands all = (
   rw is_at lt,
   λ n claims.
       let same : Some claims.datagram ≡ Some d = sym claims.stands ∙ ap (slice_get speech) is_at ∙ stands in
       let one : claims.datagram ≡ d = cc in
-      all claims.base (rw (← one) claims.answers) n claims.positive claims.below,
+      all claims.base (rw (← one) claims.answers) n claims.asked claims.below,
 )
 
 -- the answers before place j claim nothing that no earlier datagram tells
-abbrev pub IsFoundedBelow : Speech → ℕ → Type 0
-IsFoundedBelow speech j = (i n : ℕ) → i < j → Claims speech i n → IsTold speech i n
+abbrev pub IsFoundedBelow : ℕ → Speech → ℕ → Type 0
+IsFoundedBelow from speech j = (i n : ℕ) → i < j → Claims from speech i n → IsTold from speech i n
 
 -- j datagrams are sent, and what is held is claimed
-abbrev pub HasSent : Speech → ℕ → State → Type 0
-HasSent speech j state = (state.sent ≡ j) × IsFrugal speech state
+abbrev pub HasSent : ℕ → Speech → ℕ → State → Type 0
+HasSent from speech j state = (state.sent ≡ j) × IsFrugal from speech state
 
 -- one datagram more can be sent
-send_next : (speech : Speech) (j : ℕ) → ((n : ℕ) → Claims speech j n → IsTold speech j n) → j < length speech
-    → Reaches speech start (HasSent speech j) → Reaches speech start (HasSent speech (suc j))
-send_next speech j founded lt (es, s, follows, (at_j, frugal)) =
+send_next : {from : ℕ} (speech : Speech) (j : ℕ) → ((n : ℕ) → Claims from speech j n → IsTold from speech j n) → j < length speech
+    → Reaches from speech start (HasSent from speech j) → Reaches from speech start (HasSent from speech (suc j))
+send_next {from} speech j founded lt (es, s, follows, (at_j, frugal)) =
     let here = datagram_at speech j lt in
     let all = take_bases speech s here.0.bases (λ base c n a l.
-    let claims : Claims speech j n = record { datagram = here.0; base = base; stands = here.1; answers = c; positive = a; below = l } in
+    let claims : Claims from speech j n = record { datagram = here.0; base = base; stands = here.1; answers = c; asked = a; below = l } in
     (rw at_j (founded n claims), (j, claims))) in
     go here.0 here.1 all
   where
     go : (d : Datagram) → slice_get speech j ≡ Some d
-        → Reaches speech s (λ t. Grows speech s t × ((base : ℕ) → Contains d.bases base → (n : ℕ) → 1 ≤ n → n < base → Holds t n))
-        → Reaches speech start (HasSent speech (suc j))
+        → Reaches from speech s (λ t. Grows from speech s t × ((base : ℕ) → Contains d.bases base → (n : ℕ) → IsAsked from n → n < base → Holds t n))
+        → Reaches from speech start (HasSent from speech (suc j))
     go d stands (fs, t, more, had) =
         let is_at : t.sent ≡ j = had.0.sent ∙ at_j in
         let next : State = record { sent = suc t.sent; held = t.held } in
-        let last : Follows speech t (Send ∷ []) next = (next, (may_send speech t j d is_at lt stands had.1, refl), refl) in (
+        let last : Follows from speech t (Send ∷ []) next = (next, (may_send speech t j d is_at lt stands had.1, refl), refl) in (
           es ++ (fs ++ Send ∷ []),
           next,
-          Follows-append speech start s next es (fs ++ Send ∷ []) follows (Follows-append speech s t next fs (Send ∷ []) more last),
+          Follows-append from speech start s next es (fs ++ Send ∷ []) follows (Follows-append from speech s t next fs (Send ∷ []) more last),
           (ap suc is_at, had.0.frugal frugal),
         )
 
 -- nothing is held at the start
-start-frugal : (speech : Speech) → IsFrugal speech start
+start-frugal : {from : ℕ} (speech : Speech) → IsFrugal from speech start
 start-frugal speech n h = absurd (let lt = h.1.1 in omega arith)
 
 -- the datagrams before j can all be sent, where their answers are founded
-pub send_up_to : (speech : Speech) (j : ℕ) → j ≤ length speech → IsFoundedBelow speech j → Reaches speech start (HasSent speech j)
+pub send_up_to : {from : ℕ} (speech : Speech) (j : ℕ) → j ≤ length speech → IsFoundedBelow from speech j → Reaches from speech start (HasSent from speech j)
 send_up_to speech zero le founded = ([], start, refl, (refl, start-frugal speech))
 send_up_to speech (suc j) le founded =
     send_next speech j (λ n claims. founded j n (omega arith) claims) (omega arith)
     (send_up_to speech j (omega arith) (λ i n lt claims. founded i n (omega arith) claims))
 
 -- some run ends with no word for a number that is not claimed
-pub frugal_run : (speech : Speech) → IsFounded speech → (end : State) × Ends speech end × IsFrugal speech end
+pub frugal_run : {from : ℕ} (speech : Speech) → IsFounded from speech → (end : State) × Ends from speech end × IsFrugal from speech end
 frugal_run speech founded =
     let run = send_up_to speech (length speech) (omega arith) (λ i n lt claims. founded i n claims) in
     (run.1, ((run.0, run.2), run.3.0), run.3.1)
 
 -- a run goes on by a word that is spoken
-pub Ends-took : (speech : Speech) (end : State) (n : ℕ) (word : Word) → Ends speech end → IsSpoken speech n word → Ends speech (took end n word)
-Ends-took speech end n word ((events, follows), all) spoken =
+pub Ends-took : {from : ℕ} (speech : Speech) (end : State) (n : ℕ) (word : Word) → Ends from speech end → IsSpoken from speech n word → Ends from speech (took end n word)
+Ends-took {from} speech end n word ((events, follows), all) spoken =
     let within : spoken.place < length speech = place_within speech spoken.place spoken.gives.datagram spoken.gives.stands in
     let sent : spoken.place < end.sent = omega arith in
-    let step : Step speech end (Take spoken.place spoken.act n word) (took end n word) = (sent, spoken.gives, refl) in (
+    let step : Step from speech end (Take spoken.place spoken.act n word) (took end n word) = (sent, spoken.gives, refl) in (
       (
         events ++ Take spoken.place spoken.act n word ∷ [],
-        Follows-append speech start end (took end n word) events (Take spoken.place spoken.act n word ∷ []) follows (took end n word, step, refl),
+        Follows-append from speech start end (took end n word) events (Take spoken.place spoken.act n word ∷ []) follows (took end n word, step, refl),
       ),
       all,
     )

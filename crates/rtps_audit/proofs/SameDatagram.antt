@@ -43,35 +43,35 @@ place_of [] n word says = absurd says
 place_of (act ∷ acts) n word (inl here) = record { k = 0; act = act; at = refl; says = here }
 place_of (act ∷ acts) n word (inr later) = let rest = place_of acts n word later in record { k = suc rest.k; act = rest.act; at = rest.at; says = rest.says }
 
-next_gives : (x : Datagram) (speech : Speech) (i k n : ℕ) (word : Word) → Gives speech i k n word → Gives (x ∷ speech) (suc i) k n word
-next_gives x speech i k n word gives = record { datagram = gives.datagram; act = gives.act; stands = gives.stands; speaks = gives.speaks; positive = gives.positive; says = gives.says }
+next_gives : (x : Datagram) (speech : Speech) (i k n : ℕ) (word : Word) → Gives 1 speech i k n word → Gives 1 (x ∷ speech) (suc i) k n word
+next_gives x speech i k n word gives = record { datagram = gives.datagram; act = gives.act; stands = gives.stands; speaks = gives.speaks; asked = gives.asked; says = gives.says }
 
-gives_swap : (speech : Speech) (d e : Datagram) (i k n : ℕ) (word : Word) → IsAlike d e → Gives (speech ++ d ∷ []) i k n word → (j : ℕ) × Gives (speech ++ e ∷ []) i j n word
+gives_swap : (speech : Speech) (d e : Datagram) (i k n : ℕ) (word : Word) → IsAlike d e → Gives 1 (speech ++ d ∷ []) i k n word → (j : ℕ) × Gives 1 (speech ++ e ∷ []) i j n word
 gives_swap [] d e zero k n word alike gives =
     let same : gives.datagram ≡ d = (let both = gives.stands in cc) in
     let speaks : slice_get d.acts k ≡ Some gives.act = subst (λ (x : Datagram). slice_get x.acts k ≡ Some gives.act) same gives.speaks in
-    let place = place_of e.acts n word ((alike.words n word gives.positive).0 (says_at d.acts gives.act k n word speaks gives.says)) in
-    (place.k, record { datagram = e; act = place.act; stands = refl; speaks = place.at; positive = gives.positive; says = place.says })
+    let place = place_of e.acts n word ((alike.words n word gives.asked.0).0 (says_at d.acts gives.act k n word speaks gives.says)) in
+    (place.k, record { datagram = e; act = place.act; stands = refl; speaks = place.at; asked = gives.asked; says = place.says })
 gives_swap [] d e (suc i) k n word alike gives = absurd (let none = gives.stands in cc)
 gives_swap (x ∷ xs) d e zero k n word alike gives =
-    (k, record { datagram = gives.datagram; act = gives.act; stands = gives.stands; speaks = gives.speaks; positive = gives.positive; says = gives.says })
+    (k, record { datagram = gives.datagram; act = gives.act; stands = gives.stands; speaks = gives.speaks; asked = gives.asked; says = gives.says })
 gives_swap (x ∷ xs) d e (suc i) k n word alike gives =
-    let rest = gives_swap xs d e i k n word alike (record { datagram = gives.datagram; act = gives.act; stands = gives.stands; speaks = gives.speaks; positive = gives.positive; says = gives.says }) in
+    let rest = gives_swap xs d e i k n word alike (record { datagram = gives.datagram; act = gives.act; stands = gives.stands; speaks = gives.speaks; asked = gives.asked; says = gives.says }) in
     (rest.0, next_gives x (xs ++ e ∷ []) i rest.0 n word rest.1)
 
-claims_swap : (speech : Speech) (d e : Datagram) (j n : ℕ) → d.bases ≡ e.bases → Claims (speech ++ d ∷ []) j n → Claims (speech ++ e ∷ []) j n
+claims_swap : (speech : Speech) (d e : Datagram) (j n : ℕ) → d.bases ≡ e.bases → Claims 1 (speech ++ d ∷ []) j n → Claims 1 (speech ++ e ∷ []) j n
 claims_swap [] d e zero n same claims =
     let is : claims.datagram ≡ d = (let both = claims.stands in cc) in
     let among : Contains d.bases claims.base = subst (λ (x : Datagram). Contains x.bases claims.base) is claims.answers in
-    record { datagram = e; base = claims.base; stands = refl; answers = subst (λ l. Contains l claims.base) same among; positive = claims.positive; below = claims.below }
+    record { datagram = e; base = claims.base; stands = refl; answers = subst (λ l. Contains l claims.base) same among; asked = claims.asked; below = claims.below }
 claims_swap [] d e (suc j) n same claims = absurd (let none = claims.stands in cc)
 claims_swap (x ∷ xs) d e zero n same claims =
-    record { datagram = claims.datagram; base = claims.base; stands = claims.stands; answers = claims.answers; positive = claims.positive; below = claims.below }
+    record { datagram = claims.datagram; base = claims.base; stands = claims.stands; answers = claims.answers; asked = claims.asked; below = claims.below }
 claims_swap (x ∷ xs) d e (suc j) n same claims =
-    let rest = claims_swap xs d e j n same (record { datagram = claims.datagram; base = claims.base; stands = claims.stands; answers = claims.answers; positive = claims.positive; below = claims.below }) in
-    record { datagram = rest.datagram; base = rest.base; stands = rest.stands; answers = rest.answers; positive = rest.positive; below = rest.below }
+    let rest = claims_swap xs d e j n same (record { datagram = claims.datagram; base = claims.base; stands = claims.stands; answers = claims.answers; asked = claims.asked; below = claims.below }) in
+    record { datagram = rest.datagram; base = rest.base; stands = rest.stands; answers = rest.answers; asked = rest.asked; below = rest.below }
 
-same_said : (speech : Speech) (d e : Datagram) → IsAlike d e → SaysTheSame (speech ++ d ∷ []) (speech ++ e ∷ [])
+same_said : (speech : Speech) (d e : Datagram) → IsAlike d e → SaysTheSame 1 (speech ++ d ∷ []) (speech ++ e ∷ [])
 same_said speech d e alike = record {
   counted = length_more speech d ∙ sym (length_more speech e);
   words = λ i n word. (λ (k, gives). gives_swap speech d e i k n word alike gives, λ (k, gives). gives_swap speech e d i k n word (turned_about d e alike) gives);
@@ -82,17 +82,17 @@ same_said speech d e alike = record {
 same_base : (speech : Speech) (d e : Datagram) → IsAlike d e → greatest_base (speech ++ d ∷ []) ≡ greatest_base (speech ++ e ∷ [])
 same_base speech d e alike = greatest_base_more speech d ∙ ap (λ l. max (greatest_base speech) (greatest l)) alike.bases ∙ sym (greatest_base_more speech e)
 
-untold_same : (one other : Speech) → SaysTheSame one other → (found : Option Untold) → MatchOption found (IsFounded one) (λ untold. IsPlainVerdict one (Unfounded untold.datagram untold.number))
-    → MatchOption found (IsFounded other) (λ untold. IsPlainVerdict other (Unfounded untold.datagram untold.number))
+untold_same : (one other : Speech) → SaysTheSame 1 one other → (found : Option Untold) → MatchOption found (IsFounded 1 one) (λ untold. IsPlainVerdict one (Unfounded untold.datagram untold.number))
+    → MatchOption found (IsFounded 1 other) (λ untold. IsPlainVerdict other (Unfounded untold.datagram untold.number))
 untold_same one other same None is = founded one other same is
 untold_same one other same (Some untold) is = plain one other (Unfounded untold.datagram untold.number) same is
 
-knows_same : {C : Type 0} (covered : C → ℕ → Bool) (judge : Judge C) (one other : Speech) → SaysTheSame one other → greatest_base one ≡ greatest_base other → Knows covered judge one → Knows covered judge other
+knows_same : {C : Type 0} (covered : C → ℕ → Bool) (judge : Judge C) (one other : Speech) → SaysTheSame 1 one other → greatest_base one ≡ greatest_base other → Knows covered judge one → Knows covered judge other
 knows_same covered judge one other same base known = record {
   counted = known.counted ∙ same.counted;
   told = λ n h k. (
-    λ is. subst (λ j. IsTold other j n) same.counted (told one other same (length one) n ((known.told n h k).0 is)),
-    λ is. (known.told n h k).1 (subst (λ j. IsTold one j n) (sym same.counted) (told other one (turned one other same) (length other) n is)),
+    λ is. subst (λ j. IsTold 1 other j n) same.counted (told one other same (length one) n ((known.told n h k).0 is)),
+    λ is. (known.told n h k).1 (subst (λ j. IsTold 1 one j n) (sym same.counted) (told other one (turned one other same) (length other) n is)),
   );
   founded = untold_same one other same judge.claims.untold known.founded;
   base = known.base ∙ base;

@@ -3,14 +3,14 @@ use Rattle.std.proofs.Common.{ℕ, ◌≤◌, sym, ◌∙◌, ap, subst, pos}
 use Rattle.rtps_audit.specs.Delivery.{Word, Speech}
 use Rattle.rtps_audit.specs.Delivery.Word.{Told}
 use Rattle.rtps_audit.specs.RunVerdict.{IsTold, ClaimsUntold}
-use Rattle.rtps_audit.specs.PlainVerdict.{IsFounded, IsSpoken, SpeaksTwo, IsClaimed, IsUnclaimed, IsPlainVerdict}
+use Rattle.rtps_audit.specs.PlainVerdict.{IsFounded, IsSpoken, SpeaksTwo, IsClaimed, IsUnclaimed, IsPlainVerdictFrom}
 use Rattle.rtps_audit.specs.Laws.{SaysTheSame, VerdictsFollowWhatIsSaid}
 use Rattle.rtps_audit.specs.declared.verdict.Verdict.{Verdict}
 use Rattle.rtps_audit.specs.declared.verdict.Verdict.TheVariants.{Unfounded, Conflict, Open, Complete}
 use Rattle.rtps_audit.proofs.Verdicts.{to_plain, from_plain, least_same, on_natural}
 
 -- and the other way round
-pub turned : (one other : Speech) → SaysTheSame one other → SaysTheSame other one
+pub turned : {from : ℕ} (one other : Speech) → SaysTheSame from one other → SaysTheSame from other one
 turned one other same = record {
   counted = sym same.counted;
   words = λ i n word. ((same.words i n word).1, (same.words i n word).0);
@@ -18,33 +18,33 @@ turned one other same = record {
   announced = sym same.announced;
 }
 
-pub told : (one other : Speech) → SaysTheSame one other → (j n : ℕ) → IsTold one j n → IsTold other j n
+pub told : {from : ℕ} (one other : Speech) → SaysTheSame from one other → (j n : ℕ) → IsTold from one j n → IsTold from other j n
 told one other same j n is =
     let gives = (same.words is.place n is.word).0 (is.act, is.gives) in
     record { place = is.place; act = gives.0; word = is.word; earlier = is.earlier; gives = gives.1 }
 
-pub spoken : (one other : Speech) → SaysTheSame one other → (n : ℕ) (word : Word) → IsSpoken one n word → IsSpoken other n word
+pub spoken : {from : ℕ} (one other : Speech) → SaysTheSame from one other → (n : ℕ) (word : Word) → IsSpoken from one n word → IsSpoken from other n word
 spoken one other same n word is =
     let gives = (same.words is.place n word).0 (is.act, is.gives) in
     record { place = is.place; act = gives.0; gives = gives.1 }
 
-untold : (one other : Speech) → SaysTheSame one other → (j n : ℕ) → ClaimsUntold one j n → ClaimsUntold other j n
+untold : {from : ℕ} (one other : Speech) → SaysTheSame from one other → (j n : ℕ) → ClaimsUntold from one j n → ClaimsUntold from other j n
 untold one other same j n (claims, none) = ((same.claims j n).0 claims, λ is. none (told other one (turned one other same) j n is))
 
-pub founded : (one other : Speech) → SaysTheSame one other → IsFounded one → IsFounded other
+pub founded : {from : ℕ} (one other : Speech) → SaysTheSame from one other → IsFounded from one → IsFounded from other
 founded one other same is j n claims = told one other same j n (is j n ((same.claims j n).1 claims))
 
-two : (one other : Speech) → SaysTheSame one other → (n : ℕ) → SpeaksTwo one n → SpeaksTwo other n
+two : {from : ℕ} (one other : Speech) → SaysTheSame from one other → (n : ℕ) → SpeaksTwo from one n → SpeaksTwo from other n
 two one other same n (x, y, first, second, differ) = (x, y, spoken one other same n (Told x) first, spoken one other same n (Told y) second, differ)
 
-claimed : (one other : Speech) → SaysTheSame one other → (n : ℕ) → IsClaimed one n → IsClaimed other n
+claimed : {from : ℕ} (one other : Speech) → SaysTheSame from one other → (n : ℕ) → IsClaimed from one n → IsClaimed from other n
 claimed one other same n (j, claims) = (j, (same.claims j n).0 claims)
 
-unclaimed : (one other : Speech) → SaysTheSame one other → (n : ℕ) → IsUnclaimed one n → IsUnclaimed other n
-unclaimed one other same n (positive, announced, none) =
-    (positive, subst (λ last. n ≤ last) same.announced announced, λ is. none (claimed other one (turned one other same) n is))
+unclaimed : {from : ℕ} (one other : Speech) → SaysTheSame from one other → (n : ℕ) → IsUnclaimed from one n → IsUnclaimed from other n
+unclaimed one other same n (asked, announced, none) =
+    (asked, subst (λ last. n ≤ last) same.announced announced, λ is. none (claimed other one (turned one other same) n is))
 
-pub plain : (one other : Speech) (verdict : Verdict) → SaysTheSame one other → IsPlainVerdict one verdict → IsPlainVerdict other verdict
+pub plain : {from : ℕ} (one other : Speech) (verdict : Verdict) → SaysTheSame from one other → IsPlainVerdictFrom from one verdict → IsPlainVerdictFrom from other verdict
 plain one other (Unfounded datagram number) same (j, place, first, least) =
     let back = turned one other same in (
       j,
@@ -63,8 +63,8 @@ plain one other (Complete last) same (at, is, none, all) = (
   at ∙ ap pos same.announced,
   founded one other same is,
   λ n differ. none n (two other one (turned one other same) n differ),
-  λ n positive announced. claimed one other same n (all n positive (subst (λ k. n ≤ k) (sym same.announced) announced)),
+  λ n asked announced. claimed one other same n (all n asked (subst (λ k. n ≤ k) (sym same.announced) announced)),
 )
 
 pub verdicts_follow_what_is_said : VerdictsFollowWhatIsSaid
-verdicts_follow_what_is_said one other verdict same is = from_plain other verdict (plain one other verdict same (to_plain one verdict is))
+verdicts_follow_what_is_said from one other verdict same is = from_plain from other verdict (plain one other verdict same (to_plain from one verdict is))

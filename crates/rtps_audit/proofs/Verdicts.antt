@@ -3,10 +3,10 @@ use Rattle.std.proofs.Common.{◌≡◌, ℕ, zero, suc, ◌<◌, ◌≤◌, Lis
 use Rattle.std.proofs.lemmas.List.Elements.{Contains-append_left, Contains-push}
 use Rattle.std.proofs.lemmas.Option.{slice_get_cases, slice_get_within}
 use Rattle.std.proofs.lemmas.Bool.{cases_lt}
-use Rattle.rtps_audit.specs.Delivery.{Word, Datagram, Speech, State, Gives, last_announced}
+use Rattle.rtps_audit.specs.Delivery.{Word, Datagram, Speech, State, IsAsked, Gives, last_announced_from}
 use Rattle.rtps_audit.specs.Delivery.Word.{Told}
-use Rattle.rtps_audit.specs.RunVerdict.{IsLeast, OnNatural, IsTold, IsUnsendable, ClaimsUntold, EndsInConflict, EndsWithout, IsVerdict}
-use Rattle.rtps_audit.specs.PlainVerdict.{IsFounded, SpeaksTwo, IsUnclaimed, IsPlainVerdict}
+use Rattle.rtps_audit.specs.RunVerdict.{IsLeast, OnNatural, IsTold, IsUnsendable, ClaimsUntold, EndsInConflict, EndsWithout, IsVerdictFrom}
+use Rattle.rtps_audit.specs.PlainVerdict.{IsFounded, SpeaksTwo, IsUnclaimed, IsPlainVerdictFrom}
 use Rattle.rtps_audit.specs.Laws.{ReachedStatesAreSound, RunsExistWhereFounded, VerdictsAgree, PlainMeansComplete}
 use Rattle.rtps_audit.specs.declared.verdict.Verdict.{Verdict}
 use Rattle.rtps_audit.specs.declared.verdict.Verdict.TheVariants.{Unfounded, Conflict, Open, Complete}
@@ -14,12 +14,12 @@ use Rattle.rtps_audit.proofs.Runs.{took, IsFoundedBelow, Ends-took, frugal_run, 
 use Rattle.rtps_audit.proofs.Sound.{reached-sound, founded_from_run, held_from_claim, spoken_from_held}
 
 pub reached_states_are_sound : ReachedStatesAreSound
-reached_states_are_sound speech state reached =
+reached_states_are_sound from speech state reached =
     let sound = reached-sound speech state reached in
     (sound.given, sound.held)
 
 pub runs_exist_where_founded : RunsExistWhereFounded
-runs_exist_where_founded speech = (
+runs_exist_where_founded from speech = (
   λ run. founded_from_run speech run.0 run.1,
   λ founded. let run = frugal_run speech founded in (run.0, run.1),
 )
@@ -49,40 +49,40 @@ acts_tell (act ∷ acts) n = first (act n) refl (acts_tell acts n)
     first None e (inr rest) = inr (none_more act acts n e rest)
 
 -- the datagram at a place has a word for n
-abbrev TellsAt : Speech → ℕ → ℕ → Type 0
-TellsAt speech i n = (k : ℕ) × (word : Word) × Gives speech i k n word
+abbrev TellsAt : ℕ → Speech → ℕ → ℕ → Type 0
+TellsAt from speech i n = (k : ℕ) × (word : Word) × Gives from speech i k n word
 
-not_by_acts : (speech : Speech) (i n : ℕ) (d : Datagram) → slice_get speech i ≡ Some d → (ActsTell d.acts n → ⊥) → TellsAt speech i n → ⊥
+not_by_acts : {from : ℕ} (speech : Speech) (i n : ℕ) (d : Datagram) → slice_get speech i ≡ Some d → (ActsTell d.acts n → ⊥) → TellsAt from speech i n → ⊥
 not_by_acts speech i n d stands none (k, word, gives) =
     let same : gives.datagram ≡ d = (let both : Some gives.datagram ≡ Some d = sym gives.stands ∙ stands in cc) in
     none (subst (λ (x : Datagram). ActsTell x.acts n) same (k, gives.act, word, gives.speaks, gives.says))
 
-tells_at : (speech : Speech) (i n : ℕ) → 1 ≤ n → TellsAt speech i n ⊎ (TellsAt speech i n → ⊥)
-tells_at speech i n positive = elim (slice_get_cases speech i).1 [
+tells_at : {from : ℕ} (speech : Speech) (i n : ℕ) → IsAsked from n → TellsAt from speech i n ⊎ (TellsAt from speech i n → ⊥)
+tells_at {from} speech i n asked = elim (slice_get_cases speech i).1 [
   | inl found ↦ by_acts found.0 found.2 (acts_tell found.0.acts n)
   | inr past ↦ inr (λ h. let within = slice_get_within speech i h.2.datagram h.2.stands in absurd (omega arith))
 ]
   where
-    by_acts : (d : Datagram) → slice_get speech i ≡ Some d → ActsTell d.acts n ⊎ (ActsTell d.acts n → ⊥) → TellsAt speech i n ⊎ (TellsAt speech i n → ⊥)
+    by_acts : (d : Datagram) → slice_get speech i ≡ Some d → ActsTell d.acts n ⊎ (ActsTell d.acts n → ⊥) → TellsAt from speech i n ⊎ (TellsAt from speech i n → ⊥)
     by_acts d stands (inl (k, act, word, speaks, says)) =
-        inl (k, word, record { datagram = d; act = act; stands = stands; speaks = speaks; positive = positive; says = says })
+        inl (k, word, record { datagram = d; act = act; stands = stands; speaks = speaks; asked = asked; says = says })
     by_acts d stands (inr none) = inr (not_by_acts speech i n d stands none)
 
 -- whether some earlier datagram has a word for n
-pub told_or_not : (speech : Speech) (j n : ℕ) → 1 ≤ n → IsTold speech j n ⊎ (IsTold speech j n → ⊥)
-told_or_not speech zero n positive = inr (λ told. let lt = told.earlier in omega arith)
-told_or_not speech (suc j) n positive = step (told_or_not speech j n positive) (tells_at speech j n positive)
+pub told_or_not : {from : ℕ} (speech : Speech) (j n : ℕ) → IsAsked from n → IsTold from speech j n ⊎ (IsTold from speech j n → ⊥)
+told_or_not speech zero n asked = inr (λ told. let lt = told.earlier in omega arith)
+told_or_not {from} speech (suc j) n asked = step (told_or_not speech j n asked) (tells_at speech j n asked)
   where
-    later : IsTold speech j n → IsTold speech (suc j) n
+    later : IsTold from speech j n → IsTold from speech (suc j) n
     later told = record { place = told.place; act = told.act; word = told.word; earlier = let lt = told.earlier in omega arith; gives = told.gives }
 
-    neither : (IsTold speech j n → ⊥) → (TellsAt speech j n → ⊥) → IsTold speech (suc j) n → ⊥
+    neither : (IsTold from speech j n → ⊥) → (TellsAt from speech j n → ⊥) → IsTold from speech (suc j) n → ⊥
     neither before here told = elim (cases_lt told.place j) [
       | inl lt ↦ before (record { place = told.place; act = told.act; word = told.word; earlier = lt; gives = told.gives })
-      | inr past ↦ let lt = told.earlier in let same : told.place ≡ j = omega arith in here (subst (λ i. TellsAt speech i n) same (told.act, told.word, told.gives))
+      | inr past ↦ let lt = told.earlier in let same : told.place ≡ j = omega arith in here (subst (λ i. TellsAt from speech i n) same (told.act, told.word, told.gives))
     ]
 
-    step : IsTold speech j n ⊎ (IsTold speech j n → ⊥) → TellsAt speech j n ⊎ (TellsAt speech j n → ⊥) → IsTold speech (suc j) n ⊎ (IsTold speech (suc j) n → ⊥)
+    step : IsTold from speech j n ⊎ (IsTold from speech j n → ⊥) → TellsAt from speech j n ⊎ (TellsAt from speech j n → ⊥) → IsTold from speech (suc j) n ⊎ (IsTold from speech (suc j) n → ⊥)
     step (inl told) here = inl (later told)
     step (inr none) (inl (k, word, gives)) = inl (record { place = j; act = k; word = word; earlier = omega arith; gives = gives })
     step (inr none) (inr nor) = inr (neither none nor)
@@ -95,11 +95,11 @@ pub on_natural : (z : ℤ) (P Q : ℕ → Type 0) → ((n : ℕ) → P n → Q n
 on_natural (pos n) P Q to h = to n h
 on_natural (negsuc n) P Q to h = h
 
-two_spoken : (speech : Speech) (n : ℕ) → EndsInConflict speech n → SpeaksTwo speech n
+two_spoken : {from : ℕ} (speech : Speech) (n : ℕ) → EndsInConflict from speech n → SpeaksTwo from speech n
 two_spoken speech n (end, x, y, ends, one, two, differ) =
     (x, y, spoken_from_held speech end n (Told x) ends one, spoken_from_held speech end n (Told y) ends two, differ)
 
-two_held : (speech : Speech) → IsFounded speech → (n : ℕ) → SpeaksTwo speech n → EndsInConflict speech n
+two_held : {from : ℕ} (speech : Speech) → IsFounded from speech → (n : ℕ) → SpeaksTwo from speech n → EndsInConflict from speech n
 two_held speech founded n (x, y, one, two, differ) =
     let run = frugal_run speech founded in
     let first : State = took run.0 n (Told x) in
@@ -113,20 +113,20 @@ two_held speech founded n (x, y, one, two, differ) =
       differ,
     )
 
-unclaimed : (speech : Speech) (n : ℕ) → EndsWithout speech n → IsUnclaimed speech n
-unclaimed speech n (positive, announced, (end, ends, none)) =
-    (positive, announced, λ claimed. none (held_from_claim speech end claimed.0 n ends claimed.1))
+unclaimed : {from : ℕ} (speech : Speech) (n : ℕ) → EndsWithout from speech n → IsUnclaimed from speech n
+unclaimed speech n (asked, announced, (end, ends, none)) =
+    (asked, announced, λ claimed. none (held_from_claim speech end claimed.0 n ends claimed.1))
 
-ends_without : (speech : Speech) → IsFounded speech → (n : ℕ) → IsUnclaimed speech n → EndsWithout speech n
-ends_without speech founded n (positive, announced, none) =
+ends_without : {from : ℕ} (speech : Speech) → IsFounded from speech → (n : ℕ) → IsUnclaimed from speech n → EndsWithout from speech n
+ends_without speech founded n (asked, announced, none) =
     let run = frugal_run speech founded in
-    (positive, announced, (run.0, run.1, λ held. none (run.2 n held)))
+    (asked, announced, (run.0, run.1, λ held. none (run.2 n held)))
 
 -- some answer in the datagram at place j claims a number that no earlier datagram tells
-abbrev IsUnfounded : Speech → ℕ → Type 0
-IsUnfounded speech j = (n : ℕ) × ClaimsUntold speech j n
+abbrev IsUnfounded : ℕ → Speech → ℕ → Type 0
+IsUnfounded from speech j = (n : ℕ) × ClaimsUntold from speech j n
 
-unsendable : (speech : Speech) (j : ℕ) → IsUnfounded speech j → IsUnsendable speech j
+unsendable : {from : ℕ} (speech : Speech) (j : ℕ) → IsUnfounded from speech j → IsUnsendable from speech j
 unsendable speech j (n, (claims, untold)) = (
   slice_get_within speech j claims.datagram claims.stands,
   λ state reached. elim (cases_lt j state.sent) [
@@ -136,14 +136,14 @@ unsendable speech j (n, (claims, untold)) = (
 )
 
 -- where no earlier datagram is unfounded, this one can be sent
-first_unfounded : (speech : Speech) (j m : ℕ) → IsLeast (IsUnfounded speech) j → IsUnsendable speech m → j ≤ m
-first_unfounded speech j m least (within, unsent) = elim (cases_lt m j) [
+first_unfounded : {from : ℕ} (speech : Speech) (j m : ℕ) → IsLeast (IsUnfounded from speech) j → IsUnsendable from speech m → j ≤ m
+first_unfounded {from} speech j m least (within, unsent) = elim (cases_lt m j) [
   | inl earlier ↦ absurd (contradiction earlier)
   | inr later ↦ later
 ]
   where
-    founded : m < j → IsFoundedBelow speech (suc m)
-    founded earlier i n lt claims = elim (told_or_not speech i n claims.positive) [
+    founded : m < j → IsFoundedBelow from speech (suc m)
+    founded earlier i n lt claims = elim (told_or_not speech i n claims.asked) [
       | inl told ↦ told
       | inr untold ↦ absurd (let past = least.least i (n, (claims, untold)) in omega arith)
     ]
@@ -155,52 +155,52 @@ first_unfounded speech j m least (within, unsent) = elim (cases_lt m j) [
         let sent = run.3.0 in
         omega arith
 
-pub to_plain : (speech : Speech) (verdict : Verdict) → IsVerdict speech verdict → IsPlainVerdict speech verdict
-to_plain speech (Unfounded datagram number) (no_run, (j, place, first, least)) = (
+pub to_plain : (from : ℕ) (speech : Speech) (verdict : Verdict) → IsVerdictFrom from speech verdict → IsPlainVerdictFrom from speech verdict
+to_plain from speech (Unfounded datagram number) (no_run, (j, place, first, least)) = (
   j,
   place,
   record { holds = claim number least; least = λ m h. first.least m (unsendable speech m h) },
   least,
 )
   where
-    claim : (z : ℤ) → OnNatural z (IsLeast (ClaimsUntold speech j)) → IsUnfounded speech j
+    claim : (z : ℤ) → OnNatural z (IsLeast (ClaimsUntold from speech j)) → IsUnfounded from speech j
     claim (pos n) least = (n, least.holds)
     claim (negsuc n) none = absurd none
-to_plain speech (Conflict number) (run, least) =
+to_plain from speech (Conflict number) (run, least) =
     let founded = founded_from_run speech run.0 run.1 in
     (founded, on_natural number _ _ (least_same _ _ (two_spoken speech) (two_held speech founded)) least)
-to_plain speech (Open number) (run, none, least) =
+to_plain from speech (Open number) (run, none, least) =
     let founded = founded_from_run speech run.0 run.1 in
     (founded, λ n two. none n (two_held speech founded n two), on_natural number _ _ (least_same _ _ (unclaimed speech) (ends_without speech founded)) least)
-to_plain speech (Complete last) (same, run, none, all) =
+to_plain from speech (Complete last) (same, run, none, all) =
     let founded = founded_from_run speech run.0 run.1 in
     let frugal = frugal_run speech founded in
-    (same, founded, λ n two. none n (two_held speech founded n two), λ n positive announced. frugal.2 n (all frugal.0 frugal.1 n positive announced))
+    (same, founded, λ n two. none n (two_held speech founded n two), λ n asked announced. frugal.2 n (all frugal.0 frugal.1 n asked announced))
 
-pub from_plain : (speech : Speech) (verdict : Verdict) → IsPlainVerdict speech verdict → IsVerdict speech verdict
-from_plain speech (Unfounded datagram number) (j, place, first, least) = (
+pub from_plain : (from : ℕ) (speech : Speech) (verdict : Verdict) → IsPlainVerdictFrom from speech verdict → IsVerdictFrom from speech verdict
+from_plain from speech (Unfounded datagram number) (j, place, first, least) = (
   λ run. let claim = first.holds in claim.1.1 (founded_from_run speech run.0 run.1 j claim.0 claim.1.0),
   (j, place, record { holds = unsendable speech j first.holds; least = λ m h. first_unfounded speech j m first h }, least),
 )
-from_plain speech (Conflict number) (founded, least) =
+from_plain from speech (Conflict number) (founded, least) =
     let run = frugal_run speech founded in
     ((run.0, run.1), on_natural number _ _ (least_same _ _ (two_held speech founded) (two_spoken speech)) least)
-from_plain speech (Open number) (founded, none, least) =
+from_plain from speech (Open number) (founded, none, least) =
     let run = frugal_run speech founded in
     ((run.0, run.1), λ n two. none n (two_spoken speech n two), on_natural number _ _ (least_same _ _ (ends_without speech founded) (unclaimed speech)) least)
-from_plain speech (Complete last) (same, founded, none, all) =
+from_plain from speech (Complete last) (same, founded, none, all) =
     let run = frugal_run speech founded in (
       same,
       (run.0, run.1),
       λ n two. none n (two_spoken speech n two),
-      λ end ends n positive announced.
-          let claimed = all n positive announced in
+      λ end ends n asked announced.
+          let claimed = all n asked announced in
           held_from_claim speech end claimed.0 n ends claimed.1,
     )
 
 pub verdicts_agree : VerdictsAgree
-verdicts_agree speech verdict = (to_plain speech verdict, from_plain speech verdict)
+verdicts_agree from speech verdict = (to_plain from speech verdict, from_plain from speech verdict)
 
 pub plain_means_complete : PlainMeansComplete
-plain_means_complete speech founded none all =
-    from_plain speech (Complete (pos (last_announced speech))) (refl, founded, none, all)
+plain_means_complete from speech founded none all =
+    from_plain from speech (Complete (pos (last_announced_from from speech))) (refl, founded, none, all)

@@ -1,6 +1,7 @@
 -- Delivery of one writer's numbers to one reader. DDSI-RTPS 2.5, 8.4 "Behavior Module", and 8.3.8.1 "AckNack",
--- 8.3.8.2 "Data", 8.3.8.4 "Gap" and 8.3.8.6 "Heartbeat", which say what each submessage tells.
-use Rattle.std.specs.Prelude.{ℕ, suc, ◌<◌, ◌≤◌, ◌≡◌, List, [], ◌∷◌, ◌++◌, length, max, Option, Some, slice_get, Contains}
+-- 8.3.8.2 "Data", 8.3.8.4 "Gap" and 8.3.8.6 "Heartbeat", which say what each submessage tells. A definition with a number
+-- `from` speaks of the writer's numbers from that one on, and of no smaller one; with 1 it speaks of all.
+use Rattle.std.specs.Prelude.{ℕ, suc, ◌<◌, ◌≤◌, ◌≡◌, ◌-◌, List, [], ◌∷◌, ◌++◌, length, max, Option, Some, slice_get, Contains}
 use Rattle.rtps_wire.specs.Values.{PayloadValue}
 
 -- what a reader may be told of a number: its payload, or that it will not come
@@ -20,22 +21,27 @@ pub record Datagram : Type 0 where
 abbrev pub Speech : Type 0
 Speech = List Datagram
 
--- by the act at place k of the datagram at place i, the number n has this word. Numbers begin at 1
-pub record Gives (speech : Speech) (i k n : ℕ) (word : Word) : Type 0 where
+-- the number n is asked for: it is one of those from `from` on. Numbers begin at 1
+abbrev pub IsAsked : ℕ → ℕ → Type 0
+IsAsked from n = (1 ≤ n) × (from ≤ n)
+
+-- by the act at place k of the datagram at place i, the number n, which is asked for, has this word
+pub record Gives (from : ℕ) (speech : Speech) (i k n : ℕ) (word : Word) : Type 0 where
   pub datagram : Datagram
   pub act : ℕ → Option Word
   pub stands : slice_get speech i ≡ Some datagram
   pub speaks : slice_get datagram.acts k ≡ Some act
-  pub positive : 1 ≤ n
+  pub asked : IsAsked from n
   pub says : act n ≡ Some word
 
--- the datagram at place j has an answer that claims the number n: by a base, a reader claims each number below it
-pub record Claims (speech : Speech) (j n : ℕ) : Type 0 where
+-- the datagram at place j has an answer that claims the number n: by a base, a reader claims each number below it that
+-- is asked for
+pub record Claims (from : ℕ) (speech : Speech) (j n : ℕ) : Type 0 where
   pub datagram : Datagram
   pub base : ℕ
   pub stands : slice_get speech j ≡ Some datagram
   pub answers : Contains datagram.bases base
-  pub positive : 1 ≤ n
+  pub asked : IsAsked from n
   pub below : n < base
 
 -- the greatest of these numbers, or 0
@@ -43,10 +49,14 @@ abbrev pub greatest : List ℕ → ℕ
 greatest [] = 0
 greatest (n ∷ ns) = max n (greatest ns)
 
+-- the greatest of from - 1 and the numbers that the writer announced
+abbrev pub last_announced_from : ℕ → Speech → ℕ
+last_announced_from from [] = from - 1
+last_announced_from from (datagram ∷ speech) = max (greatest datagram.announced) (last_announced_from from speech)
+
 -- the greatest number that the writer announced, or 0
 abbrev pub last_announced : Speech → ℕ
-last_announced [] = 0
-last_announced (datagram ∷ speech) = max (greatest datagram.announced) (last_announced speech)
+last_announced speech = last_announced_from 1 speech
 
 -- how many datagrams are sent, and the words that the reader holds
 pub record State : Type 0 where
@@ -68,26 +78,26 @@ pub data Event : Type 0 where
   Take : (i k n : ℕ) (word : Word) → Event
 
 -- the reader answers only for numbers that it has a word for (8.4.2.3 "Required RTPS Reader Behavior")
-abbrev pub MaySend : Speech → State → Type 0
-MaySend speech state = (state.sent < length speech) × ((n : ℕ) → Claims speech state.sent n → Holds state n)
+abbrev pub MaySend : ℕ → Speech → State → Type 0
+MaySend from speech state = (state.sent < length speech) × ((n : ℕ) → Claims from speech state.sent n → Holds state n)
 
--- the event is allowed in the old state, and leaves the new one
-abbrev pub Step : Speech → State → Event → State → Type 0
-Step speech old Send new = MaySend speech old × (new ≡ record { sent = suc old.sent; held = old.held })
-Step speech old (Take i k n word) new = (i < old.sent) × Gives speech i k n word × (new ≡ record { sent = old.sent; held = old.held ++ (n, word) ∷ [] })
+-- the event is allowed in the old state, and leaves the new one. Words are taken only for numbers that are asked for
+abbrev pub Step : ℕ → Speech → State → Event → State → Type 0
+Step from speech old Send new = MaySend from speech old × (new ≡ record { sent = suc old.sent; held = old.held })
+Step from speech old (Take i k n word) new = (i < old.sent) × Gives from speech i k n word × (new ≡ record { sent = old.sent; held = old.held ++ (n, word) ∷ [] })
 
 -- these events are allowed, one after another
-abbrev pub Follows : Speech → State → List Event → State → Type 0
-Follows speech old [] new = new ≡ old
-Follows speech old (event ∷ events) new = (mid : State) × Step speech old event mid × Follows speech mid events new
+abbrev pub Follows : ℕ → Speech → State → List Event → State → Type 0
+Follows from speech old [] new = new ≡ old
+Follows from speech old (event ∷ events) new = (mid : State) × Step from speech old event mid × Follows from speech mid events new
 
 -- some list of allowed events leads to the state
-abbrev pub IsReached : Speech → State → Type 0
-IsReached speech state = (events : List Event) × Follows speech start events state
+abbrev pub IsReached : ℕ → Speech → State → Type 0
+IsReached from speech state = (events : List Event) × Follows from speech start events state
 
 -- a run is a list of allowed events by which every datagram is sent. Some run ends in the state
-abbrev pub Ends : Speech → State → Type 0
-Ends speech state = IsReached speech state × (state.sent ≡ length speech)
+abbrev pub Ends : ℕ → Speech → State → Type 0
+Ends from speech state = IsReached from speech state × (state.sent ≡ length speech)
 
-abbrev pub HasRun : Speech → Type 0
-HasRun speech = (end : State) × Ends speech end
+abbrev pub HasRun : ℕ → Speech → Type 0
+HasRun from speech = (end : State) × Ends from speech end

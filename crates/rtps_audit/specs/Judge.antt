@@ -17,8 +17,8 @@ greatest_base (datagram ∷ speech) = max (greatest datagram.bases) (greatest_ba
 -- the judge stands for these datagrams
 pub record Knows {C : Type 0} (covered : C → ℕ → Bool) (judge : Judge C) (speech : Speech) : Type 0 where
   pub counted : judge.datagrams ≡ length speech
-  pub told : (n : ℕ) → 1 ≤ n → n < 2 ^ 63 - 1 → (covered judge.words.told n ≡ true) ↔ IsTold speech (length speech) n
-  pub founded : MatchOption judge.claims.untold (IsFounded speech) (λ untold. IsPlainVerdict speech (Unfounded untold.datagram untold.number))
+  pub told : (n : ℕ) → 1 ≤ n → n < 2 ^ 63 - 1 → (covered judge.words.told n ≡ true) ↔ IsTold 1 speech (length speech) n
+  pub founded : MatchOption judge.claims.untold (IsFounded 1 speech) (λ untold. IsPlainVerdict speech (Unfounded untold.datagram untold.number))
   pub base : judge.claims.base ≡ greatest_base speech
   pub last : judge.claims.last ≡ last_announced speech
-  pub kept : (n : ℕ) (payload : PayloadValue) → IsKept judge.words.samples.items n payload ↔ IsSpoken speech n (Told payload)
+  pub kept : (n : ℕ) (payload : PayloadValue) → IsKept judge.words.samples.items n payload ↔ IsSpoken 1 speech n (Told payload)

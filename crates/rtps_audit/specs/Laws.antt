@@ -1,9 +1,9 @@
--- Laws over definitions alone.
+-- Laws over definitions alone. Those on deliveries hold whatever the number is from which on numbers are asked for.
 use Rattle.std.specs.Prelude.{ℕ, ◌<◌, ◌≤◌, ◌≡◌, ◌↔◌, pos, List, [], ◌∷◌, length, All, Contains}
 use Rattle.std.specs.List.{list_any}
-use Rattle.rtps_audit.specs.Delivery.{Word, Speech, State, Gives, Claims, Holds, IsReached, HasRun, last_announced}
-use Rattle.rtps_audit.specs.RunVerdict.{IsVerdict}
-use Rattle.rtps_audit.specs.PlainVerdict.{IsFounded, SpeaksTwo, IsClaimed, IsPlainVerdict}
+use Rattle.rtps_audit.specs.Delivery.{Word, Speech, State, IsAsked, Gives, Claims, Holds, IsReached, HasRun, last_announced_from}
+use Rattle.rtps_audit.specs.RunVerdict.{IsVerdictFrom}
+use Rattle.rtps_audit.specs.PlainVerdict.{IsFounded, SpeaksTwo, IsClaimed, IsPlainVerdictFrom}
 use Rattle.rtps_audit.specs.EagerRun.{IsBoundedBy, IsEagerRunAllowed}
 use Rattle.rtps_audit.specs.Spans.{has_number}
 use Rattle.rtps_audit.specs.MergedRanges.{covered_of, count_of, ranges_of}
@@ -13,51 +13,52 @@ use Rattle.rtps_audit.specs.declared.verdict.Verdict.{Verdict}
 use Rattle.rtps_audit.specs.declared.verdict.Verdict.TheVariants.{Complete}
 
 -- a word that is held was given by an act of a datagram that is sent
-abbrev pub HeldWasGiven : Speech → State → Type 0
-HeldWasGiven speech state = (n : ℕ) (word : Word) → Contains state.held (n, word) → (i : ℕ) × (k : ℕ) × (i < state.sent) × Gives speech i k n word
+abbrev pub HeldWasGiven : ℕ → Speech → State → Type 0
+HeldWasGiven from speech state = (n : ℕ) (word : Word) → Contains state.held (n, word) → (i : ℕ) × (k : ℕ) × (i < state.sent) × Gives from speech i k n word
 
 -- each number that an answer in a datagram that is sent claims is held
-abbrev pub ClaimedIsHeld : Speech → State → Type 0
-ClaimedIsHeld speech state = (i n : ℕ) → i < state.sent → Claims speech i n → Holds state n
+abbrev pub ClaimedIsHeld : ℕ → Speech → State → Type 0
+ClaimedIsHeld from speech state = (i n : ℕ) → i < state.sent → Claims from speech i n → Holds state n
 
 -- whatever events are allowed, one after another, both are so
 abbrev pub ReachedStatesAreSound : Type 0
-ReachedStatesAreSound = (speech : Speech) (state : State) → IsReached speech state → HeldWasGiven speech state × ClaimedIsHeld speech state
+ReachedStatesAreSound = (from : ℕ) (speech : Speech) (state : State) → IsReached from speech state → HeldWasGiven from speech state × ClaimedIsHeld from speech state
 
 -- a run exists exactly where each number that an answer claims has a word in an earlier datagram
 abbrev pub RunsExistWhereFounded : Type 0
-RunsExistWhereFounded = (speech : Speech) → HasRun speech ↔ IsFounded speech
+RunsExistWhereFounded = (from : ℕ) (speech : Speech) → HasRun from speech ↔ IsFounded from speech
 
 -- a run exists exactly where the run that takes all it can after each send is allowed. A bound on the numbers that are
 -- told makes what it can take finite
 abbrev pub EagerRunDecides : Type 0
-EagerRunDecides = (speech : Speech) (bound : ℕ) → IsBoundedBy speech bound → HasRun speech ↔ IsEagerRunAllowed speech bound
+EagerRunDecides = (from : ℕ) (speech : Speech) (bound : ℕ) → IsBoundedBy from speech bound → HasRun from speech ↔ IsEagerRunAllowed from speech bound
 
 -- the verdict by runs is the one by conditions on the recording alone
 abbrev pub VerdictsAgree : Type 0
-VerdictsAgree = (speech : Speech) (verdict : Verdict) → IsVerdict speech verdict ↔ IsPlainVerdict speech verdict
+VerdictsAgree = (from : ℕ) (speech : Speech) (verdict : Verdict) → IsVerdictFrom from speech verdict ↔ IsPlainVerdictFrom from speech verdict
 
--- where each claimed number has a word in an earlier datagram, no number has two different payloads, and each announced
--- number is claimed, the verdict by runs is complete
+-- where each claimed number has a word in an earlier datagram, no number has two different payloads, and each number that
+-- is asked for, up to the last announced one, is claimed, the verdict by runs is complete
 abbrev pub PlainMeansComplete : Type 0
 PlainMeansComplete =
-    (speech : Speech) → IsFounded speech → ((n : ℕ) → ¬ SpeaksTwo speech n) → ((n : ℕ) → 1 ≤ n → n ≤ last_announced speech → IsClaimed speech n)
-    → IsVerdict speech (Complete (pos (last_announced speech)))
+    (from : ℕ) (speech : Speech) → IsFounded from speech → ((n : ℕ) → ¬ SpeaksTwo from speech n)
+    → ((n : ℕ) → IsAsked from n → n ≤ last_announced_from from speech → IsClaimed from speech n)
+    → IsVerdictFrom from speech (Complete (pos (last_announced_from from speech)))
 
 -- no recording has two verdicts
 abbrev pub HasNoTwoVerdicts : Type 0
-HasNoTwoVerdicts = (speech : Speech) (one other : Verdict) → IsVerdict speech one → IsVerdict speech other → one ≡ other
+HasNoTwoVerdicts = (from : ℕ) (speech : Speech) (one other : Verdict) → IsVerdictFrom from speech one → IsVerdictFrom from speech other → one ≡ other
 
 -- each recording of words for numbers below some bound has one
 abbrev pub EachHasAVerdict : Type 0
-EachHasAVerdict = (speech : Speech) (bound : ℕ) → IsBoundedBy speech bound → (verdict : Verdict) × IsVerdict speech verdict
+EachHasAVerdict = (from : ℕ) (speech : Speech) (bound : ℕ) → IsBoundedBy from speech bound → (verdict : Verdict) × IsVerdictFrom from speech verdict
 
 -- two recordings say the same: of each place the words, the claims, and in all the last announced number
-pub record SaysTheSame (one other : Speech) : Type 0 where
+pub record SaysTheSame (from : ℕ) (one other : Speech) : Type 0 where
   pub counted : length one ≡ length other
-  pub words : (i n : ℕ) (word : Word) → ((k : ℕ) × Gives one i k n word) ↔ ((k : ℕ) × Gives other i k n word)
-  pub claims : (j n : ℕ) → Claims one j n ↔ Claims other j n
-  pub announced : last_announced one ≡ last_announced other
+  pub words : (i n : ℕ) (word : Word) → ((k : ℕ) × Gives from one i k n word) ↔ ((k : ℕ) × Gives from other i k n word)
+  pub claims : (j n : ℕ) → Claims from one j n ↔ Claims from other j n
+  pub announced : last_announced_from from one ≡ last_announced_from from other
 
 -- none of the ranges is empty, and each later one begins past the end of it
 abbrev pub AreApart : List Span → Type 0
@@ -75,4 +76,4 @@ RangesLieApart = (set : MergedRanges) → HasRangesApart set
 
 -- the verdict does not depend on how words are shared out among acts
 abbrev pub VerdictsFollowWhatIsSaid : Type 0
-VerdictsFollowWhatIsSaid = (one other : Speech) (verdict : Verdict) → SaysTheSame one other → IsVerdict one verdict → IsVerdict other verdict
+VerdictsFollowWhatIsSaid = (from : ℕ) (one other : Speech) (verdict : Verdict) → SaysTheSame from one other → IsVerdictFrom from one verdict → IsVerdictFrom from other verdict

@@ -1,7 +1,7 @@
 -- The verdict on a recording by all its runs.
 use Rattle.std.specs.Prelude.{ℕ, ◌<◌, ◌≤◌, ◌+◌, ◌≡◌, ◌≢◌, ℤ, pos, negsuc, length, Contains}
 use Rattle.rtps_wire.specs.Values.{PayloadValue}
-use Rattle.rtps_audit.specs.Delivery.{Word, Speech, State, Gives, Claims, Holds, IsReached, Ends, HasRun, last_announced}
+use Rattle.rtps_audit.specs.Delivery.{Word, Speech, State, IsAsked, Gives, Claims, Holds, IsReached, Ends, HasRun, last_announced_from}
 use Rattle.rtps_audit.specs.Delivery.Word.{Told}
 use Rattle.rtps_audit.specs.declared.verdict.Verdict.{Verdict}
 use Rattle.rtps_audit.specs.declared.verdict.Verdict.TheVariants.{Unfounded, Conflict, Open, Complete}
@@ -17,34 +17,39 @@ OnNatural (pos n) P = P n
 OnNatural (negsuc n) P = ⊥
 
 -- no list of allowed events sends the datagram at place j
-abbrev pub IsUnsendable : Speech → ℕ → Type 0
-IsUnsendable speech j = (j < length speech) × ((state : State) → IsReached speech state → state.sent ≤ j)
+abbrev pub IsUnsendable : ℕ → Speech → ℕ → Type 0
+IsUnsendable from speech j = (j < length speech) × ((state : State) → IsReached from speech state → state.sent ≤ j)
 
 -- some datagram before place j has a word for n
-pub record IsTold (speech : Speech) (j n : ℕ) : Type 0 where
+pub record IsTold (from : ℕ) (speech : Speech) (j n : ℕ) : Type 0 where
   pub place : ℕ
   pub act : ℕ
   pub word : Word
   pub earlier : place < j
-  pub gives : Gives speech place act n word
+  pub gives : Gives from speech place act n word
 
 -- the answers in the datagram at place j claim n, and no earlier datagram has a word for it
-abbrev pub ClaimsUntold : Speech → ℕ → ℕ → Type 0
-ClaimsUntold speech j n = Claims speech j n × ¬ IsTold speech j n
+abbrev pub ClaimsUntold : ℕ → Speech → ℕ → ℕ → Type 0
+ClaimsUntold from speech j n = Claims from speech j n × ¬ IsTold from speech j n
 
 -- some run ends with two different payloads for n
-abbrev pub EndsInConflict : Speech → ℕ → Type 0
-EndsInConflict speech n = (end : State) × (x : PayloadValue) × (y : PayloadValue) × Ends speech end × Contains end.held (n, Told x) × Contains end.held (n, Told y) × (x ≢ y)
+abbrev pub EndsInConflict : ℕ → Speech → ℕ → Type 0
+EndsInConflict from speech n = (end : State) × (x : PayloadValue) × (y : PayloadValue) × Ends from speech end × Contains end.held (n, Told x) × Contains end.held (n, Told y) × (x ≢ y)
 
--- some run ends without a word for n, which is announced
-abbrev pub EndsWithout : Speech → ℕ → Type 0
-EndsWithout speech n = (1 ≤ n) × (n ≤ last_announced speech) × ((end : State) × Ends speech end × ¬ Holds end n)
+-- some run ends without a word for n, which is asked for and at most the last announced number
+abbrev pub EndsWithout : ℕ → Speech → ℕ → Type 0
+EndsWithout from speech n = IsAsked from n × (n ≤ last_announced_from from speech) × ((end : State) × Ends from speech end × ¬ Holds end n)
 
--- what a verdict says. A datagram counts from 1
+-- what a verdict says of the numbers from `from` on. A datagram counts from 1
+abbrev pub IsVerdictFrom : ℕ → Speech → Verdict → Type 0
+IsVerdictFrom from speech (Unfounded datagram number) =
+    ¬ HasRun from speech × ((j : ℕ) × (datagram ≡ j + 1) × IsLeast (IsUnsendable from speech) j × OnNatural number (IsLeast (ClaimsUntold from speech j)))
+IsVerdictFrom from speech (Conflict number) = HasRun from speech × OnNatural number (IsLeast (EndsInConflict from speech))
+IsVerdictFrom from speech (Open number) = HasRun from speech × ((n : ℕ) → ¬ EndsInConflict from speech n) × OnNatural number (IsLeast (EndsWithout from speech))
+IsVerdictFrom from speech (Complete last) =
+    (last ≡ pos (last_announced_from from speech)) × HasRun from speech × ((n : ℕ) → ¬ EndsInConflict from speech n)
+    × ((end : State) → Ends from speech end → (n : ℕ) → IsAsked from n → n ≤ last_announced_from from speech → Holds end n)
+
+-- what it says of all numbers
 abbrev pub IsVerdict : Speech → Verdict → Type 0
-IsVerdict speech (Unfounded datagram number) = ¬ HasRun speech × ((j : ℕ) × (datagram ≡ j + 1) × IsLeast (IsUnsendable speech) j × OnNatural number (IsLeast (ClaimsUntold speech j)))
-IsVerdict speech (Conflict number) = HasRun speech × OnNatural number (IsLeast (EndsInConflict speech))
-IsVerdict speech (Open number) = HasRun speech × ((n : ℕ) → ¬ EndsInConflict speech n) × OnNatural number (IsLeast (EndsWithout speech))
-IsVerdict speech (Complete last) =
-    (last ≡ pos (last_announced speech)) × HasRun speech × ((n : ℕ) → ¬ EndsInConflict speech n)
-    × ((end : State) → Ends speech end → (n : ℕ) → 1 ≤ n → n ≤ last_announced speech → Holds end n)
+IsVerdict speech verdict = IsVerdictFrom 1 speech verdict

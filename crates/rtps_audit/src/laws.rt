@@ -1,5 +1,5 @@
 //! Laws over definitions alone. Each function does nothing: its clause is the law, and its
-//! proof the law's proof.
+//! proof the law's proof. The laws on deliveries hold whatever the number is from which on numbers are asked for.
 
 ghost use Rattle.rtps_audit.specs.Laws.{ReachedStatesAreSound, RunsExistWhereFounded, EagerRunDecides, VerdictsAgree, PlainMeansComplete, HasNoTwoVerdicts, EachHasAVerdict, VerdictsFollowWhatIsSaid, RangesLieApart};
 
