@@ -5,7 +5,7 @@ use Rattle.std.proofs.lemmas.Bool.{cases_lt}
 use Rattle.rtps_audit.specs.Delivery.{Datagram, Speech, IsAsked, Claims, greatest}
 use Rattle.rtps_audit.specs.PlainVerdict.{IsClaimed}
 use Rattle.rtps_audit.specs.Judge.{greatest_base}
-use Rattle.rtps_audit.proofs.FactLemmas.{below_greatest, greatest_below}
+use Rattle.rtps_audit.proofs.Greatest.{below_greatest, greatest_below}
 
 -- a claim with a datagram more before it
 claims_next : {from : ℕ} (d : Datagram) (speech : Speech) (j n : ℕ) → Claims from speech j n → Claims from (d ∷ speech) (suc j) n

@@ -15,7 +15,8 @@ use Rattle.rtps_audit.specs.Judge.{greatest_base}
 use Rattle.rtps_audit.specs.Laws.{EachHasAVerdict}
 use Rattle.rtps_audit.specs.declared.verdict.Verdict.{Verdict}
 use Rattle.rtps_audit.specs.declared.verdict.Verdict.TheVariants.{Unfounded, Conflict, Open, Complete}
-use Rattle.rtps_audit.proofs.FactLemmas.{below_greatest, greatest_below, Has, has_here, has_later, has_cases, has_none}
+use Rattle.rtps_audit.proofs.ActPlaces.{Has, has_here, has_later, has_cases, has_none}
+use Rattle.rtps_audit.proofs.Greatest.{below_greatest, greatest_below}
 use Rattle.rtps_audit.proofs.BelowBase.{claimed_from_below, below_from_claims}
 use Rattle.rtps_audit.proofs.Runs.{asked_or_not}
 use Rattle.rtps_audit.proofs.Verdicts.{told_or_not, from_plain}

@@ -1,33 +1,34 @@
--- What a judge knows after one datagram more, and what follows for the verdict.
-use Rattle.std.proofs.Common.{◌≡◌, ℕ, ◌+◌, ◌-◌, ◌<◌, ◌≤◌, ◌^◌, Bool, true, false, ◌||◌, List, [], ◌∷◌, ◌++◌, length, Option, Some, None, All, refl, sym, ◌∙◌, ap, subst, arith, inl, inr, max, ℤ, pos, negsuc, MatchOption}
-use Rattle.std.specs.Prelude.{◌↔◌, if◌then◌else◌, int_lt, nat_le}
-use Rattle.std.specs.List.{list_any, filter_map}
+-- What a judge knows after one act and after one datagram more, and what follows for the verdict.
+use Rattle.std.proofs.Common.{◌≡◌, ℕ, ◌+◌, ◌-◌, ◌<◌, ◌≤◌, ◌^◌, Bool, true, false, ◌||◌, List, [], ◌∷◌, ◌++◌, length, Option, Some, None, ◌⊎◌, refl, sym, ◌∙◌, ap, subst, arith, inl, inr, max, ℤ, pos, negsuc, ◌≤ℤ◌}
+use Rattle.std.specs.Prelude.{◌↔◌, if◌then◌else◌, int_lt, nat_le, is_some, unwrap_or}
 use Rattle.std.proofs.lemmas.Int.{ints}
 use Rattle.std.proofs.lemmas.Bool.Decides.{nat_tests}
 use Rattle.std.proofs.lemmas.Option.{slice_get_within}
 use Rattle.std.proofs.lemmas.Bool.{cases_lt}
-use Rattle.rtps_audit.specs.Coverage.{IsFront}
 use Rattle.rtps_wire.specs.Values.{PayloadValue}
-use Rattle.rtps_audit.specs.Delivery.{Datagram, Speech, IsAsked, greatest, last_announced}
+use Rattle.rtps_receiver.specs.Values.{ActValue}
+use Rattle.rtps_ids.specs.declared.identity.Guid.{Guid}
+use Rattle.rtps_audit.specs.Coverage.{IsFront, TellsMore}
+use Rattle.rtps_audit.specs.Delivery.{Word, Datagram, Speech, IsAsked, greatest, last_announced}
 use Rattle.rtps_audit.specs.Delivery.Word.{Told}
+use Rattle.rtps_audit.specs.OneDatagram.{Says, IsSaid, Tells, ClaimsIn}
 use Rattle.rtps_audit.specs.RunVerdict.{IsLeast, IsTold, ClaimsUntold, IsVerdict}
 use Rattle.rtps_audit.specs.PlainVerdict.{IsFounded, IsSpoken, SpeaksTwo, IsClaimed, IsUnclaimed, IsPlainVerdict}
-use Rattle.rtps_audit.specs.Facts.{IsInRange, said, tells, base_of, announced_of}
-use Rattle.rtps_audit.specs.Samples.{IsKept, KeepsTwo, sample_of}
+use Rattle.rtps_audit.specs.Samples.{IsKept, KeepsMore, KeepsTwo}
 use Rattle.rtps_audit.specs.Claims.{FindsUntold}
-use Rattle.rtps_audit.specs.Judge.{Knows}
-use Rattle.rtps_audit.specs.declared.fact.Fact.{Fact}
+use Rattle.rtps_audit.specs.Judge.{IsFirstUntold, IsTelling, IsUntoldFront, Knows}
+use Rattle.rtps_audit.specs.Speech.{announced_for, base_for, said_by, word_for}
 use Rattle.rtps_audit.specs.declared.claims.Untold.{Untold}
 use Rattle.rtps_audit.specs.declared.judge_state.Judge.{Judge}
 use Rattle.rtps_audit.specs.declared.verdict.Verdict.TheVariants.{Unfounded, Conflict, Open, Complete}
-use Rattle.rtps_audit.proofs.OneMore.{ClaimsIn, length_more, claims_last, claims_cases, told_before, told_back, told_by_all, told_by_one, spoken_by_all, spoken_by_one, greatest_base_more, last_announced_more, untold_before, untold_cases}
+use Rattle.rtps_audit.proofs.OneMore.{length_more, claims_last, claims_cases, told_before, told_back, told_by_all, told_by_one, spoken_by_all, spoken_by_one, greatest_base_more, last_announced_more, untold_before, untold_cases}
+use Rattle.rtps_audit.proofs.OneAct.{says_cases, says_before, says_last, acts_more, bases_more, announced_more}
 use Rattle.rtps_audit.proofs.BelowBase.{claimed_from_below, below_from_claims}
-use Rattle.rtps_audit.proofs.FactLemmas.{or_cases, or_left, or_right, Tells-said, tells_from_said, Says-said, kept_from_said, kept_left, kept_right, kept_cases, below_greatest, greatest_below}
+use Rattle.rtps_audit.proofs.Greatest.{below_greatest, greatest_below}
+use Rattle.rtps_audit.proofs.WordLemmas.{or_cases, or_left, or_right}
 use Rattle.rtps_audit.proofs.Verdicts.{from_plain, least_same, on_natural}
 
--- what a judge keeps about a first claim that is not told
-abbrev KnowsUntold : Speech → Option Untold → Type 0
-KnowsUntold speech found = MatchOption found (IsFounded 1 speech) (λ untold. IsPlainVerdict speech (Unfounded untold.datagram untold.number))
+-- ---- the first claim that is not told
 
 -- a first claim that is not told stays the first
 plain_before : (speech : Speech) (d : Datagram) (datagram : ℕ) (number : ℤ) → IsPlainVerdict speech (Unfounded datagram number) → IsPlainVerdict (speech ++ d ∷ []) (Unfounded datagram number)
@@ -52,14 +53,10 @@ plain_before speech d datagram number (j, place, first, least) =
       | inr last ↦ absurd (let at = last.0 in omega arith)
     ]
 
--- the set has the numbers that some datagram tells
-abbrev IsToldSet : (ℕ → Bool) → Speech → Type 0
-IsToldSet set speech = (n : ℕ) → 1 ≤ n → n < 2 ^ 63 - 1 → (set n ≡ true) ↔ IsTold 1 speech (length speech) n
-
 -- the front is claimed and not told
-found_now : (set : ℕ → Bool) (speech : Speech) (d : Datagram) (f : ℕ) → IsToldSet set speech → IsFounded 1 speech → IsFront set (pos f) → f < greatest d.bases → greatest d.bases < 2 ^ 63
+found_now : (speech : Speech) (d : Datagram) (f : ℕ) → IsFounded 1 speech → IsUntoldFront speech (pos f) → f < greatest d.bases → greatest d.bases < 2 ^ 63
     → IsPlainVerdict (speech ++ d ∷ []) (Unfounded (length speech + 1) (pos f))
-found_now set speech d f told founded front lt bound = (
+found_now speech d f founded front lt bound = (
   length speech,
   refl,
   record { holds = (f, claim); least = first },
@@ -73,12 +70,7 @@ found_now set speech d f told founded front lt bound = (
     claim =
         let base = below_greatest f d.bases lt in (
           claims_last speech d f (record { base = base.0; answers = base.1; asked = (positive, positive); below = base.2 }),
-          λ late.
-              let earlier = told_back speech d (length speech) f (omega arith) late in
-              let inside = (told f positive (omega arith)).1 earlier in
-              let outside = front.outside in
-              let clash : true ≡ false = sym inside ∙ outside in
-              cc,
+          λ late. front.outside f refl (omega arith) (told_back speech d (length speech) f (omega arith) late),
         )
 
     first : (m : ℕ) → ((n : ℕ) × ClaimsUntold 1 (speech ++ d ∷ []) m n) → length speech ≤ m
@@ -91,15 +83,15 @@ found_now set speech d f told founded front lt bound = (
     least m claims = elim (untold_cases speech d (length speech) m claims) [
       | inl old ↦ absurd (let within = slice_get_within speech (length speech) old.0.datagram old.0.stands in omega arith)
       | inr last ↦ elim (cases_lt m f) [
-        | inl below ↦ absurd (last.2 ((told m last.1.asked.0 (omega arith)).0 (front.below m last.1.asked.0 (omega (arith, ints)))))
+        | inl below ↦ absurd (last.2 (front.below m last.1.asked.0 (omega arith) (omega (arith, ints))))
         | inr above ↦ above
       ]
     ]
 
 -- nothing is claimed from the front on
-founded_still : (set : ℕ → Bool) (speech : Speech) (d : Datagram) (f : ℕ) → IsToldSet set speech → IsFounded 1 speech → IsFront set (pos f) → greatest d.bases ≤ f → greatest d.bases < 2 ^ 63
+founded_still : (speech : Speech) (d : Datagram) (f : ℕ) → IsFounded 1 speech → IsUntoldFront speech (pos f) → greatest d.bases ≤ f → greatest d.bases < 2 ^ 63
     → IsFounded 1 (speech ++ d ∷ [])
-founded_still set speech d f told founded front le bound j n claims = elim (claims_cases speech d j n claims) [
+founded_still speech d f founded front le bound j n claims = elim (claims_cases speech d j n claims) [
   | inl old ↦ told_before speech d j n (founded j n old)
   | inr last ↦ now last.0 last.1
 ]
@@ -107,93 +99,189 @@ founded_still set speech d f told founded front le bound j n claims = elim (clai
     now : j ≡ length speech → ClaimsIn 1 d n → IsTold 1 (speech ++ d ∷ []) j n
     now at claim =
         let below = greatest_below n claim.base d.bases claim.answers claim.below in
-        let inside = front.below n claim.asked.0 (omega (arith, ints)) in
-        let earlier = (told n claim.asked.0 (omega arith)).0 inside in
+        let earlier = front.below n claim.asked.0 (omega arith) (omega (arith, ints)) in
         subst (λ i. IsTold 1 (speech ++ d ∷ []) i n) (sym at) (told_before speech d (length speech) n earlier)
 
-untold_more : (set : ℕ → Bool) (speech : Speech) (d : Datagram) (datagrams : ℕ) (front : ℤ) (old new : Option Untold) → datagrams ≡ length speech → greatest d.bases < 2 ^ 63
-    → IsToldSet set speech → IsFront set front → FindsUntold old new (datagrams + 1) front (greatest d.bases) → KnowsUntold speech old → KnowsUntold (speech ++ d ∷ []) new
-untold_more set speech d datagrams front (Some untold) new counted bound told is_front found known =
-    subst (KnowsUntold (speech ++ d ∷ [])) (sym found) (plain_before speech d untold.datagram untold.number known)
-untold_more set speech d datagrams (negsuc f) None new counted bound told is_front found known = absurd (let low = is_front.positive in omega (arith, ints))
-untold_more set speech d datagrams (pos f) None new counted bound told is_front found known =
-    subst (KnowsUntold (speech ++ d ∷ [])) (sym found) (by_test (int_lt (pos f) (pos (greatest d.bases))) refl)
+untold_more : (speech : Speech) (d : Datagram) (front : ℤ) (old new : Option Untold) → greatest d.bases < 2 ^ 63
+    → IsUntoldFront speech front → FindsUntold old new (length speech + 1) front (greatest d.bases) → IsFirstUntold speech old → IsFirstUntold (speech ++ d ∷ []) new
+untold_more speech d front (Some untold) new bound is_front found known =
+    subst (IsFirstUntold (speech ++ d ∷ [])) (sym found) (plain_before speech d untold.datagram untold.number known)
+untold_more speech d (negsuc f) None new bound is_front found known = absurd (let low = is_front.positive in omega (arith, ints))
+untold_more speech d (pos f) None new bound is_front found known =
+    subst (IsFirstUntold (speech ++ d ∷ [])) (sym found) (by_test (int_lt (pos f) (pos (greatest d.bases))) refl)
   where
-    by_test : (b : Bool) → int_lt (pos f) (pos (greatest d.bases)) ≡ b → KnowsUntold (speech ++ d ∷ []) (if b then Some (record { datagram = datagrams + 1; number = pos f }) else None)
+    by_test : (b : Bool) → int_lt (pos f) (pos (greatest d.bases)) ≡ b → IsFirstUntold (speech ++ d ∷ []) (if b then Some (record { datagram = length speech + 1; number = pos f }) else None)
     by_test true e =
         let lt : f < greatest d.bases = grind (arith, nat_tests) in
-        subst (λ k. IsPlainVerdict (speech ++ d ∷ []) (Unfounded (k + 1) (pos f))) (sym counted) (found_now set speech d f told known is_front lt bound)
+        found_now speech d f known is_front lt bound
     by_test false e =
         let le : greatest d.bases ≤ f = grind (arith, nat_tests) in
-        founded_still set speech d f told known is_front le bound
+        founded_still speech d f known is_front le bound
 
--- one datagram more. The parts are what the judge's own parts say of it
-pub knows_more : {C : Type 0} (covered : C → ℕ → Bool) (old new : Judge C) (facts : List Fact) (front : ℤ) (speech : Speech)
-    → All IsInRange facts
-    → new.datagrams ≡ old.datagrams + 1
-    → IsFront (covered old.words.told) front
-    → FindsUntold old.claims.untold new.claims.untold (old.datagrams + 1) front (greatest (filter_map base_of facts))
-    → new.claims.base ≡ max old.claims.base (greatest (filter_map base_of facts))
-    → new.claims.last ≡ max old.claims.last (greatest (filter_map announced_of facts))
-    → ((n : ℕ) → n < 2 ^ 63 - 1 → covered new.words.told n ≡ (covered old.words.told n || list_any (tells n) facts))
-    → new.words.samples.items ≡ old.words.samples.items ++ filter_map sample_of facts
-    → Knows covered old speech → Knows covered new (speech ++ said facts ∷ [])
-knows_more covered old new facts front speech bounds counted is_front found base last told samples known = record {
-  counted = counted ∙ omega (arith, known.counted, length_more speech (said facts));
-  told = λ n positive small. (to n positive small, from n positive small);
-  founded = untold_more (covered old.words.told) speech (said facts) old.datagrams front old.claims.untold new.claims.untold known.counted small known.told is_front found known.founded;
-  base = base ∙ omega (arith, known.base, greatest_base_more speech (said facts));
-  last = last ∙ omega (arith, known.last, last_announced_more speech (said facts));
-  kept = λ n p. (spoken n p, kept n p);
+-- ---- a datagram begins, is told act by act, and ends
+
+abbrev nothing : Datagram
+nothing = record { acts = []; bases = []; announced = [] }
+
+says_nothing : (k n : ℕ) (word : Word) → Says 1 nothing k n word → ⊥
+says_nothing k n word says = let none = says.speaks in cc
+
+front_of : {C : Type 0} (covered : C → ℕ → Bool) (judge : Judge C) (speech : Speech) (front : ℤ) → IsFront (covered judge.words.told) front → Knows covered judge speech → IsUntoldFront speech front
+front_of covered judge speech front is known = record {
+  positive = is.positive;
+  outside = λ n at small told. outside front is n at small told;
+  below = λ n positive small lt. (known.told n positive small).0 (is.below n positive lt);
 }
   where
-    small : greatest (filter_map base_of facts) < 2 ^ 63
-    small = let here = new.claims.in_range.0 in omega arith
+    outside : (front : ℤ) → IsFront (covered judge.words.told) front → (n : ℕ) → pos n ≡ front → n < 2 ^ 63 - 1 → ¬ IsTold 1 speech (length speech) n
+    outside (negsuc f) is n at small told = cc
+    outside (pos f) is n at small told =
+        let same : n ≡ f = omega (arith, ints, at) in
+        let low = is.positive in
+        let inside : covered judge.words.told f ≡ true = ap (covered judge.words.told) (sym same) ∙ (known.told n (omega (arith, ints)) small).1 told in
+        let clash : true ≡ false = sym inside ∙ is.outside in
+        cc
 
-    to : (n : ℕ) → 1 ≤ n → n < 2 ^ 63 - 1 → covered new.words.told n ≡ true → IsTold 1 (speech ++ said facts ∷ []) (length (speech ++ said facts ∷ [])) n
-    to n positive lt e = elim (or_cases (covered old.words.told n) (list_any (tells n) facts) (sym (told n lt) ∙ e)) [
-      | inl before ↦ told_by_all speech (said facts) n (inl ((known.told n positive lt).0 before))
-      | inr now ↦ told_by_all speech (said facts) n (inr (Tells-said n facts positive now))
+pub begins : {C : Type 0} (covered : C → ℕ → Bool) (old new : Judge C) (speech : Speech) → new.words ≡ old.words → new.claims ≡ old.claims → new.datagrams ≡ old.datagrams → new.base ≡ 0
+    → IsFront (covered old.words.told) new.front → Knows covered old speech → IsTelling covered new speech nothing
+begins covered old new speech words claims datagrams base is_front known = record {
+  counted = datagrams ∙ known.counted;
+  front = front_of covered old speech new.front is_front known;
+  claimed = base;
+  told = λ n positive small. (
+    λ is. inl ((known.told n positive small).0 (ap (λ (w : _). covered w.told n) (sym words) ∙ is)),
+    λ either. elim either [ inl is ↦ ap (λ (w : _). covered w.told n) words ∙ (known.told n positive small).1 is | inr says ↦ absurd (says_nothing says.0 n says.1 says.2) ],
+  );
+  founded = subst (λ (c : _). IsFirstUntold speech c.untold) (sym claims) known.founded;
+  base = ap (λ (c : _). c.base) claims ∙ known.base;
+  last = ap (λ (c : _). c.last) claims ∙ omega (arith, known.last);
+  kept = λ n p positive. (
+    λ is. inl ((known.kept n p positive).0 (subst (λ (w : _). IsKept w.samples.items n p) words is)),
+    λ either. elim either [ inl is ↦ subst (λ (w : _). IsKept w.samples.items n p) (sym words) ((known.kept n p positive).1 is) | inr says ↦ absurd (says_nothing says.0 n (Told p) says.1) ],
+  );
+}
+
+-- a number that some word is for
+some_word : (o : Option Word) → is_some o ≡ true → (word : Word) × (o ≡ Some word)
+some_word None e = cc
+some_word (Some word) e = (word, refl)
+
+word_some : (o : Option Word) (word : Word) → o ≡ Some word → is_some o ≡ true
+word_some o word e = ap is_some e
+
+pub tells_on : {C : Type 0} (covered : C → ℕ → Bool) (old new : Judge C) (writer reader : Guid) (speech : Speech) (acts : List ActValue) (act : ActValue)
+    → new.datagrams ≡ old.datagrams → new.front ≡ old.front → new.claims.untold ≡ old.claims.untold → new.claims.base ≡ old.claims.base
+    → new.base ≡ max old.base (unwrap_or (base_for writer reader act) 0)
+    → new.claims.last ≡ max old.claims.last (unwrap_or (announced_for writer act) 0)
+    → TellsMore (covered old.words.told) (covered new.words.told) (λ n. is_some (word_for writer reader act n))
+    → KeepsMore old.words.samples.items new.words.samples.items (word_for writer reader act)
+    → IsTelling covered old speech (said_by writer reader acts) → IsTelling covered new speech (said_by writer reader (acts ++ act ∷ []))
+tells_on covered old new writer reader speech acts act datagrams front untold claim_base base last tells keeps telling = record {
+  counted = datagrams ∙ telling.counted;
+  front = subst (IsUntoldFront speech) (sym front) telling.front;
+  claimed = base ∙ ap (λ m. max m (unwrap_or (base_for writer reader act) 0)) telling.claimed ∙ sym (bases_more writer reader acts act);
+  told = λ n positive small. (to n positive small, from n positive small);
+  founded = subst (IsFirstUntold speech) (sym untold) telling.founded;
+  base = claim_base ∙ telling.base;
+  last = last ∙ omega (arith, telling.last, announced_more writer reader acts act);
+  kept = λ n p positive. (spoken n p positive, kept n p positive);
+}
+  where
+    d : Datagram
+    d = said_by writer reader acts
+
+    e : Datagram
+    e = said_by writer reader (acts ++ act ∷ [])
+
+    word : ℕ → Option Word
+    word = word_for writer reader act
+
+    split : e.acts ≡ d.acts ++ word ∷ []
+    split = acts_more writer reader acts act
+
+    to : (n : ℕ) → 1 ≤ n → n < 2 ^ 63 - 1 → covered new.words.told n ≡ true → IsTold 1 speech (length speech) n ⊎ Tells 1 e n
+    to n positive small is = elim (or_cases (covered old.words.told n) (is_some (word n)) (sym (tells n positive small) ∙ is)) [
+      | inl before ↦ elim ((telling.told n positive small).0 before) [
+        | inl told ↦ inl told
+        | inr says ↦ inr (says.0, says.1, says_before d e word says.0 n says.1 split says.2)
+      ]
+      | inr now ↦ let some = some_word (word n) now in inr (length d.acts, some.0, says_last d e word n some.0 split (positive, positive) some.1)
     ]
 
-    from : (n : ℕ) → 1 ≤ n → n < 2 ^ 63 - 1 → IsTold 1 (speech ++ said facts ∷ []) (length (speech ++ said facts ∷ [])) n → covered new.words.told n ≡ true
-    from n positive lt all = elim (told_by_one speech (said facts) n all) [
-      | inl before ↦ told n lt ∙ or_left (covered old.words.told n) (list_any (tells n) facts) ((known.told n positive lt).1 before)
-      | inr now ↦ told n lt ∙ or_right (covered old.words.told n) (list_any (tells n) facts) (tells_from_said n facts now)
+    from : (n : ℕ) → 1 ≤ n → n < 2 ^ 63 - 1 → IsTold 1 speech (length speech) n ⊎ Tells 1 e n → covered new.words.told n ≡ true
+    from n positive small (inl told) = tells n positive small ∙ or_left (covered old.words.told n) (is_some (word n)) ((telling.told n positive small).1 (inl told))
+    from n positive small (inr says) = elim (says_cases d e word says.0 n says.1 split says.2) [
+      | inl before ↦ tells n positive small ∙ or_left (covered old.words.told n) (is_some (word n)) ((telling.told n positive small).1 (inr (says.0, says.1, before)))
+      | inr now ↦ tells n positive small ∙ or_right (covered old.words.told n) (is_some (word n)) (word_some (word n) says.1 now)
     ]
 
-    spoken : (n : ℕ) (p : PayloadValue) → IsKept new.words.samples.items n p → IsSpoken 1 (speech ++ said facts ∷ []) n (Told p)
-    spoken n p held = elim (kept_cases old.words.samples.items (filter_map sample_of facts) n p (subst (λ xs. IsKept xs n p) samples held)) [
-      | inl before ↦ spoken_by_all speech (said facts) n (Told p) (inl ((known.kept n p).0 before))
-      | inr now ↦ spoken_by_all speech (said facts) n (Told p) (inr (Says-said n p facts bounds now))
+    spoken : (n : ℕ) (p : PayloadValue) → 1 ≤ n → IsKept new.words.samples.items n p → IsSpoken 1 speech n (Told p) ⊎ IsSaid 1 e n (Told p)
+    spoken n p positive is = elim ((keeps n p positive).0 is) [
+      | inl before ↦ elim ((telling.kept n p positive).0 before) [
+        | inl old ↦ inl old
+        | inr says ↦ inr (says.0, says_before d e word says.0 n (Told p) split says.1)
+      ]
+      | inr now ↦ inr (length d.acts, says_last d e word n (Told p) split (positive, positive) now)
     ]
 
-    kept : (n : ℕ) (p : PayloadValue) → IsSpoken 1 (speech ++ said facts ∷ []) n (Told p) → IsKept new.words.samples.items n p
-    kept n p said_so = subst (λ xs. IsKept xs n p) (sym samples) (elim (spoken_by_one speech (said facts) n (Told p) said_so) [
-      | inl before ↦ kept_left old.words.samples.items (filter_map sample_of facts) n p ((known.kept n p).1 before)
-      | inr now ↦ kept_right old.words.samples.items (filter_map sample_of facts) n p (kept_from_said n now.0 p facts now.1)
-    ])
+    kept : (n : ℕ) (p : PayloadValue) → 1 ≤ n → IsSpoken 1 speech n (Told p) ⊎ IsSaid 1 e n (Told p) → IsKept new.words.samples.items n p
+    kept n p positive (inl old) = (keeps n p positive).1 (inl ((telling.kept n p positive).1 (inl old)))
+    kept n p positive (inr says) = elim (says_cases d e word says.0 n (Told p) split says.1) [
+      | inl before ↦ (keeps n p positive).1 (inl ((telling.kept n p positive).1 (inr (says.0, before))))
+      | inr now ↦ (keeps n p positive).1 (inr now)
+    ]
+
+pub ends : {C : Type 0} (covered : C → ℕ → Bool) (old new : Judge C) (speech : Speech) (d : Datagram) → new.words ≡ old.words → new.datagrams ≡ old.datagrams + 1
+    → FindsUntold old.claims.untold new.claims.untold new.datagrams old.front old.base → new.claims.base ≡ max old.claims.base old.base → new.claims.last ≡ old.claims.last
+    → IsTelling covered old speech d → Knows covered new (speech ++ d ∷ [])
+ends covered old new speech d words datagrams found base last telling = record {
+  counted = datagrams ∙ omega (arith, telling.counted, length_more speech d);
+  told = λ n positive small. (
+    λ is. told_by_all speech d n ((telling.told n positive small).0 (ap (λ (w : _). covered w.told n) (sym words) ∙ is)),
+    λ is. ap (λ (w : _). covered w.told n) words ∙ (telling.told n positive small).1 (told_by_one speech d n is),
+  );
+  founded =
+      untold_more speech d old.front old.claims.untold new.claims.untold small telling.front
+      (subst (FindsUntold old.claims.untold new.claims.untold (length speech + 1) old.front) telling.claimed
+      (subst (λ k. FindsUntold old.claims.untold new.claims.untold k old.front old.base) at found)) telling.founded;
+  base = base ∙ omega (arith, telling.base, telling.claimed, greatest_base_more speech d);
+  last = last ∙ omega (arith, telling.last, last_announced_more speech d);
+  kept = λ n p positive. (
+    λ is. spoken_by_all speech d n (Told p) ((telling.kept n p positive).0 (subst (λ (w : _). IsKept w.samples.items n p) words is)),
+    λ is. subst (λ (w : _). IsKept w.samples.items n p) (sym words) ((telling.kept n p positive).1 (spoken_by_one speech d n (Told p) is)),
+  );
+}
+  where
+    small : greatest d.bases < 2 ^ 63
+    small = let here = old.in_range in omega (arith, telling.claimed)
+
+    at : new.datagrams ≡ length speech + 1
+    at = datagrams ∙ ap (λ k. k + 1) telling.counted
+
+-- ---- the verdict
 
 -- two payloads are kept where two are spoken
-two_from_kept : {C : Type 0} (covered : C → ℕ → Bool) (judge : Judge C) (speech : Speech) → Knows covered judge speech → (n : ℕ) → KeepsTwo judge.words.samples.items n → SpeaksTwo 1 speech n
-two_from_kept covered judge speech known n (x, y, one, two, differ) = (x, y, (known.kept n x).0 one, (known.kept n y).0 two, differ)
+two_from_kept : {C : Type 0} (covered : C → ℕ → Bool) (judge : Judge C) (speech : Speech) → Knows covered judge speech → (n : ℕ) → 1 ≤ n → KeepsTwo judge.words.samples.items n → SpeaksTwo 1 speech n
+two_from_kept covered judge speech known n positive (x, y, one, two, differ) = (x, y, (known.kept n x positive).0 one, (known.kept n y positive).0 two, differ)
 
 two_from_spoken : {C : Type 0} (covered : C → ℕ → Bool) (judge : Judge C) (speech : Speech) → Knows covered judge speech → (n : ℕ) → SpeaksTwo 1 speech n → KeepsTwo judge.words.samples.items n
-two_from_spoken covered judge speech known n (x, y, one, two, differ) = (x, y, (known.kept n x).1 one, (known.kept n y).1 two, differ)
+two_from_spoken covered judge speech known n (x, y, one, two, differ) =
+    let positive = one.gives.asked.0 in
+    (x, y, (known.kept n x positive).1 one, (known.kept n y positive).1 two, differ)
 
 -- the verdict, where a first claim that is not told is known
 pub verdict_unfounded : {C : Type 0} (covered : C → ℕ → Bool) (judge : Judge C) (speech : Speech) (untold : Untold) → judge.claims.untold ≡ Some untold → Knows covered judge speech
     → IsVerdict speech (Unfounded untold.datagram untold.number)
 verdict_unfounded covered judge speech untold found known =
-    from_plain 1 speech (Unfounded untold.datagram untold.number) (subst (KnowsUntold speech) found known.founded)
+    from_plain 1 speech (Unfounded untold.datagram untold.number) (subst (IsFirstUntold speech) found known.founded)
 
 -- where there is none, and two payloads are kept for a number
-pub verdict_conflict : {C : Type 0} (covered : C → ℕ → Bool) (judge : Judge C) (speech : Speech) (n : ℕ) → judge.claims.untold ≡ None → IsLeast (KeepsTwo judge.words.samples.items) n → Knows covered judge speech
+pub verdict_conflict : {C : Type 0} (covered : C → ℕ → Bool) (judge : Judge C) (speech : Speech) (n : ℕ) → 1 ≤ n → judge.claims.untold ≡ None → IsLeast (KeepsTwo judge.words.samples.items) n → Knows covered judge speech
     → IsVerdict speech (Conflict (pos n))
-verdict_conflict covered judge speech n none least known =
+verdict_conflict covered judge speech n positive none least known =
     from_plain 1 speech (Conflict (pos n)) (
-      subst (KnowsUntold speech) none known.founded,
-      least_same _ _ (two_from_kept covered judge speech known) (two_from_spoken covered judge speech known) n least,
+      subst (IsFirstUntold speech) none known.founded,
+      record { holds = two_from_kept covered judge speech known n positive least.holds; least = λ m two. least.least m (two_from_spoken covered judge speech known m two) },
     )
 
 -- where there is none of either
@@ -202,7 +290,7 @@ pub verdict_last : {C : Type 0} (covered : C → ℕ → Bool) (judge : Judge C)
 verdict_last covered judge speech none agree known = by_test (nat_le (max 1 judge.claims.base) judge.claims.last) refl
   where
     founded : IsFounded 1 speech
-    founded = subst (KnowsUntold speech) none known.founded
+    founded = subst (IsFirstUntold speech) none known.founded
 
     never : (n : ℕ) → ¬ SpeaksTwo 1 speech n
     never n two = agree n (two_from_spoken covered judge speech known n two)

@@ -2,12 +2,14 @@ pub mod SpanLemmas
 pub mod KeptLemmas
 pub mod NowLemmas
 pub mod CoverageLemmas
-pub mod Gathered
 pub mod SampleLemmas
+pub mod Greatest
+pub mod ActPlaces
+pub mod GapLemmas
+pub mod WordLemmas
 pub mod OneMore
-pub mod FactLemmas
+pub mod OneAct
 pub mod BelowBase
-pub mod NotedLemmas
 pub mod Runs
 pub mod Sound
 pub mod Verdicts
@@ -16,6 +18,5 @@ pub mod SameSaid
 pub mod JudgeLemmas
 pub mod Eager
 pub mod EachVerdict
-pub mod SameDatagram
 pub mod DeliveredLemmas
 pub mod RecordingActs

@@ -1,41 +1,28 @@
 -- A recording with one datagram more.
-use Rattle.std.proofs.Common.{◌≡◌, ℕ, zero, suc, ◌-◌, ◌<◌, ◌≤◌, [], ◌∷◌, ◌++◌, length, Option, Some, slice_get, refl, sym, ◌∙◌, ap, subst, arith, ◌⊎◌, inl, inr, max}
+use Rattle.std.proofs.Common.{◌≡◌, ℕ, zero, suc, ◌-◌, ◌<◌, ◌≤◌, List, [], ◌∷◌, ◌++◌, length, Option, Some, slice_get, refl, sym, ◌∙◌, ap, subst, arith, ◌⊎◌, inl, inr, max}
 use Rattle.std.specs.Prelude.{Contains}
 use Rattle.std.proofs.lemmas.Option.{slice_get_within}
 use Rattle.std.proofs.lemmas.Bool.{cases_lt}
 use Rattle.rtps_audit.specs.Delivery.{Word, Datagram, Speech, IsAsked, Gives, Claims, greatest, last_announced, last_announced_from}
+use Rattle.rtps_audit.specs.OneDatagram.{Says, Tells, ClaimsIn}
 use Rattle.rtps_audit.specs.RunVerdict.{IsTold, ClaimsUntold}
 use Rattle.rtps_audit.specs.PlainVerdict.{IsSpoken}
 use Rattle.rtps_audit.specs.Judge.{greatest_base}
 
 -- the datagrams before stand where they stood
-get_before : (speech : Speech) (d : Datagram) (i : ℕ) → i < length speech → slice_get (speech ++ d ∷ []) i ≡ slice_get speech i
+pub get_before : {X : Type 0} (speech : List X) (d : X) (i : ℕ) → i < length speech → slice_get (speech ++ d ∷ []) i ≡ slice_get speech i
 get_before [] d i lt = absurd (omega arith)
 get_before (x ∷ xs) d zero lt = refl
 get_before (x ∷ xs) d (suc i) lt = get_before xs d i (omega arith)
 
 -- and the new one stands behind them
-get_last : (speech : Speech) (d : Datagram) → slice_get (speech ++ d ∷ []) (length speech) ≡ Some d
+pub get_last : {X : Type 0} (speech : List X) (d : X) → slice_get (speech ++ d ∷ []) (length speech) ≡ Some d
 get_last [] d = refl
 get_last (x ∷ xs) d = get_last xs d
 
-pub length_more : (speech : Speech) (d : Datagram) → length (speech ++ d ∷ []) ≡ suc (length speech)
+pub length_more : {X : Type 0} (speech : List X) (d : X) → length (speech ++ d ∷ []) ≡ suc (length speech)
 length_more [] d = refl
 length_more (x ∷ xs) d = ap suc (length_more xs d)
-
--- the act at place k of the datagram has the word for n
-pub record Says (from : ℕ) (d : Datagram) (k n : ℕ) (word : Word) : Type 0 where
-  pub act : ℕ → Option Word
-  pub speaks : slice_get d.acts k ≡ Some act
-  pub asked : IsAsked from n
-  pub says : act n ≡ Some word
-
--- the answers of the datagram claim n
-pub record ClaimsIn (from : ℕ) (d : Datagram) (n : ℕ) : Type 0 where
-  pub base : ℕ
-  pub answers : Contains d.bases base
-  pub asked : IsAsked from n
-  pub below : n < base
 
 pub gives_before : {from : ℕ} (speech : Speech) (d : Datagram) (i k n : ℕ) (word : Word) → Gives from speech i k n word → Gives from (speech ++ d ∷ []) i k n word
 gives_before speech d i k n word gives = record {
@@ -52,7 +39,7 @@ gives_last speech d k n word says =
     record { datagram = d; act = says.act; stands = get_last speech d; speaks = says.speaks; asked = says.asked; says = says.says }
 
 -- a place is one of those before, or the last
-place_cases : (speech : Speech) (d other : Datagram) (i : ℕ) → slice_get (speech ++ d ∷ []) i ≡ Some other → (slice_get speech i ≡ Some other) ⊎ ((i ≡ length speech) × (other ≡ d))
+pub place_cases : {X : Type 0} (speech : List X) (d other : X) (i : ℕ) → slice_get (speech ++ d ∷ []) i ≡ Some other → (slice_get speech i ≡ Some other) ⊎ ((i ≡ length speech) × (other ≡ d))
 place_cases speech d other i stands = elim (cases_lt i (length speech)) [
   | inl before ↦ inl (sym (get_before speech d i before) ∙ stands)
   | inr past ↦
@@ -98,10 +85,6 @@ told_back speech d j n le told = elim (gives_cases speech d told.place told.act 
   | inl gives ↦ record { place = told.place; act = told.act; word = told.word; earlier = told.earlier; gives = gives }
   | inr last ↦ absurd (let lt = told.earlier in let at = last.0 in omega arith)
 ]
-
--- the datagram has some word for n
-abbrev pub Tells : ℕ → Datagram → ℕ → Type 0
-Tells from d n = (k : ℕ) × (word : Word) × Says from d k n word
 
 -- what all datagrams tell
 pub told_by_all : {from : ℕ} (speech : Speech) (d : Datagram) (n : ℕ) → IsTold from speech (length speech) n ⊎ Tells from d n → IsTold from (speech ++ d ∷ []) (length (speech ++ d ∷ [])) n

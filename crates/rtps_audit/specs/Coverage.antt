@@ -1,5 +1,5 @@
 -- Sets of sequence numbers, as tests of a number.
-use Rattle.std.specs.Prelude.{ℕ, Bool, true, false, ◌≡◌, ◌≤◌, ◌&&◌, ◌||◌, ℤ, pos, negsuc, ◌≤ℤ◌, ◌<ℤ◌, int_le, int_lt}
+use Rattle.std.specs.Prelude.{ℕ, Bool, true, false, ◌≡◌, ◌≤◌, ◌<◌, ◌-◌, ◌^◌, ◌&&◌, ◌||◌, ℤ, pos, negsuc, ◌≤ℤ◌, ◌<ℤ◌, int_le, int_lt}
 
 -- a number from lo on and below hi
 abbrev pub is_within : ℤ → ℤ → ℕ → Bool
@@ -13,6 +13,10 @@ has set (negsuc n) = false
 -- the new set is the old one with the numbers of a range
 abbrev pub JoinsRange : (ℕ → Bool) → (ℕ → Bool) → ℤ → ℤ → Type 0
 JoinsRange old new lo hi = (n : ℕ) → new n ≡ (old n || is_within lo hi n)
+
+-- the new set has the old one's numbers and these, as far as a set reaches
+abbrev pub TellsMore : (ℕ → Bool) → (ℕ → Bool) → (ℕ → Bool) → Type 0
+TellsMore old new more = (n : ℕ) → 1 ≤ n → n < 2 ^ 63 - 1 → new n ≡ (old n || more n)
 
 abbrev pub IsSameSet : (ℕ → Bool) → (ℕ → Bool) → Type 0
 IsSameSet old new = (n : ℕ) → new n ≡ old n

@@ -1,11 +1,13 @@
--- What a judge knows of the datagrams that it noted.
-use Rattle.std.specs.Prelude.{ℕ, Bool, true, ◌≡◌, ◌≤◌, ◌<◌, ◌-◌, ◌^◌, ◌↔◌, max, [], ◌∷◌, length, MatchOption}
+-- What a judge knows of the datagrams that it was told.
+use Rattle.std.specs.Prelude.{ℕ, ℤ, pos, Bool, true, ◌≡◌, ◌≤◌, ◌<◌, ◌≤ℤ◌, ◌<ℤ◌, ◌-◌, ◌^◌, ◌↔◌, ◌⊎◌, max, [], ◌∷◌, length, MatchOption, Option}
 use Rattle.rtps_wire.specs.Values.{PayloadValue}
-use Rattle.rtps_audit.specs.Delivery.{Speech, greatest, last_announced}
+use Rattle.rtps_audit.specs.Delivery.{Datagram, Speech, greatest, last_announced}
 use Rattle.rtps_audit.specs.Delivery.Word.{Told}
+use Rattle.rtps_audit.specs.OneDatagram.{IsSaid, Tells}
 use Rattle.rtps_audit.specs.RunVerdict.{IsTold}
 use Rattle.rtps_audit.specs.PlainVerdict.{IsFounded, IsSpoken, IsPlainVerdict}
 use Rattle.rtps_audit.specs.Samples.{IsKept}
+use Rattle.rtps_audit.specs.declared.claims.Untold.{Untold}
 use Rattle.rtps_audit.specs.declared.judge_state.Judge.{Judge}
 use Rattle.rtps_audit.specs.declared.verdict.Verdict.TheVariants.{Unfounded}
 
@@ -14,11 +16,32 @@ abbrev pub greatest_base : Speech → ℕ
 greatest_base [] = 0
 greatest_base (datagram ∷ speech) = max (greatest datagram.bases) (greatest_base speech)
 
+-- the first claim that no earlier datagram tells, if there is one
+abbrev pub IsFirstUntold : Speech → Option Untold → Type 0
+IsFirstUntold speech found = MatchOption found (IsFounded 1 speech) (λ untold. IsPlainVerdict speech (Unfounded untold.datagram untold.number))
+
 -- the judge stands for these datagrams
 pub record Knows {C : Type 0} (covered : C → ℕ → Bool) (judge : Judge C) (speech : Speech) : Type 0 where
   pub counted : judge.datagrams ≡ length speech
   pub told : (n : ℕ) → 1 ≤ n → n < 2 ^ 63 - 1 → (covered judge.words.told n ≡ true) ↔ IsTold 1 speech (length speech) n
-  pub founded : MatchOption judge.claims.untold (IsFounded 1 speech) (λ untold. IsPlainVerdict speech (Unfounded untold.datagram untold.number))
+  pub founded : IsFirstUntold speech judge.claims.untold
   pub base : judge.claims.base ≡ greatest_base speech
   pub last : judge.claims.last ≡ last_announced speech
-  pub kept : (n : ℕ) (payload : PayloadValue) → IsKept judge.words.samples.items n payload ↔ IsSpoken 1 speech n (Told payload)
+  pub kept : (n : ℕ) (payload : PayloadValue) → 1 ≤ n → IsKept judge.words.samples.items n payload ↔ IsSpoken 1 speech n (Told payload)
+
+-- the least number that no datagram tells, as far as a set reaches
+pub record IsUntoldFront (speech : Speech) (front : ℤ) : Type 0 where
+  pub positive : pos 1 ≤ℤ front
+  pub outside : (n : ℕ) → pos n ≡ front → n < 2 ^ 63 - 1 → ¬ IsTold 1 speech (length speech) n
+  pub below : (n : ℕ) → 1 ≤ n → n < 2 ^ 63 - 1 → pos n <ℤ front → IsTold 1 speech (length speech) n
+
+-- the judge stands for these datagrams, and is being told the next one, which says this so far
+pub record IsTelling {C : Type 0} (covered : C → ℕ → Bool) (judge : Judge C) (speech : Speech) (datagram : Datagram) : Type 0 where
+  pub counted : judge.datagrams ≡ length speech
+  pub front : IsUntoldFront speech judge.front
+  pub claimed : judge.base ≡ greatest datagram.bases
+  pub told : (n : ℕ) → 1 ≤ n → n < 2 ^ 63 - 1 → (covered judge.words.told n ≡ true) ↔ (IsTold 1 speech (length speech) n ⊎ Tells 1 datagram n)
+  pub founded : IsFirstUntold speech judge.claims.untold
+  pub base : judge.claims.base ≡ greatest_base speech
+  pub last : judge.claims.last ≡ max (last_announced speech) (greatest datagram.announced)
+  pub kept : (n : ℕ) (payload : PayloadValue) → 1 ≤ n → IsKept judge.words.samples.items n payload ↔ (IsSpoken 1 speech n (Told payload) ⊎ IsSaid 1 datagram n (Told payload))

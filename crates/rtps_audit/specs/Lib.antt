@@ -7,13 +7,11 @@ pub mod Delivery
 pub mod RunVerdict
 pub mod PlainVerdict
 pub mod EagerRun
-pub mod Facts
 pub mod Speech
-pub mod Noted
-pub mod Alike
 pub mod Delivered
 pub mod Report
 pub mod Samples
 pub mod Claims
+pub mod OneDatagram
 pub mod Judge
 pub mod Laws

@@ -1,20 +1,13 @@
 -- Payloads that are kept by number.
-use Rattle.std.specs.Prelude.{ℕ, ◌<◌, ◌^◌, ◌≡◌, ◌≢◌, List, Option, Some, None, Contains}
+use Rattle.std.specs.Prelude.{ℕ, ◌<◌, ◌≤◌, ◌^◌, ◌≡◌, ◌≢◌, ◌⊎◌, ◌↔◌, List, Option, Some, Contains}
 use Rattle.rtps_wire.specs.Values.{PayloadValue, payload_value}
-use Rattle.rtps_audit.specs.declared.fact.Fact.{Fact}
-use Rattle.rtps_audit.specs.declared.fact.Fact.TheVariants.{Told, Gone, Claimed, Announced}
+use Rattle.rtps_audit.specs.Delivery.{Word}
+use Rattle.rtps_audit.specs.Delivery.Word.{Told}
 use Rattle.rtps_audit.specs.declared.sample.Sample.{Sample}
 
--- its number is below 2^63
-abbrev pub IsSmall : Sample → Type 0
-IsSmall sample = sample.number < 2 ^ 63
-
--- the payload of a fact, with its number
-abbrev pub sample_of : Fact → Option Sample
-sample_of (Told number payload) = Some (record { number = number; payload = payload })
-sample_of (Gone first last) = None
-sample_of (Claimed base) = None
-sample_of (Announced number) = None
+-- its number is one of a sequence: positive, and below 2^63
+abbrev pub IsNumbered : Sample → Type 0
+IsNumbered sample = (1 ≤ sample.number) × (sample.number < 2 ^ 63)
 
 -- the payload is kept for the number
 pub record IsKept (samples : List Sample) (n : ℕ) (payload : PayloadValue) : Type 0 where
@@ -22,6 +15,10 @@ pub record IsKept (samples : List Sample) (n : ℕ) (payload : PayloadValue) : T
   pub among : Contains samples sample
   pub number : sample.number ≡ n
   pub value : payload_value sample.payload ≡ payload
+
+-- the new samples are the old ones and the payloads of these words
+abbrev pub KeepsMore : List Sample → List Sample → (ℕ → Option Word) → Type 0
+KeepsMore old new word = (n : ℕ) (payload : PayloadValue) → 1 ≤ n → IsKept new n payload ↔ (IsKept old n payload ⊎ (word n ≡ Some (Told payload)))
 
 -- two different payloads are kept for the number
 abbrev pub KeepsTwo : List Sample → ℕ → Type 0

@@ -2,26 +2,42 @@ ghost use Rattle.std.specs.Prelude.{ℤ, ◌≡◌, ◌↔◌, map, All, IfOk};
 ghost use Rattle.rtps_receiver.specs.Acts.{acts_in};
 ghost use Rattle.rtps_discovery.specs.Directory.{IsMapOf};
 ghost use Rattle.rtps_audit.specs.Delivered.{IsDelivered};
-ghost use Rattle.rtps_audit.specs.Report.{IsJudged, IsReport};
+ghost use Rattle.rtps_audit.specs.Report.{IsJudged, IsReport, counts_of};
 ghost use Rattle.rtps_audit.specs.Speech.{speech_of};
 
-use crate::counting::counts_in;
+use crate::counting::{one_if, undirected_among};
 use crate::judging::judge;
-use crate::report::{Report, Row};
+use crate::report::{Counts, Report, Row};
 use crate::verdict::Verdict;
 use rtps_discovery::{Directory, Pair};
 use rtps_ids::Memory;
+use rtps_receiver::Walk;
 use std::alloc::Global;
 
-/// What a recording announces.
-fn directory_of<'a>(alloc: Global, recording: &[&'a [u8]]) -> Result<Directory<'a>, Memory>
-    ensures { IfOk result (IsMapOf (acts_in (map (λ datagram. datagram.now) recording.now))) }
+/// What a recording announces, and its counts, in one walk over it. No GUID is counted as unsettled yet.
+fn gathered<'a>(alloc: Global, recording: &[&'a [u8]]) -> Result<(Directory<'a>, Counts), Memory>
+    ensures map { IfOk result (λ found. IsMapOf (acts_in (map (λ datagram. datagram.now) recording.now)) found.0) }
+    ensures counts { IfOk result (λ found. found.1 ≡ counts_of (map (λ datagram. datagram.now) recording.now) 0) }
 {
     let mut directory = Directory::new(alloc);
+    let mut walk = Walk::new(alloc);
+    let mut counts = Counts {
+        datagrams: recording.len() as u64,
+        refused: 0,
+        skipped: 0,
+        fragments: 0,
+        undirected: 0,
+        unsettled: 0,
+    };
     for datagram in recording {
-        let _ = directory.note_datagram(datagram)?;
+        let tally = walk.read(datagram)?;
+        let _ = directory.note_all(walk.acts())?;
+        counts.refused += one_if(tally.refused);
+        counts.skipped += u128::from(tally.skipped);
+        counts.fragments += u128::from(tally.fragments);
+        counts.undirected += u128::from(undirected_among(walk.acts()));
     }
-    Ok(directory)
+    Ok((directory, counts))
 }
 
 /// Judges each of these pairs.
@@ -64,9 +80,9 @@ pub fn audit(alloc: Global, recording: &[&[u8]]) -> Result<Report, Memory>
         IfOk result (λ report. All (λ row. (last : ℤ) → (row.verdict ≡ Verdict.Complete last)
         ↔ IsDelivered (speech_of row.pair.writer row.pair.reader octets) last) report.rows.items) }
 {
-    let directory = directory_of(alloc, recording)?;
+    let (directory, mut counts) = gathered(alloc, recording)?;
     let pairs = directory.pairs()?;
     let rows = rows_of(alloc, recording, &pairs)?;
-    let counts = counts_in(recording, directory.unsettled() as u64);
+    counts.unsettled = directory.unsettled() as u64;
     Ok(Report { rows, counts })
 }

@@ -1,10 +1,5 @@
-ghost use Rattle.std.specs.Prelude.{ℕ, Bool, true, ◌≡◌, ◌<◌, ◌≤◌, ◌-◌, ◌+◌, ◌^◌, pos, max, All, None, unwrap_or, nat_le, if◌then◌else◌};
-ghost use Rattle.std.specs.List.{filter_map};
-ghost use Rattle.rtps_audit.specs.Coverage.{IsFront};
-ghost use Rattle.rtps_audit.specs.Delivery.{greatest};
-ghost use Rattle.rtps_audit.specs.Facts.{IsInRange, base_of, announced_of};
+ghost use Rattle.std.specs.Prelude.{◌≡◌, ◌<◌, ◌^◌, pos, max, None, nat_le, if◌then◌else◌};
 
-use crate::fact::Fact;
 use crate::verdict::Verdict;
 
 /// A number that the answers in a datagram, counted from 1, claim and no earlier datagram tells.
@@ -23,56 +18,6 @@ pub(crate) struct Claims {
     ghost in_range: { (base < 2 ^ 63) × (last < 2 ^ 63) },
 }
 
-/// The base of a fact, or 0.
-fn base_in(fact: &Fact<'_>) -> u64
-    requires { IsInRange fact.now }
-    ensures value { result ≡ unwrap_or (base_of fact.now) 0 }
-    ensures in_range { result < 2 ^ 63 }
-{
-    match fact {
-        Fact::Claimed { base } => *base,
-        _ => 0,
-    }
-}
-
-/// The number that a fact announces, or 0.
-fn announced_in(fact: &Fact<'_>) -> u64
-    requires { IsInRange fact.now }
-    ensures value { result ≡ unwrap_or (announced_of fact.now) 0 }
-    ensures in_range { result < 2 ^ 63 }
-{
-    match fact {
-        Fact::Announced { number } => *number,
-        _ => 0,
-    }
-}
-
-/// The greatest base among the facts, or 0.
-fn greatest_base(facts: &[Fact<'_>]) -> u64
-    requires { All IsInRange facts.now }
-    ensures value { result ≡ greatest (filter_map base_of facts.now) }
-    ensures in_range { result < 2 ^ 63 }
-{
-    let mut base: u64 = 0;
-    for fact in facts {
-        base = base.max(base_in(fact));
-    }
-    base
-}
-
-/// The greatest number that is announced among the facts, or 0.
-fn greatest_announced(facts: &[Fact<'_>]) -> u64
-    requires { All IsInRange facts.now }
-    ensures value { result ≡ greatest (filter_map announced_of facts.now) }
-    ensures in_range { result < 2 ^ 63 }
-{
-    let mut last: u64 = 0;
-    for fact in facts {
-        last = last.max(announced_in(fact));
-    }
-    last
-}
-
 impl Claims {
     ghost use Rattle.rtps_audit.specs.Claims.{FindsUntold};
 
@@ -89,16 +34,14 @@ impl Claims {
         }
     }
 
-    /// The claims of one datagram more. The front is the least number that no earlier datagram tells.
-    pub(crate) fn note_answers(&mut self, facts: &[Fact<'_>], datagram: u64, front: i64)
-        requires { All IsInRange facts.now }
-        ensures untold { FindsUntold self.old.untold self.new.untold datagram front
-            (greatest (filter_map base_of facts.now)) }
-        ensures base { self.new.base ≡ max self.old.base (greatest (filter_map base_of facts.now)) }
-        ensures last { self.new.last
-            ≡ max self.old.last (greatest (filter_map announced_of facts.now)) }
+    /// The claims of one datagram more, of which this is the greatest base. The front is the least number that no
+    /// earlier datagram tells.
+    pub(crate) fn note_base(&mut self, base: u64, datagram: u64, front: i64)
+        requires { base < 2 ^ 63 }
+        ensures untold { FindsUntold self.old.untold self.new.untold datagram front base }
+        ensures base { self.new.base ≡ max self.old.base base }
+        ensures last { self.new.last ≡ self.old.last }
     {
-        let base = greatest_base(facts);
         if self.untold.is_none() && front < base.cast_signed() {
             self.untold = Some(Untold {
                 datagram,
@@ -106,7 +49,16 @@ impl Claims {
             });
         }
         self.base = self.base.max(base);
-        self.last = self.last.max(greatest_announced(facts));
+    }
+
+    /// A number more that is announced.
+    pub(crate) fn note_number(&mut self, number: u64)
+        requires { number < 2 ^ 63 }
+        ensures untold { self.new.untold ≡ self.old.untold }
+        ensures base { self.new.base ≡ self.old.base }
+        ensures last { self.new.last ≡ max self.old.last number }
+    {
+        self.last = self.last.max(number);
     }
 
     /// Whether the least number that no base claims is announced.

@@ -1,28 +1,84 @@
-ghost use Rattle.std.specs.Prelude.{◌≡◌, ◌+◌, ◌<◌, ◌^◌, ◌∷◌, ◌++◌, [], OnOk, All};
-ghost use Rattle.rtps_audit.specs.Delivery.{Speech};
-ghost use Rattle.rtps_audit.specs.Facts.{IsInRange, said};
+ghost use Rattle.std.specs.Prelude.{◌≡◌, ◌+◌, ◌<◌, ◌≤◌, ◌^◌, ◌∷◌, ◌++◌, [], is_some, map, unwrap_or, IfSome, List, OnOk};
+ghost use Rattle.rtps_receiver.specs.Values.{ActValue, act_body_value, act_value};
+ghost use Rattle.rtps_audit.specs.Coverage.{TellsMore};
+ghost use Rattle.rtps_audit.specs.Delivery.{Datagram, Speech};
 ghost use Rattle.rtps_audit.specs.RunVerdict.{IsVerdict};
-ghost use Rattle.rtps_audit.specs.Judge.{Knows};
+ghost use Rattle.rtps_audit.specs.Samples.{KeepsMore};
+ghost use Rattle.rtps_audit.specs.Speech.{announced_for, announced_of_body, base_for, base_of_body, said_by, word_for};
 
 use crate::claims::Claims;
 use crate::coverage::Coverage;
-use crate::fact::Fact;
 use crate::verdict::Verdict;
 use crate::words::Words;
+use rtps_discovery::Pair;
 use rtps_ids::Memory;
+use rtps_receiver::{Act, ActBody};
 use std::alloc::Global;
 
-/// Judges one writer and one reader, datagram by datagram in the order of sending.
+/// Judges one writer and one reader, which is told the acts of each datagram in the order of sending.
 ///
 /// The words of a datagram serve the answers of later datagrams alone.
 #[derive(Drop)]
 pub(crate) struct Judge<'a, C> {
     words: Words<'a, C>,
     claims: Claims,
+    /// How many datagrams were told whole.
     datagrams: u64,
+    /// The least number that none of them tells.
+    front: i64,
+    /// The greatest base among the answers in the datagram that is being told.
+    base: u64,
+    ghost in_range: { base < 2 ^ 63 },
+}
+
+/// The base by which an act of the reader answers the writer, or 0.
+fn base_in(act: &Act<'_>, pair: Pair) -> u64
+    ensures value { result ≡ unwrap_or (base_for pair.writer pair.reader (act_value act.now)) 0 }
+    ensures in_range { result < 2 ^ 63 }
+{
+    match &act.body {
+        ActBody::AckNack(ack_nack) if act.answers(pair.reader, pair.writer) => {
+            ack_nack.set.base().cast_unsigned()
+        }
+        _ => 0,
+    }
+}
+
+/// The number that the writer announces by an act, or 0.
+fn number_in(act: &Act<'_>, pair: Pair) -> u64
+    ensures value { result ≡ unwrap_or (announced_for pair.writer (act_value act.now)) 0 }
+    ensures in_range { result < 2 ^ 63 }
+{
+    if !act.spoken_by(pair.writer) {
+        return 0;
+    }
+    match &act.body {
+        ActBody::Data(data) => data.number.get().cast_unsigned(),
+        ActBody::Heartbeat(heartbeat) => heartbeat.last.max(0).cast_unsigned(),
+        ActBody::AckNack(_) | ActBody::Gap(_) => 0,
+    }
+}
+
+/// The words that the reader hears from the writer by an act.
+fn note_heard<'a, C: Coverage>(
+    words: &mut Words<'a, C>,
+    act: &Act<'a>,
+    pair: Pair,
+) -> Result<(), Memory>
+    ensures told { OnOk result (TellsMore (C.covered words.old.told) (C.covered words.new.told)
+        (λ n. is_some (word_for pair.writer pair.reader (act_value act.now) n))) }
+    ensures samples { OnOk result
+        (KeepsMore words.old.samples.items words.new.samples.items (word_for pair.writer pair.reader (act_value act.now))) }
+{
+    if act.spoken_by(pair.writer) && act.heard_by(pair.reader) {
+        words.note(&act.body)?;
+    }
+    Ok(())
 }
 
 impl<'a, C: Coverage> Judge<'a, C> {
+    ghost use Rattle.rtps_audit.specs.Judge.{IsTelling, Knows};
+
     /// A judge of no datagram.
     pub(crate) fn new(alloc: Global) -> Self
         ensures { Knows C.covered result [] }
@@ -31,26 +87,59 @@ impl<'a, C: Coverage> Judge<'a, C> {
             words: Words::new(alloc),
             claims: Claims::new(),
             datagrams: 0,
+            front: 1,
+            base: 0,
         }
     }
 
-    /// Notes the facts of one datagram more. After `Memory` the judge is of no use.
-    pub(crate) fn note(&mut self, facts: &[Fact<'a>]) -> Result<(), Memory>
-        requires facts { All IsInRange facts.now }
-        requires room { self.old.datagrams + 1 < 2 ^ 64 }
-        ensures { OnOk result
-            ((speech : Speech) → Knows C.covered self.old speech
-            → Knows C.covered self.new (speech ++ said facts.now ∷ [])) }
+    /// Begins the next datagram.
+    fn begin(&mut self)
+        ensures count { self.new.datagrams ≡ self.old.datagrams }
+        ensures begun { (speech : Speech) → Knows C.covered self.old speech
+            → IsTelling C.covered self.new speech (record { acts = []; bases = []; announced = [] }) }
     {
-        let datagram = self.datagrams + 1;
-        let front = self.words.told.front();
-        self.claims.note_answers(facts, datagram, front);
-        self.words.note_words(facts)?;
-        self.datagrams = datagram;
+        self.front = self.words.told.front();
+        self.base = 0;
+    }
+
+    /// Tells one act more of the datagram. After `Memory` the judge is of no use.
+    fn note(&mut self, act: &Act<'a>, pair: Pair) -> Result<(), Memory>
+        ensures count { self.new.datagrams ≡ self.old.datagrams }
+        ensures told { OnOk result ((speech : Speech) (acts : List ActValue)
+            → IsTelling C.covered self.old speech (said_by pair.writer pair.reader acts)
+            → IsTelling C.covered self.new speech (said_by pair.writer pair.reader (acts ++ act_value act.now ∷ []))) }
+    {
+        self.base = self.base.max(base_in(act, pair));
+        self.claims.note_number(number_in(act, pair));
+        note_heard(&mut self.words, act, pair)?;
         Ok(())
     }
 
-    /// The verdict on the datagrams that were noted.
+    /// Ends the datagram.
+    fn end(&mut self)
+        requires { self.old.datagrams + 1 < 2 ^ 64 }
+        ensures { (speech : Speech) (datagram : Datagram) → IsTelling C.covered self.old speech datagram
+            → Knows C.covered self.new (speech ++ datagram ∷ []) }
+    {
+        self.datagrams += 1;
+        self.claims.note_base(self.base, self.datagrams, self.front);
+    }
+
+    /// Tells the acts of one datagram more. After `Memory` the judge is of no use.
+    pub(crate) fn note_all(&mut self, acts: &[Act<'a>], pair: Pair) -> Result<(), Memory>
+        requires { self.old.datagrams + 1 < 2 ^ 64 }
+        ensures { OnOk result ((speech : Speech) → Knows C.covered self.old speech
+            → Knows C.covered self.new (speech ++ said_by pair.writer pair.reader (map act_value acts.now) ∷ [])) }
+    {
+        self.begin();
+        for act in acts {
+            self.note(act, pair)?;
+        }
+        self.end();
+        Ok(())
+    }
+
+    /// The verdict on the datagrams that were told.
     pub(crate) fn verdict(mut self) -> Verdict
         ensures { (speech : Speech) → Knows C.covered self.entry speech → IsVerdict speech result }
     {
@@ -68,8 +157,3 @@ impl<'a, C: Coverage> Judge<'a, C> {
         self.claims.verdict()
     }
 }
-
-#[cfg(test)]
-mod tests;
-#[cfg(test)]
-mod trial;

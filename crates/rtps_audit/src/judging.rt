@@ -7,28 +7,22 @@ ghost use Rattle.rtps_audit.specs.Speech.{speech_of};
 use crate::coverage::Coverage;
 use crate::judge_state::Judge;
 use crate::merged_ranges::MergedRanges;
-use crate::said::push_datagram;
 use crate::verdict::Verdict;
 use rtps_discovery::Pair;
-use rtps_ids::{Guid, Memory};
+use rtps_ids::Memory;
+use rtps_receiver::Walk;
 use std::alloc::Global;
 
-/// The verdict on a writer and a reader, datagram by datagram.
-fn judged<C: Coverage>(
-    alloc: Global,
-    recording: &[&[u8]],
-    writer: Guid,
-    reader: Guid,
-) -> Result<Verdict, Memory>
+/// The verdict on a pair, datagram by datagram.
+fn judged<C: Coverage>(alloc: Global, recording: &[&[u8]], pair: Pair) -> Result<Verdict, Memory>
     ensures { IfOk result (IsVerdict
-        (speech_of writer reader (map (λ datagram. datagram.now) recording.now))) }
+        (speech_of pair.writer pair.reader (map (λ datagram. datagram.now) recording.now))) }
 {
     let mut judge = Judge::<C>::new(alloc);
-    let mut facts = Vec::new(alloc);
+    let mut walk = Walk::new(alloc);
     for datagram in recording {
-        facts.clear();
-        push_datagram(&mut facts, datagram, writer, reader)?;
-        judge.note(&facts)?;
+        let _ = walk.read(datagram)?;
+        judge.note_all(walk.acts(), pair)?;
     }
     Ok(judge.verdict())
 }
@@ -52,7 +46,7 @@ pub fn judge_by<C: Coverage>(
     ensures plain { let speech = speech_of pair.writer pair.reader (map (λ datagram. datagram.now) recording.now) in
         IfOk result (λ verdict. IsPlain speech → verdict ≡ Verdict.Complete (pos (last_announced speech))) }
 {
-    let verdict = judged::<C>(alloc, recording, pair.writer, pair.reader)?;
+    let verdict = judged::<C>(alloc, recording, pair)?;
     Ok(verdict)
 }
 

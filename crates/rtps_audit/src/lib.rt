@@ -6,18 +6,18 @@ mod auditing;
 mod claims;
 mod counting;
 mod coverage;
-mod fact;
 mod judge_state;
 mod judging;
 pub mod laws;
 mod merged_ranges;
 mod plain_ranges;
 mod report;
-mod said;
 mod sample;
 mod span;
 #[cfg(test)]
 mod tests;
+#[cfg(test)]
+mod trial;
 mod verdict;
 mod words;
 

@@ -1,9 +1,9 @@
-ghost use Rattle.std.specs.Prelude.{ℕ, MatchOption, IsTrue, ◌↔◌};
+ghost use Rattle.std.specs.Prelude.{ℕ, MatchOption, IsTrue, ◌≡◌, ◌↔◌};
 ghost use Rattle.std.specs.List.Sorted.{IsNonDecreasingBy, IsPermutation};
+ghost use Rattle.rtps_wire.specs.Values.{payload_value};
 ghost use Rattle.rtps_audit.specs.RunVerdict.{IsLeast};
 ghost use Rattle.rtps_audit.specs.Samples.{KeepsTwo, number_of};
 
-use crate::fact::is_same_payload;
 use rtps_wire::Payload;
 
 /// A number and a payload that was spoken for it.
@@ -11,6 +11,18 @@ use rtps_wire::Payload;
 pub(crate) struct Sample<'a> {
     pub(crate) number: u64,
     pub(crate) payload: Payload<'a>,
+}
+
+/// Whether two payloads are equal in kind and octets.
+fn is_same_payload(one: Payload<'_>, other: Payload<'_>) -> bool
+    ensures { IsTrue result ↔ (payload_value one.entry ≡ payload_value other.entry) }
+{
+    match (one, other) {
+        (Payload::Absent, Payload::Absent) => true,
+        (Payload::Whole(one), Payload::Whole(other)) => one == other,
+        (Payload::Key(one), Payload::Key(other)) => one == other,
+        _ => false,
+    }
 }
 
 /// Whether samples stand in the order of their numbers.

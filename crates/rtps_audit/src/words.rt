@@ -1,30 +1,23 @@
-ghost use Rattle.std.specs.Prelude.{ℕ, ◌≡◌, ◌<◌, ◌≤◌, ◌-◌, ◌+◌, ◌^◌, ◌||◌, ◌++◌, [], pos, min, false, OnOk, All, IfSome, MatchOption};
-ghost use Rattle.std.specs.List.{list_any, filter_map};
-ghost use Rattle.std.specs.Option.{option_to_list};
-ghost use Rattle.rtps_audit.specs.Facts.{IsInRange, TellsMore, tells};
+ghost use Rattle.std.specs.Prelude.{ℕ, ◌≡◌, ◌<◌, ◌≤◌, ◌^◌, ◌&&◌, [], nat_le, nat_lt, is_some, false, OnOk, All, IfSome, MatchOption};
+ghost use Rattle.rtps_receiver.specs.Values.{act_body_value};
+ghost use Rattle.rtps_audit.specs.Coverage.{TellsMore};
 ghost use Rattle.rtps_audit.specs.RunVerdict.{IsLeast};
-ghost use Rattle.rtps_audit.specs.Samples.{IsSmall, KeepsTwo, sample_of};
+ghost use Rattle.rtps_audit.specs.Samples.{IsNumbered, KeepsMore, KeepsTwo};
+ghost use Rattle.rtps_audit.specs.Speech.{is_in_gap, is_in_gap_below, word_of};
 
 use crate::coverage::Coverage;
-use crate::fact::Fact;
 use crate::sample::{Sample, least_conflict, put_in_order};
 use rtps_ids::Memory;
+use rtps_receiver::ActBody;
+use rtps_wire::GapBody;
 use std::alloc::Global;
 
-/// The words of the datagrams so far: which numbers have one, and each payload.
+/// The words so far: which numbers have one, and each payload.
 #[derive(Drop)]
 pub(crate) struct Words<'a, C> {
     pub(crate) told: C,
     pub(crate) samples: Vec<Sample<'a>>,
-    ghost in_range: { All IsSmall samples.items },
-}
-
-/// The number after the last one of a range, as far as a set reaches.
-fn end_of(last: u64) -> i64
-    requires { last < 2 ^ 63 }
-    ensures { result ≡ pos (min (last + 1) (2 ^ 63 - 1)) }
-{
-    last.cast_signed().saturating_add(1)
+    ghost in_range: { All IsNumbered samples.items },
 }
 
 impl<'a, C: Coverage> Words<'a, C> {
@@ -39,41 +32,28 @@ impl<'a, C: Coverage> Words<'a, C> {
         }
     }
 
-    /// The words of one fact more. After `Memory` the words are of no use.
-    fn note_fact(&mut self, fact: Fact<'a>) -> Result<(), Memory>
-        requires { IsInRange fact }
+    /// The words of one act more. After `Memory` they are of no use.
+    pub(crate) fn note(&mut self, body: &ActBody<'a>) -> Result<(), Memory>
         ensures told { OnOk result
-            (TellsMore (C.covered self.old.told) (C.covered self.new.told) (λ n. tells n fact.entry)) }
+            (TellsMore (C.covered self.old.told) (C.covered self.new.told) (λ n. is_some (word_of (act_body_value body.now) n))) }
         ensures samples { OnOk result
-            (self.new.samples.items ≡ self.old.samples.items ++ option_to_list (sample_of fact.entry)) }
+            (KeepsMore self.old.samples.items self.new.samples.items (word_of (act_body_value body.now))) }
     {
-        match fact {
-            Fact::Told { number, payload } => {
-                self.samples.push(Sample { number, payload })?;
-                self.told.add(number.cast_signed(), end_of(number))
+        match body {
+            ActBody::Data(data) => {
+                let number = data.number.get().cast_unsigned();
+                self.samples.push(Sample {
+                    number,
+                    payload: data.payload,
+                })?;
+                add_row(&mut self.told, number, number + 1)
             }
-            Fact::Gone { first, last } => {
-                if last < first {
-                    return Ok(());
-                }
-                self.told.add(first.cast_signed(), end_of(last))
+            ActBody::Heartbeat(heartbeat) => {
+                add_row(&mut self.told, 1, heartbeat.first.get().cast_unsigned())
             }
-            Fact::Claimed { .. } | Fact::Announced { .. } => Ok(()),
+            ActBody::Gap(gap) => add_gap(&mut self.told, gap),
+            ActBody::AckNack(_) => Ok(()),
         }
-    }
-
-    /// The words of one datagram more. After `Memory` the words are of no use.
-    pub(crate) fn note_words(&mut self, facts: &[Fact<'a>]) -> Result<(), Memory>
-        requires { All IsInRange facts.now }
-        ensures told { OnOk result
-            (TellsMore (C.covered self.old.told) (C.covered self.new.told) (λ n. list_any (tells n) facts.now)) }
-        ensures samples { OnOk result
-            (self.new.samples.items ≡ self.old.samples.items ++ filter_map sample_of facts.now) }
-    {
-        for fact in facts {
-            self.note_fact(*fact)?;
-        }
-        Ok(())
     }
 
     /// The least number for which two different payloads are kept.
@@ -81,9 +61,50 @@ impl<'a, C: Coverage> Words<'a, C> {
         ensures conflict { MatchOption result
             ((n : ℕ) → ¬ KeepsTwo self.old.samples.items n)
             (IsLeast (KeepsTwo self.old.samples.items)) }
-        ensures in_range { IfSome result (λ n. n < 2 ^ 63) }
+        ensures in_range { IfSome result (λ n. (1 ≤ n) × (n < 2 ^ 63)) }
     {
         put_in_order(&mut self.samples);
         least_conflict(&self.samples)
     }
+}
+
+/// Joins the numbers from `first` on and below `end`, as far as a set reaches. There may be none.
+fn add_row<C: Coverage>(told: &mut C, first: u64, end: u64) -> Result<(), Memory>
+    requires positive { 1 ≤ first }
+    requires in_range { end ≤ 2 ^ 63 }
+    ensures { OnOk result (TellsMore (C.covered told.old) (C.covered told.new) (λ n. nat_le first n && nat_lt n end)) }
+{
+    if end <= first {
+        return Ok(());
+    }
+    let past = end.min(i64::MAX.cast_unsigned());
+    told.add(first.cast_signed(), past.cast_signed())
+}
+
+/// Where the numbers end that a GAP tells in one row: those from its start on and below the base of its list, and those
+/// of the list that follow at once.
+fn row_end(gap: &GapBody) -> u64
+    ensures onward { gap.now.list.base ≤ result }
+    ensures in_range { result ≤ 2 ^ 63 }
+    ensures row { (n : ℕ) → (nat_le gap.now.start n && nat_lt n result) ≡ is_in_gap_below gap.now result n }
+{
+    let base = gap.list.base().cast_unsigned();
+    let start = gap.start.get().cast_unsigned();
+    match gap.list.run_from(base) {
+        Some(members) if start <= base && members.start == base => members.end,
+        _ => base,
+    }
+}
+
+/// Joins the numbers of a GAP: a row, and then the runs of its list that are apart from it.
+fn add_gap<C: Coverage>(told: &mut C, gap: &GapBody) -> Result<(), Memory>
+    ensures { OnOk result (TellsMore (C.covered told.old) (C.covered told.new) (is_in_gap gap.now)) }
+{
+    let mut at = row_end(gap);
+    add_row(told, gap.start.get().cast_unsigned(), at)?;
+    'runs: while let Some(members) = gap.list.run_from(at) {
+        add_row(told, members.start, members.end)?;
+        at = members.end;
+    }
+    Ok(())
 }

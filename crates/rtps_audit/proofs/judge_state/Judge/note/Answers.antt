@@ -1,17 +1,12 @@
-use Rattle.std.proofs.Common.{◌≡◌, ◌+◌, refl, subst, arith, to_z, of_z, w64}
-use Rattle.std.specs.List.{filter_map}
-use Rattle.std.proofs.lemmas.Int.{ints}
-use Rattle.rtps_audit.specs.Claims.{FindsUntold}
-use Rattle.rtps_audit.specs.Delivery.{greatest}
-use Rattle.rtps_audit.specs.Facts.{base_of}
-use Rattle.rtps_audit.proofs.JudgeLemmas.{knows_more}
+use Rattle.std.proofs.Common.{◌∙◌, ap, max, refl}
+use Rattle.rtps_receiver.specs.Values.{act_value}
+use Rattle.rtps_audit.proofs.JudgeLemmas.{tells_on}
 use Rattle.rtps_audit.proofs.judge_state.Judge.note.Goals as goal
 
-pub returns : goal.returns
-returns g c = λ speech known.
+pub returns-clause-told : goal.returns-clause-told
+returns-clause-told g c = λ speech acts telling.
     let old = c.args.self.now in
-    let front = c.front-front.result in
-    let same : to_z w64 (of_z w64 front) ≡ front = omega (arith, ints) in
-    let found = subst (λ z. FindsUntold old.claims.untold c.note_answers.new.self.untold (old.datagrams + 1) z (greatest (filter_map base_of c.args.facts.now))) same c.note_answers.ensures.untold in
-    knows_more g.C.Coverage.covered old _ c.args.facts.now front speech c.requires.facts refl c.front-front.ensures
-    found c.note_answers.ensures.base c.note_answers.ensures.last c.in_ok-note_words.ensures.told c.in_ok-note_words.ensures.samples known
+    tells_on g.C.Coverage.covered old _ c.args.pair.writer c.args.pair.reader speech acts (act_value c.args.act.now) refl refl c.note_number.ensures.untold c.note_number.ensures.base
+    (c.max-self.ensures ∙ ap (max old.base) c.base_in.ensures.value)
+    (c.note_number.ensures.last ∙ ap (max old.claims.last) c.number_in.ensures.value)
+    c.in_ok-note_heard.ensures.told c.in_ok-note_heard.ensures.samples telling

@@ -14,8 +14,9 @@ returns-in-Some g c = λ speech known.
 pub returns-in-Some-least_conflict : goal.returns-in-Some-least_conflict
 returns-in-Some-least_conflict g c = λ speech known.
     let n = c.in-Some-least_conflict.number in
-    let same : pos n ≡ to_z w64 (of_z w64 c.cast_signed.result) = omega (arith, ints, c.in-Some-least_conflict.ensures.in_range) in
-    subst (λ z. IsVerdict speech (Conflict z)) same (verdict_conflict g.C.Coverage.covered c.args.self speech n c.in_default.is c.in-Some-least_conflict.ensures.conflict known)
+    let in_range = c.in-Some-least_conflict.ensures.in_range in
+    let same : pos n ≡ to_z w64 (of_z w64 c.cast_signed.result) = omega (arith, ints, in_range.1) in
+    subst (λ z. IsVerdict speech (Conflict z)) same (verdict_conflict g.C.Coverage.covered c.args.self speech n in_range.0 c.in_default.is c.in-Some-least_conflict.ensures.conflict known)
 
 pub returns : goal.returns
 returns g c = λ speech known.

@@ -1,0 +1,43 @@
+-- The greatest of a list of numbers.
+use Rattle.std.proofs.Common.{ℕ, zero, suc, ◌≡◌, ◌<◌, max, List, [], ◌∷◌, ◌++◌, Option, Some, None, refl, ◌∙◌, ap, arith, inl, inr}
+use Rattle.std.specs.Prelude.{Contains, unwrap_or}
+use Rattle.std.specs.List.{filter_map, cons_option}
+use Rattle.std.proofs.lemmas.Bool.{cases_lt}
+use Rattle.std.proofs.lemmas.List.Elements.{filter_map-append, Contains-append_left, Contains-append_right, Contains-append_cases, Contains-push}
+use Rattle.rtps_audit.specs.Delivery.{greatest}
+
+greatest-append : (xs ys : List ℕ) → greatest (xs ++ ys) ≡ max (greatest xs) (greatest ys)
+greatest-append [] ys = omega arith
+greatest-append (x ∷ xs) ys = let rest = greatest-append xs ys in omega arith
+
+greatest-cons_option : (o : Option ℕ) → greatest (cons_option o []) ≡ unwrap_or o 0
+greatest-cons_option None = refl
+greatest-cons_option (Some n) = omega arith
+
+-- of what h gives of a list, with one element more
+pub greatest_more : {X : Type 0} (h : X → Option ℕ) (xs : List X) (x : X) → greatest (filter_map h (xs ++ x ∷ [])) ≡ max (greatest (filter_map h xs)) (unwrap_or (h x) 0)
+greatest_more h xs x =
+    ap greatest (filter_map-append h xs (x ∷ []))
+    ∙ greatest-append (filter_map h xs) (filter_map h (x ∷ []))
+    ∙ ap (max (greatest (filter_map h xs))) (greatest-cons_option (h x))
+
+-- a number below the greatest of a list is below one of its elements, and the other way round
+pub below_greatest : (n : ℕ) (xs : List ℕ) → n < greatest xs → (x : ℕ) × Contains xs x × (n < x)
+below_greatest n [] lt = absurd (omega arith)
+below_greatest n (x ∷ xs) lt = elim (cases_lt n x) [
+  | inl here ↦ (x, Contains-append_left (x ∷ []) xs x (Contains-push [] x), here)
+  | inr not ↦
+      let rest = below_greatest n xs (omega arith) in
+      (rest.0, Contains-append_right (x ∷ []) xs rest.0 rest.1, rest.2)
+]
+
+pub greatest_below : (n x : ℕ) (xs : List ℕ) → Contains xs x → n < x → n < greatest xs
+greatest_below n x [] among lt = absurd (let h = among.1 in omega arith)
+greatest_below n x (y ∷ ys) among lt = elim (Contains-append_cases (y ∷ []) ys x among) [
+  | inl here ↦ let same : y ≡ x = only_number y x here in omega arith
+  | inr there ↦ let rest = greatest_below n x ys there lt in omega arith
+]
+  where
+    only_number : (a b : ℕ) → Contains (a ∷ []) b → a ≡ b
+    only_number a b (zero, h, e) = e
+    only_number a b (suc k, h, e) = absurd (omega arith)

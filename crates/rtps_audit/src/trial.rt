@@ -1,0 +1,356 @@
+//! The verdict by trying every event, for small recordings of the numbers 1 to 3.
+
+ghost use Rattle.std.specs.Prelude.{◌<◌};
+
+use crate::{MergedRanges, PlainRanges, Verdict, judge_by};
+use rtps_discovery::Pair;
+use rtps_ids::{EntityId, Guid, GuidPrefix};
+use std::alloc::{AllocError, Global};
+use std::process::Abort;
+use std::test::Fail;
+
+/// What one datagram says. The words are bits: for the number n, 3 n - 3 and 3 n - 2 for two payloads, and
+/// 3 n - 1 for gone.
+#[derive(Clone, Copy, Debug)]
+struct Small {
+    words: usize,
+    base: u64,
+    last: u64,
+}
+
+/// How many sets of words there are.
+const SETS: usize = 512;
+
+/// The bits of a number, or none past 3.
+fn bits_of(number: u64) -> usize {
+    match number {
+        1 => 7,
+        2 => 56,
+        3 => 448,
+        _ => 0,
+    }
+}
+
+fn has_word(words: usize, number: u64) -> bool {
+    words & bits_of(number) != 0
+}
+
+/// The least number from 1 on, below `end`, without a word.
+fn least_without(words: usize, end: u64) -> Option<u64> {
+    (1..end).find(|number| !has_word(words, *number))
+}
+
+/// The words of the first datagrams.
+fn told_by(datagrams: &[Small], sent: usize) -> usize {
+    datagrams
+        .iter()
+        .take(sent)
+        .fold(0, |words, small| words | small.words)
+}
+
+fn mark(reached: &mut Vec<bool>, place: usize) {
+    if let Some(flag) = reached.get_mut(place) {
+        *flag = true;
+    }
+}
+
+fn is_marked(reached: &Vec<bool>, place: usize) -> bool {
+    reached.get(place) == Some(&true)
+}
+
+/// Marks what one event makes of a state: a word taken, or the next datagram sent.
+fn mark_next(reached: &mut Vec<bool>, datagrams: &[Small], place: usize) {
+    let (sent, held) = (place / SETS, place % SETS);
+    let told = told_by(datagrams, sent);
+    for bit in 0..9u32 {
+        if told & (1 << bit) != 0 {
+            mark(reached, place | (1 << bit));
+        }
+    }
+    if let Some(next) = datagrams.get(sent) {
+        if least_without(held, next.base).is_none() && place < 1 << 20 {
+            mark(reached, place + SETS);
+        }
+    }
+}
+
+/// The states that events lead to: how many datagrams are sent, times the sets, and the words held. Each event
+/// leads to a later place, so one pass finds all.
+fn reachable(alloc: Global, datagrams: &[Small]) -> Result<Vec<bool>, AllocError> {
+    let mut reached = vec![in alloc; false; 5 * SETS]?;
+    mark(&mut reached, 0);
+    for place in 0..5 * SETS {
+        if is_marked(&reached, place) {
+            mark_next(&mut reached, datagrams, place);
+        }
+    }
+    Ok(reached)
+}
+
+fn place_of(sent: usize, held: usize) -> usize {
+    if sent < 5 && held < SETS {
+        sent * SETS + held
+    } else {
+        0
+    }
+}
+
+/// Whether some list of events sends this many datagrams.
+fn can_send(reached: &Vec<bool>, sent: usize) -> bool {
+    (0..SETS).any(|held| is_marked(reached, place_of(sent, held)))
+}
+
+fn signed(number: u64) -> i64 {
+    i64::try_from(number).unwrap_or(0)
+}
+
+/// The verdict where no run exists.
+fn unfounded(reached: &Vec<bool>, datagrams: &[Small]) -> Verdict {
+    for (place, small) in datagrams.iter().enumerate() {
+        if !can_send(reached, place + 1) {
+            let number = least_without(told_by(datagrams, place), small.base).unwrap_or(0);
+            return Verdict::Unfounded {
+                datagram: place as u64 + 1,
+                number: signed(number),
+            };
+        }
+    }
+    Verdict::Complete { last: -1 }
+}
+
+/// Whether both payloads of a number are among the words.
+fn has_both(words: usize, number: u64) -> bool {
+    let both = bits_of(number) & 0b011_011_011;
+    both != 0 && words & both == both
+}
+
+/// The verdict on at most four datagrams, by all lists of events.
+fn verdict_by_trial(alloc: Global, datagrams: &[Small]) -> Result<Verdict, AllocError> {
+    let reached = reachable(alloc, datagrams)?;
+    let mut ends: Vec<usize> = Vec::new(alloc);
+    for held in 0..SETS {
+        if is_marked(&reached, place_of(datagrams.len(), held)) {
+            ends.push(held)?;
+        }
+    }
+    if ends.is_empty() {
+        return Ok(unfounded(&reached, datagrams));
+    }
+    if let Some(number) = (1..4u64).find(|number| ends
+        .iter()
+        .any(|held| has_both(*held, *number)))
+    {
+        return Ok(Verdict::Conflict {
+            number: signed(number),
+        });
+    }
+    let last = datagrams.iter().map(|small| small.last).max().unwrap_or(0);
+    if let Some(number) = (1..4u64).find(|number| *number <= last
+        && ends.iter().any(|held| !has_word(*held, *number)))
+    {
+        return Ok(Verdict::Open {
+            number: signed(number),
+        });
+    }
+    Ok(Verdict::Complete { last: signed(last) })
+}
+
+/// Numbers that look random, the same in each run.
+#[derive(Drop)]
+struct Random(u64);
+
+impl Random {
+    fn below(&mut self, end: u64) -> u64
+        requires { 0 < end }
+        ensures { result < end }
+    {
+        self.0 = self
+            .0
+            .wrapping_mul(6_364_136_223_846_793_005)
+            .wrapping_add(1_442_695_040_888_963_407);
+        (self.0 >> 33) % end
+    }
+}
+
+/// The header of a message.
+const HEADER: [u8; 20] = *b"\
+    \x52\x54\x50\x53\x02\x05\x00\x00\xcc\xcc\xcc\xcc\xcc\xcc\xcc\xcc\
+    \xcc\xcc\xcc\xcc";
+
+/// An INFO_SRC of the writer's participant, and an INFO_DST of everyone.
+const FROM_WRITER: [u8; 40] = *b"\
+    \x0c\x00\x00\x14\x00\x00\x00\x00\x02\x05\x00\x00\xaa\xaa\xaa\xaa\
+    \xaa\xaa\xaa\xaa\xaa\xaa\xaa\xaa\
+    \x0e\x00\x00\x0c\x00\x00\x00\x00\x00\x00\x00\x00\x00\x00\x00\x00";
+
+/// An INFO_SRC of the reader's participant, and an INFO_DST of the writer's.
+const FROM_READER: [u8; 40] = *b"\
+    \x0c\x00\x00\x14\x00\x00\x00\x00\x02\x05\x00\x00\xbb\xbb\xbb\xbb\
+    \xbb\xbb\xbb\xbb\xbb\xbb\xbb\xbb\
+    \x0e\x00\x00\x0c\xaa\xaa\xaa\xaa\xaa\xaa\xaa\xaa\xaa\xaa\xaa\xaa";
+
+const PAIR: Pair = Pair {
+    writer: Guid {
+        prefix: GuidPrefix([0xaa; 12]),
+        entity: EntityId([0, 0, 1, 3]),
+    },
+    reader: Guid {
+        prefix: GuidPrefix([0xbb; 12]),
+        entity: EntityId([0, 0, 1, 4]),
+    },
+};
+
+/// A submessage that names the reader and the writer: its first octets, and those behind the two.
+fn push_submessage(
+    octets: &mut Vec<u8>,
+    source: &[u8],
+    first: &[u8],
+    rest: &[u8],
+) -> Result<(), AllocError> {
+    octets.extend_from_slice(source)?;
+    octets.extend_from_slice(first)?;
+    octets.extend_from_slice(&[0, 0, 1, 4, 0, 0, 1, 3])?;
+    octets.extend_from_slice(rest)
+}
+
+/// The octets of a number below 256.
+fn number_octets(number: u8) -> [u8; 8] {
+    [0, 0, 0, 0, 0, 0, 0, number]
+}
+
+fn push_data(octets: &mut Vec<u8>, number: u8, payload: u8) -> Result<(), AllocError> {
+    let first = [0x15, 4, 0, 0x18, 0, 0, 0, 16];
+    push_submessage(octets, &FROM_WRITER, &first, &number_octets(number))?;
+    octets.extend_from_slice(&[0, 1, 0, payload])
+}
+
+fn push_gap(octets: &mut Vec<u8>, first: u8, past: u8) -> Result<(), AllocError> {
+    push_submessage(octets, &FROM_WRITER, &[8, 0, 0, 0x1c], &number_octets(first))?;
+    octets.extend_from_slice(&number_octets(past))?;
+    octets.extend_from_slice(&[0; 4])
+}
+
+fn push_heartbeat(octets: &mut Vec<u8>, last: u8) -> Result<(), AllocError> {
+    push_submessage(octets, &FROM_WRITER, &[7, 0, 0, 0x1c], &number_octets(1))?;
+    octets.extend_from_slice(&number_octets(last))?;
+    octets.extend_from_slice(&[0, 0, 0, 1])
+}
+
+fn push_ack_nack(octets: &mut Vec<u8>, base: u8) -> Result<(), AllocError> {
+    push_submessage(octets, &FROM_READER, &[6, 0, 0, 0x18], &number_octets(base))?;
+    octets.extend_from_slice(&[0, 0, 0, 0, 0, 0, 0, 1])
+}
+
+/// A DATA more, in both forms.
+fn add_data(
+    octets: &mut Vec<u8>,
+    small: &mut Small,
+    number: u8,
+    is_other: bool,
+) -> Result<(), AllocError> {
+    push_data(octets, number, if is_other { 1 } else { 0 })?;
+    let payloads = if is_other {
+        0b010_010_010
+    } else {
+        0b001_001_001
+    };
+    small.words |= bits_of(u64::from(number)) & payloads;
+    small.last = small.last.max(u64::from(number));
+    Ok(())
+}
+
+/// A GAP more, in both forms.
+fn add_gap(
+    octets: &mut Vec<u8>,
+    small: &mut Small,
+    first: u8,
+    past: u8,
+) -> Result<(), AllocError> {
+    push_gap(octets, first, past)?;
+    for number in first..past {
+        small.words |= bits_of(u64::from(number)) & 0b100_100_100;
+    }
+    Ok(())
+}
+
+/// One act more, in both forms.
+fn add_act(
+    random: &mut Random,
+    octets: &mut Vec<u8>,
+    small: &mut Small,
+) -> Result<(), AllocError> {
+    match random.below(7) {
+        0..=3 => {
+            let number = 1 + random.below(3) as u8;
+            let is_other = random.below(5) == 0;
+            add_data(octets, small, number, is_other)
+        }
+        4 => {
+            let first = 1 + random.below(3) as u8;
+            let past = 1 + random.below(4) as u8;
+            add_gap(octets, small, first, past)
+        }
+        5 => {
+            let base = random.below(5);
+            small.base = small.base.max(base);
+            push_ack_nack(octets, base as u8)
+        }
+        _ => {
+            let last = random.below(4);
+            small.last = small.last.max(last);
+            push_heartbeat(octets, last as u8)
+        }
+    }
+}
+
+/// The verdicts on one recording, by the judge with each kind of set and by trial.
+fn verdicts(
+    rt: &impl Abort,
+    alloc: Global,
+    random: &mut Random,
+) -> Result<(Verdict, Verdict), Fail> {
+    let mut recording: Vec<Vec<u8>> = Vec::new(alloc);
+    let mut datagrams = Vec::new(alloc);
+    for _ in 0..random.below(5) {
+        let mut octets = Vec::new(alloc);
+        let mut small = Small {
+            words: 0,
+            base: 0,
+            last: 0,
+        };
+        octets.extend_from_slice(&HEADER)?;
+        for _ in 0..random.below(4) {
+            add_act(random, &mut octets, &mut small)?;
+        }
+        recording.push(octets)?;
+        datagrams.push(small)?;
+    }
+    let mut lent: Vec<&[u8]> = Vec::new(alloc);
+    for octets in &recording {
+        lent.push(octets)?;
+    }
+    let judged = judge_by::<PlainRanges>(alloc, &lent, PAIR)?;
+    let merged = judge_by::<MergedRanges>(alloc, &lent, PAIR)?;
+    assert_eq!(rt; judged, merged);
+    Ok((judged, verdict_by_trial(alloc, &datagrams)?))
+}
+
+#[test]
+fn small_recordings_are_judged_as_by_trial(rt: HostRuntime) -> Result<(), Fail> {
+    let mut random = Random(1);
+    let mut seen = [0u32; 4];
+    for recording in 0..3000u32 {
+        let (judged, tried) = verdicts(&rt, rt.alloc(), &mut random)?;
+        assert_eq!(rt; judged, tried, "recording {recording}");
+        let kind = match judged {
+            Verdict::Unfounded { .. } => 0,
+            Verdict::Conflict { .. } => 1,
+            Verdict::Open { .. } => 2,
+            Verdict::Complete { .. } => 3,
+        };
+        seen[kind] = seen[kind].saturating_add(1);
+    }
+    println!(rt; "unfounded, conflict, open, complete: {seen:?}")?;
+    assert!(rt; seen.iter().all(|count| *count > 100));
+    Ok(())
+}
