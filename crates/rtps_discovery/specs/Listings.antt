@@ -1,4 +1,5 @@
--- What is a match and a pair among announcements, and the order of pairs.
+-- What is a match and a pair among announcements, and the order of pairs. own: by writer and then by reader, so that
+-- one recording has one list.
 use Rattle.std.specs.Prelude.{◌≡◌, List}
 use Rattle.std.specs.Ordering.{ordering_then}
 use Rattle.std.specs.declared.cmp.Ordering.{Ordering}

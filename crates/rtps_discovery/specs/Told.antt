@@ -1,4 +1,5 @@
--- What the parameters of a payload tell of an endpoint, field by field.
+-- What the parameters of a payload tell of an endpoint, field by field. DDSI-RTPS 2.5, 8.5.4 "The Simple Endpoint
+-- Discovery Protocol".
 use Rattle.std.specs.Prelude.{◌≡◌, Some}
 use Rattle.rtps_discovery.specs.Announcement.{Fields, durability_of, endpoint_guid, reliability_of, topic_of, type_name_of}
 use Rattle.rtps_discovery.specs.Endpoint.{EndpointValue}

@@ -1,4 +1,5 @@
--- Readers sorted by topic, and those of one topic.
+-- Readers sorted by topic, and those of one topic. own: a writer is compared with the readers of its topic alone, so
+-- that many topics cost little.
 use Rattle.std.specs.Prelude.{ℕ, Bool, List, filter}
 use Rattle.std.specs.Cmp.Lexicographic.{slice_cmp}
 use Rattle.std.specs.List.Sorted.{IsSortedByKey, IsStableByKey}

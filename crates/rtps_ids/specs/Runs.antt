@@ -1,4 +1,5 @@
--- The runs of numbers in a set.
+-- The runs of numbers in a set. own: numbers are taken run by run, so that a set of many numbers in few runs costs few
+-- ranges.
 use Rattle.std.specs.Prelude.{ℕ, Bool, true, false, ◌≤◌, ◌<◌, pos}
 use Rattle.rtps_ids.specs.NumberSet.{NumberSetValue, IsMember}
 

@@ -1,5 +1,5 @@
--- Where the list ends that octets begin with, and what its pairs are, as functions of any octets. The contracts of
--- module `laws` tie both to the grammar.
+-- Where the list ends that octets begin with, and what its pairs are, as functions of any octets. DDSI-RTPS 2.5,
+-- 9.4.2.11 "ParameterList". The contracts of module `laws` tie both to the grammar.
 use Rattle.std.specs.Prelude.{ℕ, zero, suc, ◌+◌, ◌==◌, nat_lt, nat_le, Bool, not, ◌&&◌, if◌then◌else◌, List, [], ◌∷◌, length, take, drop, find, Option, option_map, Result, Ok, Err}
 use Rattle.rtps_ids.specs.declared.order.Order.{Order}
 use Rattle.rtps_params.specs.Grammar.{Pairs, pid_of, length_of, without_pads}

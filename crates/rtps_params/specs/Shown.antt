@@ -1,4 +1,5 @@
--- What a list shows.
+-- What a list shows. own: a list of octets in place of a part of the caller's octets, so that two are equal where their
+-- octets are.
 use Rattle.std.specs.Prelude.{ℕ, List}
 use Rattle.rtps_ids.specs.declared.order.Order.{Order}
 use Rattle.rtps_params.specs.Grammar.{Pairs}

@@ -1,4 +1,5 @@
--- Which fault a submessage has: the first condition of its table that holds.
+-- Which fault a submessage has: the first condition of its table that holds. own: in one fixed order, so that two
+-- readers of a report never see two reasons.
 use Rattle.std.specs.Prelude.{◌≡◌, Bool, if◌then◌else◌, List, [], ◌∷◌, Option, Some, None, Result, Ok, Err}
 use Rattle.rtps_wire.specs.declared.fault.WireFault.{WireFault}
 

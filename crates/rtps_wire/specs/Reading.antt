@@ -1,5 +1,5 @@
--- The one reading of a datagram, as a function. That it is what `Reads` of specs/Message says, and that nothing else
--- is, are laws.
+-- The one reading of a datagram, as a function. DDSI-RTPS 2.5, 8.3.4.1 "Rules Followed By The Message Receiver". That
+-- it is what `Reads` of specs/Message says, and that nothing else is, are laws.
 use Rattle.std.specs.Prelude.{ℕ, zero, suc, ◌+◌, List, [], ◌∷◌, length, drop, Option, Some, None, Result, Ok, Err}
 use Rattle.rtps_wire.specs.Header.{header_fault, header_of}
 use Rattle.rtps_wire.specs.Message.{Reading, body_length, fault_at, item_at, next_rest}
