@@ -101,6 +101,18 @@ fn help_is_an_answer(rt: HostRuntime) {
 }
 
 #[test]
+fn the_version_is_an_answer(rt: HostRuntime) -> Result<(), Fail> {
+    let alloc = rt.alloc();
+    let Err(WordFault::Version(version)) = read_words(alloc, &["rtps-audit", "--version"]) else {
+        assert!(rt; false, "a version");
+        return Ok(());
+    };
+    let text = format!(in alloc; "{version}")?;
+    assert_eq!(rt; text.as_str(), "rtps-audit 0.1.0\n");
+    Ok(())
+}
+
+#[test]
 fn other_words_are_refused(rt: HostRuntime) {
     let alloc = rt.alloc();
     assert!(rt; are_refused(alloc, &[]));
@@ -110,5 +122,6 @@ fn other_words_are_refused(rt: HostRuntime) {
     assert!(rt; are_refused(alloc, &["rtps-audit", "list"]));
     assert!(rt; are_refused(alloc, &["rtps-audit", "audit"]));
     assert!(rt; are_refused(alloc, &["rtps-audit", "show", "a", "b"]));
+    assert!(rt; are_refused(alloc, &["rtps-audit", "show", "--version"]));
     assert!(rt; are_refused(alloc, &["rtps-audit", "show", "--all", "-"]));
 }
