@@ -176,23 +176,3 @@ fn decode_behind(octets: &mut [u8], from: usize, digits: &[u8]) -> bool
 {
     rtps_digits::decode(&mut octets[from..], digits)
 }
-
-#[cfg(test)]
-mod tests {
-    use super::*;
-    use std::test::Fail;
-
-    #[test]
-    fn room_stays_near_what_is_needed(rt: HostRuntime) -> Result<(), Fail> {
-        let mut recording = Recording::new(rt.alloc())?;
-        let digits = vec![in rt.alloc(); b'0'; 100_000]?;
-        for _ in 0..100 {
-            assert!(rt; recording.push_hex(&digits)?);
-            let (octets, places) = (recording.octets.len(), recording.places.len());
-            assert!(rt; recording.octets.capacity() <= octets + octets / 8 + ROOM_MIN);
-            assert!(rt; recording.places.capacity() <= places + places / 8 + ROOM_MIN);
-        }
-        assert_eq!(rt; recording.octets.len(), 5_000_000);
-        Ok(())
-    }
-}
