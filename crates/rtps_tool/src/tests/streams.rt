@@ -1,31 +1,8 @@
+use super::pieces::in_pieces;
 use crate::{Ending, RunFault, run_show};
 use std::io;
-use std::io::{ErrorKind, Read, Write};
+use std::io::{ErrorKind, Write};
 use std::test::Fail;
-
-// Gives one octet at each read, and then no more, or a failure.
-#[derive(Drop)]
-struct Trickle<'a> {
-    rest: &'a [u8],
-    fails: bool,
-}
-
-impl Read for Trickle<'_> {
-    fn read(&mut self, buf: &mut [u8]) -> io::Result<usize> {
-        let Some((first, others)) = self.rest.split_first() else {
-            if self.fails {
-                return Err(io::Error::from(ErrorKind::Other));
-            }
-            return Ok(0);
-        };
-        if buf.is_empty() {
-            return Ok(0);
-        }
-        buf[0] = *first;
-        self.rest = others;
-        Ok(1)
-    }
-}
 
 // Takes one octet at each write while there is room, and then none, or fails.
 #[derive(Drop)]
@@ -57,10 +34,7 @@ impl Write for Narrow {
 
 #[test]
 fn octets_come_and_go_one_by_one(rt: HostRuntime) -> Result<(), Fail> {
-    let mut input = Trickle {
-        rest: b"00\n# \n",
-        fails: false,
-    };
+    let mut input = in_pieces(b"00\n# \n", 1, 0);
     let mut output = Narrow {
         held: Vec::new(rt.alloc()),
         room: 1000,
@@ -73,18 +47,6 @@ fn octets_come_and_go_one_by_one(rt: HostRuntime) -> Result<(), Fail> {
         b"datagram 1 unread\nrefused 0 Short\n".as_slice()
     );
     Ok(())
-}
-
-#[test]
-fn a_read_that_fails_writes_nothing(rt: HostRuntime) {
-    let mut input = Trickle {
-        rest: b"00\n",
-        fails: true,
-    };
-    let mut output = Vec::new(rt.alloc());
-    let outcome = run_show(rt.alloc(), &mut input, &mut output);
-    assert_eq!(rt; outcome, Err(RunFault::Input));
-    assert!(rt; output.is_empty());
 }
 
 #[test]
