@@ -4,9 +4,34 @@
 use rtps_tool::{Choice, Ending, RunFault, WordFault, read_words, run_choice, status, write_fault};
 use std::alloc::AllocError;
 use std::fs::File;
-use std::io::Write;
+use std::io::{Read, Write};
 use std::process::ExitCode;
 use std::{env, io};
+
+// An input that remembers why its last read failed.
+#[derive(Drop)]
+struct Remembering<R> {
+    input: R,
+    failure: Option<io::Error>,
+}
+
+impl<R: Read> Read for Remembering<R> {
+    fn read(&mut self, buf: &mut [u8]) -> io::Result<usize> {
+        let outcome = self.input.read(buf);
+        if let Err(failure) = &outcome {
+            self.failure = Some(same_error(failure));
+        }
+        outcome
+    }
+}
+
+// The error again, with the reason that the system gave.
+fn same_error(error: &io::Error) -> io::Error {
+    match error.raw_os_error() {
+        Some(code) => io::Error::from_raw_os_error(code),
+        None => io::Error::from(error.kind()),
+    }
+}
 
 fn main(rt: HostRuntime) -> ExitCode {
     ExitCode::from(run(&rt))
@@ -48,22 +73,22 @@ fn run_args(rt: &HostRuntime, args: &[String]) -> Result<u8, AllocError> {
             let _ = refusal.print(rt);
             2
         }
-        Err(WordFault::Help(help)) => {
-            let _ = help.print(rt);
+        Err(WordFault::Help(answer) | WordFault::Version(answer)) => {
+            let _ = answer.print(rt);
             0
         }
         Err(WordFault::Memory) => finish(rt, &Err(RunFault::Memory)),
     })
 }
 
-// Runs what was chosen on its FILE. Where that cannot be opened, it is named with the reason.
+// Runs what was chosen on its FILE. Where that cannot be opened or read, it is named with the reason.
 fn run_on_file(rt: &HostRuntime, choice: &Choice) -> Result<Ending, RunFault> {
     let file = choice.file();
     if file == "-" {
-        return run_choice(rt.alloc(), choice, &mut rt.stdin(), &mut rt.stdout());
+        return run_on_input(rt, choice, rt.stdin());
     }
     match File::open(rt, file) {
-        Ok(mut input) => run_choice(rt.alloc(), choice, &mut input, &mut rt.stdout()),
+        Ok(input) => run_on_input(rt, choice, input),
         Err(error) => {
             tell_reason(rt, file, &error);
             Err(RunFault::Input)
@@ -71,7 +96,24 @@ fn run_on_file(rt: &HostRuntime, choice: &Choice) -> Result<Ending, RunFault> {
     }
 }
 
-// Names a file that cannot be opened, with the reason but without the number that the system gives it.
+// Runs what was chosen on what its FILE holds.
+fn run_on_input<R: Read + Drop>(
+    rt: &HostRuntime,
+    choice: &Choice,
+    input: R,
+) -> Result<Ending, RunFault> {
+    let mut input = Remembering {
+        input,
+        failure: None,
+    };
+    let outcome = run_choice(rt.alloc(), choice, &mut input, &mut rt.stdout());
+    if let Some(failure) = &input.failure {
+        tell_reason(rt, choice.file(), failure);
+    }
+    outcome
+}
+
+// Names a file that cannot be opened or read, with the reason but without the number that the system gives it.
 fn tell_reason(rt: &HostRuntime, file: &str, error: &io::Error) {
     let mut text = String::new(rt.alloc());
     if write!(text, "{error}").is_err() {

@@ -1,8 +1,5 @@
 pub mod LinesLemmas
-pub mod ListLemmas
-pub mod PiecesLemmas
+pub mod ReadingLemmas
 pub mod RecordingLemmas
 pub mod UnfinishedLemmas
-pub mod ReadingLemmas
 pub mod WordsLemmas
-pub mod ShowLemmas

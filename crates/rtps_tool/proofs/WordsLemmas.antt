@@ -32,7 +32,7 @@ by_kind kinds error ArgumentConflict is has = elim has [ inl other ↦ absurd cc
 by_kind kinds error MissingRequiredArgument is has = elim has [ inl other ↦ absurd cc | inr among ↦ rw is among ]
 by_kind kinds error MissingSubcommand is has = elim has [ inl other ↦ absurd cc | inr among ↦ rw is among ]
 by_kind kinds error DisplayHelpOnMissingArgumentOrSubcommand is has = elim has [ inl other ↦ absurd cc | inr among ↦ rw is among ]
-by_kind kinds error DisplayVersion is has = elim has [ inl other ↦ absurd cc | inr among ↦ rw is among ]
+by_kind kinds error DisplayVersion is has = elim has [ inl other ↦ absurd cc | inr among ↦ among ]
 by_kind kinds error Io is has = elim has [ inl other ↦ absurd cc | inr among ↦ rw is among ]
 by_kind kinds error Format is has = elim has [ inl other ↦ absurd cc | inr among ↦ rw is among ]
 

@@ -6,7 +6,7 @@ use Rattle.rtps_tool.specs.declared.faults.RecFault.{RecFault}
 use Rattle.rtps_tool.specs.declared.faults.RecFault.TheVariants.{Memory as RecMemory}
 use Rattle.rtps_tool.specs.declared.faults.RunFault.{RunFault}
 use Rattle.rtps_tool.specs.declared.faults.RunFault.TheVariants.{Recording, Input, Output, Memory}
-use Rattle.rtps_tool.specs.declared.faults.Ending.{Ending}
+use Rattle.rtps_text.specs.declared.ending.Ending.{Ending}
 
 -- these octets were read: all that the reader had, or more of it than a recording's text may have
 pub record Reads (old new : Option (List ℕ)) (text : List ℕ) : Type 0 where

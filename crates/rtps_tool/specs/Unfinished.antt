@@ -7,7 +7,7 @@ use Rattle.rtps_tool.specs.Answers.{IsFaultOf}
 use Rattle.rtps_tool.specs.Lines.{is_line_feed, lines_of}
 use Rattle.rtps_tool.specs.RecordingText.{recording_of_lines}
 use Rattle.rtps_tool.specs.declared.faults.RecFault.{RecFault}
-use Rattle.rtps_tool.specs.declared.line_reader.LineReader.{LineReader}
+use Rattle.rtps_tool.specs.declared.form.line_reader.LineReader.{LineReader}
 
 -- datagrams in front of a recording, which a fault keeps as it is
 abbrev pub with_front : List (List ℕ) → Result (List (List ℕ)) RecFault → Result (List (List ℕ)) RecFault

@@ -4,12 +4,12 @@ use Rattle.clap.specs.Words.{App, IsAmong, Kinds, Row, Rule, Text, fault_of, fir
 use Rattle.clap.specs.declared.builder.action.ArgAction.TheVariants.{Set}
 use Rattle.clap.specs.declared.error.Error.{Error}
 use Rattle.clap.specs.declared.error.kind.ErrorKind.{ErrorKind}
-use Rattle.clap.specs.declared.error.kind.ErrorKind.TheVariants.{DisplayHelp, MissingRequiredArgument, MissingSubcommand, OutOfMemory}
+use Rattle.clap.specs.declared.error.kind.ErrorKind.TheVariants.{DisplayHelp, DisplayVersion, MissingRequiredArgument, MissingSubcommand, OutOfMemory}
 use Rattle.std.specs.String.{string_bytes}
 use Rattle.rtps_tool.specs.declared.command.Choice.{Choice}
 use Rattle.rtps_tool.specs.declared.command.Choice.TheVariants.{Show, List as ListChoice, Audit}
 use Rattle.rtps_tool.specs.declared.command.WordFault.{WordFault}
-use Rattle.rtps_tool.specs.declared.command.WordFault.TheVariants.{Refused, Help, Memory}
+use Rattle.rtps_tool.specs.declared.command.WordFault.TheVariants.{Refused, Help, Version, Memory}
 
 -- a file's name, or `-` for standard input, must be given
 abbrev pub file_rule : Rule
@@ -19,9 +19,9 @@ file_rule = record (new_rule (codes "FILE")) { action = Some Set; required = tru
 abbrev pub reading_app : Text → App
 reading_app name = with_rule (new_app name) file_rule
 
--- a program that wants a subcommand
+-- a program that has a version and wants a subcommand
 abbrev pub bare_program : App
-bare_program = record (new_app (codes "rtps-audit")) { top = record (new_app (codes "rtps-audit")).top { subcommand_required = true } }
+bare_program = record (new_app (codes "rtps-audit")) { top = record (new_app (codes "rtps-audit")).top { has_version = true; subcommand_required = true } }
 
 abbrev pub program : App
 program =
@@ -44,36 +44,40 @@ abbrev pub IsChoice : Option (Text × List Row) → Choice → Type 0
 IsChoice found choice =
     (rows : List Row) × (found ≡ Some (subcommand_name choice, rows)) × (file_name choice ≡ unwrap_or (first_of (codes "FILE") rows) [])
 
--- help is an answer, want of memory has no text, and any other error of `clap` refuses the words
+-- help and the version are answers, want of memory has no text, and any other error of `clap` refuses the words
 abbrev pub word_fault_by : ErrorKind → Error → WordFault
 word_fault_by OutOfMemory error = Memory
 word_fault_by DisplayHelp error = Help error
+word_fault_by DisplayVersion error = Version error
 word_fault_by kind error = Refused error
 
 abbrev pub word_fault_of : Error → WordFault
 word_fault_of error = word_fault_by (kind_of error) error
 
--- help is an answer of its own, and so is want of memory
+-- help is an answer of its own, and so are the version and want of memory
 abbrev pub HasItsKind : WordFault → Type 0
-HasItsKind (Refused error) = (kind_of error ≢ DisplayHelp) × (kind_of error ≢ OutOfMemory)
+HasItsKind (Refused error) = (kind_of error ≢ DisplayHelp) × (kind_of error ≢ DisplayVersion) × (kind_of error ≢ OutOfMemory)
 HasItsKind (Help error) = kind_of error ≡ DisplayHelp
+HasItsKind (Version error) = kind_of error ≡ DisplayVersion
 HasItsKind Memory = Unit {0}
 
 -- the fault is one of these kinds, unless it is want of memory
 abbrev pub IsOneOf : Kinds → WordFault → Type 0
 IsOneOf kinds (Refused error) = IsAmong (kind_of error) kinds
 IsOneOf kinds (Help error) = IsAmong DisplayHelp kinds
+IsOneOf kinds (Version error) = IsAmong DisplayVersion kinds
 IsOneOf kinds Memory = Unit {0}
 
 -- what is wrong with these words, behind the program's name
 abbrev pub faults_of_words : List Text → Kinds
 faults_of_words words = fault_of program (codes "rtps-audit" ∷ words)
 
--- Without a subcommand, and without its FILE, words are refused; `--help` is answered.
+-- Without a subcommand, and without its FILE, words are refused; `--help` and `--version` are answered.
 pub record WordsAreWanted : Type 0 where
   pub no_subcommand : faults_of_words [] ≡ MissingSubcommand ∷ []
   pub no_file_to_show : faults_of_words (codes "show" ∷ []) ≡ MissingRequiredArgument ∷ []
   pub no_file_to_list : faults_of_words (codes "list" ∷ []) ≡ MissingRequiredArgument ∷ []
   pub no_file_to_audit : faults_of_words (codes "audit" ∷ []) ≡ MissingRequiredArgument ∷ []
   pub help : faults_of_words (codes "--help" ∷ []) ≡ DisplayHelp ∷ []
+  pub version : faults_of_words (codes "--version" ∷ []) ≡ DisplayVersion ∷ []
   pub whole : faults_of_words (codes "audit" ∷ codes "a.rec" ∷ []) ≡ []

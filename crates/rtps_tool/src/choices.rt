@@ -3,11 +3,10 @@ ghost use Rattle.rtps_tool.specs.Choices.{IsAnswer};
 ghost use Rattle.rtps_tool.specs.Runs.{Runs};
 ghost use Rattle.rtps_tool.specs.Words.{file_name};
 
-use crate::auditing::run_audit;
 use crate::command::Choice;
-use crate::faults::{Ending, RunFault};
-use crate::listing::run_list;
-use crate::run::run_show;
+use crate::faults::RunFault;
+use crate::run::{run_audit, run_list, run_show};
+use rtps_text::Ending;
 use std::alloc::Global;
 use std::io::{Read, Write};
 

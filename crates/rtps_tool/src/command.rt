@@ -26,6 +26,8 @@ pub enum WordFault {
     Refused(clap::Error),
     /// They ask for help, with a text for standard output.
     Help(clap::Error),
+    /// They ask for the version, with a text for standard output.
+    Version(clap::Error),
     /// There was no memory to read them.
     Memory,
 }
@@ -49,10 +51,14 @@ impl From<clap::Error> for WordFault {
         match error.kind() {
             ErrorKind::OutOfMemory => WordFault::Memory,
             ErrorKind::DisplayHelp => WordFault::Help(error),
+            ErrorKind::DisplayVersion => WordFault::Version(error),
             _ => WordFault::Refused(error),
         }
     }
 }
+
+// The version of the program.
+const VERSION: &str = "0.1.0";
 
 const FILE_HELP: &str =
     "A recording: one datagram a line, in hexadecimal digits; - is standard input";
@@ -94,6 +100,7 @@ fn program<'a>(alloc: Global) -> Result<Command<'a>, AllocError>
     Command::new(alloc, "rtps-audit")
         .about("Audits recordings of RTPS datagrams: shows them, lists discovery, judges delivery")
         .after_help(STATUSES)
+        .version(VERSION)
         .subcommand_required(true)
         .subcommand(show)?
         .subcommand(list)?

@@ -53,15 +53,6 @@ impl<T: Drop> From<AllocFailed<T>> for RecFault {
     }
 }
 
-/// How a run ends that wrote its whole text.
-#[derive(Clone, Copy, Debug, PartialEq, Eq)]
-pub enum Ending {
-    /// There is nothing to report.
-    Clean,
-    /// An audit found a pair that is not complete.
-    Unclean,
-}
-
 /// Why a run did not write its whole text. Nothing of it was written, but for `Output`.
 #[derive(Clone, Copy, Debug, PartialEq, Eq, Error)]
 pub enum RunFault {

@@ -3,7 +3,8 @@ ghost use Rattle.std.specs.Io.KnownBytes.{Appends};
 ghost use Rattle.rtps_tool.specs.FaultText.{fault_line};
 ghost use Rattle.rtps_tool.specs.Statuses.{status_of};
 
-use crate::faults::{Ending, RecFault, RunFault};
+use crate::faults::{RecFault, RunFault};
+use rtps_text::Ending;
 use std::io::Write;
 
 /// The status that the program ends with after a run: 0 where it is clean, 1 where it is unclean, 2 where the recording

@@ -1,11 +1,25 @@
+ghost use Rattle.std.specs.Prelude.{IfOk};
+ghost use Rattle.std.specs.String.{string_bytes};
+ghost use Rattle.rtps_text.specs.AuditText.{IsAudited};
+ghost use Rattle.rtps_text.specs.ListText.{IsListed};
+ghost use Rattle.rtps_text.specs.ShowText.{IsShown};
 ghost use Rattle.rtps_tool.specs.Runs.{Runs};
-ghost use Rattle.rtps_tool.specs.ShowText.{IsShown};
+ghost use Rattle.rtps_tool.specs.Subcommands.{IsTextOf};
 
-use crate::faults::{Ending, RunFault};
-use crate::show::show_text;
+use crate::faults::RunFault;
 use crate::streams::{read_input, write_text};
+use rtps_ids::Memory;
+use rtps_text::{Ending, Recording, audit_text, list_text, show_text};
 use std::alloc::Global;
 use std::io::{Read, Write};
+
+// What is printed of a recording.
+#[derive(Clone, Copy)]
+pub(crate) enum Subcommand {
+    Show,
+    List,
+    Audit,
+}
 
 /// Reads a recording, to the end of the input, and writes what `show` prints of it; it ends [`Ending::Clean`].
 ///
@@ -19,8 +33,63 @@ pub fn run_show<R: Read, W: Write>(
     ensures { Runs IsShown
         (R.remaining input.old) (R.remaining input.new) (W.contents output.old) (W.contents output.new) result }
 {
+    run(alloc, Subcommand::Show, input, output)
+}
+
+/// Reads a recording, to the end of the input, and writes what `list` prints of it: participants, endpoints whose
+/// announcements agree, and matches. It ends [`Ending::Clean`], and fails as [`run_show`] does.
+pub fn run_list<R: Read, W: Write>(
+    alloc: Global,
+    input: &mut R,
+    output: &mut W,
+) -> Result<Ending, RunFault>
+    ensures { Runs IsListed
+        (R.remaining input.old) (R.remaining input.new) (W.contents output.old) (W.contents output.new) result }
+{
+    run(alloc, Subcommand::List, input, output)
+}
+
+/// Reads a recording, to the end of the input, and writes what `audit` prints of it: the verdict on each pair of a
+/// reliable writer and reader that match, and what was counted. It ends [`Ending::Clean`] where each pair is complete,
+/// and fails as [`run_show`] does.
+pub fn run_audit<R: Read, W: Write>(
+    alloc: Global,
+    input: &mut R,
+    output: &mut W,
+) -> Result<Ending, RunFault>
+    ensures { Runs IsAudited
+        (R.remaining input.old) (R.remaining input.new) (W.contents output.old) (W.contents output.new) result }
+{
+    run(alloc, Subcommand::Audit, input, output)
+}
+
+// Reads a recording, to the end of the input, and writes what a subcommand prints of it.
+fn run<R: Read, W: Write>(
+    alloc: Global,
+    subcommand: Subcommand,
+    input: &mut R,
+    output: &mut W,
+) -> Result<Ending, RunFault>
+    ensures { Runs (IsTextOf subcommand)
+        (R.remaining input.old) (R.remaining input.new) (W.contents output.old) (W.contents output.new) result }
+{
     let recording = read_input(alloc, input)?;
-    let text = show_text(alloc, &recording)?;
+    let (text, ending) = text_of(alloc, subcommand, &recording)?;
     write_text(text.as_bytes(), output)?;
-    Ok(Ending::Clean)
+    Ok(ending)
+}
+
+// What a subcommand prints of a recording, and how it ends.
+fn text_of(
+    alloc: Global,
+    subcommand: Subcommand,
+    recording: &Recording,
+) -> Result<(String, Ending), Memory>
+    ensures { IfOk result (λ answer. IsTextOf subcommand recording.now (string_bytes answer.0) answer.1) }
+{
+    match subcommand {
+        Subcommand::Show => show_text(alloc, recording),
+        Subcommand::List => list_text(alloc, recording),
+        Subcommand::Audit => audit_text(alloc, recording),
+    }
 }

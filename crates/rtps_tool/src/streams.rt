@@ -4,10 +4,10 @@ ghost use Rattle.rtps_tool.specs.Runs.{ReadsRecording, FailsReading, FailsWritin
 ghost use Rattle.rtps_tool.specs.Unfinished.{ReadsOn};
 ghost use Rattle.rtps_tool.specs.declared.faults.RunFault.TheVariants.{Input};
 
-use crate::datagrams::Recording;
 use crate::faults::{RecFault, RunFault};
-use crate::line_reader::{KEPT_MAX, LineReader};
-use crate::lines::TEXT_MAX;
+use crate::form::hex_lines::TEXT_MAX;
+use crate::form::line_reader::{KEPT_MAX, LineReader};
+use rtps_text::Recording;
 use std::alloc::{AllocError, Global};
 use std::io::{Read, Write};
 

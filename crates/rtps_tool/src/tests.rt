@@ -1,12 +1,8 @@
-//! What no clause says: that a recording is read where there is memory, the texts of faults, and where a reader or a
-//! writer fails.
+//! What no clause says: that a recording is read and printed where there is memory, the texts of faults, and where a
+//! reader or a writer fails. The lines of more recordings are stored cases of the built program, in `tests/rows`.
 
-mod audited;
-mod audits;
-mod listed;
-mod lists;
 mod pieces;
 mod recordings;
-mod shown;
-mod shows;
+mod rows;
+mod streams;
 mod words;

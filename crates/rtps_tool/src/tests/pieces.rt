@@ -1,15 +1,15 @@
 //! Texts that come in pieces, with a cut at each place that could matter, and readers that fail in mid-stream.
 
 use crate::streams::read_input;
-use crate::{RecFault, Recording, RunFault, read_recording};
-use std::alloc::{AllocError, Global};
+use crate::{RunFault, read_recording};
+use std::alloc::Global;
 use std::io::{self, Read};
 use std::test::Fail;
 
 // A reader of a text. It gives so many octets at most at once, and no read gives octets of both sides of the cut. At the
 // place at which it fails it gives none.
 #[derive(Drop)]
-struct Pieces<'a> {
+pub(super) struct Pieces<'a> {
     text: &'a [u8],
     at: usize,
     most: usize,
@@ -40,24 +40,8 @@ impl Read for Pieces<'_> {
     }
 }
 
-// A reader of one octet, so many times.
-#[derive(Drop)]
-struct Same {
-    octet: u8,
-    left: usize,
-}
-
-impl Read for Same {
-    fn read(&mut self, buf: &mut [u8]) -> io::Result<usize> {
-        let size = buf.len().min(self.left);
-        buf[..size].fill(self.octet);
-        self.left -= size;
-        Ok(size)
-    }
-}
-
 // A text from its beginning to its end, with a cut.
-fn in_pieces(text: &[u8], most: usize, cut: usize) -> Pieces<'_> {
+pub(super) fn in_pieces(text: &[u8], most: usize, cut: usize) -> Pieces<'_> {
     let (at, fails_at) = (0, usize::MAX);
     Pieces {
         text,
@@ -68,28 +52,14 @@ fn in_pieces(text: &[u8], most: usize, cut: usize) -> Pieces<'_> {
     }
 }
 
-fn has_same_datagrams(one: &Recording, other: &Recording) -> bool {
-    for i in 0..other.len() {
-        if one.datagram(i) != other.datagram(i) {
-            return false;
-        }
-    }
-    one.len() == other.len()
-}
-
 // Whether what is read in pieces is what the text as a whole stands for.
 fn reads_as_whole(alloc: Global, mut input: Pieces<'_>) -> bool {
     let text = input.text;
     match (read_input(alloc, &mut input), read_recording(alloc, text)) {
-        (Ok(one), Ok(other)) => has_same_datagrams(&one, &other),
+        (Ok(one), Ok(other)) => one.datagrams().eq(other.datagrams()),
         (Err(RunFault::Recording(one)), Err(other)) => one == other,
         _ => false,
     }
-}
-
-// The fault of an input that has one.
-fn fault_of<R: Read>(alloc: Global, input: &mut R) -> Option<RunFault> {
-    read_input(alloc, input).map(|_recording| ()).err()
 }
 
 const SHORT: &[&[u8]] = &[
@@ -134,9 +104,9 @@ fn a_failed_read_is_told_before_any_fault_of_the_text(rt: HostRuntime) {
             for most in [1, usize::MAX] {
                 let mut input = in_pieces(text, most, 0);
                 input.fails_at = place;
-                assert_eq!(rt;
-                    fault_of(rt.alloc(), &mut input),
-                    Some(RunFault::Input),
+                let outcome = read_input(rt.alloc(), &mut input);
+                assert!(rt;
+                    matches!(&outcome, Err(RunFault::Input)),
                     "{text:?} at {place}"
                 );
             }
@@ -144,69 +114,15 @@ fn a_failed_read_is_told_before_any_fault_of_the_text(rt: HostRuntime) {
     }
 }
 
-// A line that begins with an octet, is filled up with zeros, and has this end.
-fn long_line(alloc: Global, size: usize, first: u8, end: &[u8]) -> Result<Vec<u8>, AllocError> {
-    let mut text = vec![in alloc; b'0'; size]?;
-    if size > 0 {
-        text[0] = first;
-    }
-    text.extend_from_slice(end)?;
-    Ok(text)
-}
-
-// Whether a text with a line of this size is read as the whole of it, wherever it is cut.
-fn reads_in_any_pieces(alloc: Global, text: &[u8], size: usize) -> bool {
-    let cuts = [
-        1,
-        65_536,
-        131_069,
-        131_070,
-        131_071,
-        131_072,
-        131_073,
-        size,
-        size.saturating_add(1),
-        size.saturating_add(2),
-    ];
-    for cut in cuts {
-        for most in [usize::MAX, 65_535, 50_000] {
-            if !reads_as_whole(alloc, in_pieces(text, most, cut)) {
-                return false;
-            }
-        }
-    }
-    reads_as_whole(alloc, in_pieces(text, 1, 0))
-}
-
 #[test]
-fn long_lines_are_read_in_any_pieces(rt: HostRuntime) -> Result<(), Fail> {
-    let ends: [&[u8]; 6] = [b"", b"\n", b"\r", b"\r\n", b"\r\r\n", b"\r\n00\n"];
-    for size in [
-        131_069, 131_070, 131_071, 131_072, 196_607, 262_145, 400_000,
-    ] {
-        for first in [b'0', b'#', b'z'] {
-            for end in ends {
-                let text = long_line(rt.alloc(), size, first, end)?;
-                assert!(rt;
-                    reads_in_any_pieces(rt.alloc(), &text, size),
-                    "{size} {first} {end:?}"
-                );
-            }
-        }
+fn a_line_of_131070_digits_is_read_in_any_pieces(rt: HostRuntime) -> Result<(), Fail> {
+    let mut text = vec![in rt.alloc(); b'0'; 131_070]?;
+    text.extend_from_slice(b"\r\n00\r\n")?;
+    for cut in [1, 65_536, 131_069, 131_070, 131_071, 131_072, 131_073] {
+        assert!(rt;
+            reads_as_whole(rt.alloc(), in_pieces(&text, usize::MAX, cut)),
+            "{cut}"
+        );
     }
     Ok(())
-}
-
-#[test]
-fn a_text_has_1073741824_octets_at_most(rt: HostRuntime) {
-    let most = 1 << 30;
-    for (octet, left, fault) in [
-        (b'#', most, None),
-        (b'#', most + 1, Some(RecFault::TooMany)),
-        (b'0', most, Some(RecFault::TooLong { line: 1 })),
-        (b'0', most + 1, Some(RecFault::TooMany)),
-    ] {
-        let found = fault_of(rt.alloc(), &mut Same { octet, left });
-        assert_eq!(rt; found, fault.map(RunFault::Recording), "{octet} {left}");
-    }
 }

@@ -1,55 +1,6 @@
-use crate::{Choice, Ending, RecFault, RunFault, WordFault, read_words, status, write_fault};
+use crate::{Choice, RunFault, WordFault, read_words, write_fault};
 use std::alloc::Global;
 use std::test::Fail;
-
-#[test]
-fn each_ending_has_its_status(rt: HostRuntime) {
-    for (outcome, wanted) in [
-        (Ok(Ending::Clean), 0),
-        (Ok(Ending::Unclean), 1),
-        (Err(RunFault::Recording(RecFault::TooMany)), 2),
-        (Err(RunFault::Recording(RecFault::BadHex { line: 1 })), 2),
-        (Err(RunFault::Recording(RecFault::TooLong { line: 1 })), 2),
-        (Err(RunFault::Recording(RecFault::Memory)), 3),
-        (Err(RunFault::Input), 3),
-        (Err(RunFault::Output { written: 0 }), 3),
-        (Err(RunFault::Memory), 3),
-    ] {
-        assert_eq!(rt; status(&outcome), wanted, "{outcome:?}");
-    }
-}
-
-#[test]
-fn each_fault_has_its_line(rt: HostRuntime) {
-    for (fault, wanted) in [
-        (
-            RunFault::Recording(RecFault::BadHex { line: 3 }),
-            "rtps-audit: line 3: bad hex\n",
-        ),
-        (
-            RunFault::Recording(RecFault::TooLong { line: 12 }),
-            "rtps-audit: line 12: too long\n",
-        ),
-        (
-            RunFault::Recording(RecFault::TooMany),
-            "rtps-audit: too many datagrams\n",
-        ),
-        (
-            RunFault::Recording(RecFault::Memory),
-            "rtps-audit: out of memory\n",
-        ),
-        (RunFault::Input, "rtps-audit: cannot read input\n"),
-        (
-            RunFault::Output { written: 7 },
-            "rtps-audit: cannot write output\n",
-        ),
-        (RunFault::Memory, "rtps-audit: out of memory\n"),
-    ] {
-        let mut output = Vec::new(rt.alloc());
-        assert!(rt; write_fault(&fault, &mut output));
-        assert_eq!(rt; output.as_slice(), wanted.as_bytes(), "{fault:?}");
-    }
-}
 
 #[test]
 fn a_line_that_cannot_be_written_is_told(rt: HostRuntime) {
@@ -83,13 +34,9 @@ fn a_subcommand_is_chosen_with_its_file(rt: HostRuntime) -> Result<(), Fail> {
     Ok(())
 }
 
-// Whether the words ask for help, and whether they are refused.
+// Whether the words ask for help.
 fn ask_for_help(alloc: Global, words: &[&str]) -> bool {
     matches!(&read_words(alloc, words), Err(WordFault::Help(_)))
-}
-
-fn are_refused(alloc: Global, words: &[&str]) -> bool {
-    matches!(&read_words(alloc, words), Err(WordFault::Refused(_)))
 }
 
 #[test]
@@ -101,14 +48,13 @@ fn help_is_an_answer(rt: HostRuntime) {
 }
 
 #[test]
-fn other_words_are_refused(rt: HostRuntime) {
+fn the_version_is_an_answer(rt: HostRuntime) -> Result<(), Fail> {
     let alloc = rt.alloc();
-    assert!(rt; are_refused(alloc, &[]));
-    assert!(rt; are_refused(alloc, &["rtps-audit"]));
-    assert!(rt; are_refused(alloc, &["rtps-audit", "shows", "-"]));
-    assert!(rt; are_refused(alloc, &["rtps-audit", "show"]));
-    assert!(rt; are_refused(alloc, &["rtps-audit", "list"]));
-    assert!(rt; are_refused(alloc, &["rtps-audit", "audit"]));
-    assert!(rt; are_refused(alloc, &["rtps-audit", "show", "a", "b"]));
-    assert!(rt; are_refused(alloc, &["rtps-audit", "show", "--all", "-"]));
+    let Err(WordFault::Version(version)) = read_words(alloc, &["rtps-audit", "--version"]) else {
+        assert!(rt; false, "a version");
+        return Ok(());
+    };
+    let text = format!(in alloc; "{version}")?;
+    assert_eq!(rt; text.as_str(), "rtps-audit 0.1.0\n");
+    Ok(())
 }

@@ -8,7 +8,8 @@ use Rattle.rtps_tool.proofs.command.program.Goals as goal
 pub returns : goal.returns
 returns c =
     let about_is = ap app_of_fields c.after_help.ensures ∙ ap app_of_fields c.about.ensures ∙ c.new.ensures.app in
-    let bare_is : app_of c.subcommand_required.result ≡ bare_program = ap app_of_fields c.subcommand_required.ensures ∙ ap (on_top (λ s. record s { subcommand_required = true })) about_is in
+    let version_is = ap app_of_fields c.version.ensures ∙ ap (on_top (λ s. record s { has_version = true })) about_is in
+    let bare_is : app_of c.subcommand_required.result ≡ bare_program = ap app_of_fields c.subcommand_required.ensures ∙ ap (on_top (λ s. record s { subcommand_required = true })) version_is in
     let show_is = ap (λ (a : App). a.top) c.in_ok-show.ensures.app in
     let list_is = ap (λ (a : App). a.top) c.in_ok-list.ensures.app in
     let audit_is = ap (λ (a : App). a.top) c.in_ok-audit.ensures.app in

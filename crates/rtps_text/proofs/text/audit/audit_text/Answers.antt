@@ -1,0 +1,12 @@
+use Rattle.std.proofs.Common.{◌∙◌, ap}
+use Rattle.rtps_text.specs.AuditText.{ending_of}
+use Rattle.rtps_text.proofs.text.audit.audit_text.Goals as goal
+
+pub returns : goal.returns
+returns c =
+    record {
+      report = c.in_ok-report.report;
+      reports = c.in_ok-report.ensures;
+      is_text = c.in_ok-text.ensures;
+      ends = c.ending_of.ensures ∙ ap ending_of c.deref.ensures.value;
+    }

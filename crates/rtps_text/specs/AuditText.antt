@@ -1,0 +1,58 @@
+-- What `audit` prints of a recording, and how it ends.
+-- own: a line of how many pairs there are, one line for each with its verdict, and a line of what was counted, of fields
+-- with one space between them. A run is clean where each pair is complete.
+use Rattle.std.specs.Prelude.{ℕ, ◌≡◌, ◌++◌, Bool, true, false, if◌then◌else◌, List, [], ◌∷◌, codes, length}
+use Rattle.std.specs.Fmt.{decimal, signed_decimal}
+use Rattle.std.specs.List.{flat_map, list_all}
+use Rattle.rtps_audit.specs.Report.{IsReport}
+use Rattle.rtps_audit.specs.declared.report.Counts.{Counts}
+use Rattle.rtps_audit.specs.declared.report.Report.{Report}
+use Rattle.rtps_audit.specs.declared.report.Row.{Row}
+use Rattle.rtps_audit.specs.declared.verdict.Verdict.{Verdict}
+use Rattle.rtps_audit.specs.declared.verdict.Verdict.TheVariants.{Unfounded, Conflict, Open, Complete}
+use Rattle.rtps_text.specs.ListText.{guid_text}
+use Rattle.rtps_text.specs.ShowText.{line_of}
+use Rattle.rtps_text.specs.declared.ending.Ending.{Ending}
+use Rattle.rtps_text.specs.declared.ending.Ending.TheVariants.{Clean, Unclean}
+
+-- the number behind `complete` is the last announced one, and each other is the least that shows the verdict
+unfoldable pub verdict_text : Verdict → List ℕ
+verdict_text (Complete last) = codes "complete " ++ signed_decimal last
+verdict_text (Open number) = codes "open " ++ signed_decimal number
+verdict_text (Conflict number) = codes "conflict " ++ signed_decimal number
+verdict_text (Unfounded datagram number) = codes "unfounded " ++ (decimal datagram ++ 32 ∷ signed_decimal number)
+
+abbrev pub pairs_line : ℕ → List ℕ
+pairs_line pairs = line_of (codes "pairs" ∷ decimal pairs ∷ [])
+
+abbrev pub row_line : Row → List ℕ
+row_line row = line_of (guid_text row.pair.writer ∷ guid_text row.pair.reader ∷ verdict_text row.verdict ∷ [])
+
+-- what is not counted as data of a pair
+abbrev pub others_text : Counts → List ℕ
+others_text counts =
+    codes "fragments " ++ (decimal counts.fragments ++ (codes " undirected " ++ (decimal counts.undirected ++ (codes " unsettled " ++ decimal counts.unsettled))))
+
+abbrev pub report_counts_line : Counts → List ℕ
+report_counts_line counts = line_of (codes "datagrams" ∷ decimal counts.datagrams ∷ codes "refused" ∷ decimal counts.refused
+    ∷ codes "skipped" ∷ decimal counts.skipped ∷ others_text counts ∷ [])
+
+-- the lines of these rows and counts
+abbrev pub report_text : List Row → Counts → List ℕ
+report_text rows counts = pairs_line (length rows) ++ (flat_map row_line rows ++ report_counts_line counts)
+
+abbrev pub is_complete : Verdict → Bool
+is_complete (Complete last) = true
+is_complete (Open number) = false
+is_complete (Conflict number) = false
+is_complete (Unfounded datagram number) = false
+
+abbrev pub ending_of : List Row → Ending
+ending_of rows = if list_all (λ row. is_complete row.verdict) rows then Clean else Unclean
+
+-- what `audit` answers: the text of a report on the recording, clean where each row is complete
+pub record IsAudited (datagrams : List (List ℕ)) (text : List ℕ) (ending : Ending) : Type 0 where
+  pub report : Report
+  pub reports : IsReport datagrams report
+  pub is_text : text ≡ report_text report.rows.items report.counts
+  pub ends : ending ≡ ending_of report.rows.items

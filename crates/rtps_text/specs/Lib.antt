@@ -1,0 +1,5 @@
+pub mod AuditText
+pub mod ListText
+pub mod Places
+pub mod Room
+pub mod ShowText

@@ -1,0 +1,89 @@
+-- What `list` prints of a recording.
+-- own: one line for each participant, endpoint and pair, of fields with one space between them, and counts at the end.
+use Rattle.std.specs.Prelude.{ℕ, ◌≡◌, ◌==◌, ◌++◌, ◌&&◌, not, nat_le, Bool, true, false, if◌then◌else◌, List, [], ◌∷◌, codes, length}
+use Rattle.std.specs.Fmt.{decimal}
+use Rattle.std.specs.List.{flat_map}
+use Rattle.hex.specs.Hex.{encode_lower}
+use Rattle.rtps_ids.specs.declared.identity.Guid.{Guid}
+use Rattle.rtps_receiver.specs.Acts.{acts_in}
+use Rattle.rtps_discovery.specs.Directory.{DirectoryValue, IsMapOf, settled_in, unsettled_in}
+use Rattle.rtps_discovery.specs.Endpoint.{EndpointValue}
+use Rattle.rtps_discovery.specs.Matching.{matches_among}
+use Rattle.rtps_discovery.specs.Notice.{faults_in}
+use Rattle.rtps_discovery.specs.declared.endpoint.Durability.{Durability}
+use Rattle.rtps_discovery.specs.declared.endpoint.Durability.TheVariants.{Volatile, TransientLocal, Transient, Persistent}
+use Rattle.rtps_discovery.specs.declared.endpoint.Reliability.{Reliability}
+use Rattle.rtps_discovery.specs.declared.endpoint.Reliability.TheVariants.{BestEffort, Reliable}
+use Rattle.rtps_discovery.specs.declared.endpoint.Side.{Side}
+use Rattle.rtps_discovery.specs.declared.endpoint.Side.TheVariants.{Writer, Reader}
+use Rattle.rtps_discovery.specs.declared.matching.Match.{Match}
+use Rattle.rtps_text.specs.ShowText.{line_of}
+use Rattle.rtps_text.specs.declared.ending.Ending.{Ending}
+use Rattle.rtps_text.specs.declared.ending.Ending.TheVariants.{Clean}
+
+abbrev pub guid_text : Guid → List ℕ
+guid_text guid = encode_lower guid.prefix.0 ++ 46 ∷ encode_lower guid.entity.0
+
+-- an octet of a name: plain ASCII but for the quote (34) and the backslash (92) stands for itself, any other is `\x` and
+-- two digits
+abbrev pub stands_for_itself : ℕ → Bool
+stands_for_itself octet = (nat_le 32 octet && nat_le octet 126) && (not (octet == 34) && not (octet == 92))
+
+unfoldable pub octet_text : ℕ → List ℕ
+octet_text octet = if stands_for_itself octet then octet ∷ [] else codes "\\x" ++ encode_lower (octet ∷ [])
+
+-- a name between quotes
+abbrev pub name_text : List ℕ → List ℕ
+name_text name = 34 ∷ (flat_map octet_text name ++ 34 ∷ [])
+
+unfoldable pub side_text : Side → List ℕ
+side_text Writer = codes "writer"
+side_text Reader = codes "reader"
+
+unfoldable pub reliability_text : Reliability → List ℕ
+reliability_text BestEffort = codes "best-effort"
+reliability_text Reliable = codes "reliable"
+
+unfoldable pub durability_text : Durability → List ℕ
+durability_text Volatile = codes "volatile"
+durability_text TransientLocal = codes "transient-local"
+durability_text Transient = codes "transient"
+durability_text Persistent = codes "persistent"
+
+-- whether both of a match are reliable
+unfoldable pub match_text : Bool → List ℕ
+match_text true = codes "reliable"
+match_text false = codes "best-effort"
+
+abbrev pub participant_line : Guid → List ℕ
+participant_line guid = line_of (codes "participant" ∷ guid_text guid ∷ [])
+
+abbrev pub endpoint_line : EndpointValue → List ℕ
+endpoint_line endpoint = line_of (side_text endpoint.side ∷ guid_text endpoint.guid
+    ∷ codes "topic" ∷ name_text endpoint.topic ∷ codes "type" ∷ name_text endpoint.type_name
+    ∷ reliability_text endpoint.reliability ∷ durability_text endpoint.durability ∷ [])
+
+abbrev pub match_line : Match → List ℕ
+match_line found = line_of (codes "pair" ∷ guid_text found.pair.writer ∷ guid_text found.pair.reader ∷ match_text found.reliable ∷ [])
+
+-- how many participants, settled endpoints, GUIDs whose announcements disagree, and acts with a fault
+abbrev pub counts_line : ℕ → ℕ → ℕ → ℕ → List ℕ
+counts_line participants endpoints unsettled faults = line_of (codes "participants" ∷ decimal participants ∷ codes "endpoints" ∷ decimal endpoints
+    ∷ codes "unsettled" ∷ decimal unsettled ∷ codes "faults" ∷ decimal faults ∷ [])
+
+-- the lines of a directory, and of so many faults
+abbrev pub directory_text : DirectoryValue → ℕ → List ℕ
+directory_text directory faults =
+    flat_map participant_line directory.participants
+    ++ (flat_map endpoint_line (settled_in directory.endpoints)
+    ++ (flat_map match_line (matches_among (settled_in directory.endpoints))
+    ++ counts_line (length directory.participants) (length (settled_in directory.endpoints)) (length (unsettled_in directory.endpoints)) faults))
+
+-- this is the text of the map of all acts
+abbrev pub IsListOf : List (List ℕ) → List ℕ → Type 0
+IsListOf datagrams text =
+    (directory : DirectoryValue) × IsMapOf (acts_in datagrams) directory × (text ≡ directory_text directory (faults_in (acts_in datagrams)))
+
+-- what `list` answers: that text, and it is clean
+abbrev pub IsListed : List (List ℕ) → List ℕ → Ending → Type 0
+IsListed datagrams text ending = IsListOf datagrams text × (ending ≡ Clean)

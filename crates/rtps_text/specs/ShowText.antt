@@ -1,0 +1,170 @@
+-- What `show` prints of a recording.
+-- own: one line for each datagram, submessage and refusal, of fields with one space between them, so that
+-- common tools can search it and take it apart.
+use Rattle.std.specs.Prelude.{ℕ, ◌≡◌, ◌+◌, ◌/◌, ◌==◌, ◌++◌, Bool, if◌then◌else◌, List, [], ◌∷◌, codes, length, map, slice_index, Option, Some, None}
+use Rattle.std.specs.Fmt.{decimal, signed_decimal}
+use Rattle.std.specs.Int.{to_be_bytes, w32}
+use Rattle.std.specs.List.{enumerate_from, flat_map, range_with_len}
+use Rattle.hex.specs.Hex.{encode_lower}
+use Rattle.rtps_ids.specs.NumberSet.{NumberSetValue}
+use Rattle.rtps_ids.specs.declared.identity.GuidPrefix.{GuidPrefix}
+use Rattle.rtps_ids.specs.declared.identity.Stamp.{Stamp}
+use Rattle.rtps_ids.specs.declared.identity.Vendor.{Vendor}
+use Rattle.rtps_ids.specs.declared.identity.Version.{Version}
+use Rattle.rtps_ids.specs.declared.order.Order.{Order}
+use Rattle.rtps_ids.specs.declared.order.Order.TheVariants.{Big, Little}
+use Rattle.rtps_params.specs.Shown.{ListValue}
+use Rattle.rtps_receiver.specs.Acts.{gathered, state_at_start}
+use Rattle.rtps_receiver.specs.declared.state.State.{State}
+use Rattle.rtps_wire.specs.Message.{Reading}
+use Rattle.rtps_wire.specs.Reading.{Outcome, items_among, reading_of, refusal_among}
+use Rattle.rtps_wire.specs.Values.{BodyValue, DataValue, ItemValue, PayloadValue}
+use Rattle.rtps_wire.specs.Values.BodyValue.{Data, Heartbeat, AckNack, Gap, InfoTs, InfoDst, InfoSrc, Skipped}
+use Rattle.rtps_wire.specs.Values.PayloadValue.{Absent, Whole, Key}
+use Rattle.rtps_wire.specs.declared.body.AckNackBody.{AckNackBody}
+use Rattle.rtps_wire.specs.declared.body.GapBody.{GapBody}
+use Rattle.rtps_wire.specs.declared.body.HeartbeatBody.{HeartbeatBody}
+use Rattle.rtps_wire.specs.declared.fault.Refusal.{Refusal}
+use Rattle.rtps_wire.specs.FaultText.{fault_name}
+use Rattle.rtps_wire.specs.declared.header.Header.{Header}
+use Rattle.rtps_text.specs.declared.ending.Ending.{Ending}
+use Rattle.rtps_text.specs.declared.ending.Ending.TheVariants.{Clean}
+
+-- a line of fields: a space (32) after each, but a line feed (10) after the last
+abbrev pub line_of : List (List ℕ) → List ℕ
+line_of [] = 10 ∷ []
+line_of (field ∷ []) = field ++ 10 ∷ []
+line_of (field ∷ next ∷ fields) = field ++ 32 ∷ line_of (next ∷ fields)
+
+unfoldable pub order_text : Order → List ℕ
+order_text Big = codes "be"
+order_text Little = codes "le"
+
+unfoldable pub digit_of : Bool → List ℕ
+digit_of flag = if flag then codes "1" else codes "0"
+
+unfoldable pub version_text : Version → List ℕ
+version_text version = decimal version.major ++ codes "." ++ decimal version.minor
+
+unfoldable pub payload_text : PayloadValue → List ℕ
+payload_text Absent = codes "absent"
+payload_text (Whole octets) = codes "whole " ++ decimal (length octets)
+payload_text (Key octets) = codes "key " ++ decimal (length octets)
+
+-- how many octets the inline QoS has, its sentinel included
+unfoldable pub qos_octets : Option ListValue → ℕ
+qos_octets None = 0
+qos_octets (Some list) = length list.octets
+
+-- the longs that hold the bits, of 8 digits each, or a dash where there is none
+abbrev pub long_digits : ℕ → List ℕ
+long_digits long = encode_lower (to_be_bytes w32 long)
+
+abbrev pub first_longs : NumberSetValue → ℕ → List ℕ
+first_longs set n = map (λ i. slice_index set.words i) (range_with_len 0 n)
+
+abbrev pub bitmap_text : NumberSetValue → List ℕ
+bitmap_text set = if set.count == 0 then codes "-" else flat_map long_digits (first_longs set ((set.count + 31) / 32))
+
+unfoldable pub time_text : Option Stamp → List ℕ
+time_text None = codes "none"
+time_text (Some stamp) = decimal stamp.seconds ++ codes " " ++ decimal stamp.fraction
+
+unfoldable pub destination_text : Option GuidPrefix → List ℕ
+destination_text None = codes "all"
+destination_text (Some prefix) = encode_lower prefix.0
+
+-- what the line of an act ends with: from whom, for whom, and when, by the receiver's state at its place
+unfoldable pub state_text : State → List ℕ
+state_text state =
+    codes "from " ++ (encode_lower state.source.prefix.0 ++ (codes " to " ++ (destination_text state.dest ++ (codes " time " ++ time_text state.stamp))))
+
+-- the lines of the submessages, by what they say: the name, the place of the first octet, the order of the octets of
+-- numbers, and the fields
+abbrev pub data_line : State → ℕ → Order → DataValue → List ℕ
+data_line state at order value = line_of (codes "data" ∷ decimal at ∷ order_text order
+    ∷ codes "reader" ∷ encode_lower value.reader.0 ∷ codes "writer" ∷ encode_lower value.writer.0 ∷ codes "number" ∷ decimal value.number
+    ∷ codes "qos" ∷ decimal (qos_octets value.qos) ∷ codes "payload" ∷ payload_text value.payload ∷ state_text state ∷ [])
+
+abbrev pub heartbeat_line : State → ℕ → Order → HeartbeatBody → List ℕ
+heartbeat_line state at order value = line_of (codes "heartbeat" ∷ decimal at ∷ order_text order
+    ∷ codes "reader" ∷ encode_lower value.reader.0 ∷ codes "writer" ∷ encode_lower value.writer.0
+    ∷ codes "first" ∷ decimal value.first ∷ codes "last" ∷ signed_decimal value.last ∷ codes "count" ∷ decimal value.count
+    ∷ codes "final" ∷ digit_of value.is_final ∷ codes "live" ∷ digit_of value.live ∷ state_text state ∷ [])
+
+abbrev pub ack_nack_line : State → ℕ → Order → AckNackBody → List ℕ
+ack_nack_line state at order value = line_of (codes "acknack" ∷ decimal at ∷ order_text order
+    ∷ codes "reader" ∷ encode_lower value.reader.0 ∷ codes "writer" ∷ encode_lower value.writer.0
+    ∷ codes "base" ∷ decimal value.set.base ∷ codes "bits" ∷ decimal value.set.count ∷ bitmap_text value.set
+    ∷ codes "count" ∷ decimal value.count ∷ codes "final" ∷ digit_of value.is_final ∷ state_text state ∷ [])
+
+abbrev pub gap_line : State → ℕ → Order → GapBody → List ℕ
+gap_line state at order value = line_of (codes "gap" ∷ decimal at ∷ order_text order
+    ∷ codes "reader" ∷ encode_lower value.reader.0 ∷ codes "writer" ∷ encode_lower value.writer.0 ∷ codes "start" ∷ decimal value.start
+    ∷ codes "base" ∷ decimal value.list.base ∷ codes "bits" ∷ decimal value.list.count ∷ bitmap_text value.list ∷ state_text state ∷ [])
+
+abbrev pub info_ts_line : ℕ → Order → Option Stamp → List ℕ
+info_ts_line at order time = line_of (codes "info_ts" ∷ decimal at ∷ order_text order ∷ codes "time" ∷ time_text time ∷ [])
+
+abbrev pub info_dst_line : ℕ → Order → GuidPrefix → List ℕ
+info_dst_line at order prefix = line_of (codes "info_dst" ∷ decimal at ∷ order_text order ∷ codes "prefix" ∷ encode_lower prefix.0 ∷ [])
+
+abbrev pub info_src_line : ℕ → Order → Version → Vendor → GuidPrefix → List ℕ
+info_src_line at order version vendor prefix = line_of (codes "info_src" ∷ decimal at ∷ order_text order
+    ∷ codes "version" ∷ version_text version ∷ codes "vendor" ∷ encode_lower vendor.0 ∷ codes "prefix" ∷ encode_lower prefix.0 ∷ [])
+
+abbrev pub skipped_line : ℕ → ℕ → List ℕ
+skipped_line at id = line_of (codes "skipped" ∷ decimal at ∷ codes "id" ∷ encode_lower (id ∷ []) ∷ [])
+
+abbrev pub body_line : State → ℕ → Order → BodyValue → List ℕ
+body_line state at order (Data value) = data_line state at order value
+body_line state at order (Heartbeat value) = heartbeat_line state at order value
+body_line state at order (AckNack value) = ack_nack_line state at order value
+body_line state at order (Gap value) = gap_line state at order value
+body_line state at order (InfoTs time) = info_ts_line at order time
+body_line state at order (InfoDst prefix) = info_dst_line at order prefix
+body_line state at order (InfoSrc version vendor prefix) = info_src_line at order version vendor prefix
+body_line state at order (Skipped id) = skipped_line at id
+
+-- the line of an item behind which the receiver is in this state
+abbrev pub item_line : State → ItemValue → List ℕ
+item_line state item = body_line state item.at item.order item.body
+
+abbrev pub refusal_line : Refusal → List ℕ
+refusal_line refusal = line_of (codes "refused" ∷ decimal refusal.at ∷ fault_name refusal.fault ∷ [])
+
+-- the line of a datagram of this number, by its header, if it has one
+abbrev pub datagram_line : ℕ → Option Header → List ℕ
+datagram_line number None = line_of (codes "datagram" ∷ decimal number ∷ codes "unread" ∷ [])
+datagram_line number (Some header) = line_of (codes "datagram" ∷ decimal number ∷ codes "version" ∷ version_text header.version
+    ∷ codes "vendor" ∷ encode_lower header.vendor.0 ∷ codes "prefix" ∷ encode_lower header.prefix.0 ∷ [])
+
+abbrev pub ending_text : Option Refusal → List ℕ
+ending_text None = []
+ending_text (Some refusal) = refusal_line refusal
+
+-- the lines of items and of the refusal that ends them, if one does, from a state on
+abbrev pub outcomes_text : State → List Outcome → List ℕ
+outcomes_text state outcomes = gathered item_line state [] (items_among outcomes) ++ ending_text (refusal_among outcomes)
+
+-- the lines of items behind a header
+abbrev pub items_text : Option Header → List ItemValue → List ℕ
+items_text None items = []
+items_text (Some header) items = gathered item_line (state_at_start header) [] items
+
+-- the lines of a datagram of this number that is read so: its own, one for each item, in the state behind all items
+-- before it, and that of its refusal, if it has one
+abbrev pub reading_text : ℕ → Reading → List ℕ
+reading_text number reading = datagram_line number reading.header ++ (items_text reading.header reading.items ++ ending_text reading.ending)
+
+-- the lines of datagrams in their order, of which the first has this number
+unfoldable pub text_from : ℕ → List (List ℕ) → List ℕ
+text_from number datagrams = flat_map (λ row. reading_text row.0 (reading_of row.1)) (enumerate_from number datagrams)
+
+-- what `show` prints
+abbrev pub show_text : List (List ℕ) → List ℕ
+show_text datagrams = text_from 1 datagrams
+
+-- what `show` answers: its text, and it is clean
+abbrev pub IsShown : List (List ℕ) → List ℕ → Ending → Type 0
+IsShown datagrams text ending = (text ≡ show_text datagrams) × (ending ≡ Clean)

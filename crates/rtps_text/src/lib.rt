@@ -1,0 +1,13 @@
+//! Recordings of datagrams, and the texts that `rtps-audit` prints of them: each datagram and its submessages, what
+//! discovery announced, and whether readers got all data.
+#![tactic(auto)]
+
+mod ending;
+mod recording;
+mod text;
+
+pub use ending::Ending;
+pub use recording::{Datagrams, Recording};
+pub use text::audit::audit_text;
+pub use text::list::list_text;
+pub use text::show::show_text;

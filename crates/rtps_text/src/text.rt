@@ -1,0 +1,10 @@
+//! The texts, each over the lines that it is made of.
+
+pub(crate) mod audit;
+mod audit_lines;
+mod digits;
+mod fields;
+mod item_lines;
+pub(crate) mod list;
+mod list_lines;
+pub(crate) mod show;

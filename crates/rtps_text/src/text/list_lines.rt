@@ -1,0 +1,194 @@
+ghost use Rattle.std.specs.Prelude.{Some};
+ghost use Rattle.std.specs.Fmt.{WritesOnOk};
+ghost use Rattle.std.specs.List.{flat_map};
+ghost use Rattle.rtps_discovery.specs.Endpoint.{endpoint_value};
+ghost use Rattle.rtps_text.specs.ListText.{counts_line, durability_text, endpoint_line, match_line, match_text, name_text, octet_text, participant_line, reliability_text, side_text};
+
+use crate::text::digits::OctetDigits;
+use rtps_discovery::{Durability, Endpoint, Match, Reliability, Side};
+use rtps_ids::Guid;
+use std::fmt;
+
+/// The line of a participant.
+#[derive(Drop)]
+pub(crate) struct ParticipantLine(pub(crate) Guid);
+
+impl fmt::Display for ParticipantLine {
+    ghost output = { λ line. Some (participant_line line.0) };
+
+    fn fmt<W: fmt::Write>(&self, f: &mut fmt::Formatter<W>) -> fmt::Result {
+        writeln!(f, "participant {}", self.0)
+    }
+}
+
+/// The line of an endpoint.
+#[derive(Drop)]
+pub(crate) struct EndpointLine<'a>(pub(crate) &'a Endpoint<'a>);
+
+impl fmt::Display for EndpointLine<'_> {
+    ghost output = { λ line. Some (endpoint_line (endpoint_value line.0.now)) };
+
+    fn fmt<W: fmt::Write>(&self, f: &mut fmt::Formatter<W>) -> fmt::Result {
+        let endpoint = self.0;
+        write!(
+            f,
+            "{} {} topic {} ",
+            SideText(endpoint.side),
+            endpoint.guid,
+            NameText(endpoint.topic)
+        )?;
+        writeln!(
+            f,
+            "type {} {} {}",
+            NameText(endpoint.type_name),
+            ReliabilityText(endpoint.reliability),
+            DurabilityText(endpoint.durability)
+        )
+    }
+}
+
+/// The line of a match.
+#[derive(Drop)]
+pub(crate) struct MatchLine(pub(crate) Match);
+
+impl fmt::Display for MatchLine {
+    ghost output = { λ line. Some (match_line line.0) };
+
+    fn fmt<W: fmt::Write>(&self, f: &mut fmt::Formatter<W>) -> fmt::Result {
+        let Match { pair, reliable } = self.0;
+        writeln!(
+            f,
+            "pair {} {} {}",
+            pair.writer,
+            pair.reader,
+            MatchText(reliable)
+        )
+    }
+}
+
+/// The last line: how many of each there are.
+#[derive(Drop)]
+pub(crate) struct CountsLine {
+    pub(crate) participants: usize,
+    pub(crate) endpoints: usize,
+    pub(crate) unsettled: usize,
+    pub(crate) faults: u128,
+}
+
+impl fmt::Display for CountsLine {
+    ghost output = { λ line. Some (counts_line line.participants line.endpoints line.unsettled line.faults) };
+
+    fn fmt<W: fmt::Write>(&self, f: &mut fmt::Formatter<W>) -> fmt::Result {
+        let CountsLine {
+            participants,
+            endpoints,
+            unsettled,
+            faults,
+        } = self;
+        writeln!(
+            f,
+            "participants {participants} endpoints {endpoints} unsettled {unsettled} faults {faults}"
+        )
+    }
+}
+
+// A name between quotes.
+#[derive(Drop)]
+struct NameText<'a>(&'a [u8]);
+
+impl fmt::Display for NameText<'_> {
+    ghost output = { λ name. Some (name_text name.0.now) };
+
+    fn fmt<W: fmt::Write>(&self, f: &mut fmt::Formatter<W>) -> fmt::Result {
+        write!(f, "\"")?;
+        write_name(self.0, f)?;
+        write!(f, "\"")
+    }
+}
+
+// Writes the octets of a name.
+fn write_name<W: fmt::Write>(name: &[u8], f: &mut fmt::Formatter<W>) -> fmt::Result
+    ensures { WritesOnOk W.write_str_gives f.old result (flat_map octet_text name.now) f.new }
+{
+    for octet in name {
+        write!(f, "{}", OctetText(*octet))?;
+    }
+    Ok(())
+}
+
+// An octet of a name.
+#[derive(Drop)]
+struct OctetText(u8);
+
+impl fmt::Display for OctetText {
+    ghost output = { λ text. Some (octet_text text.0) };
+
+    #[tactic(auto, unfolding(crate::specs::ListText::octet_text))]
+    fn fmt<W: fmt::Write>(&self, f: &mut fmt::Formatter<W>) -> fmt::Result {
+        let octet = self.0;
+        match octet {
+            b'"' | b'\\' => write!(f, "\\x{}", OctetDigits(octet)),
+            b' '..=b'~' => write!(f, "{}", char::from(octet)),
+            _ => write!(f, "\\x{}", OctetDigits(octet)),
+        }
+    }
+}
+
+#[derive(Drop)]
+struct SideText(Side);
+
+impl fmt::Display for SideText {
+    ghost output = { λ text. Some (side_text text.0) };
+
+    #[tactic(auto, unfolding(crate::specs::ListText::side_text))]
+    fn fmt<W: fmt::Write>(&self, f: &mut fmt::Formatter<W>) -> fmt::Result {
+        f.write_str(match self.0 {
+            Side::Writer => "writer",
+            Side::Reader => "reader",
+        })
+    }
+}
+
+#[derive(Drop)]
+struct ReliabilityText(Reliability);
+
+impl fmt::Display for ReliabilityText {
+    ghost output = { λ text. Some (reliability_text text.0) };
+
+    #[tactic(auto, unfolding(crate::specs::ListText::reliability_text))]
+    fn fmt<W: fmt::Write>(&self, f: &mut fmt::Formatter<W>) -> fmt::Result {
+        f.write_str(match self.0 {
+            Reliability::BestEffort => "best-effort",
+            Reliability::Reliable => "reliable",
+        })
+    }
+}
+
+#[derive(Drop)]
+struct DurabilityText(Durability);
+
+impl fmt::Display for DurabilityText {
+    ghost output = { λ text. Some (durability_text text.0) };
+
+    #[tactic(auto, unfolding(crate::specs::ListText::durability_text))]
+    fn fmt<W: fmt::Write>(&self, f: &mut fmt::Formatter<W>) -> fmt::Result {
+        f.write_str(match self.0 {
+            Durability::Volatile => "volatile",
+            Durability::TransientLocal => "transient-local",
+            Durability::Transient => "transient",
+            Durability::Persistent => "persistent",
+        })
+    }
+}
+
+#[derive(Drop)]
+struct MatchText(bool);
+
+impl fmt::Display for MatchText {
+    ghost output = { λ text. Some (match_text text.0) };
+
+    #[tactic(auto, unfolding(crate::specs::ListText::match_text))]
+    fn fmt<W: fmt::Write>(&self, f: &mut fmt::Formatter<W>) -> fmt::Result {
+        f.write_str(if self.0 { "reliable" } else { "best-effort" })
+    }
+}

@@ -1,0 +1,33 @@
+use Rattle.std.proofs.Common.{◌∙◌, [], drop, sym, ap, subst, List, ℕ, Result}
+use Rattle.std.proofs.lemmas.List.{append-nil, take_rest}
+use Rattle.std.proofs.lemmas.Result.{err_from_is_err_and}
+use Rattle.rtps_tool.specs.Answers.{IsFaultOf}
+use Rattle.rtps_tool.specs.Unfinished.{recording_behind}
+use Rattle.rtps_tool.specs.declared.faults.RecFault.{RecFault}
+use Rattle.rtps_tool.proofs.UnfinishedLemmas.{recording_behind-whole}
+use Rattle.rtps_tool.proofs.form.hex_lines.read_recording.Goals as goal
+
+pub returns-in_err-from : goal.returns-in_err-from
+returns-in_err-from c =
+    let p = err_from_is_err_and c.from_residual-in_err-from.result c.from_residual-in_err-from.ensures.1 in
+    let fault = c.in_err-from.field-0.0 in
+    let whole = recording_behind-whole _ _ _ c.if-text-gt-TEXT_MAX.false c.in_ok-reader.ensures.0 c.in_ok-reader.ensures.1 in
+    rw (p.1, p.2) (subst (λ (all : Result (List (List ℕ)) RecFault). IsFaultOf all fault) whole (c.in_err-from.ensures []))
+
+pub returns-in_err-finish : goal.returns-in_err-finish
+returns-in_err-finish c =
+    let p = err_from_is_err_and c.from_residual-in_err-finish.result c.from_residual-in_err-finish.ensures.1 in
+    let fault = c.in_err-finish.field-0.0 in
+    let text = c.args.text.now in
+    let read = c.read_complete.new.self in
+    let left = ap (recording_behind read.recording read.lines) (take_rest text c.in_ok-from.from ∙ sym (append-nil (drop c.in_ok-from.from text))) in
+    let whole = recording_behind-whole _ _ _ c.if-text-gt-TEXT_MAX.false c.in_ok-reader.ensures.0 c.in_ok-reader.ensures.1 in
+    rw (p.1, p.2) (subst (λ (all : Result (List (List ℕ)) RecFault). IsFaultOf all fault) (left ∙ c.in_ok-from.ensures.1.stands [] ∙ whole) c.in_err-finish.ensures)
+
+pub returns : goal.returns
+returns c =
+    let text = c.args.text.now in
+    let read = c.read_complete.new.self in
+    let left = ap (recording_behind read.recording read.lines) (take_rest text c.in_ok-from.from ∙ sym (append-nil (drop c.in_ok-from.from text))) in
+    let whole = recording_behind-whole _ _ _ c.if-text-gt-TEXT_MAX.false c.in_ok-reader.ensures.0 c.in_ok-reader.ensures.1 in
+    rw c.into_recording.ensures (sym (left ∙ c.in_ok-from.ensures.1.stands [] ∙ whole) ∙ c.in_ok-finish.ensures)

@@ -1,0 +1,17 @@
+use Rattle.std.proofs.Common.{◌++◌, ◌∙◌, ℕ, List, Result, ap, subst}
+use Rattle.std.proofs.lemmas.List.{take_rest}
+use Rattle.std.proofs.lemmas.Result.{err_from_is_err_and}
+use Rattle.rtps_tool.specs.Answers.{IsFaultOf}
+use Rattle.rtps_tool.specs.Unfinished.{recording_behind}
+use Rattle.rtps_tool.specs.declared.faults.RecFault.{RecFault}
+use Rattle.rtps_tool.proofs.form.line_reader.LineReader.feed.Goals as goal
+
+pub returns-in_err-kept : goal.returns-in_err-kept
+returns-in_err-kept c =
+    let p = err_from_is_err_and c.from_residual-in_err-kept.result c.from_residual-in_err-kept.ensures.1 in
+    let fault = c.in_err-kept.field-0.0 in
+    let read = c.read_complete.new.self in
+    let rest = take_rest c.args.text.now c.in_ok-from.from in
+    rw (p.1, p.2) (λ later.
+    let joined = ap (λ (line : List ℕ). recording_behind read.recording read.lines (line ++ later)) rest ∙ c.in_ok-from.ensures.1.stands later in
+    subst (λ (whole : Result (List (List ℕ)) RecFault). IsFaultOf whole fault) joined (c.in_err-kept.ensures later))

@@ -1,0 +1,4 @@
+//! Forms of a recording that are read.
+
+pub(crate) mod hex_lines;
+pub(crate) mod line_reader;

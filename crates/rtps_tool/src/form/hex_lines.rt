@@ -1,0 +1,90 @@
+ghost use Rattle.std.specs.Prelude.{◌≡◌, ◌==◌, ◌+◌, ◌^◌, ◌<◌, ◌≤◌, ◌∷◌, ◌++◌, [], length, take, ℕ, List, None, Ok, MatchResult};
+ghost use Rattle.std.specs.List.{position};
+ghost use Rattle.std.specs.Str.Lines.{strip_carriage_return};
+ghost use Rattle.rtps_tool.specs.Answers.{IsFaultOf};
+ghost use Rattle.rtps_tool.specs.Lines.{lines_of, is_line_feed};
+ghost use Rattle.rtps_tool.specs.RecordingText.{is_datagram_line as is_datagram_line_lem, recording_of, recording_of_lines};
+
+use crate::faults::RecFault;
+use crate::form::line_reader::LineReader;
+use rtps_text::Recording;
+use std::alloc::Global;
+
+// The most octets of a text.
+pub(crate) const TEXT_MAX: usize = 1 << 30;
+
+// The most datagrams of a recording.
+pub(crate) const DATAGRAMS_MAX: usize = 1_000_000;
+
+// The most digits of a datagram: two for each of 65,535 octets, as UDP carries no more.
+pub(crate) const DIGITS_MAX: usize = 131_070;
+
+// The place of the first line feed.
+pub(crate) fn line_end(text: &[u8]) -> Option<usize>
+    ensures { result ≡ position is_line_feed text.now }
+{
+    memchr::memchr(b'\n', text)
+}
+
+// The place of the first line feed of a text in front of which so much has none.
+pub(crate) fn line_end_behind(text: &[u8], known: usize) -> Option<usize>
+    requires within { known ≤ length text.now }
+    requires none { position is_line_feed (take known text.now) ≡ None }
+    ensures { result ≡ position is_line_feed text.now }
+{
+    Some(known + line_end(&text[known..])?)
+}
+
+// The line without the one carriage return at its end, if it has one.
+pub(crate) fn without_return(line: &[u8]) -> &[u8]
+    ensures { result.now ≡ strip_carriage_return line.now }
+{
+    match line {
+        [front @ .., b'\r'] => front,
+        _ => line,
+    }
+}
+
+/// Reads a recording: one datagram a line, in hexadecimal digits of either case. Lines end at LF, the last LF may lack,
+/// and one CR at the end of a line is dropped. Empty lines and lines that begin with `#` are skipped.
+///
+/// An `Err` is the first fault of the text, or [`RecFault::Memory`], which may come before any other.
+pub fn read_recording(alloc: Global, text: &[u8]) -> Result<Recording, RecFault>
+    ensures { MatchResult result (λ recording. recording_of text.now ≡ Ok recording) (IsFaultOf (recording_of text.now)) }
+{
+    if text.len() > TEXT_MAX {
+        return Err(RecFault::TooMany);
+    }
+    let mut reader = LineReader::new(alloc)?;
+    let from = reader.read_complete(text, 0)?;
+    reader.finish(&text[from..])?;
+    Ok(reader.into_recording())
+}
+
+// Appends the datagram that a line stands for, if it stands for one.
+pub(crate) fn read_line(recording: &mut Recording, number: u64, line: &[u8]) -> Result<(), RecFault>
+    ensures { let defined = recording_of_lines number (length recording.old) (line.now ∷ []) in MatchResult result
+        (λ _. (found : List (List ℕ)) × (defined ≡ Ok found) × (recording.new ≡ recording.old ++ found))
+        (IsFaultOf defined) }
+{
+    if !is_datagram_line(line) {
+        return Ok(());
+    }
+    if recording.len() >= DATAGRAMS_MAX {
+        return Err(RecFault::TooMany);
+    }
+    if line.len() > DIGITS_MAX {
+        return Err(RecFault::TooLong { line: number });
+    }
+    if !recording.push_hex(line)? {
+        return Err(RecFault::BadHex { line: number });
+    }
+    Ok(())
+}
+
+// Whether a line stands for a datagram.
+fn is_datagram_line(line: &[u8]) -> bool
+    ensures { result ≡ is_datagram_line_lem line.now }
+{
+    !line.is_empty() && line[0] != b'#'
+}
