@@ -12,6 +12,7 @@ use crate::recording::Recording;
 use crate::text::list_lines::{CountsLine, EndpointLine, MatchLine, ParticipantLine};
 use rtps_discovery::{Directory, Endpoint, Match};
 use rtps_ids::{Guid, Memory};
+use rtps_receiver::Walk;
 use std::alloc::{AllocError, Global};
 
 /// What `list` prints of a recording, and that it ends [`Ending::Clean`].
@@ -19,13 +20,14 @@ pub fn list_text(alloc: Global, recording: &Recording) -> Result<(String, Ending
     ensures { IfOk result (λ listed. IsListed recording.now (string_bytes listed.0) listed.1) }
 {
     let mut directory = Directory::new(alloc);
-    let faults = note_datagrams(&mut directory, recording)?;
+    let faults = note_datagrams(alloc, &mut directory, recording)?;
     let text = directory_text(alloc, &directory, faults)?;
     Ok((text, Ending::Clean))
 }
 
 // Notes the acts of all datagrams, and answers how many had a fault.
 fn note_datagrams<'a>(
+    alloc: Global,
     directory: &mut Directory<'a>,
     recording: &'a Recording,
 ) -> Result<u128, Memory>
@@ -33,9 +35,11 @@ fn note_datagrams<'a>(
     ensures map { OnOk result (IsMapOf (acts_in recording.now) directory.new) }
     ensures faults { IfOk result (λ faults. faults ≡ faults_in (acts_in recording.now)) }
 {
+    let mut walk = Walk::new(alloc);
     let mut faults = 0u128;
     for octets in recording.datagrams() {
-        faults += u128::from(directory.note_datagram(octets)?);
+        let _ = walk.read(octets)?;
+        faults += u128::from(directory.note_all(walk.acts())?);
     }
     Ok(faults)
 }
