@@ -10,7 +10,7 @@ use Rattle.rtps_wire.specs.Values.PayloadValue.{Absent, Whole, Key}
 use Rattle.rtps_audit.specs.Delivery.Word.{Told, Gone}
 use Rattle.rtps_audit.specs.RunVerdict.{IsLeast, ClaimsUntold, IsVerdictFrom}
 use Rattle.rtps_audit.specs.PlainVerdict.{IsFounded, IsSpoken, SpeaksTwo, IsClaimed, IsUnclaimed}
-use Rattle.rtps_audit.specs.EagerRun.{IsBoundedBy}
+use Rattle.rtps_audit.specs.FullRun.{IsBoundedBy}
 use Rattle.rtps_audit.specs.Judge.{greatest_base}
 use Rattle.rtps_audit.specs.Laws.{EachHasAVerdict}
 use Rattle.rtps_audit.specs.declared.verdict.Verdict.{Verdict}
@@ -18,7 +18,7 @@ use Rattle.rtps_audit.specs.declared.verdict.Verdict.TheVariants.{Unfounded, Con
 use Rattle.rtps_audit.proofs.ActPlaces.{Has, has_here, has_later, has_cases, has_none}
 use Rattle.rtps_audit.proofs.Greatest.{below_greatest, greatest_below}
 use Rattle.rtps_audit.proofs.BelowBase.{claimed_from_below, below_from_claims}
-use Rattle.rtps_audit.proofs.Runs.{asked_or_not}
+use Rattle.rtps_audit.proofs.DeliveryRuns.{asked_or_not}
 use Rattle.rtps_audit.proofs.Verdicts.{told_or_not, from_plain}
 
 -- a fact holds or does not

@@ -14,15 +14,15 @@ use Rattle.rtps_audit.specs.Delivery.Word.{Told}
 use Rattle.rtps_audit.specs.OneDatagram.{Says, IsSaid, Tells, ClaimsIn}
 use Rattle.rtps_audit.specs.RunVerdict.{IsLeast, IsTold, ClaimsUntold, IsVerdict}
 use Rattle.rtps_audit.specs.PlainVerdict.{IsFounded, IsSpoken, SpeaksTwo, IsClaimed, IsUnclaimed, IsPlainVerdict}
-use Rattle.rtps_audit.specs.Samples.{IsKept, KeepsMore, KeepsTwo}
+use Rattle.rtps_audit.specs.KeptPayloads.{IsKept, KeepsMore, KeepsTwo}
 use Rattle.rtps_audit.specs.Claims.{FindsUntold}
 use Rattle.rtps_audit.specs.Judge.{IsFirstUntold, IsTelling, IsUntoldFront, Knows}
 use Rattle.rtps_audit.specs.Speech.{announced_for, base_for, said_by, word_for}
 use Rattle.rtps_audit.specs.declared.claims.Untold.{Untold}
 use Rattle.rtps_audit.specs.declared.judge_state.Judge.{Judge}
 use Rattle.rtps_audit.specs.declared.verdict.Verdict.TheVariants.{Unfounded, Conflict, Open, Complete}
-use Rattle.rtps_audit.proofs.OneMore.{length_more, claims_last, claims_cases, told_before, told_back, told_by_all, told_by_one, spoken_by_all, spoken_by_one, greatest_base_more, last_announced_more, untold_before, untold_cases}
-use Rattle.rtps_audit.proofs.OneAct.{says_cases, says_before, says_last, acts_more, bases_more, announced_more}
+use Rattle.rtps_audit.proofs.DatagramMore.{length_more, claims_last, claims_cases, told_before, told_back, told_by_all, told_by_one, spoken_by_all, spoken_by_one, greatest_base_more, last_announced_more, untold_before, untold_cases}
+use Rattle.rtps_audit.proofs.ActMore.{says_cases, says_before, says_last, acts_more, bases_more, announced_more}
 use Rattle.rtps_audit.proofs.BelowBase.{claimed_from_below, below_from_claims}
 use Rattle.rtps_audit.proofs.Greatest.{below_greatest, greatest_below}
 use Rattle.rtps_audit.proofs.WordLemmas.{or_cases, or_left, or_right}
@@ -156,8 +156,8 @@ begins covered old new speech words claims datagrams base is_front known = recor
   base = ap (λ (c : _). c.base) claims ∙ known.base;
   last = ap (λ (c : _). c.last) claims ∙ omega (arith, known.last);
   kept = λ n p positive. (
-    λ is. inl ((known.kept n p positive).0 (subst (λ (w : _). IsKept w.samples.items n p) words is)),
-    λ either. elim either [ inl is ↦ subst (λ (w : _). IsKept w.samples.items n p) (sym words) ((known.kept n p positive).1 is) | inr says ↦ absurd (says_nothing says.0 n (Told p) says.1) ],
+    λ is. inl ((known.kept n p positive).0 (subst (λ (w : _). IsKept w.payloads.items n p) words is)),
+    λ either. elim either [ inl is ↦ subst (λ (w : _). IsKept w.payloads.items n p) (sym words) ((known.kept n p positive).1 is) | inr says ↦ absurd (says_nothing says.0 n (Told p) says.1) ],
   );
 }
 
@@ -174,7 +174,7 @@ pub tells_on : {C : Type 0} (covered : C → ℕ → Bool) (old new : Judge C) (
     → new.base ≡ max old.base (unwrap_or (base_for writer reader act) 0)
     → new.claims.last ≡ max old.claims.last (unwrap_or (announced_for writer act) 0)
     → TellsMore (covered old.words.told) (covered new.words.told) (λ n. is_some (word_for writer reader act n))
-    → KeepsMore old.words.samples.items new.words.samples.items (word_for writer reader act)
+    → KeepsMore old.words.payloads.items new.words.payloads.items (word_for writer reader act)
     → IsTelling covered old speech (said_by writer reader acts) → IsTelling covered new speech (said_by writer reader (acts ++ act ∷ []))
 tells_on covered old new writer reader speech acts act datagrams front untold claim_base base last tells keeps telling = record {
   counted = datagrams ∙ telling.counted;
@@ -215,7 +215,7 @@ tells_on covered old new writer reader speech acts act datagrams front untold cl
       | inr now ↦ tells n positive small ∙ or_right (covered old.words.told n) (is_some (word n)) (word_some (word n) says.1 now)
     ]
 
-    spoken : (n : ℕ) (p : PayloadValue) → 1 ≤ n → IsKept new.words.samples.items n p → IsSpoken 1 speech n (Told p) ⊎ IsSaid 1 e n (Told p)
+    spoken : (n : ℕ) (p : PayloadValue) → 1 ≤ n → IsKept new.words.payloads.items n p → IsSpoken 1 speech n (Told p) ⊎ IsSaid 1 e n (Told p)
     spoken n p positive is = elim ((keeps n p positive).0 is) [
       | inl before ↦ elim ((telling.kept n p positive).0 before) [
         | inl old ↦ inl old
@@ -224,7 +224,7 @@ tells_on covered old new writer reader speech acts act datagrams front untold cl
       | inr now ↦ inr (length d.acts, says_last d e word n (Told p) split (positive, positive) now)
     ]
 
-    kept : (n : ℕ) (p : PayloadValue) → 1 ≤ n → IsSpoken 1 speech n (Told p) ⊎ IsSaid 1 e n (Told p) → IsKept new.words.samples.items n p
+    kept : (n : ℕ) (p : PayloadValue) → 1 ≤ n → IsSpoken 1 speech n (Told p) ⊎ IsSaid 1 e n (Told p) → IsKept new.words.payloads.items n p
     kept n p positive (inl old) = (keeps n p positive).1 (inl ((telling.kept n p positive).1 (inl old)))
     kept n p positive (inr says) = elim (says_cases d e word says.0 n (Told p) split says.1) [
       | inl before ↦ (keeps n p positive).1 (inl ((telling.kept n p positive).1 (inr (says.0, before))))
@@ -247,8 +247,8 @@ ends covered old new speech d words datagrams found base last telling = record {
   base = base ∙ omega (arith, telling.base, telling.claimed, greatest_base_more speech d);
   last = last ∙ omega (arith, telling.last, last_announced_more speech d);
   kept = λ n p positive. (
-    λ is. spoken_by_all speech d n (Told p) ((telling.kept n p positive).0 (subst (λ (w : _). IsKept w.samples.items n p) words is)),
-    λ is. subst (λ (w : _). IsKept w.samples.items n p) (sym words) ((telling.kept n p positive).1 (spoken_by_one speech d n (Told p) is)),
+    λ is. spoken_by_all speech d n (Told p) ((telling.kept n p positive).0 (subst (λ (w : _). IsKept w.payloads.items n p) words is)),
+    λ is. subst (λ (w : _). IsKept w.payloads.items n p) (sym words) ((telling.kept n p positive).1 (spoken_by_one speech d n (Told p) is)),
   );
 }
   where
@@ -261,10 +261,10 @@ ends covered old new speech d words datagrams found base last telling = record {
 -- ---- the verdict
 
 -- two payloads are kept where two are spoken
-two_from_kept : {C : Type 0} (covered : C → ℕ → Bool) (judge : Judge C) (speech : Speech) → Knows covered judge speech → (n : ℕ) → 1 ≤ n → KeepsTwo judge.words.samples.items n → SpeaksTwo 1 speech n
+two_from_kept : {C : Type 0} (covered : C → ℕ → Bool) (judge : Judge C) (speech : Speech) → Knows covered judge speech → (n : ℕ) → 1 ≤ n → KeepsTwo judge.words.payloads.items n → SpeaksTwo 1 speech n
 two_from_kept covered judge speech known n positive (x, y, one, two, differ) = (x, y, (known.kept n x positive).0 one, (known.kept n y positive).0 two, differ)
 
-two_from_spoken : {C : Type 0} (covered : C → ℕ → Bool) (judge : Judge C) (speech : Speech) → Knows covered judge speech → (n : ℕ) → SpeaksTwo 1 speech n → KeepsTwo judge.words.samples.items n
+two_from_spoken : {C : Type 0} (covered : C → ℕ → Bool) (judge : Judge C) (speech : Speech) → Knows covered judge speech → (n : ℕ) → SpeaksTwo 1 speech n → KeepsTwo judge.words.payloads.items n
 two_from_spoken covered judge speech known n (x, y, one, two, differ) =
     let positive = one.gives.asked.0 in
     (x, y, (known.kept n x positive).1 one, (known.kept n y positive).1 two, differ)
@@ -276,7 +276,7 @@ verdict_unfounded covered judge speech untold found known =
     from_plain 1 speech (Unfounded untold.datagram untold.number) (subst (IsFirstUntold speech) found known.founded)
 
 -- where there is none, and two payloads are kept for a number
-pub verdict_conflict : {C : Type 0} (covered : C → ℕ → Bool) (judge : Judge C) (speech : Speech) (n : ℕ) → 1 ≤ n → judge.claims.untold ≡ None → IsLeast (KeepsTwo judge.words.samples.items) n → Knows covered judge speech
+pub verdict_conflict : {C : Type 0} (covered : C → ℕ → Bool) (judge : Judge C) (speech : Speech) (n : ℕ) → 1 ≤ n → judge.claims.untold ≡ None → IsLeast (KeepsTwo judge.words.payloads.items) n → Knows covered judge speech
     → IsVerdict speech (Conflict (pos n))
 verdict_conflict covered judge speech n positive none least known =
     from_plain 1 speech (Conflict (pos n)) (
@@ -285,7 +285,7 @@ verdict_conflict covered judge speech n positive none least known =
     )
 
 -- where there is none of either
-pub verdict_last : {C : Type 0} (covered : C → ℕ → Bool) (judge : Judge C) (speech : Speech) → judge.claims.untold ≡ None → ((n : ℕ) → ¬ KeepsTwo judge.words.samples.items n) → Knows covered judge speech
+pub verdict_last : {C : Type 0} (covered : C → ℕ → Bool) (judge : Judge C) (speech : Speech) → judge.claims.untold ≡ None → ((n : ℕ) → ¬ KeepsTwo judge.words.payloads.items n) → Knows covered judge speech
     → IsVerdict speech (if nat_le (max 1 judge.claims.base) judge.claims.last then Open (pos (max 1 judge.claims.base)) else Complete (pos judge.claims.last))
 verdict_last covered judge speech none agree known = by_test (nat_le (max 1 judge.claims.base) judge.claims.last) refl
   where

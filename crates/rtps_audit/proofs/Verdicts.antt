@@ -3,14 +3,14 @@ use Rattle.std.proofs.Common.{◌≡◌, ℕ, zero, suc, ◌<◌, ◌≤◌, Lis
 use Rattle.std.proofs.lemmas.List.Elements.{Contains-append_left, Contains-push}
 use Rattle.std.proofs.lemmas.Option.{slice_get_cases, slice_get_within}
 use Rattle.std.proofs.lemmas.Bool.{cases_lt}
-use Rattle.rtps_audit.specs.Delivery.{Word, Datagram, Speech, State, IsAsked, Gives, last_announced_from}
+use Rattle.rtps_audit.specs.Delivery.{Word, Datagram, Speech, DeliveryState, IsAsked, Gives, last_announced_from}
 use Rattle.rtps_audit.specs.Delivery.Word.{Told}
 use Rattle.rtps_audit.specs.RunVerdict.{IsLeast, OnNatural, IsTold, IsUnsendable, ClaimsUntold, EndsInConflict, EndsWithout, IsVerdictFrom}
 use Rattle.rtps_audit.specs.PlainVerdict.{IsFounded, SpeaksTwo, IsUnclaimed, IsPlainVerdictFrom}
 use Rattle.rtps_audit.specs.Laws.{ReachedStatesAreSound, RunsExistWhereFounded, VerdictsAgree, PlainMeansComplete}
 use Rattle.rtps_audit.specs.declared.verdict.Verdict.{Verdict}
 use Rattle.rtps_audit.specs.declared.verdict.Verdict.TheVariants.{Unfounded, Conflict, Open, Complete}
-use Rattle.rtps_audit.proofs.Runs.{took, IsFoundedBelow, Ends-took, frugal_run, send_up_to}
+use Rattle.rtps_audit.proofs.DeliveryRuns.{took, IsFoundedBelow, Ends-took, frugal_run, send_up_to}
 use Rattle.rtps_audit.proofs.Sound.{reached-sound, founded_from_run, held_from_claim, spoken_from_held}
 
 pub reached_states_are_sound : ReachedStatesAreSound
@@ -102,8 +102,8 @@ two_spoken speech n (end, x, y, ends, one, two, differ) =
 two_held : {from : ℕ} (speech : Speech) → IsFounded from speech → (n : ℕ) → SpeaksTwo from speech n → EndsInConflict from speech n
 two_held speech founded n (x, y, one, two, differ) =
     let run = frugal_run speech founded in
-    let first : State = took run.0 n (Told x) in
-    let second : State = took first n (Told y) in (
+    let first : DeliveryState = took run.0 n (Told x) in
+    let second : DeliveryState = took first n (Told y) in (
       second,
       x,
       y,

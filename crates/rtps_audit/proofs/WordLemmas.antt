@@ -12,9 +12,9 @@ use Rattle.rtps_ids.specs.declared.identity.Guid.{Guid}
 use Rattle.rtps_audit.specs.Coverage.{TellsMore}
 use Rattle.rtps_audit.specs.Delivery.{Word}
 use Rattle.rtps_audit.specs.Delivery.Word.{Told as told, Gone as gone}
-use Rattle.rtps_audit.specs.Samples.{IsKept, KeepsMore}
+use Rattle.rtps_audit.specs.KeptPayloads.{IsKept, KeepsMore}
 use Rattle.rtps_audit.specs.Speech.{is_in_gap, word_for, word_of}
-use Rattle.rtps_audit.specs.declared.sample.Sample.{Sample}
+use Rattle.rtps_audit.specs.declared.payloads.KeptPayload.{KeptPayload}
 
 pub or_cases : (a b : Bool) → (a || b) ≡ true → (a ≡ true) ⊎ (b ≡ true)
 or_cases true b e = inl refl
@@ -66,13 +66,13 @@ gap_tells gap n = some_where (is_in_gap gap n) gone
 
 -- ---- payloads that are kept
 
-kept_left : (xs ys : List Sample) (n : ℕ) (p : PayloadValue) → IsKept xs n p → IsKept (xs ++ ys) n p
-kept_left xs ys n p kept = record { sample = kept.sample; among = Contains-append_left xs ys kept.sample kept.among; number = kept.number; value = kept.value }
+kept_left : (xs ys : List KeptPayload) (n : ℕ) (p : PayloadValue) → IsKept xs n p → IsKept (xs ++ ys) n p
+kept_left xs ys n p kept = record { entry = kept.entry; among = Contains-append_left xs ys kept.entry kept.among; number = kept.number; value = kept.value }
 
-kept_last : (xs : List Sample) (s : Sample) (n : ℕ) (p : PayloadValue) → s.number ≡ n → payload_value s.payload ≡ p → IsKept (xs ++ s ∷ []) n p
-kept_last xs s n p number value = record { sample = s; among = Contains-append_right xs (s ∷ []) s (0, omega arith, refl); number = number; value = value }
+kept_last : (xs : List KeptPayload) (s : KeptPayload) (n : ℕ) (p : PayloadValue) → s.number ≡ n → payload_value s.payload ≡ p → IsKept (xs ++ s ∷ []) n p
+kept_last xs s n p number value = record { entry = s; among = Contains-append_right xs (s ∷ []) s (0, omega arith, refl); number = number; value = value }
 
-only_one : (x y : Sample) → Contains (x ∷ []) y → x ≡ y
+only_one : (x y : KeptPayload) → Contains (x ∷ []) y → x ≡ y
 only_one x y (zero, lt, e) = e
 only_one x y (suc k, lt, e) = absurd (omega arith)
 
@@ -93,7 +93,7 @@ if_some : (b : Bool) (word : Word) → b ≡ true → cond b (Some word) None �
 if_some b word e = rw e refl
 
 -- none is kept where the act has no payload
-pub keeps_none : (xs : List Sample) (word : ℕ → Option Word) → ((n : ℕ) (p : PayloadValue) → word n ≡ Some (told p) → ⊥) → KeepsMore xs xs word
+pub keeps_none : (xs : List KeptPayload) (word : ℕ → Option Word) → ((n : ℕ) (p : PayloadValue) → word n ≡ Some (told p) → ⊥) → KeepsMore xs xs word
 keeps_none xs word none n p positive = (λ kept. inl kept, λ either. elim either [ inl kept ↦ kept | inr says ↦ absurd (none n p says) ])
 
 pub gone_is_none : (b : Bool) (p : PayloadValue) → cond b (Some gone) None ≡ Some (told p) → ⊥
@@ -101,19 +101,19 @@ gone_is_none true p e = cc
 gone_is_none false p e = cc
 
 -- one more
-pub keeps_data : (xs ys : List Sample) (s : Sample) (number : ℕ) (payload : PayloadValue) → ys ≡ xs ++ s ∷ [] → s.number ≡ number → payload_value s.payload ≡ payload
+pub keeps_data : (xs ys : List KeptPayload) (s : KeptPayload) (number : ℕ) (payload : PayloadValue) → ys ≡ xs ++ s ∷ [] → s.number ≡ number → payload_value s.payload ≡ payload
     → KeepsMore xs ys (λ n. cond (n == number) (Some (told payload)) None)
 keeps_data xs ys s number payload is at value n p positive = (to, from)
   where
     to : IsKept ys n p → IsKept xs n p ⊎ (cond (n == number) (Some (told payload)) None ≡ Some (told p))
     to kept =
         let here : IsKept (xs ++ s ∷ []) n p = subst (λ l. IsKept l n p) is kept in
-        elim (Contains-append_cases xs (s ∷ []) here.sample here.among) [
-          | inl before ↦ inl (record { sample = here.sample; among = before; number = here.number; value = here.value })
+        elim (Contains-append_cases xs (s ∷ []) here.entry here.among) [
+          | inl before ↦ inl (record { entry = here.entry; among = before; number = here.number; value = here.value })
           | inr last ↦
-              let same = only_one s here.sample last in
-              let one : number ≡ n = sym at ∙ ap (λ (x : Sample). x.number) same ∙ here.number in
-              let two : payload ≡ p = sym value ∙ ap (λ (x : Sample). payload_value x.payload) same ∙ here.value in
+              let same = only_one s here.entry last in
+              let one : number ≡ n = sym at ∙ ap (λ (x : KeptPayload). x.number) same ∙ here.number in
+              let two : payload ≡ p = sym value ∙ ap (λ (x : KeptPayload). payload_value x.payload) same ∙ here.value in
               inr (if_some (n == number) (told payload) (eqb_refl n number one) ∙ ap (λ v. Some (told v)) two)
         ]
 
@@ -131,7 +131,7 @@ heard_is writer reader act spoken heard n = ap (λ b. cond (b && is_heard_by act
 pub unheard_is : (writer reader : Guid) (act : ActValue) → (is_spoken_by act writer && is_heard_by act reader) ≡ false → (n : ℕ) → word_for writer reader act n ≡ None
 unheard_is writer reader act not n = ap (λ b. cond b (word_of act.body n) None) not
 
-pub keeps_same : (xs ys : List Sample) (one other : ℕ → Option Word) → ((n : ℕ) → other n ≡ one n) → KeepsMore xs ys one → KeepsMore xs ys other
+pub keeps_same : (xs ys : List KeptPayload) (one other : ℕ → Option Word) → ((n : ℕ) → other n ≡ one n) → KeepsMore xs ys one → KeepsMore xs ys other
 keeps_same xs ys one other same keeps n p positive = (
   λ kept. elim ((keeps n p positive).0 kept) [ inl old ↦ inl old | inr says ↦ inr (same n ∙ says) ],
   λ either. elim either [ inl old ↦ (keeps n p positive).1 (inl old) | inr says ↦ (keeps n p positive).1 (inr (sym (same n) ∙ says)) ],

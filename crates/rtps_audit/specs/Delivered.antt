@@ -1,7 +1,7 @@
 -- What the verdict complete promises, and the plain condition under which it is given.
 use Rattle.std.specs.Prelude.{ℕ, ℤ, pos, ◌≡◌, ◌≤◌, Contains}
 use Rattle.rtps_wire.specs.Values.{PayloadValue}
-use Rattle.rtps_audit.specs.Delivery.{Speech, State, IsAsked, Ends, HasRun, Holds, last_announced_from}
+use Rattle.rtps_audit.specs.Delivery.{Speech, DeliveryState, IsAsked, Ends, HasRun, Holds, last_announced_from}
 use Rattle.rtps_audit.specs.Delivery.Word.{Told}
 use Rattle.rtps_audit.specs.PlainVerdict.{IsFounded, IsClaimed, SpeaksTwo}
 
@@ -10,8 +10,8 @@ use Rattle.rtps_audit.specs.PlainVerdict.{IsFounded, IsClaimed, SpeaksTwo}
 pub record IsDeliveredFrom (from : ℕ) (speech : Speech) (last : ℤ) : Type 0 where
   pub last_number : last ≡ pos (last_announced_from from speech)
   pub has_run : HasRun from speech
-  pub each_held : (end : State) → Ends from speech end → (n : ℕ) → IsAsked from n → n ≤ last_announced_from from speech → Holds end n
-  pub one_payload : (end : State) → Ends from speech end → (n : ℕ) (x y : PayloadValue) → Contains end.held (n, Told x) → Contains end.held (n, Told y) → x ≡ y
+  pub each_held : (end : DeliveryState) → Ends from speech end → (n : ℕ) → IsAsked from n → n ≤ last_announced_from from speech → Holds end n
+  pub one_payload : (end : DeliveryState) → Ends from speech end → (n : ℕ) (x y : PayloadValue) → Contains end.held (n, Told x) → Contains end.held (n, Told y) → x ≡ y
 
 -- A run exists, and every run ends with each announced number received with its one payload or told gone; the last
 -- announced number is this one.

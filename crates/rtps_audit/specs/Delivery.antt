@@ -59,16 +59,16 @@ abbrev pub last_announced : Speech → ℕ
 last_announced speech = last_announced_from 1 speech
 
 -- how many datagrams are sent, and the words that the reader holds
-pub record State : Type 0 where
+pub record DeliveryState : Type 0 where
   pub sent : ℕ
   pub held : List (ℕ × Word)
 
 -- nothing is sent, and no word is held
-abbrev pub start : State
+abbrev pub start : DeliveryState
 start = record { sent = 0; held = [] }
 
 -- the reader has a word for the number
-abbrev pub Holds : State → ℕ → Type 0
+abbrev pub Holds : DeliveryState → ℕ → Type 0
 Holds state n = (word : Word) × Contains state.held (n, word)
 
 -- what may happen next: the next datagram is sent, or the reader takes one number's word from an act of a datagram that
@@ -78,26 +78,26 @@ pub data Event : Type 0 where
   Take : (i k n : ℕ) (word : Word) → Event
 
 -- the reader answers only for numbers that it has a word for (8.4.2.3 "Required RTPS Reader Behavior")
-abbrev pub MaySend : ℕ → Speech → State → Type 0
+abbrev pub MaySend : ℕ → Speech → DeliveryState → Type 0
 MaySend from speech state = (state.sent < length speech) × ((n : ℕ) → Claims from speech state.sent n → Holds state n)
 
 -- the event is allowed in the old state, and leaves the new one. Words are taken only for numbers that are asked for
-abbrev pub Step : ℕ → Speech → State → Event → State → Type 0
+abbrev pub Step : ℕ → Speech → DeliveryState → Event → DeliveryState → Type 0
 Step from speech old Send new = MaySend from speech old × (new ≡ record { sent = suc old.sent; held = old.held })
 Step from speech old (Take i k n word) new = (i < old.sent) × Gives from speech i k n word × (new ≡ record { sent = old.sent; held = old.held ++ (n, word) ∷ [] })
 
 -- these events are allowed, one after another
-abbrev pub Follows : ℕ → Speech → State → List Event → State → Type 0
+abbrev pub Follows : ℕ → Speech → DeliveryState → List Event → DeliveryState → Type 0
 Follows from speech old [] new = new ≡ old
-Follows from speech old (event ∷ events) new = (mid : State) × Step from speech old event mid × Follows from speech mid events new
+Follows from speech old (event ∷ events) new = (mid : DeliveryState) × Step from speech old event mid × Follows from speech mid events new
 
 -- some list of allowed events leads to the state
-abbrev pub IsReached : ℕ → Speech → State → Type 0
+abbrev pub IsReached : ℕ → Speech → DeliveryState → Type 0
 IsReached from speech state = (events : List Event) × Follows from speech start events state
 
 -- a run is a list of allowed events by which every datagram is sent. Some run ends in the state
-abbrev pub Ends : ℕ → Speech → State → Type 0
+abbrev pub Ends : ℕ → Speech → DeliveryState → Type 0
 Ends from speech state = IsReached from speech state × (state.sent ≡ length speech)
 
 abbrev pub HasRun : ℕ → Speech → Type 0
-HasRun from speech = (end : State) × Ends from speech end
+HasRun from speech = (end : DeliveryState) × Ends from speech end

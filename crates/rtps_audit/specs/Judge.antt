@@ -6,7 +6,7 @@ use Rattle.rtps_audit.specs.Delivery.Word.{Told}
 use Rattle.rtps_audit.specs.OneDatagram.{IsSaid, Tells}
 use Rattle.rtps_audit.specs.RunVerdict.{IsTold}
 use Rattle.rtps_audit.specs.PlainVerdict.{IsFounded, IsSpoken, IsPlainVerdict}
-use Rattle.rtps_audit.specs.Samples.{IsKept}
+use Rattle.rtps_audit.specs.KeptPayloads.{IsKept}
 use Rattle.rtps_audit.specs.declared.claims.Untold.{Untold}
 use Rattle.rtps_audit.specs.declared.judge_state.Judge.{Judge}
 use Rattle.rtps_audit.specs.declared.verdict.Verdict.TheVariants.{Unfounded}
@@ -27,7 +27,7 @@ pub record Knows {C : Type 0} (covered : C → ℕ → Bool) (judge : Judge C) (
   pub founded : IsFirstUntold speech judge.claims.untold
   pub base : judge.claims.base ≡ greatest_base speech
   pub last : judge.claims.last ≡ last_announced speech
-  pub kept : (n : ℕ) (payload : PayloadValue) → 1 ≤ n → IsKept judge.words.samples.items n payload ↔ IsSpoken 1 speech n (Told payload)
+  pub kept : (n : ℕ) (payload : PayloadValue) → 1 ≤ n → IsKept judge.words.payloads.items n payload ↔ IsSpoken 1 speech n (Told payload)
 
 -- the least number that no datagram tells, as far as a set reaches
 pub record IsUntoldFront (speech : Speech) (front : ℤ) : Type 0 where
@@ -44,4 +44,4 @@ pub record IsTelling {C : Type 0} (covered : C → ℕ → Bool) (judge : Judge 
   pub founded : IsFirstUntold speech judge.claims.untold
   pub base : judge.claims.base ≡ greatest_base speech
   pub last : judge.claims.last ≡ max (last_announced speech) (greatest datagram.announced)
-  pub kept : (n : ℕ) (payload : PayloadValue) → 1 ≤ n → IsKept judge.words.samples.items n payload ↔ (IsSpoken 1 speech n (Told payload) ⊎ IsSaid 1 datagram n (Told payload))
+  pub kept : (n : ℕ) (payload : PayloadValue) → 1 ≤ n → IsKept judge.words.payloads.items n payload ↔ (IsSpoken 1 speech n (Told payload) ⊎ IsSaid 1 datagram n (Told payload))

@@ -1,10 +1,10 @@
 -- Laws over definitions alone. Those on deliveries hold whatever the number is from which on numbers are asked for.
 use Rattle.std.specs.Prelude.{ℕ, ◌<◌, ◌≤◌, ◌≡◌, ◌↔◌, pos, List, [], ◌∷◌, length, All, Contains}
 use Rattle.std.specs.List.{list_any}
-use Rattle.rtps_audit.specs.Delivery.{Word, Speech, State, IsAsked, Gives, Claims, Holds, IsReached, HasRun, last_announced_from}
+use Rattle.rtps_audit.specs.Delivery.{Word, Speech, DeliveryState, IsAsked, Gives, Claims, Holds, IsReached, HasRun, last_announced_from}
 use Rattle.rtps_audit.specs.RunVerdict.{IsVerdictFrom}
 use Rattle.rtps_audit.specs.PlainVerdict.{IsFounded, SpeaksTwo, IsClaimed, IsPlainVerdictFrom}
-use Rattle.rtps_audit.specs.EagerRun.{IsBoundedBy, IsEagerRunAllowed}
+use Rattle.rtps_audit.specs.FullRun.{IsBoundedBy, IsFullRunAllowed}
 use Rattle.rtps_audit.specs.Spans.{has_number}
 use Rattle.rtps_audit.specs.MergedRanges.{covered_of, count_of, ranges_of}
 use Rattle.rtps_audit.specs.declared.merged_ranges.MergedRanges.{MergedRanges}
@@ -13,16 +13,16 @@ use Rattle.rtps_audit.specs.declared.verdict.Verdict.{Verdict}
 use Rattle.rtps_audit.specs.declared.verdict.Verdict.TheVariants.{Complete}
 
 -- a word that is held was given by an act of a datagram that is sent
-abbrev pub HeldWasGiven : ℕ → Speech → State → Type 0
+abbrev pub HeldWasGiven : ℕ → Speech → DeliveryState → Type 0
 HeldWasGiven from speech state = (n : ℕ) (word : Word) → Contains state.held (n, word) → (i : ℕ) × (k : ℕ) × (i < state.sent) × Gives from speech i k n word
 
 -- each number that an answer in a datagram that is sent claims is held
-abbrev pub ClaimedIsHeld : ℕ → Speech → State → Type 0
+abbrev pub ClaimedIsHeld : ℕ → Speech → DeliveryState → Type 0
 ClaimedIsHeld from speech state = (i n : ℕ) → i < state.sent → Claims from speech i n → Holds state n
 
 -- whatever events are allowed, one after another, both are so
 abbrev pub ReachedStatesAreSound : Type 0
-ReachedStatesAreSound = (from : ℕ) (speech : Speech) (state : State) → IsReached from speech state → HeldWasGiven from speech state × ClaimedIsHeld from speech state
+ReachedStatesAreSound = (from : ℕ) (speech : Speech) (state : DeliveryState) → IsReached from speech state → HeldWasGiven from speech state × ClaimedIsHeld from speech state
 
 -- a run exists exactly where each number that an answer claims has a word in an earlier datagram
 abbrev pub RunsExistWhereFounded : Type 0
@@ -30,8 +30,8 @@ RunsExistWhereFounded = (from : ℕ) (speech : Speech) → HasRun from speech �
 
 -- a run exists exactly where the run that takes all it can after each send is allowed. A bound on the numbers that are
 -- told makes what it can take finite
-abbrev pub EagerRunDecides : Type 0
-EagerRunDecides = (from : ℕ) (speech : Speech) (bound : ℕ) → IsBoundedBy from speech bound → HasRun from speech ↔ IsEagerRunAllowed from speech bound
+abbrev pub FullRunDecides : Type 0
+FullRunDecides = (from : ℕ) (speech : Speech) (bound : ℕ) → IsBoundedBy from speech bound → HasRun from speech ↔ IsFullRunAllowed from speech bound
 
 -- the verdict by runs is the one by conditions on the recording alone
 abbrev pub VerdictsAgree : Type 0

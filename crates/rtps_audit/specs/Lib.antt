@@ -6,11 +6,11 @@ pub mod MergedRanges
 pub mod Delivery
 pub mod RunVerdict
 pub mod PlainVerdict
-pub mod EagerRun
+pub mod FullRun
 pub mod Speech
 pub mod Delivered
 pub mod Report
-pub mod Samples
+pub mod KeptPayloads
 pub mod Claims
 pub mod OneDatagram
 pub mod Judge

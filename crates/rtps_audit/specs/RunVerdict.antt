@@ -1,7 +1,7 @@
 -- The verdict on a recording by all its runs.
 use Rattle.std.specs.Prelude.{ℕ, ◌<◌, ◌≤◌, ◌+◌, ◌≡◌, ◌≢◌, ℤ, pos, negsuc, length, Contains}
 use Rattle.rtps_wire.specs.Values.{PayloadValue}
-use Rattle.rtps_audit.specs.Delivery.{Word, Speech, State, IsAsked, Gives, Claims, Holds, IsReached, Ends, HasRun, last_announced_from}
+use Rattle.rtps_audit.specs.Delivery.{Word, Speech, DeliveryState, IsAsked, Gives, Claims, Holds, IsReached, Ends, HasRun, last_announced_from}
 use Rattle.rtps_audit.specs.Delivery.Word.{Told}
 use Rattle.rtps_audit.specs.declared.verdict.Verdict.{Verdict}
 use Rattle.rtps_audit.specs.declared.verdict.Verdict.TheVariants.{Unfounded, Conflict, Open, Complete}
@@ -18,7 +18,7 @@ OnNatural (negsuc n) P = ⊥
 
 -- no list of allowed events sends the datagram at place j
 abbrev pub IsUnsendable : ℕ → Speech → ℕ → Type 0
-IsUnsendable from speech j = (j < length speech) × ((state : State) → IsReached from speech state → state.sent ≤ j)
+IsUnsendable from speech j = (j < length speech) × ((state : DeliveryState) → IsReached from speech state → state.sent ≤ j)
 
 -- some datagram before place j has a word for n
 pub record IsTold (from : ℕ) (speech : Speech) (j n : ℕ) : Type 0 where
@@ -34,11 +34,11 @@ ClaimsUntold from speech j n = Claims from speech j n × ¬ IsTold from speech j
 
 -- some run ends with two different payloads for n
 abbrev pub EndsInConflict : ℕ → Speech → ℕ → Type 0
-EndsInConflict from speech n = (end : State) × (x : PayloadValue) × (y : PayloadValue) × Ends from speech end × Contains end.held (n, Told x) × Contains end.held (n, Told y) × (x ≢ y)
+EndsInConflict from speech n = (end : DeliveryState) × (x : PayloadValue) × (y : PayloadValue) × Ends from speech end × Contains end.held (n, Told x) × Contains end.held (n, Told y) × (x ≢ y)
 
 -- some run ends without a word for n, which is asked for and at most the last announced number
 abbrev pub EndsWithout : ℕ → Speech → ℕ → Type 0
-EndsWithout from speech n = IsAsked from n × (n ≤ last_announced_from from speech) × ((end : State) × Ends from speech end × ¬ Holds end n)
+EndsWithout from speech n = IsAsked from n × (n ≤ last_announced_from from speech) × ((end : DeliveryState) × Ends from speech end × ¬ Holds end n)
 
 -- what a verdict says of the numbers from `from` on. A datagram counts from 1
 abbrev pub IsVerdictFrom : ℕ → Speech → Verdict → Type 0
@@ -48,7 +48,7 @@ IsVerdictFrom from speech (Conflict number) = HasRun from speech × OnNatural nu
 IsVerdictFrom from speech (Open number) = HasRun from speech × ((n : ℕ) → ¬ EndsInConflict from speech n) × OnNatural number (IsLeast (EndsWithout from speech))
 IsVerdictFrom from speech (Complete last) =
     (last ≡ pos (last_announced_from from speech)) × HasRun from speech × ((n : ℕ) → ¬ EndsInConflict from speech n)
-    × ((end : State) → Ends from speech end → (n : ℕ) → IsAsked from n → n ≤ last_announced_from from speech → Holds end n)
+    × ((end : DeliveryState) → Ends from speech end → (n : ℕ) → IsAsked from n → n ≤ last_announced_from from speech → Holds end n)
 
 -- what it says of all numbers
 abbrev pub IsVerdict : Speech → Verdict → Type 0

@@ -3,7 +3,7 @@ ghost use Rattle.rtps_receiver.specs.Values.{ActValue, act_body_value, act_value
 ghost use Rattle.rtps_audit.specs.Coverage.{TellsMore};
 ghost use Rattle.rtps_audit.specs.Delivery.{Datagram, Speech};
 ghost use Rattle.rtps_audit.specs.RunVerdict.{IsVerdict};
-ghost use Rattle.rtps_audit.specs.Samples.{KeepsMore};
+ghost use Rattle.rtps_audit.specs.KeptPayloads.{KeepsMore};
 ghost use Rattle.rtps_audit.specs.Speech.{announced_for, announced_of_body, base_for, base_of_body, said_by, word_for};
 
 use crate::claims::Claims;
@@ -67,8 +67,8 @@ fn note_heard<'a, C: Coverage>(
 ) -> Result<(), Memory>
     ensures told { OnOk result (TellsMore (C.covered words.old.told) (C.covered words.new.told)
         (λ n. is_some (word_for pair.writer pair.reader (act_value act.now) n))) }
-    ensures samples { OnOk result
-        (KeepsMore words.old.samples.items words.new.samples.items (word_for pair.writer pair.reader (act_value act.now))) }
+    ensures payloads { OnOk result
+        (KeepsMore words.old.payloads.items words.new.payloads.items (word_for pair.writer pair.reader (act_value act.now))) }
 {
     if act.spoken_by(pair.writer) && act.heard_by(pair.reader) {
         words.note(&act.body)?;

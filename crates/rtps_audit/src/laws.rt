@@ -1,7 +1,7 @@
 //! Laws over definitions alone. Each function does nothing: its clause is the law, and its
 //! proof the law's proof. The laws on deliveries hold whatever the number is from which on numbers are asked for.
 
-ghost use Rattle.rtps_audit.specs.Laws.{ReachedStatesAreSound, RunsExistWhereFounded, EagerRunDecides, VerdictsAgree, PlainMeansComplete, HasNoTwoVerdicts, EachHasAVerdict, VerdictsFollowWhatIsSaid, RangesLieApart};
+ghost use Rattle.rtps_audit.specs.Laws.{ReachedStatesAreSound, RunsExistWhereFounded, FullRunDecides, VerdictsAgree, PlainMeansComplete, HasNoTwoVerdicts, EachHasAVerdict, VerdictsFollowWhatIsSaid, RangesLieApart};
 
 /// Whatever datagrams are sent and whatever words are taken, in any order: each word that the reader holds was
 /// given by an act of a datagram that was sent, and each number that an answer in such a datagram claims is
@@ -17,8 +17,8 @@ pub fn runs_exist_where_founded()
 
 /// A run exists exactly where the run that takes all it can after each send is allowed, since the reader never
 /// loses a word.
-pub fn eager_run_decides()
-    ensures { EagerRunDecides }
+pub fn full_run_decides()
+    ensures { FullRunDecides }
 {}
 
 /// Where each claimed number has a word in an earlier datagram, no number has two different payloads and each

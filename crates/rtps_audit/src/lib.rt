@@ -10,9 +10,9 @@ mod judge_state;
 mod judging;
 pub mod laws;
 mod merged_ranges;
+mod payloads;
 mod plain_ranges;
 mod report;
-mod sample;
 mod span;
 #[cfg(test)]
 mod tests;

@@ -225,7 +225,12 @@ fn push_data(octets: &mut Vec<u8>, number: u8, payload: u8) -> Result<(), AllocE
 }
 
 fn push_gap(octets: &mut Vec<u8>, first: u8, past: u8) -> Result<(), AllocError> {
-    push_submessage(octets, &FROM_WRITER, &[8, 0, 0, 0x1c], &number_octets(first))?;
+    push_submessage(
+        octets,
+        &FROM_WRITER,
+        &[8, 0, 0, 0x1c],
+        &number_octets(first),
+    )?;
     octets.extend_from_slice(&number_octets(past))?;
     octets.extend_from_slice(&[0; 4])
 }
@@ -260,12 +265,7 @@ fn add_data(
 }
 
 /// A GAP more, in both forms.
-fn add_gap(
-    octets: &mut Vec<u8>,
-    small: &mut Small,
-    first: u8,
-    past: u8,
-) -> Result<(), AllocError> {
+fn add_gap(octets: &mut Vec<u8>, small: &mut Small, first: u8, past: u8) -> Result<(), AllocError> {
     push_gap(octets, first, past)?;
     for number in first..past {
         small.words |= bits_of(u64::from(number)) & 0b100_100_100;
@@ -274,11 +274,7 @@ fn add_gap(
 }
 
 /// One act more, in both forms.
-fn add_act(
-    random: &mut Random,
-    octets: &mut Vec<u8>,
-    small: &mut Small,
-) -> Result<(), AllocError> {
+fn add_act(random: &mut Random, octets: &mut Vec<u8>, small: &mut Small) -> Result<(), AllocError> {
     match random.below(7) {
         0..=3 => {
             let number = 1 + random.below(3) as u8;

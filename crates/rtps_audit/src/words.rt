@@ -2,11 +2,11 @@ ghost use Rattle.std.specs.Prelude.{ℕ, ◌≡◌, ◌<◌, ◌≤◌, ◌^◌,
 ghost use Rattle.rtps_receiver.specs.Values.{act_body_value};
 ghost use Rattle.rtps_audit.specs.Coverage.{TellsMore};
 ghost use Rattle.rtps_audit.specs.RunVerdict.{IsLeast};
-ghost use Rattle.rtps_audit.specs.Samples.{IsNumbered, KeepsMore, KeepsTwo};
+ghost use Rattle.rtps_audit.specs.KeptPayloads.{IsNumbered, KeepsMore, KeepsTwo};
 ghost use Rattle.rtps_audit.specs.Speech.{is_in_gap, is_in_gap_below, word_of};
 
 use crate::coverage::Coverage;
-use crate::sample::{Sample, least_conflict, put_in_order};
+use crate::payloads::{KeptPayload, least_conflict, put_in_order};
 use rtps_ids::Memory;
 use rtps_receiver::ActBody;
 use rtps_wire::GapBody;
@@ -16,19 +16,19 @@ use std::alloc::Global;
 #[derive(Drop)]
 pub(crate) struct Words<'a, C> {
     pub(crate) told: C,
-    pub(crate) samples: Vec<Sample<'a>>,
-    ghost in_range: { All IsNumbered samples.items },
+    pub(crate) payloads: Vec<KeptPayload<'a>>,
+    ghost in_range: { All IsNumbered payloads.items },
 }
 
 impl<'a, C: Coverage> Words<'a, C> {
     /// No words.
     pub(crate) fn new(alloc: Global) -> Self
         ensures told { (n : ℕ) → C.covered result.told n ≡ false }
-        ensures samples { result.samples.items ≡ [] }
+        ensures payloads { result.payloads.items ≡ [] }
     {
         Words {
             told: C::empty(alloc),
-            samples: Vec::new(alloc),
+            payloads: Vec::new(alloc),
         }
     }
 
@@ -36,13 +36,13 @@ impl<'a, C: Coverage> Words<'a, C> {
     pub(crate) fn note(&mut self, body: &ActBody<'a>) -> Result<(), Memory>
         ensures told { OnOk result
             (TellsMore (C.covered self.old.told) (C.covered self.new.told) (λ n. is_some (word_of (act_body_value body.now) n))) }
-        ensures samples { OnOk result
-            (KeepsMore self.old.samples.items self.new.samples.items (word_of (act_body_value body.now))) }
+        ensures payloads { OnOk result
+            (KeepsMore self.old.payloads.items self.new.payloads.items (word_of (act_body_value body.now))) }
     {
         match body {
             ActBody::Data(data) => {
                 let number = data.number.get().cast_unsigned();
-                self.samples.push(Sample {
+                self.payloads.push(KeptPayload {
                     number,
                     payload: data.payload,
                 })?;
@@ -59,12 +59,12 @@ impl<'a, C: Coverage> Words<'a, C> {
     /// The least number for which two different payloads are kept.
     pub(crate) fn least_conflict(&mut self) -> Option<u64>
         ensures conflict { MatchOption result
-            ((n : ℕ) → ¬ KeepsTwo self.old.samples.items n)
-            (IsLeast (KeepsTwo self.old.samples.items)) }
+            ((n : ℕ) → ¬ KeepsTwo self.old.payloads.items n)
+            (IsLeast (KeepsTwo self.old.payloads.items)) }
         ensures in_range { IfSome result (λ n. (1 ≤ n) × (n < 2 ^ 63)) }
     {
-        put_in_order(&mut self.samples);
-        least_conflict(&self.samples)
+        put_in_order(&mut self.payloads);
+        least_conflict(&self.payloads)
     }
 }
 

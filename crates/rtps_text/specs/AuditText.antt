@@ -29,13 +29,13 @@ abbrev pub row_line : Row → List ℕ
 row_line row = line_of (guid_text row.pair.writer ∷ guid_text row.pair.reader ∷ verdict_text row.verdict ∷ [])
 
 -- what is not counted as data of a pair
-abbrev pub others_text : Counts → List ℕ
-others_text counts =
+abbrev pub further_counts_text : Counts → List ℕ
+further_counts_text counts =
     codes "fragments " ++ (decimal counts.fragments ++ (codes " undirected " ++ (decimal counts.undirected ++ (codes " unsettled " ++ decimal counts.unsettled))))
 
 abbrev pub report_counts_line : Counts → List ℕ
 report_counts_line counts = line_of (codes "datagrams" ∷ decimal counts.datagrams ∷ codes "refused" ∷ decimal counts.refused
-    ∷ codes "skipped" ∷ decimal counts.skipped ∷ others_text counts ∷ [])
+    ∷ codes "skipped" ∷ decimal counts.skipped ∷ further_counts_text counts ∷ [])
 
 -- the lines of these rows and counts
 abbrev pub report_text : List Row → Counts → List ℕ

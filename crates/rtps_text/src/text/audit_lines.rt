@@ -1,5 +1,5 @@
 ghost use Rattle.std.specs.Prelude.{Some};
-ghost use Rattle.rtps_text.specs.AuditText.{others_text, pairs_line, report_counts_line, row_line, verdict_text};
+ghost use Rattle.rtps_text.specs.AuditText.{further_counts_text, pairs_line, report_counts_line, row_line, verdict_text};
 
 use rtps_audit::{Counts, Row, Verdict};
 use std::fmt;
@@ -50,17 +50,17 @@ impl fmt::Display for ReportCountsLine {
             counts.datagrams,
             counts.refused,
             counts.skipped,
-            OthersText(counts)
+            FurtherCounts(counts)
         )
     }
 }
 
-// What is not counted as data of a pair.
+// The counts that stand last in a report: fragments, ACKNACKs for everyone, and unsettled GUIDs.
 #[derive(Drop)]
-struct OthersText(Counts);
+struct FurtherCounts(Counts);
 
-impl fmt::Display for OthersText {
-    ghost output = { λ text. Some (others_text text.0) };
+impl fmt::Display for FurtherCounts {
+    ghost output = { λ text. Some (further_counts_text text.0) };
 
     fn fmt<W: fmt::Write>(&self, f: &mut fmt::Formatter<W>) -> fmt::Result {
         let counts = self.0;

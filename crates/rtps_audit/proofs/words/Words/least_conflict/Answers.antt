@@ -1,4 +1,4 @@
-use Rattle.rtps_audit.proofs.SampleLemmas.{conflict_of_sorted}
+use Rattle.rtps_audit.proofs.PayloadLemmas.{conflict_of_sorted}
 use Rattle.rtps_audit.proofs.words.Words.least_conflict.Goals as goal
 
 pub returns-clause-conflict : goal.returns-clause-conflict

@@ -1,6 +1,6 @@
 -- The run that takes all that it can after each send.
 use Rattle.std.specs.Prelude.{ℕ, zero, suc, ◌<◌, ◌≡◌, ◌&&◌, nat_le, if◌then◌else◌, List, [], ◌∷◌, ◌++◌, length, Option, Some, None}
-use Rattle.rtps_audit.specs.Delivery.{Word, Speech, State, start, Event, Gives, Follows}
+use Rattle.rtps_audit.specs.Delivery.{Word, Speech, DeliveryState, start, Event, Gives, Follows}
 use Rattle.rtps_audit.specs.Delivery.Event.{Send, Take}
 
 -- the take of a word, if there is one
@@ -23,17 +23,17 @@ takes_of_acts from i k [] bound = []
 takes_of_acts from i k (act ∷ acts) bound = takes_of_act from i k act bound ++ takes_of_acts from i (suc k) acts bound
 
 -- each datagram from place i on is sent, and then all is taken that it tells
-abbrev pub eager_at : ℕ → ℕ → Speech → ℕ → List Event
-eager_at from i [] bound = []
-eager_at from i (datagram ∷ speech) bound = (Send ∷ takes_of_acts from i 0 datagram.acts bound) ++ eager_at from (suc i) speech bound
+abbrev pub full_run_from : ℕ → ℕ → Speech → ℕ → List Event
+full_run_from from i [] bound = []
+full_run_from from i (datagram ∷ speech) bound = (Send ∷ takes_of_acts from i 0 datagram.acts bound) ++ full_run_from from (suc i) speech bound
 
-abbrev pub eager_run : ℕ → Speech → ℕ → List Event
-eager_run from speech bound = eager_at from 0 speech bound
+abbrev pub full_run : ℕ → Speech → ℕ → List Event
+full_run from speech bound = full_run_from from 0 speech bound
 
 -- each word of the recording for a number that is asked for is for one below the bound
 abbrev pub IsBoundedBy : ℕ → Speech → ℕ → Type 0
 IsBoundedBy from speech bound = (i k n : ℕ) (word : Word) → Gives from speech i k n word → n < bound
 
 -- it is allowed, and sends every datagram
-abbrev pub IsEagerRunAllowed : ℕ → Speech → ℕ → Type 0
-IsEagerRunAllowed from speech bound = (end : State) × Follows from speech start (eager_run from speech bound) end × (end.sent ≡ length speech)
+abbrev pub IsFullRunAllowed : ℕ → Speech → ℕ → Type 0
+IsFullRunAllowed from speech bound = (end : DeliveryState) × Follows from speech start (full_run from speech bound) end × (end.sent ≡ length speech)

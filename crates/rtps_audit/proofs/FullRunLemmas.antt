@@ -5,32 +5,32 @@ use Rattle.std.proofs.lemmas.List.Elements.{Contains-append_left, Contains-push}
 use Rattle.std.proofs.lemmas.Option.{slice_get_within}
 use Rattle.std.proofs.lemmas.Bool.{cases_lt}
 use Rattle.std.proofs.lemmas.Bool.Decides.{nat_tests}
-use Rattle.rtps_audit.specs.Delivery.{Word, Datagram, Speech, State, start, IsAsked, Holds, Event, Gives, Claims, MaySend, Follows}
+use Rattle.rtps_audit.specs.Delivery.{Word, Datagram, Speech, DeliveryState, start, IsAsked, Holds, Event, Gives, Claims, MaySend, Follows}
 use Rattle.rtps_audit.specs.Delivery.Event.{Send}
 use Rattle.rtps_audit.specs.RunVerdict.{IsTold}
 use Rattle.rtps_audit.specs.PlainVerdict.{IsFounded}
-use Rattle.rtps_audit.specs.EagerRun.{asked_word, take_of, takes_of_act, takes_of_acts, eager_at, eager_run, IsBoundedBy}
-use Rattle.rtps_audit.specs.Laws.{EagerRunDecides}
-use Rattle.rtps_audit.proofs.Runs.{Follows-append, took}
+use Rattle.rtps_audit.specs.FullRun.{asked_word, take_of, takes_of_act, takes_of_acts, full_run_from, full_run, IsBoundedBy}
+use Rattle.rtps_audit.specs.Laws.{FullRunDecides}
+use Rattle.rtps_audit.proofs.DeliveryRuns.{Follows-append, took}
 use Rattle.rtps_audit.proofs.Sound.{founded_from_run}
 
 -- what the reader held it still holds, and nothing more was sent
-record Keeps (old new : State) : Type 0 where
+record Keeps (old new : DeliveryState) : Type 0 where
   sent : new.sent ≡ old.sent
   held : (n : ℕ) → Holds old n → Holds new n
 
-keeps_refl : (s : State) → Keeps s s
+keeps_refl : (s : DeliveryState) → Keeps s s
 keeps_refl s = record { sent = refl; held = λ n h. h }
 
-keeps_trans : (a b c : State) → Keeps a b → Keeps b c → Keeps a c
+keeps_trans : (a b c : DeliveryState) → Keeps a b → Keeps b c → Keeps a c
 keeps_trans a b c h k = record { sent = k.sent ∙ h.sent; held = λ n x. k.held n (h.held n x) }
 
 -- these events lead from a state to one that keeps what was held, and has P
-abbrev LeadsTo : ℕ → Speech → State → List Event → (State → Type 0) → Type 0
-LeadsTo from speech s events P = (t : State) × Follows from speech s events t × Keeps s t × P t
+abbrev LeadsTo : ℕ → Speech → DeliveryState → List Event → (DeliveryState → Type 0) → Type 0
+LeadsTo from speech s events P = (t : DeliveryState) × Follows from speech s events t × Keeps s t × P t
 
 -- the word of one act for one number
-one_take : {from : ℕ} (speech : Speech) (s : State) (i k n : ℕ) (found : Option Word) → i < s.sent → ((word : Word) → found ≡ Some word → Gives from speech i k n word)
+one_take : {from : ℕ} (speech : Speech) (s : DeliveryState) (i k n : ℕ) (found : Option Word) → i < s.sent → ((word : Word) → found ≡ Some word → Gives from speech i k n word)
     → LeadsTo from speech s (take_of i k n found) (λ t. (word : Word) → found ≡ Some word → Holds t n)
 one_take speech s i k n None lt gives = (s, refl, keeps_refl s, λ word e. cc)
 one_take speech s i k n (Some word) lt gives = (
@@ -54,10 +54,10 @@ asked_says from act n word (one, le) e =
     rw test e
 
 -- what the act has for the numbers below the bound that are asked for
-abbrev HasAll : ℕ → (ℕ → Option Word) → ℕ → State → Type 0
+abbrev HasAll : ℕ → (ℕ → Option Word) → ℕ → DeliveryState → Type 0
 HasAll from act bound t = (n : ℕ) (word : Word) → IsAsked from n → n < bound → act n ≡ Some word → Holds t n
 
-act_takes : {from : ℕ} (speech : Speech) (s : State) (i k : ℕ) (act : ℕ → Option Word) (bound : ℕ) → i < s.sent → ((n : ℕ) (word : Word) → IsAsked from n → act n ≡ Some word → Gives from speech i k n word)
+act_takes : {from : ℕ} (speech : Speech) (s : DeliveryState) (i k : ℕ) (act : ℕ → Option Word) (bound : ℕ) → i < s.sent → ((n : ℕ) (word : Word) → IsAsked from n → act n ≡ Some word → Gives from speech i k n word)
     → LeadsTo from speech s (takes_of_act from i k act bound) (HasAll from act bound)
 act_takes speech s i k act zero lt gives = (s, refl, keeps_refl s, λ n word a b e. absurd (omega arith))
 act_takes {from} speech s i k act (suc m) lt gives =
@@ -65,8 +65,8 @@ act_takes {from} speech s i k act (suc m) lt gives =
     let last = one_take speech t i k m (asked_word from act m) (rw keeps.sent lt) (λ word e. let says = says_asked from act m word e in gives m word says.0 says.1) in
     join t follows keeps had last.0 last.1 last.2 last.3
   where
-    join : (t : State) → Follows from speech s (takes_of_act from i k act m) t → Keeps s t → HasAll from act m t
-        → (u : State) → Follows from speech t (take_of i k m (asked_word from act m)) u → Keeps t u → ((word : Word) → asked_word from act m ≡ Some word → Holds u m)
+    join : (t : DeliveryState) → Follows from speech s (takes_of_act from i k act m) t → Keeps s t → HasAll from act m t
+        → (u : DeliveryState) → Follows from speech t (take_of i k m (asked_word from act m)) u → Keeps t u → ((word : Word) → asked_word from act m ≡ Some word → Holds u m)
         → LeadsTo from speech s (takes_of_act from i k act m ++ take_of i k m (asked_word from act m)) (HasAll from act (suc m))
     join t follows keeps had u more kept last = (
       u,
@@ -79,10 +79,10 @@ act_takes {from} speech s i k act (suc m) lt gives =
     )
 
 -- what these acts have
-abbrev HasAllOf : ℕ → List (ℕ → Option Word) → ℕ → State → Type 0
+abbrev HasAllOf : ℕ → List (ℕ → Option Word) → ℕ → DeliveryState → Type 0
 HasAllOf from acts bound t = (m : ℕ) (act : ℕ → Option Word) → slice_get acts m ≡ Some act → HasAll from act bound t
 
-acts_takes : {from : ℕ} (speech : Speech) (s : State) (i k : ℕ) (acts : List (ℕ → Option Word)) (bound : ℕ) → i < s.sent
+acts_takes : {from : ℕ} (speech : Speech) (s : DeliveryState) (i k : ℕ) (acts : List (ℕ → Option Word)) (bound : ℕ) → i < s.sent
     → ((m n : ℕ) (act : ℕ → Option Word) (word : Word) → slice_get acts m ≡ Some act → IsAsked from n → act n ≡ Some word → Gives from speech i (k + m) n word)
     → LeadsTo from speech s (takes_of_acts from i k acts bound) (HasAllOf from acts bound)
 acts_takes speech s i k [] bound lt gives = (s, refl, keeps_refl s, λ m act e. cc)
@@ -91,14 +91,14 @@ acts_takes {from} speech s i k (act ∷ acts) bound lt gives =
     let rest = acts_takes speech first.0 i (suc k) acts bound (rw first.2.sent lt) (λ m n other word stands a e. subst (λ p. Gives from speech i p n word) (omega arith) (gives (suc m) n other word stands a e)) in
     join first.0 first.1 first.2 first.3 rest.0 rest.1 rest.2 rest.3
   where
-    all : (t u : State) → HasAll from act bound t → Keeps t u → HasAllOf from acts bound u → HasAllOf from (act ∷ acts) bound u
+    all : (t u : DeliveryState) → HasAll from act bound t → Keeps t u → HasAllOf from acts bound u → HasAllOf from (act ∷ acts) bound u
     all t u one kept rest zero other stands n word a b e =
         let same : act ≡ other = cc in
         kept.held n (one n word a b (ap (λ (f : ℕ → Option Word). f n) same ∙ e))
     all t u one kept rest (suc m) other stands n word a b e = rest m other stands n word a b e
 
-    join : (t : State) → Follows from speech s (takes_of_act from i k act bound) t → Keeps s t → HasAll from act bound t
-        → (u : State) → Follows from speech t (takes_of_acts from i (suc k) acts bound) u → Keeps t u → HasAllOf from acts bound u
+    join : (t : DeliveryState) → Follows from speech s (takes_of_act from i k act bound) t → Keeps s t → HasAll from act bound t
+        → (u : DeliveryState) → Follows from speech t (takes_of_acts from i (suc k) acts bound) u → Keeps t u → HasAllOf from acts bound u
         → LeadsTo from speech s (takes_of_act from i k act bound ++ takes_of_acts from i (suc k) acts bound) (HasAllOf from (act ∷ acts) bound)
     join t follows keeps one u more kept rest = (
       u,
@@ -108,22 +108,22 @@ acts_takes {from} speech s i k (act ∷ acts) bound lt gives =
     )
 
 -- all that is told before a place is held
-abbrev HoldsAllBefore : ℕ → Speech → ℕ → State → Type 0
+abbrev HoldsAllBefore : ℕ → Speech → ℕ → DeliveryState → Type 0
 HoldsAllBefore from speech i state = (n : ℕ) → IsTold from speech i n → Holds state n
 
 -- the state after the next datagram is sent
-abbrev sent_next : State → State
+abbrev sent_next : DeliveryState → DeliveryState
 sent_next s = record { sent = suc s.sent; held = s.held }
 
 -- a word of the datagram at place i is one of its acts'
-told_here : {from : ℕ} (speech : Speech) (i bound : ℕ) (d : Datagram) (t : State) → slice_get speech i ≡ Some d → IsBoundedBy from speech bound → HasAllOf from d.acts bound t
+told_here : {from : ℕ} (speech : Speech) (i bound : ℕ) (d : Datagram) (t : DeliveryState) → slice_get speech i ≡ Some d → IsBoundedBy from speech bound → HasAllOf from d.acts bound t
     → (k n : ℕ) (word : Word) → Gives from speech i k n word → Holds t n
 told_here speech i bound d t stands bounded had k n word gives =
     let same : gives.datagram ≡ d = (let both : Some gives.datagram ≡ Some d = sym gives.stands ∙ stands in cc) in
     had k gives.act (ap (λ (x : Datagram). slice_get x.acts k) (sym same) ∙ gives.speaks) n word gives.asked (bounded i k n word gives) gives.says
 
 -- what is told before the next place is held, where what was told before this one was
-told_next : {from : ℕ} (speech : Speech) (s t : State) (i bound : ℕ) (d : Datagram) → slice_get speech i ≡ Some d → IsBoundedBy from speech bound → HoldsAllBefore from speech i s → Keeps (sent_next s) t → HasAllOf from d.acts bound t
+told_next : {from : ℕ} (speech : Speech) (s t : DeliveryState) (i bound : ℕ) (d : Datagram) → slice_get speech i ≡ Some d → IsBoundedBy from speech bound → HoldsAllBefore from speech i s → Keeps (sent_next s) t → HasAllOf from d.acts bound t
     → HoldsAllBefore from speech (suc i) t
 told_next {from} speech s t i bound d stands bounded all keeps had n told = elim (cases_lt told.place i) [
   | inl before ↦ keeps.held n (all n (record { place = told.place; act = told.act; word = told.word; earlier = before; gives = told.gives }))
@@ -134,8 +134,8 @@ told_next {from} speech s t i bound d stands bounded all keeps had n told = elim
 ]
 
 -- the datagram at place i is sent, and all is taken that it tells
-one_datagram : {from : ℕ} (speech : Speech) (s : State) (i : ℕ) (d : Datagram) (bound : ℕ) → IsFounded from speech → IsBoundedBy from speech bound → s.sent ≡ i → slice_get speech i ≡ Some d → HoldsAllBefore from speech i s
-    → (t : State) × Follows from speech s (Send ∷ takes_of_acts from i 0 d.acts bound) t × (t.sent ≡ suc i) × HoldsAllBefore from speech (suc i) t
+one_datagram : {from : ℕ} (speech : Speech) (s : DeliveryState) (i : ℕ) (d : Datagram) (bound : ℕ) → IsFounded from speech → IsBoundedBy from speech bound → s.sent ≡ i → slice_get speech i ≡ Some d → HoldsAllBefore from speech i s
+    → (t : DeliveryState) × Follows from speech s (Send ∷ takes_of_acts from i 0 d.acts bound) t × (t.sent ≡ suc i) × HoldsAllBefore from speech (suc i) t
 one_datagram {from} speech s i d bound founded bounded is_at stands all =
     let within = slice_get_within speech i d stands in
     let may : MaySend from speech s = (rw is_at within, λ n claims. all n (founded i n (subst (λ j. Claims from speech j n) is_at claims))) in
@@ -147,26 +147,26 @@ one_datagram {from} speech s i d bound founded bounded is_at stands all =
     )
 
 -- from place i on, every datagram is sent
-from_place : {from : ℕ} (speech : Speech) (bound : ℕ) → IsFounded from speech → IsBoundedBy from speech bound → (rest : List Datagram) (i : ℕ) (s : State)
+from_place : {from : ℕ} (speech : Speech) (bound : ℕ) → IsFounded from speech → IsBoundedBy from speech bound → (rest : List Datagram) (i : ℕ) (s : DeliveryState)
     → ((m : ℕ) → slice_get speech (i + m) ≡ slice_get rest m) → s.sent ≡ i → HoldsAllBefore from speech i s
-    → (end : State) × Follows from speech s (eager_at from i rest bound) end × (end.sent ≡ i + length rest)
+    → (end : DeliveryState) × Follows from speech s (full_run_from from i rest bound) end × (end.sent ≡ i + length rest)
 from_place speech bound founded bounded [] i s same is_at all = (s, refl, is_at ∙ omega arith)
 from_place {from} speech bound founded bounded (d ∷ rest) i s same is_at all =
     let here : slice_get speech i ≡ Some d = ap (slice_get speech) (omega arith) ∙ same 0 in
     let next = one_datagram speech s i d bound founded bounded is_at here all in
     let more = from_place speech bound founded bounded rest (suc i) next.0 (λ m. ap (slice_get speech) (omega arith) ∙ same (suc m)) next.2 next.3 in (
       more.0,
-      Follows-append from speech s next.0 more.0 (Send ∷ takes_of_acts from i 0 d.acts bound) (eager_at from (suc i) rest bound) next.1 more.1,
+      Follows-append from speech s next.0 more.0 (Send ∷ takes_of_acts from i 0 d.acts bound) (full_run_from from (suc i) rest bound) next.1 more.1,
       more.2 ∙ omega arith,
     )
 
 none_before : {from : ℕ} (speech : Speech) → HoldsAllBefore from speech 0 start
 none_before speech n told = absurd (let lt = told.earlier in omega arith)
 
-pub eager_run_decides : EagerRunDecides
-eager_run_decides from speech bound bounded = (
+pub full_run_decides : FullRunDecides
+full_run_decides from speech bound bounded = (
   λ run.
       let all = from_place speech bound (founded_from_run speech run.0 run.1) bounded speech 0 start (λ m. ap (slice_get speech) (omega arith)) refl (none_before speech) in
       (all.0, all.1, all.2 ∙ omega arith),
-  λ allowed. (allowed.0, ((eager_run from speech bound, allowed.1), allowed.2)),
+  λ allowed. (allowed.0, ((full_run from speech bound, allowed.1), allowed.2)),
 )

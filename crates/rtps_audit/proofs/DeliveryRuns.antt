@@ -4,7 +4,7 @@ use Rattle.std.specs.Prelude.{Contains}
 use Rattle.std.proofs.lemmas.List.Elements.{Contains-append_left, Contains-append_right, Contains-append_cases, Contains-push, Contains-push_cases}
 use Rattle.std.proofs.lemmas.Option.{slice_get_cases}
 use Rattle.std.proofs.lemmas.Bool.{cases_lt}
-use Rattle.rtps_audit.specs.Delivery.{Word, Datagram, Speech, State, start, IsAsked, Holds, Event, Claims, MaySend, Step, Follows, Ends}
+use Rattle.rtps_audit.specs.Delivery.{Word, Datagram, Speech, DeliveryState, start, IsAsked, Holds, Event, Claims, MaySend, Step, Follows, Ends}
 use Rattle.rtps_audit.specs.Delivery.Event.{Send, Take}
 use Rattle.rtps_audit.specs.RunVerdict.{IsTold}
 use Rattle.rtps_audit.specs.PlainVerdict.{IsFounded, IsSpoken, IsClaimed}
@@ -17,19 +17,19 @@ asked_or_not from n = elim (cases_lt n (max 1 from)) [
 ]
 
 -- each number that is held is claimed by some answer
-abbrev pub IsFrugal : ℕ → Speech → State → Type 0
+abbrev pub IsFrugal : ℕ → Speech → DeliveryState → Type 0
 IsFrugal from speech state = (n : ℕ) → Holds state n → IsClaimed from speech n
 
 -- what the reader held it still holds, nothing more was sent, and what it took was claimed
-pub record Grows (from : ℕ) (speech : Speech) (old new : State) : Type 0 where
+pub record Grows (from : ℕ) (speech : Speech) (old new : DeliveryState) : Type 0 where
   pub sent : new.sent ≡ old.sent
   pub held : (n : ℕ) → Holds old n → Holds new n
   pub frugal : IsFrugal from speech old → IsFrugal from speech new
 
-grows_refl : {from : ℕ} (speech : Speech) (s : State) → Grows from speech s s
+grows_refl : {from : ℕ} (speech : Speech) (s : DeliveryState) → Grows from speech s s
 grows_refl speech s = record { sent = refl; held = λ n h. h; frugal = λ h. h }
 
-grows_trans : {from : ℕ} (speech : Speech) (a b c : State) → Grows from speech a b → Grows from speech b c → Grows from speech a c
+grows_trans : {from : ℕ} (speech : Speech) (a b c : DeliveryState) → Grows from speech a b → Grows from speech b c → Grows from speech a c
 grows_trans speech a b c h k = record {
   sent = k.sent ∙ h.sent;
   held = λ n x. k.held n (h.held n x);
@@ -37,29 +37,29 @@ grows_trans speech a b c h k = record {
 }
 
 -- events one after another
-pub Follows-append : (from : ℕ) (speech : Speech) (a b c : State) (es fs : List Event) → Follows from speech a es b → Follows from speech b fs c → Follows from speech a (es ++ fs) c
+pub Follows-append : (from : ℕ) (speech : Speech) (a b c : DeliveryState) (es fs : List Event) → Follows from speech a es b → Follows from speech b fs c → Follows from speech a (es ++ fs) c
 Follows-append from speech a b c [] fs h k = subst (λ s. Follows from speech s fs c) h k
 Follows-append from speech a b c (e ∷ es) fs h k = (h.0, h.1, Follows-append from speech h.0 b c es fs h.2 k)
 
 -- from a state on, the reader comes to hold what it wants
-abbrev pub Reaches : ℕ → Speech → State → (State → Type 0) → Type 0
-Reaches from speech s P = (events : List Event) × (t : State) × Follows from speech s events t × P t
+abbrev pub Reaches : ℕ → Speech → DeliveryState → (DeliveryState → Type 0) → Type 0
+Reaches from speech s P = (events : List Event) × (t : DeliveryState) × Follows from speech s events t × P t
 
 -- the state after a word for n is taken
-abbrev pub took : State → ℕ → Word → State
+abbrev pub took : DeliveryState → ℕ → Word → DeliveryState
 took t n word = record { sent = t.sent; held = t.held ++ (n, word) ∷ [] }
 
-took-holds : (t : State) (n : ℕ) (word : Word) → Holds (took t n word) n
+took-holds : (t : DeliveryState) (n : ℕ) (word : Word) → Holds (took t n word) n
 took-holds t n word = (word, Contains-push t.held (n, word))
 
-took-frugal : {from : ℕ} (speech : Speech) (t : State) (n : ℕ) (word : Word) → IsClaimed from speech n → IsFrugal from speech t → IsFrugal from speech (took t n word)
+took-frugal : {from : ℕ} (speech : Speech) (t : DeliveryState) (n : ℕ) (word : Word) → IsClaimed from speech n → IsFrugal from speech t → IsFrugal from speech (took t n word)
 took-frugal {from} speech t n word claimed frugal m (other, among) =
     elim (Contains-push_cases t.held (n, word) (m, other) among) [
       | inl before ↦ frugal m (other, before)
       | inr here ↦ subst (IsClaimed from speech) (ap (λ (p : ℕ × Word). p.0) here) claimed
     ]
 
-took-grows : {from : ℕ} (speech : Speech) (t : State) (n : ℕ) (word : Word) → IsClaimed from speech n → Grows from speech t (took t n word)
+took-grows : {from : ℕ} (speech : Speech) (t : DeliveryState) (n : ℕ) (word : Word) → IsClaimed from speech n → Grows from speech t (took t n word)
 took-grows speech t n word claimed = record {
   sent = refl;
   held = λ m h. (h.0, Contains-append_left t.held _ _ h.1);
@@ -67,14 +67,14 @@ took-grows speech t n word claimed = record {
 }
 
 -- what is wanted of a number: an earlier word, and an answer that claims it
-abbrev IsWanted : ℕ → Speech → State → ℕ → Type 0
+abbrev IsWanted : ℕ → Speech → DeliveryState → ℕ → Type 0
 IsWanted from speech s n = IsTold from speech s.sent n × IsClaimed from speech n
 
 -- one more word
-taken : {from : ℕ} (speech : Speech) (s : State) (m : ℕ) → Reaches from speech s (λ t. Grows from speech s t × ((n : ℕ) → IsAsked from n → n < m → Holds t n)) → IsWanted from speech s m
+taken : {from : ℕ} (speech : Speech) (s : DeliveryState) (m : ℕ) → Reaches from speech s (λ t. Grows from speech s t × ((n : ℕ) → IsAsked from n → n < m → Holds t n)) → IsWanted from speech s m
     → Reaches from speech s (λ t. Grows from speech s t × ((n : ℕ) → IsAsked from n → n < suc m → Holds t n))
 taken {from} speech s m (es, t, follows, had) (told, claimed) =
-    let next : State = took t m told.word in
+    let next : DeliveryState = took t m told.word in
     let before : told.place < t.sent = rw had.0.sent told.earlier in
     let step : Step from speech t (Take told.place told.act m told.word) next = (before, told.gives, refl) in
     let all : (n : ℕ) → n < m + 1 → IsAsked from n → Holds next n =
@@ -91,7 +91,7 @@ taken {from} speech s m (es, t, follows, had) (told, claimed) =
     )
 
 -- a number that is not asked for needs none
-not_taken : {from : ℕ} (speech : Speech) (s : State) (m : ℕ) → (IsAsked from m → ⊥) → Reaches from speech s (λ t. Grows from speech s t × ((n : ℕ) → IsAsked from n → n < m → Holds t n))
+not_taken : {from : ℕ} (speech : Speech) (s : DeliveryState) (m : ℕ) → (IsAsked from m → ⊥) → Reaches from speech s (λ t. Grows from speech s t × ((n : ℕ) → IsAsked from n → n < m → Holds t n))
     → Reaches from speech s (λ t. Grows from speech s t × ((n : ℕ) → IsAsked from n → n < suc m → Holds t n))
 not_taken {from} speech s m never (es, t, follows, had) = (
   es,
@@ -107,7 +107,7 @@ not_taken {from} speech s m never (es, t, follows, had) = (
 )
 
 -- it takes a word for each number below a bound
-take_below : {from : ℕ} (speech : Speech) (s : State) (bound : ℕ) → ((n : ℕ) → IsAsked from n → n < bound → IsWanted from speech s n)
+take_below : {from : ℕ} (speech : Speech) (s : DeliveryState) (bound : ℕ) → ((n : ℕ) → IsAsked from n → n < bound → IsWanted from speech s n)
     → Reaches from speech s (λ t. Grows from speech s t × ((n : ℕ) → IsAsked from n → n < bound → Holds t n))
 take_below speech s zero h = ([], s, refl, (grows_refl speech s, λ n a b. absurd (omega arith)))
 take_below {from} speech s (suc m) h =
@@ -139,14 +139,14 @@ place_within speech j d e = elim (slice_get_cases speech j).1 [
 ]
 
 -- it takes a word for each number that some base claims
-take_bases : {from : ℕ} (speech : Speech) (s : State) (bases : List ℕ) → ((base : ℕ) → Contains bases base → (n : ℕ) → IsAsked from n → n < base → IsWanted from speech s n)
+take_bases : {from : ℕ} (speech : Speech) (s : DeliveryState) (bases : List ℕ) → ((base : ℕ) → Contains bases base → (n : ℕ) → IsAsked from n → n < base → IsWanted from speech s n)
     → Reaches from speech s (λ t. Grows from speech s t × ((base : ℕ) → Contains bases base → (n : ℕ) → IsAsked from n → n < base → Holds t n))
 take_bases speech s [] h = ([], s, refl, (grows_refl speech s, λ base c. absurd (no_element base c)))
 take_bases {from} speech s (b ∷ bs) h =
     let first = take_below speech s b (h b (Contains-append_left (b ∷ []) bs b (Contains-push [] b))) in
-    let t : State = first.1 in
+    let t : DeliveryState = first.1 in
     let rest = take_bases speech t bs (λ base c n a l. rw first.3.0.sent (h base (Contains-append_right (b ∷ []) bs base c) n a l)) in
-    let u : State = rest.1 in (
+    let u : DeliveryState = rest.1 in (
       first.0 ++ rest.0,
       u,
       Follows-append from speech s t u first.0 rest.0 first.2 rest.2,
@@ -160,7 +160,7 @@ take_bases {from} speech s (b ∷ bs) h =
     )
 
 -- all that is claimed where the reader stands is held
-may_send : {from : ℕ} (speech : Speech) (t : State) (j : ℕ) (d : Datagram) → t.sent ≡ j → j < length speech → slice_get speech j ≡ Some d
+may_send : {from : ℕ} (speech : Speech) (t : DeliveryState) (j : ℕ) (d : Datagram) → t.sent ≡ j → j < length speech → slice_get speech j ≡ Some d
     → ((base : ℕ) → Contains d.bases base → (n : ℕ) → IsAsked from n → n < base → Holds t n) → MaySend from speech t
 may_send speech t j d is_at lt stands all = (
   rw is_at lt,
@@ -175,7 +175,7 @@ abbrev pub IsFoundedBelow : ℕ → Speech → ℕ → Type 0
 IsFoundedBelow from speech j = (i n : ℕ) → i < j → Claims from speech i n → IsTold from speech i n
 
 -- j datagrams are sent, and what is held is claimed
-abbrev pub HasSent : ℕ → Speech → ℕ → State → Type 0
+abbrev pub HasSent : ℕ → Speech → ℕ → DeliveryState → Type 0
 HasSent from speech j state = (state.sent ≡ j) × IsFrugal from speech state
 
 -- one datagram more can be sent
@@ -193,7 +193,7 @@ send_next {from} speech j founded lt (es, s, follows, (at_j, frugal)) =
         → Reaches from speech start (HasSent from speech (suc j))
     go d stands (fs, t, more, had) =
         let is_at : t.sent ≡ j = had.0.sent ∙ at_j in
-        let next : State = record { sent = suc t.sent; held = t.held } in
+        let next : DeliveryState = record { sent = suc t.sent; held = t.held } in
         let last : Follows from speech t (Send ∷ []) next = (next, (may_send speech t j d is_at lt stands had.1, refl), refl) in (
           es ++ (fs ++ Send ∷ []),
           next,
@@ -213,13 +213,13 @@ send_up_to speech (suc j) le founded =
     (send_up_to speech j (omega arith) (λ i n lt claims. founded i n (omega arith) claims))
 
 -- some run ends with no word for a number that is not claimed
-pub frugal_run : {from : ℕ} (speech : Speech) → IsFounded from speech → (end : State) × Ends from speech end × IsFrugal from speech end
+pub frugal_run : {from : ℕ} (speech : Speech) → IsFounded from speech → (end : DeliveryState) × Ends from speech end × IsFrugal from speech end
 frugal_run speech founded =
     let run = send_up_to speech (length speech) (omega arith) (λ i n lt claims. founded i n claims) in
     (run.1, ((run.0, run.2), run.3.0), run.3.1)
 
 -- a run goes on by a word that is spoken
-pub Ends-took : {from : ℕ} (speech : Speech) (end : State) (n : ℕ) (word : Word) → Ends from speech end → IsSpoken from speech n word → Ends from speech (took end n word)
+pub Ends-took : {from : ℕ} (speech : Speech) (end : DeliveryState) (n : ℕ) (word : Word) → Ends from speech end → IsSpoken from speech n word → Ends from speech (took end n word)
 Ends-took {from} speech end n word ((events, follows), all) spoken =
     let within : spoken.place < length speech = place_within speech spoken.place spoken.gives.datagram spoken.gives.stands in
     let sent : spoken.place < end.sent = omega arith in

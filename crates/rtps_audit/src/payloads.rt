@@ -2,13 +2,13 @@ ghost use Rattle.std.specs.Prelude.{ℕ, MatchOption, IsTrue, ◌≡◌, ◌↔�
 ghost use Rattle.std.specs.List.Sorted.{IsNonDecreasingBy, IsPermutation};
 ghost use Rattle.rtps_wire.specs.Values.{payload_value};
 ghost use Rattle.rtps_audit.specs.RunVerdict.{IsLeast};
-ghost use Rattle.rtps_audit.specs.Samples.{KeepsTwo, number_of};
+ghost use Rattle.rtps_audit.specs.KeptPayloads.{KeepsTwo, number_of};
 
 use rtps_wire::Payload;
 
 /// A number and a payload that was spoken for it.
 #[derive(Clone, Copy, Debug)]
-pub(crate) struct Sample<'a> {
+pub(crate) struct KeptPayload<'a> {
     pub(crate) number: u64,
     pub(crate) payload: Payload<'a>,
 }
@@ -25,33 +25,33 @@ fn is_same_payload(one: Payload<'_>, other: Payload<'_>) -> bool
     }
 }
 
-/// Whether samples stand in the order of their numbers.
-fn is_in_order(samples: &[Sample<'_>]) -> bool
-    ensures { IsTrue result ↔ IsNonDecreasingBy number_of samples.now }
+/// Whether payloads stand in the order of their numbers.
+fn is_in_order(payloads: &[KeptPayload<'_>]) -> bool
+    ensures { IsTrue result ↔ IsNonDecreasingBy number_of payloads.now }
 {
-    samples.is_sorted_by_key(|sample| sample.number)
+    payloads.is_sorted_by_key(|entry| entry.number)
 }
 
-/// Puts samples in the order of their numbers. Those that came in order, as most do, are not sorted again.
-pub(crate) fn put_in_order(samples: &mut Vec<Sample<'_>>)
-    ensures permutation { IsPermutation samples.old.items samples.new.items }
-    ensures sorted { IsNonDecreasingBy number_of samples.new.items }
+/// Puts payloads in the order of their numbers. Those that came in order, as most do, are not sorted again.
+pub(crate) fn put_in_order(payloads: &mut Vec<KeptPayload<'_>>)
+    ensures permutation { IsPermutation payloads.old.items payloads.new.items }
+    ensures sorted { IsNonDecreasingBy number_of payloads.new.items }
 {
-    if !is_in_order(samples) {
-        samples.sort_unstable_by_key(|sample| sample.number);
+    if !is_in_order(payloads) {
+        payloads.sort_unstable_by_key(|entry| entry.number);
     }
 }
 
 /// The least number for which two different payloads are kept.
-pub(crate) fn least_conflict(samples: &[Sample<'_>]) -> Option<u64>
-    requires { IsNonDecreasingBy number_of samples.now }
+pub(crate) fn least_conflict(payloads: &[KeptPayload<'_>]) -> Option<u64>
+    requires { IsNonDecreasingBy number_of payloads.now }
     ensures { MatchOption result
-        ((n : ℕ) → ¬ KeepsTwo samples.now n)
-        (IsLeast (KeepsTwo samples.now)) }
+        ((n : ℕ) → ¬ KeepsTwo payloads.now n)
+        (IsLeast (KeepsTwo payloads.now)) }
 {
-    for place in 1..samples.len() {
-        let before = samples[place - 1];
-        let here = samples[place];
+    for place in 1..payloads.len() {
+        let before = payloads[place - 1];
+        let here = payloads[place];
         if before.number == here.number && !is_same_payload(before.payload, here.payload) {
             return Some(here.number);
         }

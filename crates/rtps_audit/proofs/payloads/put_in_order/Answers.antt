@@ -1,7 +1,7 @@
 use Rattle.std.proofs.Common.{rules}
 use Rattle.std.proofs.lemmas.List.Sorted.{IsNonDecreasingBy-from_sort_by_key}
-use Rattle.rtps_audit.specs.Samples.{number_of}
-use Rattle.rtps_audit.proofs.sample.put_in_order.Goals as goal
+use Rattle.rtps_audit.specs.KeptPayloads.{number_of}
+use Rattle.rtps_audit.proofs.payloads.put_in_order.Goals as goal
 
 pub returns-then-not-is_in_order-clause-sorted : goal.returns-then-not-is_in_order-clause-sorted
 returns-then-not-is_in_order-clause-sorted c =

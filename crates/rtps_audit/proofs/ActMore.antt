@@ -9,7 +9,7 @@ use Rattle.rtps_audit.specs.Delivery.{Word, Datagram, IsAsked, greatest}
 use Rattle.rtps_audit.specs.OneDatagram.{Says}
 use Rattle.rtps_audit.specs.Speech.{announced_for, base_for, said_by, word_for}
 use Rattle.rtps_audit.proofs.Greatest.{greatest_more}
-use Rattle.rtps_audit.proofs.OneMore.{get_before, get_last, place_cases}
+use Rattle.rtps_audit.proofs.DatagramMore.{get_before, get_last, place_cases}
 
 -- what an act more says
 pub says_cases : {from : ℕ} (d e : Datagram) (act : ℕ → Option Word) (k n : ℕ) (word : Word) → e.acts ≡ d.acts ++ act ∷ [] → Says from e k n word → Says from d k n word ⊎ (act n ≡ Some word)

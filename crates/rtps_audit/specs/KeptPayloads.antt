@@ -1,0 +1,32 @@
+-- Payloads that are kept by number.
+use Rattle.std.specs.Prelude.{ℕ, ◌<◌, ◌≤◌, ◌^◌, ◌≡◌, ◌≢◌, ◌⊎◌, ◌↔◌, List, Option, Some, Contains}
+use Rattle.rtps_wire.specs.Values.{PayloadValue, payload_value}
+use Rattle.rtps_audit.specs.Delivery.{Word}
+use Rattle.rtps_audit.specs.Delivery.Word.{Told}
+use Rattle.rtps_audit.specs.declared.payloads.KeptPayload.{KeptPayload}
+
+-- its number is one of a sequence: positive, and below 2^63
+abbrev pub IsNumbered : KeptPayload → Type 0
+IsNumbered entry = (1 ≤ entry.number) × (entry.number < 2 ^ 63)
+
+-- the payload is kept for the number
+pub record IsKept (payloads : List KeptPayload) (n : ℕ) (payload : PayloadValue) : Type 0 where
+  pub entry : KeptPayload
+  pub among : Contains payloads entry
+  pub number : entry.number ≡ n
+  pub value : payload_value entry.payload ≡ payload
+
+-- the new payloads are the old ones and the payloads of these words
+abbrev pub KeepsMore : List KeptPayload → List KeptPayload → (ℕ → Option Word) → Type 0
+KeepsMore old new word = (n : ℕ) (payload : PayloadValue) → 1 ≤ n → IsKept new n payload ↔ (IsKept old n payload ⊎ (word n ≡ Some (Told payload)))
+
+-- two different payloads are kept for the number
+abbrev pub KeepsTwo : List KeptPayload → ℕ → Type 0
+KeepsTwo payloads n = (x : PayloadValue) × (y : PayloadValue) × IsKept payloads n x × IsKept payloads n y × (x ≢ y)
+
+-- payloads of one number have one payload
+abbrev pub Agrees : KeptPayload → KeptPayload → Type 0
+Agrees x y = x.number ≡ y.number → payload_value x.payload ≡ payload_value y.payload
+
+abbrev pub number_of : KeptPayload → ℕ
+number_of entry = entry.number
