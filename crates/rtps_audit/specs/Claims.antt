@@ -1,4 +1,5 @@
--- The first claim that no earlier datagram tells.
+-- The first claim that no earlier datagram tells. own: a reader claims only what it was told (DDSI-RTPS 2.5, 8.4.2.3
+-- "Required RTPS Reader Behavior"), so the first claim of more shows that the recording is not that of such a reader.
 use Rattle.std.specs.Prelude.{ℕ, ◌≡◌, ℤ, pos, int_lt, Option, Some, None, if◌then◌else◌}
 use Rattle.rtps_audit.specs.declared.claims.Untold.{Untold}
 

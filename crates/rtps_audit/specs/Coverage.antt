@@ -1,4 +1,5 @@
--- Sets of sequence numbers, as tests of a number.
+-- Sets of sequence numbers, as tests of a number. own: the standard counts numbers one by one; a set of
+-- them is what a verdict rests on.
 use Rattle.std.specs.Prelude.{ℕ, Bool, true, false, ◌≡◌, ◌≤◌, ◌<◌, ◌-◌, ◌^◌, ◌&&◌, ◌||◌, ℤ, pos, negsuc, ◌≤ℤ◌, ◌<ℤ◌, int_le, int_lt}
 
 -- a number from lo on and below hi

@@ -1,4 +1,5 @@
--- What the verdict complete promises, and the plain condition under which it is given.
+-- What the verdict complete promises, and the plain condition under which it is given. own: the standard
+-- names no verdict; these are the words in which this project answers.
 use Rattle.std.specs.Prelude.{ℕ, ℤ, pos, ◌≡◌, ◌≤◌, Contains}
 use Rattle.rtps_wire.specs.Values.{PayloadValue}
 use Rattle.rtps_audit.specs.Delivery.{Speech, DeliveryState, IsAsked, Ends, HasRun, Holds, last_announced_from}

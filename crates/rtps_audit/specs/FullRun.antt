@@ -1,4 +1,5 @@
--- The run that takes all that it can after each send.
+-- The run that takes all that it can after each send. own: a reader never loses a word, so where any run is
+-- allowed this one is, and it decides.
 use Rattle.std.specs.Prelude.{ℕ, zero, suc, ◌<◌, ◌≡◌, ◌&&◌, nat_le, if◌then◌else◌, List, [], ◌∷◌, ◌++◌, length, Option, Some, None}
 use Rattle.rtps_audit.specs.Delivery.{Word, Speech, DeliveryState, start, Event, Gives, Follows}
 use Rattle.rtps_audit.specs.Delivery.Event.{Send, Take}

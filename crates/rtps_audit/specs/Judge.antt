@@ -1,4 +1,5 @@
--- What a judge knows of the datagrams that it was told.
+-- What a judge knows of the datagrams that it was told. own: what has to be remembered of them, so that each is
+-- told once.
 use Rattle.std.specs.Prelude.{ℕ, ℤ, pos, Bool, true, ◌≡◌, ◌≤◌, ◌<◌, ◌≤ℤ◌, ◌<ℤ◌, ◌-◌, ◌^◌, ◌↔◌, ◌⊎◌, max, [], ◌∷◌, length, MatchOption, Option}
 use Rattle.rtps_wire.specs.Values.{PayloadValue}
 use Rattle.rtps_audit.specs.Delivery.{Datagram, Speech, greatest, last_announced}

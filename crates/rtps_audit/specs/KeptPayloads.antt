@@ -1,4 +1,4 @@
--- Payloads that are kept by number.
+-- Payloads that are kept by number. own: a number has one payload, so two are a conflict.
 use Rattle.std.specs.Prelude.{ℕ, ◌<◌, ◌≤◌, ◌^◌, ◌≡◌, ◌≢◌, ◌⊎◌, ◌↔◌, List, Option, Some, Contains}
 use Rattle.rtps_wire.specs.Values.{PayloadValue, payload_value}
 use Rattle.rtps_audit.specs.Delivery.{Word}

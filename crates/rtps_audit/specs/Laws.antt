@@ -1,4 +1,5 @@
 -- Laws over definitions alone. Those on deliveries hold whatever the number is from which on numbers are asked for.
+-- own: what a reader of the definitions would ask of them.
 use Rattle.std.specs.Prelude.{ℕ, ◌<◌, ◌≤◌, ◌≡◌, ◌↔◌, pos, List, [], ◌∷◌, length, All, Contains}
 use Rattle.std.specs.List.{list_any}
 use Rattle.rtps_audit.specs.Delivery.{Word, Speech, DeliveryState, IsAsked, Gives, Claims, Holds, IsReached, HasRun, last_announced_from}

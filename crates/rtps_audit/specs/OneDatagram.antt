@@ -1,4 +1,5 @@
--- What one datagram says of the numbers that are asked for.
+-- What one datagram says of the numbers that are asked for. own: the parts of a datagram's words and
+-- claims (specs/Delivery), for proofs datagram by datagram.
 use Rattle.std.specs.Prelude.{ℕ, ◌≡◌, ◌<◌, Option, Some, slice_get, Contains}
 use Rattle.rtps_audit.specs.Delivery.{Word, Datagram, IsAsked}
 

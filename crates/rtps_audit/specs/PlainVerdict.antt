@@ -1,4 +1,5 @@
--- The same verdict by conditions on the recording alone, with no run in them.
+-- The same verdict by conditions on the recording alone, with no run in them. own: runs say
+-- what a verdict means, these conditions are how it is found; a law says that both are the same.
 use Rattle.std.specs.Prelude.{ℕ, ◌≤◌, ◌+◌, ◌≡◌, ◌≢◌, pos}
 use Rattle.rtps_wire.specs.Values.{PayloadValue}
 use Rattle.rtps_audit.specs.Delivery.{Word, Speech, IsAsked, Gives, Claims, last_announced_from}

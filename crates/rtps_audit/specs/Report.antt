@@ -1,4 +1,5 @@
--- What a report says of a recording: one row for each reliable pair, and what was counted.
+-- What a report says of a recording: one row for each reliable pair, and what was counted. own: the
+-- counts tell what the verdicts do not speak of.
 use Rattle.std.specs.Prelude.{ℕ, Bool, true, false, ◌≡◌, ◌&&◌, List, length, map, All, count_by, sum_by}
 use Rattle.rtps_wire.specs.Reading.{reading_of}
 use Rattle.rtps_wire.specs.Tally.{tally_of}

@@ -1,4 +1,5 @@
--- The verdict on a recording by all its runs.
+-- The verdict on a recording by all its runs. own: the standard names no verdict; the runs are those of
+-- specs/Delivery.
 use Rattle.std.specs.Prelude.{ℕ, ◌<◌, ◌≤◌, ◌+◌, ◌≡◌, ◌≢◌, ℤ, pos, negsuc, length, Contains}
 use Rattle.rtps_wire.specs.Values.{PayloadValue}
 use Rattle.rtps_audit.specs.Delivery.{Word, Speech, DeliveryState, IsAsked, Gives, Claims, Holds, IsReached, Ends, HasRun, last_announced_from}

@@ -1,4 +1,4 @@
--- Ranges of numbers.
+-- Ranges of numbers. own: a GAP and a HEARTBEAT tell ranges, so sets keep ranges.
 use Rattle.std.specs.Prelude.{ℕ, Bool, true, false, ◌≡◌, ◌≤◌, ◌<◌, ◌^◌, ◌&&◌, nat_le, nat_lt, List}
 use Rattle.std.specs.List.{list_any}
 use Rattle.rtps_audit.specs.declared.span.Span.{Span}

@@ -1,4 +1,5 @@
 -- What a directory's fields stand for.
+-- own: it keeps no copy of what was announced.
 use Rattle.std.specs.Prelude.{◌≡◌, ◌≢◌, ◌⊎◌, if◌then◌else◌, List, map, Option, Some, None}
 use Rattle.rtps_ids.specs.declared.identity.Guid.{Guid}
 use Rattle.rtps_discovery.specs.Directory.{Entries}

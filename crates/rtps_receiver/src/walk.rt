@@ -64,11 +64,7 @@ impl<'a> Walk<'a> {
 }
 
 // Appends the acts of what is unread of a datagram, from this state on, and counts its items.
-fn push_acts<'a>(
-    acts: &mut Vec<Act<'a>>,
-    start: State,
-    items: Items<'a>,
-) -> Result<Tally, Memory>
+fn push_acts<'a>(acts: &mut Vec<Act<'a>>, start: State, items: Items<'a>) -> Result<Tally, Memory>
     requires empty { acts.old.items ≡ [] }
     requires few { length (outcomes_left items) < 2 ^ 64 }
     ensures acts { OnOk result (map act_value acts.new.items ≡ acts_behind start [] (items_among (outcomes_left items.entry))) }

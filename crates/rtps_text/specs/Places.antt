@@ -1,4 +1,5 @@
 -- Pieces of one row of octets, kept by the places between them.
+-- own: one allocation for all octets of a recording, and one for the places.
 use Rattle.std.specs.Prelude.{ℕ, ◌+◌, ◌-◌, ◌≡◌, ◌<◌, ◌≤◌, List, [], ◌∷◌, length, slice_index, slice_range}
 
 -- the pieces between each place and the next

@@ -1,4 +1,5 @@
 -- What a call answers, against what a definition gives.
+-- own: memory may end at any time, which no definition foresees.
 use Rattle.std.specs.Prelude.{◌≡◌, Result, Err}
 use Rattle.rtps_tool.specs.declared.faults.RecFault.{RecFault}
 use Rattle.rtps_tool.specs.declared.faults.RecFault.TheVariants.{BadHex, TooLong, TooMany, Memory}

@@ -1,4 +1,5 @@
 -- What a run answers by what the words chose.
+-- own: each subcommand is one run.
 use Rattle.std.specs.Prelude.{ℕ, List}
 use Rattle.rtps_text.specs.AuditText.{IsAudited}
 use Rattle.rtps_text.specs.ListText.{IsListed}

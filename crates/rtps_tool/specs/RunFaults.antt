@@ -1,4 +1,5 @@
 -- Faults of recordings as faults of runs.
+-- own: a run tells the fault of its recording as it stands.
 use Rattle.rtps_tool.specs.declared.faults.RecFault.{RecFault}
 use Rattle.rtps_tool.specs.declared.faults.RecFault.TheVariants.{BadHex, TooLong, TooMany, Memory}
 use Rattle.rtps_tool.specs.declared.faults.RunFault.{RunFault}

@@ -1,4 +1,5 @@
 -- What a run does to the reader and the writer that it is given, where their octets are known.
+-- own: all is read before anything is written, so that a text never stands for a part of the input.
 use Rattle.std.specs.Prelude.{ℕ, ◌≡◌, ◌≢◌, ◌^◌, ◌<◌, ◌≤◌, List, length, take, Option, Result, Ok, Err}
 use Rattle.std.specs.Io.KnownBytes.{Appends, Consumes, Keeps, IsAtEnd}
 use Rattle.rtps_tool.specs.RecordingText.{recording_of}

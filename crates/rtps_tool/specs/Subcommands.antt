@@ -1,4 +1,5 @@
 -- What a subcommand answers of a recording.
+-- own: a text, and how the run ends.
 use Rattle.std.specs.Prelude.{ℕ, List}
 use Rattle.rtps_text.specs.AuditText.{IsAudited}
 use Rattle.rtps_text.specs.ListText.{IsListed}

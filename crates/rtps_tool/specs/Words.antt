@@ -1,4 +1,5 @@
 -- The words of the command line, as `clap` reads them.
+-- own: a subcommand and one FILE, so that no option changes what a text means.
 use Rattle.std.specs.Prelude.{◌≡◌, ◌≢◌, codes, true, List, [], ◌∷◌, Option, Some, unwrap_or}
 use Rattle.clap.specs.Words.{App, IsAmong, Kinds, Row, Rule, Text, fault_of, first_of, kind_of, new_app, new_rule, with_rule, with_subcommand}
 use Rattle.clap.specs.declared.builder.action.ArgAction.TheVariants.{Set}

@@ -37,9 +37,9 @@ loop-outcome-preserved-in-Continue-1 c =
       omega (arith, old.6, fragmented, fragments),
       ap (λ (o : List Outcome). c.loop-outcome.tally.refused || is_some (refusal_among o)) (sym next) ∙ old.7,
       ap (λ l. l ++ acts_behind state [] (items_among later)) (ap (map act_value) c.in_ok-extend_from_slice-in-Ok.ensures.items ∙ map-append act_value c.loop-outcome.acts.items _ ∙ ap (λ l. map act_value c.loop-outcome.acts.items ++ map act_value l) c.from_ref.ensures.value)
-      ∙ append_assoc (map act_value c.loop-outcome.acts.items) (act_value c.in-Some-act.act ∷ []) (acts_behind state [] (items_among later))
-      ∙ ap (λ a. map act_value c.loop-outcome.acts.items ++ a ∷ acts_behind state [] (items_among later)) is.2
-      ∙ ap (λ l. map act_value c.loop-outcome.acts.items ++ l) (sym step) ∙ old.8,
+          ∙ append_assoc (map act_value c.loop-outcome.acts.items) (act_value c.in-Some-act.act ∷ []) (acts_behind state [] (items_among later))
+          ∙ ap (λ a. map act_value c.loop-outcome.acts.items ++ a ∷ acts_behind state [] (items_among later)) is.2
+          ∙ ap (λ l. map act_value c.loop-outcome.acts.items ++ l) (sym step) ∙ old.8,
     )
 
 pub loop-outcome-preserved-in_default : goal.loop-outcome-preserved-in_default
@@ -64,5 +64,5 @@ loop-outcome-preserved-in_default c =
       omega (arith, old.6, fragmented, fragments),
       ap (λ (o : List Outcome). c.loop-outcome.tally.refused || is_some (refusal_among o)) (sym next) ∙ old.7,
       ap (λ s. map act_value c.loop-outcome.acts.items ++ acts_behind s [] (items_among later)) c.interpret.ensures
-      ∙ ap (λ l. map act_value c.loop-outcome.acts.items ++ l) (sym step) ∙ old.8,
+          ∙ ap (λ l. map act_value c.loop-outcome.acts.items ++ l) (sym step) ∙ old.8,
     )
