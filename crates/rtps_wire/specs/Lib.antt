@@ -8,6 +8,7 @@ pub mod Header
 pub mod Heartbeat
 pub mod Info
 pub mod InlineQos
+pub mod Layout
 pub mod Message
 pub mod Reading
 pub mod SetField
