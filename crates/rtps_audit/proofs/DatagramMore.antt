@@ -1,9 +1,8 @@
 -- A recording with one datagram more.
-use Rattle.std.proofs.Common.{◌≡◌, ℕ, zero, suc, ◌-◌, ◌<◌, ◌≤◌, List, [], ◌∷◌, ◌++◌, length, Option, Some, slice_get, refl, sym, ◌∙◌, ap, subst, arith, ◌⊎◌, inl, inr, max}
-use Rattle.std.specs.Prelude.{Contains}
+use Rattle.std.proofs.Common.{◌≡◌, ℕ, zero, suc, ◌-◌, ◌<◌, ◌≤◌, List, [], ◌∷◌, ◌++◌, length, Some, slice_get, refl, sym, ◌∙◌, ap, subst, arith, ◌⊎◌, inl, inr, max}
 use Rattle.std.proofs.lemmas.Option.{slice_get_within}
 use Rattle.std.proofs.lemmas.Bool.{cases_lt}
-use Rattle.rtps_audit.specs.Delivery.{Word, Datagram, Speech, IsAsked, Gives, Claims, greatest, last_announced, last_announced_from}
+use Rattle.rtps_audit.specs.Delivery.{Word, Datagram, Speech, Gives, Claims, greatest, last_announced, last_announced_from}
 use Rattle.rtps_audit.specs.OneDatagram.{Says, Tells, ClaimsIn}
 use Rattle.rtps_audit.specs.RunVerdict.{IsTold, ClaimsUntold}
 use Rattle.rtps_audit.specs.PlainVerdict.{IsSpoken}

@@ -17,8 +17,7 @@ use Rattle.std.proofs.lemmas.Bool.Decides.{nat_tests}
 use Rattle.std.proofs.lemmas.Option.{none-some, same_Some}
 use Rattle.std.proofs.lemmas.List.Folds.{list_any_none}
 use Rattle.std.proofs.lemmas.Map.Keys.{IsDistinct-from_sorted}
-use Rattle.std.proofs.lemmas.Map.Views.{All-values_from_lookup, tells_apart}
-use Rattle.std.proofs.lemmas.Map.Lookups.{exact_unsigned}
+use Rattle.std.proofs.lemmas.Map.Views.{All-values_from_lookup}
 use Rattle.rtps_audit.specs.Spans.{has_number}
 use Rattle.rtps_audit.specs.KeptSpans.{IsApart, HasRange, IsLastUpTo, IsFirstPast, IsFirstRange, IsRecent, IsClear, kept_has, recent_has}
 use Rattle.rtps_audit.specs.Coverage.{IsFront}
@@ -119,14 +118,6 @@ kept_after_removal old new gone updates key span e = step (is_eq (nat_cmp gone k
 
 pub stays_after_removal : (old new : BTreeMap ℕ Span) (gone : ℕ) → Updates nat_cmp old new gone None → (key : ℕ) (span : Span) → key < gone → HasRange old key span → HasRange new key span
 stays_after_removal old new gone updates key span lt e = updates.2 key (not_at gone key lt) ∙ e
-
-pub kept_after_insertion : (old new : BTreeMap ℕ Span) (at : ℕ) (that : Span) → Updates nat_cmp old new at (Some that) → (key : ℕ) (span : Span) → HasRange new key span
-    → ((at ≡ key) × (that ≡ span)) ⊎ HasRange old key span
-kept_after_insertion old new at that updates key span e = step (is_eq (nat_cmp at key)) refl (sym (updates.0 key) ∙ e)
-  where
-    step : (b : Bool) → is_eq (nat_cmp at key) ≡ b → cond b (Some that) (tree.get nat_cmp old key) ≡ Some span → ((at ≡ key) × (that ≡ span)) ⊎ HasRange old key span
-    step true t k = inl (tells_apart exact_unsigned at key t, same_Some that span k)
-    step false t k = inr k
 
 -- ranges stay apart as one is removed
 pub removal_apart : (old new : BTreeMap ℕ Span) (gone : ℕ) → IsApart old → Updates nat_cmp old new gone None → IsOrdered nat_cmp new → IsApart new

@@ -1,12 +1,10 @@
 -- The acts of a recording, and the pairs of its rows, one more at a time.
-use Rattle.std.proofs.Common.{◌≡◌, ℕ, ◌+◌, ◌<◌, ◌≤◌, List, [], ◌∷◌, ◌++◌, length, map, take, get_or, Bor, Ok, Err, sym, ◌∙◌, ap, arith}
+use Rattle.std.proofs.Common.{◌≡◌, ℕ, ◌+◌, ◌<◌, List, [], ◌∷◌, ◌++◌, length, map, take, get_or, Bor, sym, ◌∙◌, ap}
 use Rattle.std.proofs.lemmas.List.{map-append, take_more, append-nil}
 use Rattle.std.proofs.lemmas.Grind.{flat_map-append}
 use Rattle.rtps_wire.specs.Reading.{reading_of}
-use Rattle.rtps_ids.specs.declared.identity.Guid.{Guid}
 use Rattle.rtps_receiver.specs.Acts.{acts_in, acts_of}
 use Rattle.rtps_discovery.specs.declared.matching.Pair.{Pair}
-use Rattle.rtps_audit.specs.Speech.{said_by, speech_of}
 use Rattle.rtps_audit.specs.declared.report.Row.{Row}
 
 -- the acts of one datagram more
@@ -23,11 +21,3 @@ pub pairs_more : (rows news : List Row) (row : Row) (pairs : List Pair) (i : ℕ
     → map (λ row. row.pair) rows ≡ take i pairs → map (λ row. row.pair) news ≡ take (i + 1) pairs
 pairs_more rows news row pairs i d lt is at so_far =
     ap (map (λ row. row.pair)) is ∙ map-append (λ row. row.pair) rows (row ∷ []) ∙ ap (λ l. l ++ row.pair ∷ []) so_far ∙ ap (λ pair. take i pairs ++ pair ∷ []) at ∙ sym (take_more pairs i d lt)
-
--- what a recording says with one datagram more
-pub speech_more : (writer reader : Guid) (xs : List (Bor (List ℕ))) (i : ℕ) (d : Bor (List ℕ)) → i < length xs
-    → speech_of writer reader (map (λ datagram. datagram.now) (take (i + 1) xs)) ≡ speech_of writer reader (map (λ datagram. datagram.now) (take i xs)) ++ said_by writer reader (acts_of (reading_of (get_or xs i d).now)) ∷ []
-speech_more writer reader xs i d lt =
-    ap (λ l. speech_of writer reader (map (λ datagram. datagram.now) l)) (take_more xs i d lt)
-    ∙ ap (speech_of writer reader) (map-append (λ datagram. datagram.now) (take i xs) (get_or xs i d ∷ []))
-    ∙ map-append (λ datagram. said_by writer reader (acts_of (reading_of datagram))) (map (λ datagram. datagram.now) (take i xs)) ((get_or xs i d).now ∷ [])

@@ -1,19 +1,13 @@
 -- What the words of an act tell, and which payloads they keep.
-use Rattle.std.proofs.Common.{◌≡◌, ℕ, zero, suc, ◌≤◌, ◌<◌, ◌-◌, ◌^◌, Bool, true, false, cond, ◌==◌, ◌||◌, nat_lt, List, [], ◌∷◌, ◌++◌, Option, Some, None, refl, sym, ◌∙◌, ap, subst, arith, ◌⊎◌, inl, inr}
-use Rattle.std.specs.Prelude.{◌↔◌, ◌&&◌, Contains, is_some, nat_le}
+use Rattle.std.proofs.Common.{◌≡◌, ℕ, zero, suc, ◌≤◌, Bool, true, false, cond, ◌==◌, ◌||◌, List, [], ◌∷◌, ◌++◌, Some, None, refl, sym, ◌∙◌, ap, subst, arith, ◌⊎◌, inl, inr}
+use Rattle.std.specs.Prelude.{Contains}
 use Rattle.std.proofs.lemmas.Bool.Decides.{nat_tests}
 use Rattle.std.proofs.lemmas.List.Elements.{Contains-append_left, Contains-append_right, Contains-append_cases}
 use Rattle.rtps_wire.specs.Values.{PayloadValue, payload_value}
-use Rattle.rtps_wire.specs.declared.body.GapBody.{GapBody}
-use Rattle.rtps_receiver.specs.Values.{ActBodyValue, ActValue}
-use Rattle.rtps_receiver.specs.Values.ActBodyValue.{Data, Heartbeat, AckNack, Gap}
-use Rattle.rtps_receiver.specs.Speech.{is_heard_by, is_spoken_by}
-use Rattle.rtps_ids.specs.declared.identity.Guid.{Guid}
 use Rattle.rtps_audit.specs.Coverage.{TellsMore}
 use Rattle.rtps_audit.specs.Delivery.{Word}
-use Rattle.rtps_audit.specs.Delivery.Word.{Told as told, Gone as gone}
+use Rattle.rtps_audit.specs.Delivery.Word.{Told as told}
 use Rattle.rtps_audit.specs.KeptPayloads.{IsKept, KeepsMore}
-use Rattle.rtps_audit.specs.Speech.{is_in_gap, word_for, word_of}
 use Rattle.rtps_audit.specs.declared.payloads.KeptPayload.{KeptPayload}
 
 pub or_cases : (a b : Bool) → (a || b) ≡ true → (a ≡ true) ⊎ (b ≡ true)
@@ -27,19 +21,11 @@ pub or_right : (a b : Bool) → b ≡ true → (a || b) ≡ true
 or_right true b e = refl
 or_right false b e = e
 
-or_none : (a b : Bool) → b ≡ false → a ≡ (a || b)
-or_none true b e = refl
-or_none false b e = sym e
-
 or_both : (a b c : Bool) → ((a || b) || c) ≡ (a || (b || c))
 or_both true b c = refl
 or_both false b c = refl
 
 -- ---- numbers that are told
-
--- nothing more
-pub tells_none : (old : ℕ → Bool) (more : ℕ → Bool) → ((n : ℕ) → 1 ≤ n → more n ≡ false) → TellsMore old old more
-tells_none old more none n positive small = or_none (old n) (more n) (none n positive)
 
 -- the same numbers by another test
 pub tells_same : (old new more other : ℕ → Bool) → ((n : ℕ) → 1 ≤ n → other n ≡ more n) → TellsMore old new more → TellsMore old new other
@@ -49,20 +35,6 @@ tells_same old new more other same tells n positive small = tells n positive sma
 pub tells_both : (old mid new one two both : ℕ → Bool) → ((n : ℕ) → both n ≡ (one n || two n)) → TellsMore old mid one → TellsMore mid new two → TellsMore old new both
 tells_both old mid new one two both split first then n positive small =
     then n positive small ∙ ap (λ b. b || two n) (first n positive small) ∙ or_both (old n) (one n) (two n) ∙ ap (λ b. old n || b) (sym (split n))
-
-some_where : {X : Type 0} (b : Bool) (x : X) → is_some (cond b (Some x) None) ≡ b
-some_where true x = refl
-some_where false x = refl
-
--- the numbers that an act of a writer tells
-pub data_tells : (number n : ℕ) (payload : PayloadValue) → is_some (cond (n == number) (Some (told payload)) None) ≡ (nat_le number n && nat_lt n (suc number))
-data_tells number n payload = some_where (n == number) (told payload) ∙ grind (arith, nat_tests)
-
-pub heartbeat_tells : (first n : ℕ) → 1 ≤ n → is_some (cond (nat_lt n first) (Some gone) None) ≡ (nat_le 1 n && nat_lt n first)
-heartbeat_tells first n positive = some_where (nat_lt n first) gone ∙ grind (arith, nat_tests)
-
-pub gap_tells : (gap : GapBody) (n : ℕ) → is_some (word_of (Gap gap) n) ≡ is_in_gap gap n
-gap_tells gap n = some_where (is_in_gap gap n) gone
 
 -- ---- payloads that are kept
 
@@ -92,14 +64,6 @@ some_if false word other e = cc
 if_some : (b : Bool) (word : Word) → b ≡ true → cond b (Some word) None ≡ Some word
 if_some b word e = rw e refl
 
--- none is kept where the act has no payload
-pub keeps_none : (xs : List KeptPayload) (word : ℕ → Option Word) → ((n : ℕ) (p : PayloadValue) → word n ≡ Some (told p) → ⊥) → KeepsMore xs xs word
-keeps_none xs word none n p positive = (λ kept. inl kept, λ either. elim either [ inl kept ↦ kept | inr says ↦ absurd (none n p says) ])
-
-pub gone_is_none : (b : Bool) (p : PayloadValue) → cond b (Some gone) None ≡ Some (told p) → ⊥
-gone_is_none true p e = cc
-gone_is_none false p e = cc
-
 -- one more
 pub keeps_data : (xs ys : List KeptPayload) (s : KeptPayload) (number : ℕ) (payload : PayloadValue) → ys ≡ xs ++ s ∷ [] → s.number ≡ number → payload_value s.payload ≡ payload
     → KeepsMore xs ys (λ n. cond (n == number) (Some (told payload)) None)
@@ -122,17 +86,3 @@ keeps_data xs ys s number payload is at value n p positive = (to, from)
     from (inr says) =
         let both = some_if (n == number) (told payload) (told p) says in
         subst (λ l. IsKept l n p) (sym is) (kept_last xs s n p (at ∙ eqb_same n number both.0) (value ∙ told_same payload p both.1))
-
--- ---- an act for the reader
-
-pub heard_is : (writer reader : Guid) (act : ActValue) → is_spoken_by act writer ≡ true → is_heard_by act reader ≡ true → (n : ℕ) → word_for writer reader act n ≡ word_of act.body n
-heard_is writer reader act spoken heard n = ap (λ b. cond (b && is_heard_by act reader) (word_of act.body n) None) spoken ∙ ap (λ b. cond b (word_of act.body n) None) heard
-
-pub unheard_is : (writer reader : Guid) (act : ActValue) → (is_spoken_by act writer && is_heard_by act reader) ≡ false → (n : ℕ) → word_for writer reader act n ≡ None
-unheard_is writer reader act not n = ap (λ b. cond b (word_of act.body n) None) not
-
-pub keeps_same : (xs ys : List KeptPayload) (one other : ℕ → Option Word) → ((n : ℕ) → other n ≡ one n) → KeepsMore xs ys one → KeepsMore xs ys other
-keeps_same xs ys one other same keeps n p positive = (
-  λ kept. elim ((keeps n p positive).0 kept) [ inl old ↦ inl old | inr says ↦ inr (same n ∙ says) ],
-  λ either. elim either [ inl old ↦ (keeps n p positive).1 (inl old) | inr says ↦ (keeps n p positive).1 (inr (sym (same n) ∙ says)) ],
-)

@@ -1,6 +1,6 @@
 -- What a datagram adds to the counts of a recording. own: fragments are not put together, so they are counted apart,
 -- for a count above 0 warns that numbers may have been told that no item tells.
-use Rattle.std.specs.Prelude.{ℕ, ◌+◌, ◌==◌, if◌then◌else◌, ◌||◌, not, Bool, false, count_by, is_some, List}
+use Rattle.std.specs.Prelude.{ℕ, ◌==◌, ◌||◌, not, Bool, false, count_by, is_some, List}
 use Rattle.rtps_wire.specs.Message.{Reading}
 use Rattle.rtps_wire.specs.Reading.{Outcome, items_among, refusal_among}
 use Rattle.rtps_wire.specs.Values.{BodyValue, ItemValue}

@@ -1,8 +1,7 @@
-use Rattle.std.proofs.Common.{◌≡◌, ◌++◌, ◌∙◌, ap, arith, map, subst, sym, take}
+use Rattle.std.proofs.Common.{◌++◌, ◌∙◌, ap, arith, map, subst, sym, take}
 use Rattle.std.proofs.lemmas.Grind.{common_steps}
 use Rattle.std.specs.Prelude.{count_by}
 use Rattle.rtps_receiver.specs.Acts.{acts_in}
-use Rattle.rtps_receiver.specs.Values.{act_value}
 use Rattle.rtps_discovery.specs.Directory.{IsMapOf}
 use Rattle.rtps_audit.specs.Report.{is_undirected}
 use Rattle.rtps_audit.proofs.RecordingActs.{acts_in_more}
