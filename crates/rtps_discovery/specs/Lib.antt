@@ -4,6 +4,7 @@ pub mod Endpoint
 pub mod Fields
 pub mod GuidOrder
 pub mod Kept
+pub mod Laws
 pub mod Listings
 pub mod Matching
 pub mod Notice

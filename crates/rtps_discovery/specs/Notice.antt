@@ -1,6 +1,6 @@
 -- Which acts are announcements, and what they announce. DDSI-RTPS 2.5, 8.5.3 "The Simple Participant Discovery
 -- Protocol", 8.5.4 "The Simple Endpoint Discovery Protocol" and 9.3.1.3 "Predefined EntityIds".
-use Rattle.std.specs.Prelude.{ℕ, Bool, true, false, if◌then◌else◌, nat_eq, count_by, List, [], ◌∷◌, Option, Some, None, Result, Ok, Err}
+use Rattle.std.specs.Prelude.{◌≡◌, ℕ, Bool, true, false, if◌then◌else◌, nat_eq, count_by, List, [], ◌∷◌, Contains, Option, Some, None, Result, Ok, Err}
 use Rattle.std.specs.Cmp.Lexicographic.{pointwise}
 use Rattle.std.specs.List.{filter_map}
 use Rattle.std.specs.Option.{option_map}
@@ -56,6 +56,12 @@ announced_by (subject.Endpoint side) payload = or_fault (endpoint_of side payloa
 -- what an act announces, or its fault; None where it is no announcement
 abbrev pub announcement_of : ActValue → Option (Result Announced NoticeFault)
 announcement_of act = option_map (λ notice. announced_by notice.0 notice.1) (notice_in act.body)
+
+-- an act whose announcement is that of one of these acts, by whichever writers, from and to wherever
+pub record RepeatsOneOf (acts : List ActValue) (act : ActValue) : Type 0 where
+  pub first : ActValue
+  pub is_among : Contains acts first
+  pub says_the_same : announcement_of act ≡ announcement_of first
 
 -- what is answered of an act
 abbrev pub answer_of : Option (Result Announced NoticeFault) → Noted

@@ -8,6 +8,7 @@ ghost use Rattle.rtps_discovery.specs.Announcement.{Fields, endpoint_in, partici
 ghost use Rattle.rtps_discovery.specs.Directory.{DirectoryValue, IsMapOf, IsSettled, IsUnsettled, settled_in, unsettled_in};
 ghost use Rattle.rtps_discovery.specs.Endpoint.{EndpointValue};
 ghost use Rattle.rtps_discovery.specs.GuidOrder.{guid_cmp};
+ghost use Rattle.rtps_discovery.specs.Laws.{RepetitionsChangeNothing};
 ghost use Rattle.rtps_discovery.specs.Listings.{IsMatchAmong, IsReliablePair, pair_cmp};
 ghost use Rattle.rtps_discovery.specs.Matching.{matches_among, reliable_pairs};
 ghost use Rattle.rtps_discovery.specs.Notice.{endpoints_among};
@@ -37,6 +38,12 @@ pub fn any_order()
         → IsPermutation acts others → IsMapOf acts map → IsMapOf others map }
     ensures again { (acts : List ActValue) (act : ActValue) (map : DirectoryValue)
         → Contains acts act → IsMapOf acts map → IsMapOf (acts ++ act ∷ []) map }
+{}
+
+/// An act that announces what one of the acts before it announced changes nothing, whichever built-in writer sends it,
+/// from and to wherever: both lists of acts have one map.
+pub fn repetitions_change_nothing()
+    ensures { RepetitionsChangeNothing }
 {}
 
 /// What is listed as settled is announced, and nothing else is announced of its GUID; what is counted as unsettled are

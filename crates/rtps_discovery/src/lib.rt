@@ -3,7 +3,6 @@
 #![tactic(auto)]
 
 mod announcement;
-mod noting;
 mod directory_map;
 mod endpoint;
 mod fault;
@@ -11,6 +10,7 @@ mod kept;
 pub mod laws;
 mod matching;
 mod notice;
+mod noting;
 mod topic_index;
 
 pub use announcement::{read_endpoint, read_participant};

@@ -1,6 +1,6 @@
-use Rattle.std.proofs.Common.{◌≡◌, ◌+◌, ◌++◌, ◌≤◌, ◌∷◌, [], ◌∙◌, List, ap, append_assoc, arith, get_or, map, refl, subst, sym, take}
+use Rattle.std.proofs.Common.{◌++◌, ◌∷◌, [], ◌∙◌, ap, append_assoc, arith, map, refl, subst, sym, take}
 use Rattle.std.proofs.lemmas.List.{append-nil, take_all}
-use Rattle.rtps_receiver.specs.Values.{ActValue, act_value}
+use Rattle.rtps_receiver.specs.Values.{act_value}
 use Rattle.rtps_receiver.specs.declared.act.Act.{Act}
 use Rattle.rtps_discovery.specs.Directory.{IsMapOf}
 use Rattle.rtps_discovery.specs.Notice.{announcement_of, answer_of, faults_in}
