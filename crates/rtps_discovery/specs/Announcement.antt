@@ -16,6 +16,7 @@ use Rattle.rtps_discovery.specs.declared.endpoint.Side.{Side}
 use Rattle.rtps_discovery.specs.declared.endpoint.Side.TheVariants.{Writer, Reader}
 use Rattle.rtps_discovery.specs.declared.fault.NoticeFault.{NoticeFault}
 use Rattle.rtps_discovery.specs.declared.fault.NoticeFault.TheVariants as fault
+use Rattle.rtps_discovery.specs.declared.layout.pid.TheConstants.{DURABILITY, ENDPOINT_GUID, PARTICIPANT_GUID, RELIABILITY, TOPIC_NAME, TYPE_NAME}
 
 -- the first fault whose condition holds, or else the value
 abbrev pub unless_fault : {X : Type 0} → List (NoticeFault × Bool) → X → Result X NoticeFault
@@ -74,19 +75,18 @@ kind_in order of_kind default (Some value) = option_and_then of_kind (u32_of ord
 abbrev pub kind_field : {X : Type 0} → ℕ → (ℕ → Option X) → X → Fields → Option X
 kind_field pid of_kind default fields = kind_in fields.order of_kind default (field pid fields)
 
--- the parameters that are read: PID_PARTICIPANT_GUID 0x0050, PID_ENDPOINT_GUID 0x005a,
--- PID_TOPIC_NAME 0x0005, PID_TYPE_NAME 0x0007, PID_RELIABILITY 0x001a, PID_DURABILITY 0x001d
+-- what the parameters tell that are read
 abbrev pub participant_guid : Fields → Option Guid
-participant_guid = guid_field 0x0050
+participant_guid = guid_field PARTICIPANT_GUID
 
 abbrev pub endpoint_guid : Fields → Option Guid
-endpoint_guid = guid_field 0x005a
+endpoint_guid = guid_field ENDPOINT_GUID
 
 abbrev pub topic_of : Fields → Option (List ℕ)
-topic_of = text_field 0x0005
+topic_of = text_field TOPIC_NAME
 
 abbrev pub type_name_of : Fields → Option (List ℕ)
-type_name_of = text_field 0x0007
+type_name_of = text_field TYPE_NAME
 
 abbrev pub reliability_of_kind : ℕ → Option Reliability
 reliability_of_kind kind = if kind == 1 then Some BestEffort else if kind == 2 then Some Reliable else None
@@ -97,7 +97,7 @@ default_reliability Writer = Reliable
 default_reliability Reader = BestEffort
 
 abbrev pub reliability_of : Side → Fields → Option Reliability
-reliability_of side = kind_field 0x001a reliability_of_kind (default_reliability side)
+reliability_of side = kind_field RELIABILITY reliability_of_kind (default_reliability side)
 
 abbrev pub durability_of_kind : ℕ → Option Durability
 durability_of_kind kind =
@@ -109,7 +109,7 @@ durability_of_kind kind =
 
 -- own: a durability that is not told is the default of DDS, VOLATILE
 abbrev pub durability_of : Fields → Option Durability
-durability_of = kind_field 0x001d durability_of_kind Volatile
+durability_of = kind_field DURABILITY durability_of_kind Volatile
 
 -- GUID_UNKNOWN, which stands where a fault comes instead of the value
 abbrev pub unknown_guid : Guid
@@ -126,8 +126,8 @@ unfoldable pub endpoint_in : Side → Fields → Result EndpointValue NoticeFaul
 endpoint_in side fields =
     unless_fault (
     (fault.NoGuid, is_none (endpoint_guid fields))
-    ∷ (fault.NoTopic, is_none (field 0x0005 fields))
-    ∷ (fault.NoType, is_none (field 0x0007 fields))
+    ∷ (fault.NoTopic, is_none (field TOPIC_NAME fields))
+    ∷ (fault.NoType, is_none (field TYPE_NAME fields))
     ∷ (fault.BadText, is_none (topic_of fields) || is_none (type_name_of fields))
     ∷ (fault.BadReliability, is_none (reliability_of side fields))
     ∷ (fault.BadDurability, is_none (durability_of fields))

@@ -5,21 +5,11 @@ ghost use Rattle.rtps_discovery.specs.Fields.{fields_value};
 
 use crate::endpoint::{Durability, Endpoint, Reliability, Side};
 use crate::fault::NoticeFault;
+use crate::layout::pid::{
+    DURABILITY, ENDPOINT_GUID, PARTICIPANT_GUID, RELIABILITY, TOPIC_NAME, TYPE_NAME,
+};
 use rtps_ids::{Guid, Order};
 use rtps_params::{ParamList, read_guid, read_text, read_u32};
-
-/// The ids of the parameters that are read (DDSI-RTPS 2.5, 9.6 "Mapping of the RTPS Protocol").
-const TOPIC_NAME: u16 = 0x0005;
-
-const TYPE_NAME: u16 = 0x0007;
-
-const RELIABILITY: u16 = 0x001a;
-
-const DURABILITY: u16 = 0x001d;
-
-const PARTICIPANT_GUID: u16 = 0x0050;
-
-const ENDPOINT_GUID: u16 = 0x005a;
 
 /// The GUID of the participant that a payload announces, or the payload's first fault, one of the first four (DDSI-RTPS
 /// 2.5, 8.5.3 "The Simple Participant Discovery Protocol"). It takes no memory.
