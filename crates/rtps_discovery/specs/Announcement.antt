@@ -1,9 +1,10 @@
 -- What a payload announces, or the first fault that it has. DDSI-RTPS 2.5, 8.5 "Discovery Module", 9.6 "Mapping of the
 -- RTPS Protocol" (ids of parameters) and 10 "Serialized Payload Representation".
-use Rattle.std.specs.Prelude.{ℕ, ◌≡◌, ◌==◌, ◌&&◌, ◌||◌, nat_lt, Bool, if◌then◌else◌, List, [], ◌∷◌, length, drop, replicate, slice_index, is_err, Option, Some, None, is_none, unwrap_or, option_and_then, Result, Ok, Err}
+use Rattle.std.specs.Prelude.{ℕ, ◌≡◌, ◌==◌, ◌||◌, nat_eq, nat_lt, Bool, if◌then◌else◌, List, [], ◌∷◌, length, take, drop, replicate, is_err, Option, Some, None, is_none, unwrap_or, option_and_then, Result, Ok, Err}
 use Rattle.rtps_ids.specs.declared.identity.Guid.{Guid}
 use Rattle.rtps_ids.specs.declared.order.Order.{Order}
 use Rattle.rtps_ids.specs.declared.order.Order.TheVariants.{Big, Little}
+use Rattle.std.specs.Cmp.Lexicographic.{pointwise}
 use Rattle.rtps_params.specs.Grammar.{Pairs}
 use Rattle.rtps_params.specs.Reading.{first_value, list_end, pairs_of}
 use Rattle.rtps_params.specs.Values.{guid_of, text_of, u32_of}
@@ -17,6 +18,7 @@ use Rattle.rtps_discovery.specs.declared.endpoint.Side.TheVariants.{Writer, Read
 use Rattle.rtps_discovery.specs.declared.fault.NoticeFault.{NoticeFault}
 use Rattle.rtps_discovery.specs.declared.fault.NoticeFault.TheVariants as fault
 use Rattle.rtps_discovery.specs.declared.layout.pid.TheConstants.{DURABILITY, ENDPOINT_GUID, PARTICIPANT_GUID, RELIABILITY, TOPIC_NAME, TYPE_NAME}
+use Rattle.rtps_discovery.specs.declared.layout.representation.TheConstants as representation
 
 -- the first fault whose condition holds, or else the value
 abbrev pub unless_fault : {X : Type 0} → List (NoticeFault × Bool) → X → Result X NoticeFault
@@ -33,12 +35,13 @@ pub record Fields : Type 0 where
   pub order : Order
   pub pairs : Pairs
 
--- the first two octets name the representation: 00 02 is PL_CDR_BE, and 00 03 PL_CDR_LE
+-- the order of a parameter list whose representation has this id
+abbrev pub order_of_id : List ℕ → Option Order
+order_of_id id = if pointwise nat_eq id representation.PL_CDR_BE then Some Big else if pointwise nat_eq id representation.PL_CDR_LE then Some Little else None
+
+-- the first octets are the id of the representation
 abbrev pub order_of : List ℕ → Option Order
-order_of payload =
-    if slice_index payload 0 == 0 && (slice_index payload 1 == 2) then Some Big
-    else if slice_index payload 0 == 0 && (slice_index payload 1 == 3) then Some Little
-    else None
+order_of payload = order_of_id (take representation.ID_SIZE payload)
 
 abbrev pub payload_order : List ℕ → Order
 payload_order payload = unwrap_or (order_of payload) Big
@@ -46,12 +49,12 @@ payload_order payload = unwrap_or (order_of payload) Big
 -- the list begins behind the representation and two octets of options (own: these are ignored, since neither
 -- representation has any)
 abbrev pub list_part : List ℕ → List ℕ
-list_part payload = drop 4 payload
+list_part payload = drop representation.SIZE payload
 
 unfoldable pub fields_of : List ℕ → Result Fields NoticeFault
 fields_of payload =
     unless_fault (
-    (fault.CutRepresentation, nat_lt (length payload) 4)
+    (fault.CutRepresentation, nat_lt (length payload) representation.SIZE)
     ∷ (fault.Representation, is_none (order_of payload))
     ∷ (fault.List, is_err (list_end (payload_order payload) (list_part payload)))
     ∷ [])

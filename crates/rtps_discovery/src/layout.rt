@@ -15,8 +15,10 @@ pub(crate) mod entity {
 
 /// The beginning of a payload (DDSI-RTPS 2.5, 10 "Serialized Payload Representation").
 pub(crate) mod representation {
-    /// The octets of a representation: two of its id, and two of options.
+    /// The octets of a representation: its id, and two of options.
     pub(crate) const SIZE: usize = 4;
+    /// The octets of its id.
+    pub(crate) const ID_SIZE: usize = 2;
     /// A parameter list whose numbers lie with the highest octet first.
     pub(crate) const PL_CDR_BE: [u8; 2] = [0x00, 0x02];
     /// A parameter list whose numbers lie with the lowest octet first.
