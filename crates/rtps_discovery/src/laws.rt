@@ -8,7 +8,7 @@ ghost use Rattle.rtps_discovery.specs.Announcement.{Fields, endpoint_in, partici
 ghost use Rattle.rtps_discovery.specs.Directory.{DirectoryValue, IsMapOf, IsSettled, IsUnsettled, settled_in, unsettled_in};
 ghost use Rattle.rtps_discovery.specs.Endpoint.{EndpointValue};
 ghost use Rattle.rtps_discovery.specs.GuidOrder.{guid_cmp};
-ghost use Rattle.rtps_discovery.specs.Laws.{RepetitionsChangeNothing};
+ghost use Rattle.rtps_discovery.specs.Laws.{FaultsAreOfNoList, FieldsAreOfTheList, ListsTellEndpoints, ListsTellParticipants, NoListIsTheFault, RepetitionsChangeNothing};
 ghost use Rattle.rtps_discovery.specs.Listings.{IsMatchAmong, IsReliablePair, pair_cmp};
 ghost use Rattle.rtps_discovery.specs.Matching.{matches_among, reliable_pairs};
 ghost use Rattle.rtps_discovery.specs.Notice.{endpoints_among};
@@ -17,6 +17,8 @@ ghost use Rattle.rtps_discovery.specs.declared.endpoint.Side.{Side};
 ghost use Rattle.rtps_discovery.specs.declared.matching.Match.{Match};
 ghost use Rattle.rtps_discovery.specs.declared.matching.Pair.{Pair};
 
+use rtps_params::laws::ends;
+
 /// An announcement is read of parameters exactly where they tell each of its fields.
 pub fn told()
     ensures participant { (fields : Fields) (guid : Guid)
@@ -24,6 +26,18 @@ pub fn told()
     ensures endpoint { (side : Side) (fields : Fields) (endpoint : EndpointValue)
         → (endpoint_in side fields ≡ Ok endpoint) ↔ IsToldBy side fields endpoint }
 {}
+
+/// What is read of a payload is read of the list that stands behind the four octets of its representation, whatever
+/// follows the list. Where no list stands there, the answer is the fault that says why.
+pub fn read_of_the_list()
+    ensures fields { FieldsAreOfTheList }
+    ensures faults { FaultsAreOfNoList }
+    ensures participant { ListsTellParticipants }
+    ensures endpoint { ListsTellEndpoints }
+    ensures none { NoListIsTheFault }
+{
+    ends();
+}
 
 /// Each list of acts has one map.
 pub fn one_map()
