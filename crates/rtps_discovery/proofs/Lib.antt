@@ -15,3 +15,4 @@ pub mod ListingLaws
 pub mod EachHasAMap
 pub mod Told
 pub mod Faults
+pub mod Payloads

@@ -1,5 +1,5 @@
 -- Laws of the map of a list of acts: one map, whatever the order, and what is read off it.
-use Rattle.std.proofs.Common.{◌≡◌, ◌↔◌, ◌⊎◌, inl, inr, true, List, [], ◌∷◌, ◌++◌, filter, Option, Some, None, Ok, Contains, Decides, refl, sym, ap, subst, ◌∙◌}
+use Rattle.std.proofs.Common.{◌≡◌, ◌↔◌, ◌⊎◌, inl, inr, true, List, [], ◌∷◌, ◌++◌, filter, Option, Some, None, Result, Ok, Contains, Decides, refl, sym, ap, subst, ◌∙◌}
 use Rattle.std.specs.Cmp.{eq_by_cmp_equiv}
 use Rattle.std.specs.List.{filter_map}
 use Rattle.std.specs.List.Sorted.{IsPermutation, IsStrictlySortedBy}
@@ -17,8 +17,9 @@ use Rattle.rtps_receiver.specs.Values.{ActValue}
 use Rattle.rtps_discovery.specs.Directory.{AreEntries, AreParticipants, DirectoryValue, Entries, IsEntry, IsMapOf, IsSettled, IsUnsettled, entry_at, settled_in, unsettled_in}
 use Rattle.rtps_discovery.specs.Endpoint.{EndpointValue}
 use Rattle.rtps_discovery.specs.GuidOrder.{guid_cmp}
-use Rattle.rtps_discovery.specs.Notice.{announcement_of, endpoint_in, endpoints_among, participant_in, participants_among}
+use Rattle.rtps_discovery.specs.Notice.{Announced, RepeatsOneOf, announcement_of, endpoint_in, endpoints_among, participant_in, participants_among}
 use Rattle.rtps_discovery.specs.Notice.Announced.{Participant, Endpoint}
+use Rattle.rtps_discovery.specs.declared.fault.NoticeFault.{NoticeFault}
 use Rattle.rtps_discovery.proofs.GuidLaws.{exact_guids, guids_total}
 use Rattle.rtps_discovery.proofs.Members.{from_filter, from_filter_map, from_map, into_filter, into_filter_map, into_map, nothing_in_nil}
 use Rattle.rtps_discovery.proofs.Participants.{Contains-has, has, has-Contains}
@@ -119,6 +120,46 @@ seen_before acts act other c (inr e) = subst (λ x. Contains acts x) e c
 pub again : (acts : List ActValue) (act : ActValue) (directory : DirectoryValue) → Contains acts act → IsMapOf acts directory → IsMapOf (acts ++ act ∷ []) directory
 again acts act directory c =
     map_moved acts (acts ++ act ∷ []) directory (λ other. (Contains-append_left acts (act ∷ []) other, λ d. seen_before acts act other c (Contains-push_cases acts act other d)))
+
+-- ---- an announcement that comes again
+abbrev Said : Type 0
+Said = Option (Result Announced NoticeFault)
+
+-- each announcement of some is one of the others
+abbrev SaysNoMore : List ActValue → List ActValue → Type 0
+SaysNoMore acts others = (act : ActValue) → Contains acts act → RepeatsOneOf others act
+
+among_said : {Y : Type 0} (f : Said → Option Y) (acts others : List ActValue) → SaysNoMore acts others
+    → (y : Y) → Contains (filter_map (λ act. f (announcement_of act)) acts) y → Contains (filter_map (λ act. f (announcement_of act)) others) y
+among_said f acts others h y c =
+    let m = from_filter_map (λ act. f (announcement_of act)) acts y c in
+    let r = h m.0 m.1 in into_filter_map (λ act. f (announcement_of act)) others r.first y r.is_among (sym (ap f r.says_the_same) ∙ m.2)
+
+map_said : (acts others : List ActValue) (directory : DirectoryValue) → SaysNoMore acts others → SaysNoMore others acts → IsMapOf acts directory → IsMapOf others directory
+unfolding participants_among endpoints_among
+map_said acts others directory there back p =
+    record {
+      participants = participants_moved _ (participants_among others) directory.participants
+          (λ guid. (among_said participant_in acts others there guid, among_said participant_in others acts back guid)) p.participants;
+      endpoints = record {
+        in_order = p.endpoints.in_order;
+        each = λ guid. entry_moved _ (endpoints_among others) guid _
+            (λ endpoint. (among_said endpoint_in acts others there endpoint, among_said endpoint_in others acts back endpoint)) (p.endpoints.each guid);
+      };
+    }
+
+itself : (acts : List ActValue) (act : ActValue) → Contains acts act → RepeatsOneOf acts act
+itself acts act c = record { first = act; is_among = c; says_the_same = refl }
+
+nothing_new : (acts : List ActValue) (act other : ActValue) → RepeatsOneOf acts act → Contains acts other ⊎ (act ≡ other) → RepeatsOneOf acts other
+nothing_new acts act other r (inl d) = itself acts other d
+nothing_new acts act other r (inr e) = subst (RepeatsOneOf acts) e r
+
+pub repeated : (acts : List ActValue) (act : ActValue) (directory : DirectoryValue) → RepeatsOneOf acts act → IsMapOf acts directory ↔ IsMapOf (acts ++ act ∷ []) directory
+repeated acts act directory r =
+    let more : SaysNoMore acts (acts ++ act ∷ []) = λ other c. itself (acts ++ act ∷ []) other (Contains-append_left acts (act ∷ []) other c) in
+    let no_more : SaysNoMore (acts ++ act ∷ []) acts = λ other c. nothing_new acts act other r (Contains-push_cases acts act other c) in
+    (map_said acts (acts ++ act ∷ []) directory more no_more, map_said (acts ++ act ∷ []) acts directory no_more more)
 
 -- ---- settled, and not
 pub entry_of : (announced : List EndpointValue) (entries : Entries) (guid : Guid) (entry : Option EndpointValue) → AreEntries announced entries → Contains entries (guid, entry) → IsEntry announced guid (Some entry)

@@ -13,6 +13,7 @@ use Rattle.rtps_discovery.specs.declared.endpoint.Reliability.TheVariants.{BestE
 use Rattle.rtps_discovery.specs.declared.endpoint.Side.{Side}
 use Rattle.rtps_discovery.specs.declared.fault.NoticeFault.{NoticeFault}
 use Rattle.rtps_discovery.specs.declared.fault.NoticeFault.TheVariants as fault
+use Rattle.rtps_discovery.specs.declared.layout.pid.TheConstants.{TOPIC_NAME, TYPE_NAME}
 
 guard_ok : {X : Type 0} (b : Bool) (f : NoticeFault) (r : Result X NoticeFault) (x : X) → cond b (Err f) r ≡ Ok x → (b ≡ false) × (r ≡ Ok x)
 guard_ok true f r x e = cc
@@ -46,7 +47,7 @@ read_of side guid topic type_name topic_text type_text reliability durability =
       durability = unwrap_or durability Volatile;
     })))))))
 
-endpoint_in-read_of : (side : Side) (fields : Fields) → endpoint_in side fields ≡ read_of side (endpoint_guid fields) (field 0x0005 fields) (field 0x0007 fields) (topic_of fields) (type_name_of fields) (reliability_of side fields) (durability_of fields)
+endpoint_in-read_of : (side : Side) (fields : Fields) → endpoint_in side fields ≡ read_of side (endpoint_guid fields) (field TOPIC_NAME fields) (field TYPE_NAME fields) (topic_of fields) (type_name_of fields) (reliability_of side fields) (durability_of fields)
 unfolding endpoint_in read_of
 endpoint_in-read_of side fields = refl
 
@@ -92,14 +93,14 @@ endpoint_told side fields endpoint = (there, back)
   where
     there : endpoint_in side fields ≡ Ok endpoint → IsToldBy side fields endpoint
     there e =
-        let h = read_ok side (endpoint_guid fields) (field 0x0005 fields) (field 0x0007 fields) (topic_of fields) (type_name_of fields) (reliability_of side fields) (durability_of fields) endpoint
+        let h = read_ok side (endpoint_guid fields) (field TOPIC_NAME fields) (field TYPE_NAME fields) (topic_of fields) (type_name_of fields) (reliability_of side fields) (durability_of fields) endpoint
         (sym (endpoint_in-read_of side fields) ∙ e) in
         record { of_guid = h.of_guid; of_side = h.of_side; of_topic = h.of_topic; of_type = h.of_type; of_reliability = h.of_reliability; of_durability = h.of_durability }
 
     back : IsToldBy side fields endpoint → endpoint_in side fields ≡ Ok endpoint
     back h =
-        endpoint_in-read_of side fields ∙ ok_read side (endpoint_guid fields) (field 0x0005 fields) (field 0x0007 fields) (topic_of fields) (type_name_of fields) (reliability_of side fields) (durability_of fields) endpoint
-        (not_none _ (field 0x0005 fields) endpoint.topic h.of_topic) (not_none _ (field 0x0007 fields) endpoint.type_name h.of_type)
+        endpoint_in-read_of side fields ∙ ok_read side (endpoint_guid fields) (field TOPIC_NAME fields) (field TYPE_NAME fields) (topic_of fields) (type_name_of fields) (reliability_of side fields) (durability_of fields) endpoint
+        (not_none _ (field TOPIC_NAME fields) endpoint.topic h.of_topic) (not_none _ (field TYPE_NAME fields) endpoint.type_name h.of_type)
         (record { of_guid = h.of_guid; of_side = h.of_side; of_topic = h.of_topic; of_type = h.of_type; of_reliability = h.of_reliability; of_durability = h.of_durability })
 
 guid_ok : (found : Option Guid) (guid : Guid) → (cond (is_none found) (Err fault.NoGuid) (Ok (unwrap_or found unknown_guid)) ≡ Ok guid) ↔ (found ≡ Some guid)

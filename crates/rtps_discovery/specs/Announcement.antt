@@ -1,9 +1,10 @@
 -- What a payload announces, or the first fault that it has. DDSI-RTPS 2.5, 8.5 "Discovery Module", 9.6 "Mapping of the
 -- RTPS Protocol" (ids of parameters) and 10 "Serialized Payload Representation".
-use Rattle.std.specs.Prelude.{ℕ, ◌≡◌, ◌==◌, ◌&&◌, ◌||◌, nat_lt, Bool, if◌then◌else◌, List, [], ◌∷◌, length, drop, replicate, slice_index, is_err, Option, Some, None, is_none, unwrap_or, option_and_then, Result, Ok, Err}
+use Rattle.std.specs.Prelude.{ℕ, ◌≡◌, ◌==◌, ◌||◌, nat_eq, nat_lt, Bool, if◌then◌else◌, List, [], ◌∷◌, length, take, drop, replicate, is_err, Option, Some, None, is_none, unwrap_or, option_and_then, Result, Ok, Err}
 use Rattle.rtps_ids.specs.declared.identity.Guid.{Guid}
 use Rattle.rtps_ids.specs.declared.order.Order.{Order}
 use Rattle.rtps_ids.specs.declared.order.Order.TheVariants.{Big, Little}
+use Rattle.std.specs.Cmp.Lexicographic.{pointwise}
 use Rattle.rtps_params.specs.Grammar.{Pairs}
 use Rattle.rtps_params.specs.Reading.{first_value, list_end, pairs_of}
 use Rattle.rtps_params.specs.Values.{guid_of, text_of, u32_of}
@@ -16,6 +17,8 @@ use Rattle.rtps_discovery.specs.declared.endpoint.Side.{Side}
 use Rattle.rtps_discovery.specs.declared.endpoint.Side.TheVariants.{Writer, Reader}
 use Rattle.rtps_discovery.specs.declared.fault.NoticeFault.{NoticeFault}
 use Rattle.rtps_discovery.specs.declared.fault.NoticeFault.TheVariants as fault
+use Rattle.rtps_discovery.specs.declared.layout.pid.TheConstants.{DURABILITY, ENDPOINT_GUID, PARTICIPANT_GUID, RELIABILITY, TOPIC_NAME, TYPE_NAME}
+use Rattle.rtps_discovery.specs.declared.layout.representation.TheConstants as representation
 
 -- the first fault whose condition holds, or else the value
 abbrev pub unless_fault : {X : Type 0} → List (NoticeFault × Bool) → X → Result X NoticeFault
@@ -32,12 +35,13 @@ pub record Fields : Type 0 where
   pub order : Order
   pub pairs : Pairs
 
--- the first two octets name the representation: 00 02 is PL_CDR_BE, and 00 03 PL_CDR_LE
+-- the order of a parameter list whose representation has this id
+abbrev pub order_of_id : List ℕ → Option Order
+order_of_id id = if pointwise nat_eq id representation.PL_CDR_BE then Some Big else if pointwise nat_eq id representation.PL_CDR_LE then Some Little else None
+
+-- the first octets are the id of the representation
 abbrev pub order_of : List ℕ → Option Order
-order_of payload =
-    if slice_index payload 0 == 0 && (slice_index payload 1 == 2) then Some Big
-    else if slice_index payload 0 == 0 && (slice_index payload 1 == 3) then Some Little
-    else None
+order_of payload = order_of_id (take representation.ID_SIZE payload)
 
 abbrev pub payload_order : List ℕ → Order
 payload_order payload = unwrap_or (order_of payload) Big
@@ -45,12 +49,12 @@ payload_order payload = unwrap_or (order_of payload) Big
 -- the list begins behind the representation and two octets of options (own: these are ignored, since neither
 -- representation has any)
 abbrev pub list_part : List ℕ → List ℕ
-list_part payload = drop 4 payload
+list_part payload = drop representation.SIZE payload
 
 unfoldable pub fields_of : List ℕ → Result Fields NoticeFault
 fields_of payload =
     unless_fault (
-    (fault.CutRepresentation, nat_lt (length payload) 4)
+    (fault.CutRepresentation, nat_lt (length payload) representation.SIZE)
     ∷ (fault.Representation, is_none (order_of payload))
     ∷ (fault.List, is_err (list_end (payload_order payload) (list_part payload)))
     ∷ [])
@@ -74,19 +78,18 @@ kind_in order of_kind default (Some value) = option_and_then of_kind (u32_of ord
 abbrev pub kind_field : {X : Type 0} → ℕ → (ℕ → Option X) → X → Fields → Option X
 kind_field pid of_kind default fields = kind_in fields.order of_kind default (field pid fields)
 
--- the parameters that are read: PID_PARTICIPANT_GUID 0x0050, PID_ENDPOINT_GUID 0x005a,
--- PID_TOPIC_NAME 0x0005, PID_TYPE_NAME 0x0007, PID_RELIABILITY 0x001a, PID_DURABILITY 0x001d
+-- what the parameters tell that are read
 abbrev pub participant_guid : Fields → Option Guid
-participant_guid = guid_field 0x0050
+participant_guid = guid_field PARTICIPANT_GUID
 
 abbrev pub endpoint_guid : Fields → Option Guid
-endpoint_guid = guid_field 0x005a
+endpoint_guid = guid_field ENDPOINT_GUID
 
 abbrev pub topic_of : Fields → Option (List ℕ)
-topic_of = text_field 0x0005
+topic_of = text_field TOPIC_NAME
 
 abbrev pub type_name_of : Fields → Option (List ℕ)
-type_name_of = text_field 0x0007
+type_name_of = text_field TYPE_NAME
 
 abbrev pub reliability_of_kind : ℕ → Option Reliability
 reliability_of_kind kind = if kind == 1 then Some BestEffort else if kind == 2 then Some Reliable else None
@@ -97,7 +100,7 @@ default_reliability Writer = Reliable
 default_reliability Reader = BestEffort
 
 abbrev pub reliability_of : Side → Fields → Option Reliability
-reliability_of side = kind_field 0x001a reliability_of_kind (default_reliability side)
+reliability_of side = kind_field RELIABILITY reliability_of_kind (default_reliability side)
 
 abbrev pub durability_of_kind : ℕ → Option Durability
 durability_of_kind kind =
@@ -109,7 +112,7 @@ durability_of_kind kind =
 
 -- own: a durability that is not told is the default of DDS, VOLATILE
 abbrev pub durability_of : Fields → Option Durability
-durability_of = kind_field 0x001d durability_of_kind Volatile
+durability_of = kind_field DURABILITY durability_of_kind Volatile
 
 -- GUID_UNKNOWN, which stands where a fault comes instead of the value
 abbrev pub unknown_guid : Guid
@@ -126,8 +129,8 @@ unfoldable pub endpoint_in : Side → Fields → Result EndpointValue NoticeFaul
 endpoint_in side fields =
     unless_fault (
     (fault.NoGuid, is_none (endpoint_guid fields))
-    ∷ (fault.NoTopic, is_none (field 0x0005 fields))
-    ∷ (fault.NoType, is_none (field 0x0007 fields))
+    ∷ (fault.NoTopic, is_none (field TOPIC_NAME fields))
+    ∷ (fault.NoType, is_none (field TYPE_NAME fields))
     ∷ (fault.BadText, is_none (topic_of fields) || is_none (type_name_of fields))
     ∷ (fault.BadReliability, is_none (reliability_of side fields))
     ∷ (fault.BadDurability, is_none (durability_of fields))

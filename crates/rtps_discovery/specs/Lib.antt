@@ -4,9 +4,11 @@ pub mod Endpoint
 pub mod Fields
 pub mod GuidOrder
 pub mod Kept
+pub mod Laws
 pub mod Listings
 pub mod Matching
 pub mod Notice
+pub mod Payload
 pub mod TopicIndex
 pub mod Told
 pub mod FaultText

@@ -1,6 +1,6 @@
 -- Which acts are announcements, and what they announce. DDSI-RTPS 2.5, 8.5.3 "The Simple Participant Discovery
 -- Protocol", 8.5.4 "The Simple Endpoint Discovery Protocol" and 9.3.1.3 "Predefined EntityIds".
-use Rattle.std.specs.Prelude.{ℕ, Bool, true, false, if◌then◌else◌, nat_eq, count_by, List, [], ◌∷◌, Option, Some, None, Result, Ok, Err}
+use Rattle.std.specs.Prelude.{◌≡◌, ℕ, Bool, true, false, if◌then◌else◌, nat_eq, count_by, List, Contains, Option, Some, None, Result, Ok, Err}
 use Rattle.std.specs.Cmp.Lexicographic.{pointwise}
 use Rattle.std.specs.List.{filter_map}
 use Rattle.std.specs.Option.{option_map}
@@ -14,6 +14,7 @@ use Rattle.rtps_discovery.specs.Announcement.{endpoint_of, or_fault, participant
 use Rattle.rtps_discovery.specs.Endpoint.{EndpointValue}
 use Rattle.rtps_discovery.specs.declared.endpoint.Side.TheVariants.{Writer, Reader}
 use Rattle.rtps_discovery.specs.declared.fault.NoticeFault.{NoticeFault}
+use Rattle.rtps_discovery.specs.declared.layout.entity.TheConstants as entity
 use Rattle.rtps_discovery.specs.declared.notice.Noted.{Noted}
 use Rattle.rtps_discovery.specs.declared.notice.Noted.TheVariants as noted
 use Rattle.rtps_discovery.specs.declared.notice.Subject.{Subject}
@@ -23,12 +24,12 @@ use Rattle.rtps_discovery.specs.declared.notice.Subject.TheVariants as subject
 abbrev pub is_entity : List ℕ → EntityId → Bool
 is_entity octets entity = pointwise nat_eq entity.0 octets
 
--- whom a built-in writer announces: 000100c2 participants, 000003c2 writers and 000004c2 readers
+-- whom a built-in writer announces: one participants, one writers and one readers
 abbrev pub subject_of : EntityId → Option Subject
 subject_of writer =
-    if is_entity (0 ∷ 1 ∷ 0 ∷ 0xc2 ∷ []) writer then Some subject.Participant
-    else if is_entity (0 ∷ 0 ∷ 3 ∷ 0xc2 ∷ []) writer then Some (subject.Endpoint Writer)
-    else if is_entity (0 ∷ 0 ∷ 4 ∷ 0xc2 ∷ []) writer then Some (subject.Endpoint Reader)
+    if is_entity entity.PARTICIPANTS.0 writer then Some subject.Participant
+    else if is_entity entity.PUBLICATIONS.0 writer then Some (subject.Endpoint Writer)
+    else if is_entity entity.SUBSCRIPTIONS.0 writer then Some (subject.Endpoint Reader)
     else None
 
 -- a whole payload; a key, or none, announces nothing (own: disposals and unregistrations are not followed)
@@ -56,6 +57,12 @@ announced_by (subject.Endpoint side) payload = or_fault (endpoint_of side payloa
 -- what an act announces, or its fault; None where it is no announcement
 abbrev pub announcement_of : ActValue → Option (Result Announced NoticeFault)
 announcement_of act = option_map (λ notice. announced_by notice.0 notice.1) (notice_in act.body)
+
+-- an act whose announcement is that of one of these acts, by whichever writers, from and to wherever
+pub record RepeatsOneOf (acts : List ActValue) (act : ActValue) : Type 0 where
+  pub first : ActValue
+  pub is_among : Contains acts first
+  pub says_the_same : announcement_of act ≡ announcement_of first
 
 -- what is answered of an act
 abbrev pub answer_of : Option (Result Announced NoticeFault) → Noted

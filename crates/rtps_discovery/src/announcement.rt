@@ -5,21 +5,12 @@ ghost use Rattle.rtps_discovery.specs.Fields.{fields_value};
 
 use crate::endpoint::{Durability, Endpoint, Reliability, Side};
 use crate::fault::NoticeFault;
+use crate::layout::pid::{
+    DURABILITY, ENDPOINT_GUID, PARTICIPANT_GUID, RELIABILITY, TOPIC_NAME, TYPE_NAME,
+};
+use crate::layout::representation;
 use rtps_ids::{Guid, Order};
 use rtps_params::{ParamList, read_guid, read_text, read_u32};
-
-/// The ids of the parameters that are read (DDSI-RTPS 2.5, 9.6 "Mapping of the RTPS Protocol").
-const TOPIC_NAME: u16 = 0x0005;
-
-const TYPE_NAME: u16 = 0x0007;
-
-const RELIABILITY: u16 = 0x001a;
-
-const DURABILITY: u16 = 0x001d;
-
-const PARTICIPANT_GUID: u16 = 0x0050;
-
-const ENDPOINT_GUID: u16 = 0x005a;
 
 /// The GUID of the participant that a payload announces, or the payload's first fault, one of the first four (DDSI-RTPS
 /// 2.5, 8.5.3 "The Simple Participant Discovery Protocol"). It takes no memory.
@@ -50,13 +41,13 @@ pub fn read_endpoint(payload: &[u8], side: Side) -> Result<Endpoint<'_>, NoticeF
 fn fields_of(payload: &[u8]) -> Result<ParamList<'_>, NoticeFault>
     ensures { Answers fields_value result (fields_of_lem payload.now) }
 {
-    if payload.len() < 4 {
+    if payload.len() < representation::SIZE {
         return Err(NoticeFault::CutRepresentation);
     }
     let Some(order) = payload_order(payload) else {
         return Err(NoticeFault::Representation);
     };
-    match ParamList::read(&payload[4..], order) {
+    match ParamList::read(&payload[representation::SIZE..], order) {
         Ok((list, _)) => Ok(list),
         Err(_) => Err(NoticeFault::List),
     }
@@ -67,9 +58,10 @@ fn payload_order(payload: &[u8]) -> Option<Order>
     requires { 4 ≤ length payload.now }
     ensures { result ≡ order_of payload.now }
 {
-    if payload[0] == 0 && payload[1] == 2 {
+    let id = &payload[..representation::ID_SIZE];
+    if id == representation::PL_CDR_BE.as_slice() {
         Some(Order::Big)
-    } else if payload[0] == 0 && payload[1] == 3 {
+    } else if id == representation::PL_CDR_LE.as_slice() {
         Some(Order::Little)
     } else {
         None

@@ -1,9 +1,9 @@
-ghost use Rattle.std.specs.Prelude.{◌≡◌, ◌≢◌, ◌∷◌, [], ◌++◌, List, Contains, IfOk, OnOk, OnErr, length, map};
+ghost use Rattle.std.specs.Prelude.{◌≡◌, ◌≢◌, ◌∷◌, [], ◌++◌, List, IfOk, OnOk, OnErr, length, map};
 ghost use Rattle.rtps_receiver.specs.Values.{ActValue, act_value};
 ghost use Rattle.rtps_discovery.specs.Directory.{IsMapOf, settled_in, unsettled_in};
 ghost use Rattle.rtps_discovery.specs.Endpoint.{endpoint_value};
 ghost use Rattle.rtps_discovery.specs.Matching.{matches_among, reliable_pairs};
-ghost use Rattle.rtps_discovery.specs.Notice.{announcement_of, answer_of};
+ghost use Rattle.rtps_discovery.specs.Notice.{RepeatsOneOf, announcement_of, answer_of};
 
 use crate::announcement::{read_endpoint, read_participant};
 use crate::endpoint::Endpoint;
@@ -54,8 +54,8 @@ impl<'a> Directory<'a> {
     }
 
     /// Keeps what an act announces, from any source and to any destination. An act that announces nothing, one with a
-    /// fault, and one that was noted before take no memory and change nothing; the last is answered as before. After
-    /// `Memory` the directory is the same.
+    /// fault, and one that announces what was noted before take no memory and change nothing; the last is answered as
+    /// before. After `Memory` the directory is the same.
     pub fn note(&mut self, act: &Act<'a>) -> Result<Noted, Memory>
         ensures map { OnOk result ((acts : List ActValue)
             → IsMapOf acts self.old → IsMapOf (acts ++ act_value act.now ∷ []) self.new) }
@@ -66,7 +66,7 @@ impl<'a> Directory<'a> {
         ensures unkept { let answer = answer_of (announcement_of (act_value act.now)) in
             answer ≢ Noted.Kept → (result ≡ Ok answer) × (self.new ≡ self.old) }
         ensures again { let answer = answer_of (announcement_of (act_value act.now)) in
-            (acts : List ActValue) → IsMapOf acts self.old → Contains acts (act_value act.now)
+            (acts : List ActValue) → IsMapOf acts self.old → RepeatsOneOf acts (act_value act.now)
             → (result ≡ Ok answer) × (self.new ≡ self.old) }
     {
         let Some((subject, payload)) = notice(act) else {

@@ -8,6 +8,7 @@ ghost use Rattle.rtps_discovery.specs.Announcement.{Fields, endpoint_in, partici
 ghost use Rattle.rtps_discovery.specs.Directory.{DirectoryValue, IsMapOf, IsSettled, IsUnsettled, settled_in, unsettled_in};
 ghost use Rattle.rtps_discovery.specs.Endpoint.{EndpointValue};
 ghost use Rattle.rtps_discovery.specs.GuidOrder.{guid_cmp};
+ghost use Rattle.rtps_discovery.specs.Laws.{FaultsAreOfNoList, FieldsAreOfTheList, ListsTellEndpoints, ListsTellParticipants, NoListIsTheFault, RepetitionsChangeNothing};
 ghost use Rattle.rtps_discovery.specs.Listings.{IsMatchAmong, IsReliablePair, pair_cmp};
 ghost use Rattle.rtps_discovery.specs.Matching.{matches_among, reliable_pairs};
 ghost use Rattle.rtps_discovery.specs.Notice.{endpoints_among};
@@ -16,6 +17,8 @@ ghost use Rattle.rtps_discovery.specs.declared.endpoint.Side.{Side};
 ghost use Rattle.rtps_discovery.specs.declared.matching.Match.{Match};
 ghost use Rattle.rtps_discovery.specs.declared.matching.Pair.{Pair};
 
+use rtps_params::laws::ends;
+
 /// An announcement is read of parameters exactly where they tell each of its fields.
 pub fn told()
     ensures participant { (fields : Fields) (guid : Guid)
@@ -23,6 +26,18 @@ pub fn told()
     ensures endpoint { (side : Side) (fields : Fields) (endpoint : EndpointValue)
         → (endpoint_in side fields ≡ Ok endpoint) ↔ IsToldBy side fields endpoint }
 {}
+
+/// What is read of a payload is read of the list that stands behind the four octets of its representation, whatever
+/// follows the list. Where no list stands there, the answer is the fault that says why.
+pub fn read_of_the_list()
+    ensures fields { FieldsAreOfTheList }
+    ensures faults { FaultsAreOfNoList }
+    ensures participant { ListsTellParticipants }
+    ensures endpoint { ListsTellEndpoints }
+    ensures none { NoListIsTheFault }
+{
+    ends();
+}
 
 /// Each list of acts has one map.
 pub fn one_map()
@@ -37,6 +52,12 @@ pub fn any_order()
         → IsPermutation acts others → IsMapOf acts map → IsMapOf others map }
     ensures again { (acts : List ActValue) (act : ActValue) (map : DirectoryValue)
         → Contains acts act → IsMapOf acts map → IsMapOf (acts ++ act ∷ []) map }
+{}
+
+/// An act that announces what one of the acts before it announced changes nothing, whichever built-in writer sends it,
+/// from and to wherever: both lists of acts have one map.
+pub fn repetitions_change_nothing()
+    ensures { RepetitionsChangeNothing }
 {}
 
 /// What is listed as settled is announced, and nothing else is announced of its GUID; what is counted as unsettled are

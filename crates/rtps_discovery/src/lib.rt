@@ -8,6 +8,7 @@ mod endpoint;
 mod fault;
 mod kept;
 pub mod laws;
+mod layout;
 mod matching;
 mod notice;
 mod noting;

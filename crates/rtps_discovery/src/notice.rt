@@ -5,6 +5,7 @@ ghost use Rattle.rtps_receiver.specs.Values.{act_value};
 
 use crate::endpoint::Side;
 use crate::fault::NoticeFault;
+use crate::layout::entity;
 use rtps_ids::EntityId;
 use rtps_receiver::{Act, ActBody};
 use rtps_wire::Payload;
@@ -27,14 +28,6 @@ pub enum Subject {
     Endpoint(Side),
 }
 
-/// The built-in writers that announce participants, writers and readers (DDSI-RTPS 2.5, 9.3.1.3 "Predefined
-/// EntityIds").
-const PARTICIPANT_WRITER: EntityId = EntityId([0x00, 0x01, 0x00, 0xc2]);
-
-const PUBLICATIONS_WRITER: EntityId = EntityId([0x00, 0x00, 0x03, 0xc2]);
-
-const SUBSCRIPTIONS_WRITER: EntityId = EntityId([0x00, 0x00, 0x04, 0xc2]);
-
 /// Whom an act announces and by which payload, or None where it is no announcement.
 pub(crate) fn notice<'a>(act: &Act<'a>) -> Option<(Subject, &'a [u8])>
     ensures { option_map (λ notice. (notice.0, notice.1.now)) result ≡ notice_in (act_value act.now).body }
@@ -53,11 +46,11 @@ pub(crate) fn notice<'a>(act: &Act<'a>) -> Option<(Subject, &'a [u8])>
 fn subject_of(writer: EntityId) -> Option<Subject>
     ensures { result ≡ subject_of_lem writer }
 {
-    if writer == PARTICIPANT_WRITER {
+    if writer == entity::PARTICIPANTS {
         Some(Subject::Participant)
-    } else if writer == PUBLICATIONS_WRITER {
+    } else if writer == entity::PUBLICATIONS {
         Some(Subject::Endpoint(Side::Writer))
-    } else if writer == SUBSCRIPTIONS_WRITER {
+    } else if writer == entity::SUBSCRIPTIONS {
         Some(Subject::Endpoint(Side::Reader))
     } else {
         None

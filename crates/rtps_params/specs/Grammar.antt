@@ -9,6 +9,8 @@ use Rattle.rtps_ids.specs.Octets.{number_of}
 use Rattle.rtps_ids.specs.declared.order.Order.{Order}
 use Rattle.rtps_params.specs.declared.fault.ParamFault.{ParamFault}
 use Rattle.rtps_params.specs.declared.fault.ParamFault.TheVariants.{CutHeader, CutValue}
+use Rattle.rtps_params.specs.declared.layout.parameter.TheConstants.{HEADER}
+use Rattle.rtps_params.specs.declared.layout.pid.TheConstants.{PAD, SENTINEL}
 
 -- the id that a header spells
 abbrev pub pid_of : Order → List ℕ → ℕ
@@ -25,7 +27,7 @@ Pairs = List (ℕ × List ℕ)
 -- octets that are one parameter: a header of four octets, and a value as long as the header says
 pub record IsParameter (order : Order) (pid : ℕ) (value octets : List ℕ) : Type 0 where
   pub header : List ℕ
-  pub four_octets : length header ≡ 4
+  pub four_octets : length header ≡ HEADER
   pub pid_is : pid_of order header ≡ pid
   pub length_is : length_of order header ≡ length value
   pub whole : octets ≡ header ++ value
@@ -34,12 +36,12 @@ pub record IsParameter (order : Order) (pid : ℕ) (value octets : List ℕ) : T
 abbrev pub AreParameters : Order → Pairs → List ℕ → Type 0
 AreParameters order [] octets = octets ≡ []
 AreParameters order (parameter ∷ parameters) octets =
-    (front : List ℕ) × (rest : List ℕ) × (octets ≡ front ++ rest) × (parameter.0 ≢ 1)
+    (front : List ℕ) × (rest : List ℕ) × (octets ≡ front ++ rest) × (parameter.0 ≢ SENTINEL)
     × IsParameter order parameter.0 parameter.1 front × AreParameters order parameters rest
 
 -- the parameters that are no pads
 abbrev pub without_pads : Pairs → Pairs
-without_pads parameters = filter (λ parameter. not (parameter.0 == 0)) parameters
+without_pads parameters = filter (λ parameter. not (parameter.0 == PAD)) parameters
 
 -- octets that are a list: parameters, the four octets of a sentinel, and nothing after it. The pairs are the ids and
 -- values of its parameters in order, without pads.
@@ -49,8 +51,8 @@ pub record IsList (order : Order) (pairs : Pairs) (octets : List ℕ) : Type 0 w
   pub sentinel : List ℕ
   pub whole : octets ≡ front ++ sentinel
   pub before : AreParameters order parameters front
-  pub four_octets : length sentinel ≡ 4
-  pub closed : pid_of order sentinel ≡ 1
+  pub four_octets : length sentinel ≡ HEADER
+  pub closed : pid_of order sentinel ≡ SENTINEL
   pub shown : pairs ≡ without_pads parameters
 
 -- octets that begin with a list, whatever follows it
@@ -63,8 +65,8 @@ pub record BeginsWithList (order : Order) (octets : List ℕ) : Type 0 where
 
 -- octets that begin with less than a header, or with a parameter's header and less than its value
 abbrev pub IsCut : Order → ParamFault → List ℕ → Type 0
-IsCut order CutHeader octets = length octets < 4
-IsCut order CutValue octets = (4 ≤ length octets) × (pid_of order octets ≢ 1) × (length octets < 4 + length_of order octets)
+IsCut order CutHeader octets = length octets < HEADER
+IsCut order CutValue octets = (HEADER ≤ length octets) × (pid_of order octets ≢ SENTINEL) × (length octets < HEADER + length_of order octets)
 
 -- octets that begin with no list: parameters without a sentinel, and then octets that are cut
 pub record HasFault (order : Order) (fault : ParamFault) (octets : List ℕ) : Type 0 where

@@ -5,10 +5,12 @@ use Rattle.rtps_ids.specs.declared.order.Order.{Order}
 use Rattle.rtps_params.specs.Grammar.{Pairs, pid_of, length_of, without_pads}
 use Rattle.rtps_params.specs.declared.fault.ParamFault.{ParamFault}
 use Rattle.rtps_params.specs.declared.fault.ParamFault.TheVariants.{CutHeader, CutValue}
+use Rattle.rtps_params.specs.declared.layout.parameter.TheConstants.{HEADER}
+use Rattle.rtps_params.specs.declared.layout.pid.TheConstants.{SENTINEL}
 
 -- the octets of the parameter in front, where one is whole
 abbrev pub size_of : Order → List ℕ → ℕ
-size_of order octets = 4 + length_of order octets
+size_of order octets = HEADER + length_of order octets
 
 -- an end that lies so many octets further on
 abbrev pub further : ℕ → Result ℕ ParamFault → Result ℕ ParamFault
@@ -18,8 +20,8 @@ further octets (Err fault) = Err fault
 -- where the list ends, by its front and by where it ends behind the parameter in front
 abbrev pub end_by_front : Order → List ℕ → Result ℕ ParamFault → Result ℕ ParamFault
 end_by_front order octets behind =
-    if nat_lt (length octets) 4 then Err CutHeader
-    else if pid_of order octets == 1 then Ok 4
+    if nat_lt (length octets) HEADER then Err CutHeader
+    else if pid_of order octets == SENTINEL then Ok HEADER
     else if nat_lt (length octets) (size_of order octets) then Err CutValue
     else further (size_of order octets) behind
 
@@ -34,12 +36,12 @@ list_end order octets = list_end_in (length octets) order octets
 -- a whole parameter stands in front, and it is no sentinel
 abbrev pub has_parameter : Order → List ℕ → Bool
 has_parameter order octets =
-    nat_le 4 (length octets) && (not (pid_of order octets == 1) && nat_le (size_of order octets) (length octets))
+    nat_le HEADER (length octets) && (not (pid_of order octets == SENTINEL) && nat_le (size_of order octets) (length octets))
 
 -- the parameters, by the front and by those behind the parameter in front
 abbrev pub parameters_by_front : Order → List ℕ → Pairs → Pairs
 parameters_by_front order octets behind =
-    if has_parameter order octets then (pid_of order octets, take (length_of order octets) (drop 4 octets)) ∷ behind else []
+    if has_parameter order octets then (pid_of order octets, take (length_of order octets) (drop HEADER octets)) ∷ behind else []
 
 unfoldable pub parameters_in : ℕ → Order → List ℕ → Pairs
 parameters_in zero order octets = []

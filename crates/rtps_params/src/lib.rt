@@ -3,6 +3,7 @@
 
 mod fault;
 pub mod laws;
+mod layout;
 mod list;
 mod pairs;
 mod parameter;

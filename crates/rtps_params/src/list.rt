@@ -8,11 +8,29 @@ use rtps_ids::Order;
 
 /// A parameter list: its octets, sentinel included, and the order of its numbers (DDSI-RTPS 2.5, 9.4.2.11
 /// "ParameterList"). It can only hold octets that are a list. Two lists are equal when order and octets are.
-#[derive(Clone, Copy, PartialEq, Eq, Debug)]
+#[derive(Clone, Copy, Eq, Debug)]
 pub struct ParamList<'a> {
     octets: &'a [u8],
     order: Order,
     ghost is_list: { ∥ ((pairs : Pairs) × IsList order pairs octets.now) ∥₁ },
+}
+
+impl<'a> PartialEq for ParamList<'a> {
+    ghost use Rattle.std.specs.Prelude.{◌↔◌, IsTrue};
+    ghost use Rattle.std.specs.Cmp.Rules.{comparing};
+    ghost use Rattle.std.proofs.Common.{rules};
+    ghost use Rattle.rtps_params.specs.Shown.{is_same_list, list_value};
+
+    ghost eq = { is_same_list };
+
+    ghost laws = { Prim.search (comparing, rules) };
+
+    fn eq(&self, other: &ParamList<'a>) -> bool
+        ensures value { IsTrue result ↔ (list_value self.now ≡ list_value other.now) }
+        ensures test { result ≡ is_same_list self.now other.now }
+    {
+        (self.order, self.octets) == (other.order, other.octets)
+    }
 }
 
 impl<'a> ParamList<'a> {

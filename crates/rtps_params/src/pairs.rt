@@ -1,7 +1,8 @@
 ghost use Rattle.std.specs.Prelude.{◌≡◌};
 ghost use Rattle.rtps_params.specs.Reading.{pairs_of};
 
-use crate::parameter::{PAD, front};
+use crate::layout::pid::PAD;
+use crate::parameter::front;
 use rtps_ids::Order;
 use std::marker::Model;
 

@@ -4,16 +4,9 @@ ghost use Rattle.rtps_params.specs.Parameter.{BeginsWith, BeginsWithSentinel};
 ghost use Rattle.rtps_params.specs.Reading.{list_end};
 
 use crate::fault::ParamFault;
+use crate::layout::parameter::HEADER;
+use crate::layout::pid::SENTINEL;
 use rtps_ids::{Order, u16_at};
-
-/// The id of a parameter that only fills octets: PID_PAD.
-pub(crate) const PAD: u16 = 0;
-
-/// The id of the parameter that closes a list: PID_SENTINEL.
-const SENTINEL: u16 = 1;
-
-/// The octets of a parameter's id and length.
-const HEADER: usize = 4;
 
 /// A parameter, and the octets behind it.
 #[derive(Clone, Copy)]

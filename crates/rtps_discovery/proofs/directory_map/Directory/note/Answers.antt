@@ -1,5 +1,5 @@
-use Rattle.std.proofs.Common.{[], ◌∷◌, ◌++◌, refl, sym, ap, Some, None, Ok, Err}
-use Rattle.rtps_discovery.proofs.MapLaws.{again, entry_there, one_map, participant_there}
+use Rattle.std.proofs.Common.{[], ◌∷◌, ◌++◌, refl, sym, ap, ◌∙◌, Some, None, Ok, Err}
+use Rattle.rtps_discovery.proofs.MapLaws.{entry_there, one_map, participant_there, repeated}
 use Rattle.rtps_discovery.specs.Directory.{DirectoryValue}
 use Rattle.rtps_discovery.specs.Notice.{answer_of}
 use Rattle.rtps_receiver.specs.Values.{act_value}
@@ -44,7 +44,7 @@ returns-in_ok-keep_participant-in-Ok-clause-again c = λ acts were seen.
     let notice = rw c.in-Participant.is at c.in-Some.ensures in
     let said = announces_participant act c.in-Some.payload.now _ notice c.in-Ok.ensures in (
       ap (λ x. Ok (answer_of x)) (sym said),
-      one_map (acts ++ act ∷ []) _ c.args.self.now (returns-in_ok-keep_participant-in-Ok-clause-map c acts were) (again acts act c.args.self.now seen were),
+      one_map (acts ++ act ∷ []) _ c.args.self.now (returns-in_ok-keep_participant-in-Ok-clause-map c acts were) ((repeated acts act c.args.self.now seen).0 were),
     )
 
 pub returns-in_ok-keep_endpoint-in-Ok-read_endpoint-clause-again : goal.returns-in_ok-keep_endpoint-in-Ok-read_endpoint-clause-again
@@ -53,7 +53,7 @@ returns-in_ok-keep_endpoint-in-Ok-read_endpoint-clause-again c = λ acts were se
     let notice = rw c.in-Endpoint.is at c.in-Some.ensures in
     let said = announces_endpoint act c.in-Endpoint.side c.in-Some.payload.now _ notice c.in-Ok-read_endpoint.ensures in (
       ap (λ x. Ok (answer_of x)) (sym said),
-      one_map (acts ++ act ∷ []) _ c.args.self.now (returns-in_ok-keep_endpoint-in-Ok-read_endpoint-clause-map c acts were) (again acts act c.args.self.now seen were),
+      one_map (acts ++ act ∷ []) _ c.args.self.now (returns-in_ok-keep_endpoint-in-Ok-read_endpoint-clause-map c acts were) ((repeated acts act c.args.self.now seen).0 were),
     )
 
 pub returns-in_err-keep_participant-in-Ok-clause-again : goal.returns-in_err-keep_participant-in-Ok-clause-again
@@ -61,11 +61,11 @@ returns-in_err-keep_participant-in-Ok-clause-again c = λ acts were seen.
     let act = act_value c.args.act.now in
     let notice = rw c.in-Participant.is at c.in-Some.ensures in
     absurd (c.in_err-keep_participant-in-Ok.ensures.absent
-    (rw (ap (λ (directory : DirectoryValue). directory.participants) c.self.view_is) (participant_there acts act c.in-Ok.guid c.args.self.now were seen (announces_participant act c.in-Some.payload.now _ notice c.in-Ok.ensures))))
+    (rw (ap (λ (directory : DirectoryValue). directory.participants) c.self.view_is) (participant_there acts seen.first c.in-Ok.guid c.args.self.now were seen.is_among (sym seen.says_the_same ∙ announces_participant act c.in-Some.payload.now _ notice c.in-Ok.ensures))))
 
 pub returns-in_err-keep_endpoint-in-Ok-read_endpoint-clause-again : goal.returns-in_err-keep_endpoint-in-Ok-read_endpoint-clause-again
 returns-in_err-keep_endpoint-in-Ok-read_endpoint-clause-again c = λ acts were seen.
     let act = act_value c.args.act.now in
     let notice = rw c.in-Endpoint.is at c.in-Some.ensures in
-    absurd (entry_there acts act (endpoint_value c.in-Ok-read_endpoint.endpoint) c.args.self.now were seen (announces_endpoint act c.in-Endpoint.side c.in-Some.payload.now _ notice c.in-Ok-read_endpoint.ensures)
+    absurd (entry_there acts seen.first (endpoint_value c.in-Ok-read_endpoint.endpoint) c.args.self.now were seen.is_among (sym seen.says_the_same ∙ announces_endpoint act c.in-Endpoint.side c.in-Some.payload.now _ notice c.in-Ok-read_endpoint.ensures)
     (rw (← c.self.view_is) c.in_err-keep_endpoint-in-Ok-read_endpoint.ensures.absent))

@@ -1,0 +1,41 @@
+//! What announcements are told by: ids of writers, of representations and of parameters, each named once for the readers
+//! and for the definitions.
+
+/// The built-in writers that announce participants, writers and readers (DDSI-RTPS 2.5, 9.3.1.3 "Predefined
+/// EntityIds").
+pub(crate) mod entity {
+    use rtps_ids::EntityId;
+
+    pub(crate) const PARTICIPANTS: EntityId = EntityId([0x00, 0x01, 0x00, 0xc2]);
+
+    pub(crate) const PUBLICATIONS: EntityId = EntityId([0x00, 0x00, 0x03, 0xc2]);
+
+    pub(crate) const SUBSCRIPTIONS: EntityId = EntityId([0x00, 0x00, 0x04, 0xc2]);
+}
+
+/// The beginning of a payload (DDSI-RTPS 2.5, 10 "Serialized Payload Representation").
+pub(crate) mod representation {
+    /// The octets of a representation: its id, and two of options.
+    pub(crate) const SIZE: usize = 4;
+    /// The octets of its id.
+    pub(crate) const ID_SIZE: usize = 2;
+    /// A parameter list whose numbers lie with the highest octet first.
+    pub(crate) const PL_CDR_BE: [u8; 2] = [0x00, 0x02];
+    /// A parameter list whose numbers lie with the lowest octet first.
+    pub(crate) const PL_CDR_LE: [u8; 2] = [0x00, 0x03];
+}
+
+/// The ids of the parameters that are read (DDSI-RTPS 2.5, 9.6 "Mapping of the RTPS Protocol").
+pub(crate) mod pid {
+    pub(crate) const TOPIC_NAME: u16 = 0x0005;
+
+    pub(crate) const TYPE_NAME: u16 = 0x0007;
+
+    pub(crate) const RELIABILITY: u16 = 0x001a;
+
+    pub(crate) const DURABILITY: u16 = 0x001d;
+
+    pub(crate) const PARTICIPANT_GUID: u16 = 0x0050;
+
+    pub(crate) const ENDPOINT_GUID: u16 = 0x005a;
+}
