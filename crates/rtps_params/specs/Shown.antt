@@ -29,11 +29,12 @@ pub record ListValue : Type 0 where
 abbrev pub list_value : ParamList → ListValue
 list_value list = record { order = list.order; octets = list.octets.now }
 
--- the same as tests
+-- the same as tests: of orders
 abbrev pub is_same_order : Order → Order → Bool
 is_same_order Big Big = true
 is_same_order Little Little = true
 is_same_order _ _ = false
 
+-- of lists
 abbrev pub is_same_list : ParamList → ParamList → Bool
 is_same_list one other = is_same_order one.order other.order && pointwise nat_eq one.octets.now other.octets.now
