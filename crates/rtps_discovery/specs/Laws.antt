@@ -13,7 +13,7 @@ use Rattle.rtps_discovery.specs.Told.{IsToldBy}
 use Rattle.rtps_discovery.specs.declared.endpoint.Side.{Side}
 use Rattle.rtps_discovery.specs.declared.fault.NoticeFault.{NoticeFault}
 
--- whatever is a map of acts is one of them and an act that repeats one of them, and the other way round
+-- the map of some acts is also that of these and one that repeats one of them, and the other way round
 abbrev pub RepetitionsChangeNothing : Type 0
 RepetitionsChangeNothing =
     (before : List ActValue) (act : ActValue) (map : DirectoryValue) → RepeatsOneOf before act → IsMapOf before map ↔ IsMapOf (before ++ act ∷ []) map

@@ -24,7 +24,7 @@ use Rattle.rtps_discovery.specs.declared.notice.Subject.TheVariants as subject
 abbrev pub is_entity : List ℕ → EntityId → Bool
 is_entity octets entity = pointwise nat_eq entity.0 octets
 
--- whom a built-in writer announces: one participants, one writers and one readers
+-- whom a built-in writer announces: there is one for participants, one for writers and one for readers
 abbrev pub subject_of : EntityId → Option Subject
 subject_of writer =
     if is_entity entity.PARTICIPANTS.0 writer then Some subject.Participant
@@ -58,7 +58,7 @@ announced_by (subject.Endpoint side) payload = or_fault (endpoint_of side payloa
 abbrev pub announcement_of : ActValue → Option (Result Announced NoticeFault)
 announcement_of act = option_map (λ notice. announced_by notice.0 notice.1) (notice_in act.body)
 
--- an act whose announcement is that of one of these acts, by whichever writers, from and to wherever
+-- an act whose announcement is that of one of these acts, whatever the sources and destinations of both
 pub record RepeatsOneOf (acts : List ActValue) (act : ActValue) : Type 0 where
   pub first : ActValue
   pub is_among : Contains acts first

@@ -54,8 +54,8 @@ pub fn any_order()
         → Contains acts act → IsMapOf acts map → IsMapOf (acts ++ act ∷ []) map }
 {}
 
-/// An act that announces what one of the acts before it announced changes nothing, whichever built-in writer sends it,
-/// from and to wherever: both lists of acts have one map.
+/// An act that announces what one of the acts before it announced changes nothing, from whichever participant it comes
+/// and to wherever: with it and without it, acts have one map.
 pub fn repetitions_change_nothing()
     ensures { RepetitionsChangeNothing }
 {}
