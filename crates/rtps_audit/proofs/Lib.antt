@@ -15,6 +15,7 @@ pub mod Sound
 pub mod Verdicts
 pub mod OneVerdict
 pub mod SameSaid
+pub mod PlacedLemmas
 pub mod JudgeLemmas
 pub mod FullRunLemmas
 pub mod EachVerdict

@@ -13,5 +13,8 @@ pub mod Report
 pub mod KeptPayloads
 pub mod Claims
 pub mod OneDatagram
+pub mod Groups
+pub mod Placed
+pub mod Hearing
 pub mod Judge
 pub mod Laws

@@ -2,17 +2,24 @@
 //! (DDSI-RTPS 2.5, 8.4 "Behavior Module").
 #![tactic(auto)]
 
+mod answers;
 mod auditing;
 mod claims;
 mod counting;
 mod coverage;
+mod groups;
+mod hearing;
 mod judge_state;
 mod judging;
 pub mod laws;
+mod listener;
 mod merged_ranges;
+mod origins;
 mod payloads;
+mod placed;
 mod plain_ranges;
 mod report;
+mod said;
 mod span;
 #[cfg(test)]
 mod tests;

@@ -1,10 +1,12 @@
 -- What the receiver's state at a place is, and which acts a message has, by its items alone. DDSI-RTPS 2.5, 8.3.4.1
 -- "Rules Followed By The Message Receiver".
-use Rattle.std.specs.Prelude.{◌≡◌, ◌⊎◌, ◌↔◌, List, ◌∷◌, ◌++◌, All, Contains, Option, Some, None}
+use Rattle.std.specs.Prelude.{◌≡◌, ◌⊎◌, ◌↔◌, false, List, ◌∷◌, ◌++◌, All, Contains, Option, Some, None}
 use Rattle.rtps_wire.specs.Message.{Reading}
 use Rattle.rtps_wire.specs.Values.{BodyValue, ItemValue}
 use Rattle.rtps_wire.specs.declared.header.Header.{Header}
 use Rattle.rtps_receiver.specs.Acts.{act_at, act_body, acts_of, says_destination, says_source, says_time, state_at_start, state_behind}
+use Rattle.rtps_ids.specs.declared.identity.Guid.{Guid}
+use Rattle.rtps_receiver.specs.Speech.{IsSpokenBy, is_ack_nack, origin_of}
 use Rattle.rtps_receiver.specs.Values.{ActBodyValue, ActValue}
 use Rattle.rtps_receiver.specs.declared.state.State.{State}
 
@@ -46,3 +48,7 @@ TheStateIsWhatStands = (start : State) (items : List ItemValue) → StandsBehind
 
 abbrev pub ActsAreOfItems : Type 0
 ActsAreOfItems = (reading : Reading) (header : Header) (act : ActValue) → reading.header ≡ Some header → Contains (acts_of reading) act ↔ IsActOf header reading.items act
+
+-- a writer speaks exactly the acts from it that are no ACKNACK
+abbrev pub SpeakersAreOrigins : Type 0
+SpeakersAreOrigins = (act : ActValue) (writer : Guid) → IsSpokenBy act writer ↔ ((is_ack_nack act.body ≡ false) × (origin_of act ≡ writer))

@@ -21,6 +21,23 @@ reader_named (Heartbeat value) = Some value.reader
 reader_named (Gap value) = Some value.reader
 reader_named (AckNack value) = None
 
+-- an act is from the writer that it names, and an ACKNACK from the reader
+abbrev pub is_ack_nack : ActBodyValue → Bool
+is_ack_nack (AckNack value) = true
+is_ack_nack (Data value) = false
+is_ack_nack (Heartbeat value) = false
+is_ack_nack (Gap value) = false
+
+abbrev pub entity_from : ActBodyValue → EntityId
+entity_from (AckNack value) = value.reader
+entity_from (Data value) = value.writer
+entity_from (Heartbeat value) = value.writer
+entity_from (Gap value) = value.writer
+
+-- of its source
+abbrev pub origin_of : ActValue → Guid
+origin_of act = record { prefix = act.source; entity = entity_from act.body }
+
 -- the entity id of zeros names every reader (9.3.1.2 "Mapping of the EntityId_t", ENTITYID_UNKNOWN)
 abbrev pub unknown_entity : EntityId
 unknown_entity = record { 0 = 0 ∷ 0 ∷ 0 ∷ 0 ∷ [] }

@@ -2,7 +2,7 @@
 
 ghost use Rattle.std.specs.Prelude.{◌≡◌, ◌↔◌, true};
 ghost use Rattle.rtps_ids.specs.declared.identity.Guid.{Guid};
-ghost use Rattle.rtps_receiver.specs.Laws.{ActsAreOfItems, TheStateIsWhatStands};
+ghost use Rattle.rtps_receiver.specs.Laws.{ActsAreOfItems, SpeakersAreOrigins, TheStateIsWhatStands};
 ghost use Rattle.rtps_receiver.specs.Speech.{IsAnswer, IsHeardBy, IsSpokenBy, is_answer, is_heard_by, is_spoken_by};
 ghost use Rattle.rtps_receiver.specs.Values.{ActValue};
 
@@ -23,4 +23,9 @@ pub fn the_state_is_what_stands()
 /// The acts of a message are exactly its items that are acts, each with the state behind all items before it.
 pub fn acts_are_of_items()
     ensures { ActsAreOfItems }
+{}
+
+/// A writer speaks exactly the acts whose origin it is and that are no ACKNACK.
+pub fn speakers_are_origins()
+    ensures { SpeakersAreOrigins }
 {}

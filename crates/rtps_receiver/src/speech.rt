@@ -7,8 +7,24 @@ const UNKNOWN: EntityId = EntityId([0; 4]);
 impl<'a> Act<'a> {
     ghost use Rattle.std.specs.Prelude.{◌↔◌, ◌≡◌, IsTrue};
     ghost use Rattle.std.specs.Option.{option_map};
-    ghost use Rattle.rtps_receiver.specs.Speech.{IsAnswer, IsHeardBy, IsSpokenBy, is_answer, is_heard_by, is_spoken_by, reader_named, writer_named};
+    ghost use Rattle.rtps_receiver.specs.Speech.{IsAnswer, IsHeardBy, IsSpokenBy, is_answer, is_heard_by, is_spoken_by, origin_of, reader_named, writer_named};
     ghost use Rattle.rtps_receiver.specs.Values.{act_value};
+
+    /// Whom the act is from: of its source, the reader that an ACKNACK names, or the writer that anything else names.
+    pub fn origin(&self) -> Guid
+        ensures { result ≡ origin_of (act_value self.now) }
+    {
+        let entity = match &self.body {
+            ActBody::Data(data) => data.writer,
+            ActBody::Heartbeat(heartbeat) => heartbeat.writer,
+            ActBody::Gap(gap) => gap.writer,
+            ActBody::AckNack(ack_nack) => ack_nack.reader,
+        };
+        Guid {
+            prefix: self.source,
+            entity,
+        }
+    }
 
     /// Whether this writer speaks the act: it is a DATA, HEARTBEAT or GAP of its participant that names it. False of
     /// an ACKNACK.

@@ -1,0 +1,75 @@
+-- The acts of a recording, each with the datagram that it stands in. own: what one GUID said stands together, so that a
+-- pair costs no more than what its two said.
+use Rattle.std.specs.Prelude.{ℕ, pos, Bool, ◌+◌, ◌≡◌, ◌&&◌, List, [], ◌∷◌, ◌++◌, filter, map, Option, Some, None}
+use Rattle.std.specs.BTreeMap.{BTreeMap}
+use Rattle.std.specs.Global.{Vec}
+use Rattle.std.specs.List.{filter_map}
+use Rattle.std.specs.Ordering.{ordering_then}
+use Rattle.std.specs.declared.cmp.Ordering.{Ordering}
+use Rattle.rtps_ids.specs.declared.identity.Guid.{Guid}
+use Rattle.rtps_wire.specs.Reading.{reading_of}
+use Rattle.rtps_receiver.specs.Acts.{acts_of}
+use Rattle.rtps_receiver.specs.Speech.{is_entity, is_prefix, origin_of}
+use Rattle.rtps_receiver.specs.Values.{ActValue, act_value}
+use Rattle.rtps_discovery.specs.GuidOrder.{guid_cmp}
+use Rattle.rtps_discovery.specs.declared.matching.Pair.{Pair}
+use Rattle.rtps_audit.specs.Groups.{values_at}
+use Rattle.rtps_audit.specs.Speech.{base_for}
+use Rattle.rtps_audit.specs.declared.answers.Answer.{Answer}
+use Rattle.rtps_audit.specs.declared.origins.Origins.{Origins}
+use Rattle.rtps_audit.specs.declared.placed.Placed.{Placed}
+
+-- an act, and the datagram that it stands in, counted from 1
+pub record PlacedValue : Type 0 where
+  pub datagram : ℕ
+  pub act : ActValue
+
+abbrev pub placed_value : Placed → PlacedValue
+placed_value placed = record { datagram = placed.datagram; act = act_value placed.act }
+
+-- acts of one datagram
+abbrev pub placed_at : ℕ → List ActValue → List PlacedValue
+placed_at datagram acts = map (λ act. record { datagram = datagram; act = act }) acts
+
+-- the acts of datagrams that stand behind so many others, by datagram and then by place
+abbrev pub placed_behind : ℕ → List (List ℕ) → List PlacedValue
+placed_behind before [] = []
+placed_behind before (datagram ∷ datagrams) = placed_at (before + 1) (acts_of (reading_of datagram)) ++ placed_behind (before + 1) datagrams
+
+-- the acts of a recording, which is the octets of its datagrams in the order of sending
+abbrev pub placed_in : List (List ℕ) → List PlacedValue
+placed_in recording = placed_behind 0 recording
+
+-- whether an act is from this GUID
+abbrev pub is_guid : Guid → Guid → Bool
+is_guid one other = is_prefix one.prefix other.prefix && is_entity one.entity other.entity
+
+abbrev pub is_from : Guid → PlacedValue → Bool
+is_from origin placed = is_guid origin (origin_of placed.act)
+
+-- pairs by writer, and then by reader
+abbrev pub pair_cmp : Pair → Pair → Ordering
+pair_cmp one other = ordering_then (guid_cmp one.writer other.writer) (guid_cmp one.reader other.reader)
+
+-- the answer that an act is of a pair's reader to its writer
+abbrev pub answer_at : ℕ → Option ℕ → Option Answer
+answer_at datagram (Some base) = Some (record { datagram = datagram; base = pos base })
+answer_at datagram None = None
+
+abbrev pub answer_of : Pair → PlacedValue → Option Answer
+answer_of pair placed = answer_at placed.datagram (base_for pair.writer pair.reader placed.act)
+
+abbrev pub answers_among : Pair → List PlacedValue → List Answer
+answers_among pair placed = filter_map (answer_of pair) placed
+
+-- the new lists have the acts of the old ones, and then these, and so the answers
+abbrev pub AddsActs : BTreeMap Guid (Vec Placed) → BTreeMap Guid (Vec Placed) → List PlacedValue → Type 0
+AddsActs old new placed = (origin : Guid) → map placed_value (values_at guid_cmp new origin) ≡ map placed_value (values_at guid_cmp old origin) ++ filter (is_from origin) placed
+
+abbrev pub AddsAnswers : BTreeMap Pair (Vec Answer) → BTreeMap Pair (Vec Answer) → List PlacedValue → Type 0
+AddsAnswers old new placed = (pair : Pair) → values_at pair_cmp new pair ≡ values_at pair_cmp old pair ++ answers_among pair placed
+
+-- the lists are of these acts, by origin, and of their answers, by pair
+pub record AreOf (origins : Origins) (placed : List PlacedValue) : Type 0 where
+  pub acts : (origin : Guid) → map placed_value (values_at guid_cmp origins.acts.map origin) ≡ filter (is_from origin) placed
+  pub answers : (pair : Pair) → values_at pair_cmp origins.answers.map pair ≡ answers_among pair placed

@@ -1,0 +1,40 @@
+ghost use Rattle.std.specs.Prelude.{◌≡◌, cond, pos, Some, None, MatchOption};
+ghost use Rattle.std.specs.Option.{option_map};
+ghost use Rattle.std.specs.Ordering.{is_eq};
+ghost use Rattle.rtps_discovery.specs.declared.matching.Pair.{Pair as PairValue};
+ghost use Rattle.rtps_receiver.specs.Values.{act_value};
+ghost use Rattle.rtps_audit.specs.Placed.{pair_cmp};
+ghost use Rattle.rtps_audit.specs.Speech.{base_for};
+
+use rtps_discovery::Pair;
+use rtps_ids::Guid;
+use rtps_receiver::{Act, ActBody};
+
+/// An answer of a reader to a writer: the datagram that it stands in, counted from 1, and its base, by which the reader
+/// claims each number below it.
+#[derive(Clone, Copy, Debug)]
+pub(crate) struct Answer {
+    pub(crate) datagram: usize,
+    pub(crate) base: i64,
+}
+
+/// Whom an act answers for whom, and the base of the answer; None where it answers nobody.
+pub(crate) fn answer_in(act: &Act<'_>) -> Option<(Pair, i64)>
+    ensures { MatchOption result
+        ((pair : PairValue) → base_for pair.writer pair.reader (act_value act.now) ≡ None)
+        (λ answer. (pair : PairValue) → option_map pos (base_for pair.writer pair.reader (act_value act.now))
+            ≡ cond (is_eq (pair_cmp pair answer.0)) (Some answer.1) None) }
+{
+    let ActBody::AckNack(ack_nack) = &act.body else {
+        return None;
+    };
+    let writer = Guid {
+        prefix: act.dest?,
+        entity: ack_nack.writer,
+    };
+    let pair = Pair {
+        writer,
+        reader: act.origin(),
+    };
+    Some((pair, ack_nack.set.base()))
+}
