@@ -1,6 +1,6 @@
 -- What a judge knows after one act and after one datagram more, and what follows for the verdict.
 use Rattle.std.proofs.Common.{◌≡◌, ℕ, ◌+◌, ◌-◌, ◌<◌, ◌≤◌, ◌^◌, Bool, true, false, List, [], ◌∷◌, ◌++◌, length, Option, Some, None, ◌⊎◌, refl, sym, ◌∙◌, ap, subst, arith, inl, inr, max, ℤ, pos, negsuc}
-use Rattle.std.specs.Prelude.{if◌then◌else◌, int_lt, nat_le, is_some, unwrap_or}
+use Rattle.std.specs.Prelude.{if◌then◌else◌, int_lt, nat_le, nat_lt, is_some, unwrap_or, ◌&&◌, IfSome, MatchOption}
 use Rattle.std.proofs.lemmas.Int.{ints}
 use Rattle.std.proofs.lemmas.Bool.Decides.{nat_tests}
 use Rattle.std.proofs.lemmas.Option.{slice_get_within}
@@ -15,8 +15,8 @@ use Rattle.rtps_audit.specs.OneDatagram.{Says, IsSaid, Tells, ClaimsIn}
 use Rattle.rtps_audit.specs.RunVerdict.{IsLeast, IsTold, ClaimsUntold, IsVerdict}
 use Rattle.rtps_audit.specs.PlainVerdict.{IsFounded, IsSpoken, SpeaksTwo, IsClaimed, IsUnclaimed, IsPlainVerdict}
 use Rattle.rtps_audit.specs.KeptPayloads.{IsKept, KeepsMore, KeepsTwo}
-use Rattle.rtps_audit.specs.Claims.{FindsUntold}
-use Rattle.rtps_audit.specs.Judge.{IsFirstUntold, IsTelling, IsUntoldFront, Knows}
+use Rattle.rtps_audit.specs.Claims.{FindsUntold, verdict_by}
+use Rattle.rtps_audit.specs.Judge.{IsFirstUntold, IsTelling, IsUntoldFront, Knows, greatest_base}
 use Rattle.rtps_audit.specs.Speech.{announced_for, base_for, said_by, word_for}
 use Rattle.rtps_audit.specs.declared.claims.Untold.{Untold}
 use Rattle.rtps_audit.specs.declared.judge_state.Judge.{Judge}
@@ -25,7 +25,7 @@ use Rattle.rtps_audit.proofs.DatagramMore.{length_more, claims_last, claims_case
 use Rattle.rtps_audit.proofs.ActMore.{says_cases, says_before, says_last, acts_more, bases_more, announced_more}
 use Rattle.rtps_audit.proofs.BelowBase.{claimed_from_below, below_from_claims}
 use Rattle.rtps_audit.proofs.Greatest.{below_greatest, greatest_below}
-use Rattle.rtps_audit.proofs.WordLemmas.{or_cases, or_left, or_right}
+use Rattle.rtps_audit.proofs.WordLemmas.{or_cases, or_left, or_right, some_word, word_some}
 use Rattle.rtps_audit.proofs.Verdicts.{from_plain, least_same, on_natural}
 
 -- ---- the first claim that is not told
@@ -105,7 +105,10 @@ founded_still speech d f founded front le bound j n claims = elim (claims_cases 
 untold_more : (speech : Speech) (d : Datagram) (front : ℤ) (old new : Option Untold) → greatest d.bases < 2 ^ 63
     → IsUntoldFront speech front → FindsUntold old new (length speech + 1) front (greatest d.bases) → IsFirstUntold speech old → IsFirstUntold (speech ++ d ∷ []) new
 untold_more speech d front (Some untold) new bound is_front found known =
-    subst (IsFirstUntold (speech ++ d ∷ [])) (sym found) (plain_before speech d untold.datagram untold.number known)
+    let claim = known.2.holds.1.0 in
+    let within = slice_get_within speech known.0 claim.datagram claim.stands in
+    let late : nat_lt (length speech + 1) untold.datagram ≡ false = (let at = known.1 in grind (arith, nat_tests)) in
+    subst (IsFirstUntold (speech ++ d ∷ [])) (sym (found ∙ ap (λ b. if b && int_lt front (pos (greatest d.bases)) then Some (record { datagram = length speech + 1; number = front }) else Some untold) late)) (plain_before speech d untold.datagram untold.number known)
 untold_more speech d (negsuc f) None new bound is_front found known = absurd (let low = is_front.positive in omega (arith, ints))
 untold_more speech d (pos f) None new bound is_front found known =
     subst (IsFirstUntold (speech ++ d ∷ [])) (sym found) (by_test (int_lt (pos f) (pos (greatest d.bases))) refl)
@@ -160,14 +163,6 @@ begins covered old new speech words claims datagrams base is_front known = recor
     λ either. elim either [ inl is ↦ subst (λ (w : _). IsKept w.payloads.items n p) (sym words) ((known.kept n p positive).1 is) | inr says ↦ absurd (says_nothing says.0 n (Told p) says.1) ],
   );
 }
-
--- a number that some word is for
-some_word : (o : Option Word) → is_some o ≡ true → (word : Word) × (o ≡ Some word)
-some_word None e = cc
-some_word (Some word) e = (word, refl)
-
-word_some : (o : Option Word) (word : Word) → o ≡ Some word → is_some o ≡ true
-word_some o word e = ap is_some e
 
 pub tells_on : {C : Type 0} (covered : C → ℕ → Bool) (old new : Judge C) (writer reader : Guid) (speech : Speech) (acts : List ActValue) (act : ActValue)
     → new.datagrams ≡ old.datagrams → new.front ≡ old.front → new.claims.untold ≡ old.claims.untold → new.claims.base ≡ old.claims.base
@@ -269,52 +264,40 @@ two_from_spoken covered judge speech known n (x, y, one, two, differ) =
     let positive = one.gives.asked.0 in
     (x, y, (known.kept n x positive).1 one, (known.kept n y positive).1 two, differ)
 
--- the verdict, where a first claim that is not told is known
-pub verdict_unfounded : {C : Type 0} (covered : C → ℕ → Bool) (judge : Judge C) (speech : Speech) (untold : Untold) → judge.claims.untold ≡ Some untold → Knows covered judge speech
-    → IsVerdict speech (Unfounded untold.datagram untold.number)
-verdict_unfounded covered judge speech untold found known =
-    from_plain 1 speech (Unfounded untold.datagram untold.number) (subst (IsFirstUntold speech) found known.founded)
+-- the least number that two payloads are spoken for, by those that are kept
+pub conflict_known : {C : Type 0} (covered : C → ℕ → Bool) (judge : Judge C) (speech : Speech) (conflict : Option ℕ) → IfSome conflict (λ n. (1 ≤ n) × (n < 2 ^ 63))
+    → MatchOption conflict ((n : ℕ) → ¬ KeepsTwo judge.words.payloads.items n) (IsLeast (KeepsTwo judge.words.payloads.items)) → Knows covered judge speech
+    → MatchOption conflict ((n : ℕ) → ¬ SpeaksTwo 1 speech n) (IsLeast (SpeaksTwo 1 speech))
+conflict_known covered judge speech None in_range never known = λ n two. never n (two_from_spoken covered judge speech known n two)
+conflict_known covered judge speech (Some n) in_range least known =
+    record { holds = two_from_kept covered judge speech known n in_range.0 least.holds; least = λ m two. least.least m (two_from_spoken covered judge speech known m two) }
 
--- where there is none, and two payloads are kept for a number
-pub verdict_conflict : {C : Type 0} (covered : C → ℕ → Bool) (judge : Judge C) (speech : Speech) (n : ℕ) → 1 ≤ n → judge.claims.untold ≡ None → IsLeast (KeepsTwo judge.words.payloads.items) n → Knows covered judge speech
-    → IsVerdict speech (Conflict (pos n))
-verdict_conflict covered judge speech n positive none least known =
-    from_plain 1 speech (Conflict (pos n)) (
-      subst (IsFirstUntold speech) none known.founded,
-      record { holds = two_from_kept covered judge speech known n positive least.holds; least = λ m two. least.least m (two_from_spoken covered judge speech known m two) },
-    )
-
--- where there is none of either
-pub verdict_last : {C : Type 0} (covered : C → ℕ → Bool) (judge : Judge C) (speech : Speech) → judge.claims.untold ≡ None → ((n : ℕ) → ¬ KeepsTwo judge.words.payloads.items n) → Knows covered judge speech
-    → IsVerdict speech (if nat_le (max 1 judge.claims.base) judge.claims.last then Open (pos (max 1 judge.claims.base)) else Complete (pos judge.claims.last))
-verdict_last covered judge speech none agree known = by_test (nat_le (max 1 judge.claims.base) judge.claims.last) refl
+pub verdict_known : (speech : Speech) (untold : Option Untold) (conflict : Option ℕ) (base last : ℕ) → IsFirstUntold speech untold
+    → MatchOption conflict ((n : ℕ) → ¬ SpeaksTwo 1 speech n) (IsLeast (SpeaksTwo 1 speech)) → base ≡ greatest_base speech → last ≡ last_announced speech → IsVerdict speech (verdict_by untold conflict base last)
+verdict_known speech (Some untold) conflict base last first two is_base is_last = from_plain 1 speech (Unfounded untold.datagram untold.number) first
+verdict_known speech None (Some n) base last founded least is_base is_last = from_plain 1 speech (Conflict (pos n)) (founded, least)
+verdict_known speech None None base last founded never is_base is_last = by_test (nat_le (max 1 base) last) refl
   where
-    founded : IsFounded 1 speech
-    founded = subst (IsFirstUntold speech) none known.founded
-
-    never : (n : ℕ) → ¬ SpeaksTwo 1 speech n
-    never n two = agree n (two_from_spoken covered judge speech known n two)
-
-    open_at : max 1 judge.claims.base ≤ judge.claims.last → IsLeast (IsUnclaimed 1 speech) (max 1 judge.claims.base)
+    open_at : max 1 base ≤ last → IsLeast (IsUnclaimed 1 speech) (max 1 base)
     open_at le = record {
       holds = (
         (omega arith, omega arith),
-        omega (arith, known.last),
-        λ claimed. let below = below_from_claims (max 1 judge.claims.base) claimed.0 speech claimed.1 in omega (arith, known.base),
+        omega (arith, is_last),
+        λ claimed. let below = below_from_claims (max 1 base) claimed.0 speech claimed.1 in omega (arith, is_base),
       );
-      least = λ m unclaimed. elim (cases_lt m (max 1 judge.claims.base)) [
-        | inl below ↦ absurd (let a = unclaimed.0 in unclaimed.2 (claimed_from_below m speech unclaimed.0 (omega (arith, known.base))))
+      least = λ m unclaimed. elim (cases_lt m (max 1 base)) [
+        | inl below ↦ absurd (let a = unclaimed.0 in unclaimed.2 (claimed_from_below m speech unclaimed.0 (omega (arith, is_base))))
         | inr above ↦ above
       ];
     }
 
-    all : judge.claims.last < max 1 judge.claims.base → (n : ℕ) → IsAsked 1 n → n ≤ last_announced speech → IsClaimed 1 speech n
-    all lt n asked announced = claimed_from_below n speech asked (omega (arith, known.base, known.last))
+    all : last < max 1 base → (n : ℕ) → IsAsked 1 n → n ≤ last_announced speech → IsClaimed 1 speech n
+    all lt n asked announced = claimed_from_below n speech asked (omega (arith, is_base, is_last))
 
-    by_test : (b : Bool) → nat_le (max 1 judge.claims.base) judge.claims.last ≡ b → IsVerdict speech (if b then Open (pos (max 1 judge.claims.base)) else Complete (pos judge.claims.last))
+    by_test : (b : Bool) → nat_le (max 1 base) last ≡ b → IsVerdict speech (if b then Open (pos (max 1 base)) else Complete (pos last))
     by_test true e =
-        let le : max 1 judge.claims.base ≤ judge.claims.last = grind (arith, nat_tests) in
-        from_plain 1 speech (Open (pos (max 1 judge.claims.base))) (founded, never, open_at le)
+        let le : max 1 base ≤ last = grind (arith, nat_tests) in
+        from_plain 1 speech (Open (pos (max 1 base))) (founded, never, open_at le)
     by_test false e =
-        let lt : judge.claims.last < max 1 judge.claims.base = grind (arith, nat_tests) in
-        from_plain 1 speech (Complete (pos judge.claims.last)) (ap pos known.last, founded, never, all lt)
+        let lt : last < max 1 base = grind (arith, nat_tests) in
+        from_plain 1 speech (Complete (pos last)) (ap pos is_last, founded, never, all lt)

@@ -16,6 +16,11 @@ pub mod Verdicts
 pub mod OneVerdict
 pub mod SameSaid
 pub mod PlacedLemmas
+pub mod HearingLemmas
+pub mod AnswerLemmas
+pub mod PlacedActs
+pub mod IndexSpeech
+pub mod IndexVerdict
 pub mod JudgeLemmas
 pub mod FullRunLemmas
 pub mod EachVerdict

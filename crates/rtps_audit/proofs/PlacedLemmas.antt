@@ -32,7 +32,7 @@ is_eq-then Less b = refl
 is_eq-then Equal b = refl
 is_eq-then Greater b = refl
 
-both : {a b c d : Bool} → a ≡ c → b ≡ d → a && b ≡ c && d
+pub both : {a b c d : Bool} → a ≡ c → b ≡ d → a && b ≡ c && d
 both e f = rw (e, f) refl
 
 -- GUIDs that compare alike are those that the test holds of

@@ -1,6 +1,6 @@
 -- What the words of an act tell, and which payloads they keep.
-use Rattle.std.proofs.Common.{◌≡◌, ℕ, zero, suc, ◌≤◌, Bool, true, false, cond, ◌==◌, ◌||◌, List, [], ◌∷◌, ◌++◌, Some, None, refl, sym, ◌∙◌, ap, subst, arith, ◌⊎◌, inl, inr}
-use Rattle.std.specs.Prelude.{Contains}
+use Rattle.std.proofs.Common.{◌≡◌, ℕ, zero, suc, ◌≤◌, Bool, true, false, cond, ◌==◌, ◌||◌, List, [], ◌∷◌, ◌++◌, Option, Some, None, refl, sym, ◌∙◌, ap, subst, arith, ◌⊎◌, inl, inr}
+use Rattle.std.specs.Prelude.{Contains, is_some}
 use Rattle.std.proofs.lemmas.Bool.Decides.{nat_tests}
 use Rattle.std.proofs.lemmas.List.Elements.{Contains-append_left, Contains-append_right, Contains-append_cases}
 use Rattle.rtps_wire.specs.Values.{PayloadValue, payload_value}
@@ -86,3 +86,11 @@ keeps_data xs ys s number payload is at value n p positive = (to, from)
     from (inr says) =
         let both = some_if (n == number) (told payload) (told p) says in
         subst (λ l. IsKept l n p) (sym is) (kept_last xs s n p (at ∙ eqb_same n number both.0) (value ∙ told_same payload p both.1))
+
+-- a number that some word is for
+pub some_word : (o : Option Word) → is_some o ≡ true → (word : Word) × (o ≡ Some word)
+some_word None e = cc
+some_word (Some word) e = (word, refl)
+
+pub word_some : (o : Option Word) (word : Word) → o ≡ Some word → is_some o ≡ true
+word_some o word e = ap is_some e

@@ -16,5 +16,8 @@ pub mod OneDatagram
 pub mod Groups
 pub mod Placed
 pub mod Hearing
+pub mod Answered
+pub mod Index
+pub mod Common
 pub mod Judge
 pub mod Laws

@@ -18,6 +18,19 @@ pub(crate) struct Answer {
     pub(crate) base: i64,
 }
 
+impl Answer {
+    ghost use Rattle.std.specs.Prelude.{◌<◌, ◌^◌};
+    ghost use Rattle.rtps_audit.specs.Speech.{natural};
+
+    /// The base as a number; 0 for one below it.
+    pub(crate) fn natural_base(&self) -> u64
+        ensures value { result ≡ natural self.now.base }
+        ensures in_range { result < 2 ^ 63 }
+    {
+        self.base.max(0).cast_unsigned()
+    }
+}
+
 /// Whom an act answers for whom, and the base of the answer; None where it answers nobody.
 pub(crate) fn answer_in(act: &Act<'_>) -> Option<(Pair, i64)>
     ensures { MatchOption result

@@ -1,54 +1,28 @@
-ghost use Rattle.std.specs.Prelude.{ℤ, ◌≡◌, ◌↔◌, map, All, IfOk};
-ghost use Rattle.rtps_receiver.specs.Acts.{acts_in};
-ghost use Rattle.rtps_discovery.specs.Directory.{IsMapOf};
+ghost use Rattle.std.specs.Prelude.{ℤ, ℕ, ◌≡◌, ◌↔◌, map, All, IfOk, List};
 ghost use Rattle.rtps_audit.specs.Delivered.{IsDelivered};
-ghost use Rattle.rtps_audit.specs.Report.{IsJudged, IsReport, counts_of};
+ghost use Rattle.rtps_audit.specs.Index.{IsIndexOf};
+ghost use Rattle.rtps_audit.specs.Report.{IsJudged, IsReport};
 ghost use Rattle.rtps_audit.specs.Speech.{speech_of};
 
-use crate::counting::{one_if, undirected_among};
-use crate::judging::judge;
-use crate::report::{Counts, Report, Row};
+use crate::common::Common;
+use crate::index::Index;
+use crate::report::{Report, Row};
 use crate::verdict::Verdict;
-use rtps_discovery::{Directory, Pair};
+use rtps_discovery::Pair;
 use rtps_ids::Memory;
-use rtps_receiver::Walk;
 use std::alloc::Global;
 
-/// What a recording announces, and its counts, in one walk over it. No GUID is counted as unsettled yet.
-fn gathered<'a>(alloc: Global, recording: &[&'a [u8]]) -> Result<(Directory<'a>, Counts), Memory>
-    ensures map { IfOk result (λ found. IsMapOf (acts_in (map (λ datagram. datagram.now) recording.now)) found.0) }
-    ensures counts { IfOk result (λ found. found.1 ≡ counts_of (map (λ datagram. datagram.now) recording.now) 0) }
-{
-    let mut directory = Directory::new(alloc);
-    let mut walk = Walk::new(alloc);
-    let mut counts = Counts {
-        datagrams: recording.len() as u64,
-        refused: 0,
-        skipped: 0,
-        fragments: 0,
-        undirected: 0,
-        unsettled: 0,
-    };
-    for datagram in recording {
-        let tally = walk.read(datagram)?;
-        let _ = directory.note_all(walk.acts())?;
-        counts.refused += one_if(tally.refused);
-        counts.skipped += u128::from(tally.skipped);
-        counts.fragments += u128::from(tally.fragments);
-        counts.undirected += u128::from(undirected_among(walk.acts()));
-    }
-    Ok((directory, counts))
-}
-
 /// Judges each of these pairs.
-fn rows_of(alloc: Global, recording: &[&[u8]], pairs: &[Pair]) -> Result<Vec<Row>, Memory>
+fn rows_of(index: &Index<'_>, pairs: &[Pair]) -> Result<Vec<Row>, Memory>
     ensures pairs { IfOk result (λ rows. map (λ row. row.pair) rows.items ≡ pairs.now) }
-    ensures judged { IfOk result (λ rows.
-        All (IsJudged (map (λ datagram. datagram.now) recording.now)) rows.items) }
+    ensures judged { (recording : List (List ℕ)) → IsIndexOf recording index.now
+        → IfOk result (λ rows. All (IsJudged recording) rows.items) }
 {
-    let mut rows = Vec::new(alloc);
+    let mut rows = Vec::new(index.alloc);
+    let mut common = Common::new(index)?;
     for pair in pairs {
-        let verdict = judge(alloc, recording, *pair)?;
+        common.turn_to(index, pair.writer)?;
+        let verdict = common.judge(index, *pair)?;
         rows.push(Row {
             pair: *pair,
             verdict,
@@ -80,9 +54,10 @@ pub fn audit(alloc: Global, recording: &[&[u8]]) -> Result<Report, Memory>
         IfOk result (λ report. All (λ row. (last : ℤ) → (row.verdict ≡ Verdict.Complete last)
         ↔ IsDelivered (speech_of row.pair.writer row.pair.reader octets) last) report.rows.items) }
 {
-    let (directory, mut counts) = gathered(alloc, recording)?;
-    let pairs = directory.pairs()?;
-    let rows = rows_of(alloc, recording, &pairs)?;
-    counts.unsettled = directory.unsettled() as u64;
+    let index = Index::build(alloc, recording)?;
+    let pairs = index.directory.pairs()?;
+    let rows = rows_of(&index, &pairs)?;
+    let mut counts = index.counts;
+    counts.unsettled = index.directory.unsettled() as u64;
     Ok(Report { rows, counts })
 }

@@ -1,4 +1,4 @@
-ghost use Rattle.std.specs.Prelude.{◌≡◌, ◌<◌, ◌^◌, pos, max, None, nat_le, if◌then◌else◌};
+ghost use Rattle.std.specs.Prelude.{◌≡◌, ◌<◌, ◌^◌, max, None, IfSome};
 
 use crate::verdict::Verdict;
 
@@ -19,7 +19,7 @@ pub(crate) struct Claims {
 }
 
 impl Claims {
-    ghost use Rattle.rtps_audit.specs.Claims.{FindsUntold};
+    ghost use Rattle.rtps_audit.specs.Claims.{FindsUntold, verdict_by};
 
     /// Nothing is claimed, and nothing announced.
     pub(crate) fn new() -> Self
@@ -34,15 +34,19 @@ impl Claims {
         }
     }
 
-    /// The claims of one datagram more, of which this is the greatest base. The front is the least number that no
-    /// earlier datagram tells.
+    /// The claims of a datagram, of which this is a base. The front is the least number that no earlier datagram tells.
+    /// The claim that is kept is one of the first datagram that has any.
     pub(crate) fn note_base(&mut self, base: u64, datagram: u64, front: i64)
         requires { base < 2 ^ 63 }
         ensures untold { FindsUntold self.old.untold self.new.untold datagram front base }
         ensures base { self.new.base ≡ max self.old.base base }
         ensures last { self.new.last ≡ self.old.last }
     {
-        if self.untold.is_none() && front < base.cast_signed() {
+        let is_first = match self.untold {
+            None => true,
+            Some(untold) => datagram < untold.datagram,
+        };
+        if is_first && front < base.cast_signed() {
             self.untold = Some(Untold {
                 datagram,
                 number: front,
@@ -61,13 +65,22 @@ impl Claims {
         self.last = self.last.max(number);
     }
 
-    /// Whether the least number that no base claims is announced.
-    pub(crate) fn verdict(&self) -> Verdict
-        ensures { let next = max 1 self.now.base in
-            result ≡ (if nat_le next self.now.last
-            then Verdict.Open (pos next)
-            else Verdict.Complete (pos self.now.last)) }
+    /// The verdict, where this is the least number that two payloads are spoken for: the first of its four that holds.
+    pub(crate) fn verdict(&self, conflict: Option<u64>) -> Verdict
+        requires { IfSome conflict (λ n. n < 2 ^ 63) }
+        ensures { result ≡ verdict_by self.now.untold conflict self.now.base self.now.last }
     {
+        if let Some(untold) = self.untold {
+            return Verdict::Unfounded {
+                datagram: untold.datagram,
+                number: untold.number,
+            };
+        }
+        if let Some(number) = conflict {
+            return Verdict::Conflict {
+                number: number.cast_signed(),
+            };
+        }
         let next = self.base.max(1);
         if next <= self.last {
             Verdict::Open {

@@ -1,9 +1,16 @@
-ghost use Rattle.std.specs.Prelude.{◌≡◌, ◌-◌, ◌<◌, ◌≤◌, ◌^◌, IfSome, List};
+ghost use Rattle.std.specs.Prelude.{◌≡◌, ◌-◌, ◌<◌, ◌≤◌, ◌^◌, length, map, All, IfOk, List};
+ghost use Rattle.std.specs.Option.{ForSome};
 ghost use Rattle.rtps_ids.specs.declared.identity.Guid.{Guid as GuidValue};
 
 use crate::answers::Answer;
 use crate::claims::Claims;
+use crate::listener::Listener;
+use crate::merged_ranges::MergedRanges;
+use crate::placed::Placed;
 use crate::verdict::Verdict;
+use rtps_discovery::Pair;
+use rtps_ids::Memory;
+use std::alloc::Global;
 
 /// From the datagram behind this one on, the number is the least one that is not told.
 #[derive(Clone, Copy, Debug)]
@@ -19,24 +26,65 @@ pub(crate) struct Hearing {
     pub(crate) fronts: Vec<Front>,
     pub(crate) conflict: Option<u64>,
     pub(crate) last: u64,
-    ghost in_range: { IfSome conflict (λ n. (1 ≤ n) × (n < 2 ^ 63)) × (last < 2 ^ 63) },
+    ghost in_range: { ForSome conflict (λ n. (1 ≤ n) × (n < 2 ^ 63)) × (last < 2 ^ 63) },
 }
 
 impl Hearing {
-    ghost use Rattle.rtps_audit.specs.Hearing.{Hears, IsFrontBy};
-    ghost use Rattle.rtps_audit.specs.Placed.{PlacedValue};
+    ghost use Rattle.rtps_audit.specs.Answered.{IsAnsweredBy};
+    ghost use Rattle.rtps_audit.specs.Hearing.{Hears, IsCut, IsFrontBy};
+    ghost use Rattle.std.specs.List.Sorted.{IsNonDecreasingBy};
+    ghost use Rattle.rtps_audit.specs.Placed.{PlacedValue, placed_value};
 
-    /// The least number that the reader was not told before this datagram, counted from 1.
-    fn front_before(&self, datagram: usize) -> i64
-        requires { 1 ≤ datagram }
-        ensures { (writer reader : GuidValue) (placed : List PlacedValue) → Hears self.now writer reader placed
-            → IsFrontBy writer reader placed (datagram - 1) result }
+    /// How many fronts stand before a datagram, counted from 1.
+    fn count_before(&self, datagram: usize) -> usize
+        ensures within { result ≤ length self.now.fronts.items }
+        ensures cut { IsNonDecreasingBy (λ front. front.datagram) self.now.fronts.items
+            → 1 ≤ datagram → IsCut self.now.fronts.items result (datagram - 1) }
     {
-        let count = self.fronts.partition_point(|front| front.datagram < datagram);
+        self.fronts
+            .partition_point(|front| front.datagram < datagram)
+    }
+
+    /// The least number that the reader was not told before a datagram, counted from 1.
+    fn front_before(&self, datagram: usize) -> i64
+        ensures { (writer reader : GuidValue) (placed : List PlacedValue) → Hears self.now writer reader placed
+            → 1 ≤ datagram → IsFrontBy writer reader placed (datagram - 1) result }
+    {
+        let count = self.count_before(datagram);
         if count == 0 {
             1
         } else {
             self.fronts[count - 1].number
         }
+    }
+
+    /// What the pair's reader hears from its writer by these acts, which are from the writer and in the order of sending.
+    pub(crate) fn of(
+        alloc: Global,
+        acts: &[Placed<'_>],
+        pair: Pair,
+    ) -> Result<Hearing, Memory>
+        ensures { IfOk result (λ hearing. IsNonDecreasingBy (λ placed. placed.datagram) acts.now
+            → Hears hearing pair.writer pair.reader (map placed_value acts.now)) }
+    {
+        let mut listener = Listener::<MergedRanges>::new(alloc);
+        for placed in acts {
+            listener.note(placed, pair)?;
+        }
+        Ok(listener.end())
+    }
+
+    /// The verdict, where these are the answers of the reader to the writer.
+    pub(crate) fn verdict(&self, answers: &[Answer]) -> Verdict
+        ensures { (writer reader : GuidValue) (placed : List PlacedValue) → Hears self.now writer reader placed
+            → All (λ answer. 1 ≤ answer.datagram) answers.now → IsAnsweredBy writer reader placed self.now answers.now result }
+    {
+        let mut claims = Claims::new();
+        for answer in answers {
+            let front = self.front_before(answer.datagram);
+            claims.note_base(answer.natural_base(), answer.datagram as u64, front);
+        }
+        claims.note_number(self.last);
+        claims.verdict(self.conflict)
     }
 }

@@ -99,17 +99,7 @@ impl<'a, C: Coverage> Judge<'a, C> {
     pub(crate) fn verdict(mut self) -> Verdict
         ensures { (speech : Speech) → Knows C.covered self.entry speech → IsVerdict speech result }
     {
-        if let Some(untold) = self.claims.untold {
-            return Verdict::Unfounded {
-                datagram: untold.datagram,
-                number: untold.number,
-            };
-        }
-        if let Some(number) = self.words.least_conflict() {
-            return Verdict::Conflict {
-                number: number.cast_signed(),
-            };
-        }
-        self.claims.verdict()
+        let conflict = self.words.least_conflict();
+        self.claims.verdict(conflict)
     }
 }

@@ -5,10 +5,12 @@
 mod answers;
 mod auditing;
 mod claims;
+mod common;
 mod counting;
 mod coverage;
 mod groups;
 mod hearing;
+mod index;
 mod judge_state;
 mod judging;
 pub mod laws;
@@ -30,8 +32,10 @@ mod words;
 
 pub use auditing::audit;
 pub use coverage::Coverage;
+pub use index::Index;
 pub use judging::{judge, judge_by};
 pub use merged_ranges::MergedRanges;
+pub use placed::Placed;
 pub use plain_ranges::PlainRanges;
 pub use report::{Counts, Report, Row};
 pub use verdict::Verdict;

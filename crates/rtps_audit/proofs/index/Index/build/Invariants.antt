@@ -4,14 +4,17 @@ use Rattle.rtps_receiver.specs.Acts.{acts_in, acts_of}
 use Rattle.rtps_discovery.specs.Directory.{IsMapOf}
 use Rattle.rtps_wire.specs.Reading.{reading_of}
 use Rattle.rtps_wire.specs.Tally.{tally_of}
+use Rattle.rtps_audit.specs.Placed.{AreOf, placed_in}
 use Rattle.rtps_audit.specs.Report.{is_undirected}
-use Rattle.rtps_audit.proofs.auditing.gathered.Given as goal
+use Rattle.rtps_audit.proofs.index.Index.build.Given as goal
 
--- the directory and the counts of the datagrams so far
+-- the acts, the directory and the counts of the datagrams so far
 abbrev pub invariant-loop-datagram : goal.invariant-loop-datagram
 invariant-loop-datagram l =
     let so_far = take l.datagram-index l.recording in
     record {
+      place : l.place ≡ l.datagram-index;
+      origins : AreOf l.origins (placed_in (map (λ datagram. datagram.now) so_far));
       map : IsMapOf (acts_in (map (λ datagram. datagram.now) so_far)) l.directory;
       datagrams : l.counts.datagrams ≡ length l.recording;
       unsettled : l.counts.unsettled ≡ 0;

@@ -1,0 +1,344 @@
+-- What the acts of an index say of a pair's speech: its words, its claims and its numbers.
+use Rattle.std.proofs.Common.{◌≡◌, ◌≢◌, ℕ, zero, suc, ℤ, pos, negsuc, ◌+◌, ◌-◌, ◌<◌, ◌≤◌, ◌^◌, Bool, true, false, ◌&&◌, List, [], ◌∷◌, map, max, filter, Option, Some, None, slice_get, ◌⊎◌, inl, inr, refl, sym, ap, ◌∙◌, subst, arith}
+use Rattle.std.specs.Prelude.{Contains, MatchOption, if◌then◌else◌, ◌<ℤ◌}
+use Rattle.std.specs.List.{All, filter_map}
+use Rattle.std.proofs.lemmas.Bool.{cases_lt}
+use Rattle.std.proofs.lemmas.Int.{ints}
+use Rattle.std.proofs.lemmas.List.Elements.{All-contains}
+use Rattle.rtps_ids.specs.declared.identity.Guid.{Guid}
+use Rattle.rtps_ids.specs.declared.identity.GuidPrefix.{GuidPrefix}
+use Rattle.rtps_wire.specs.Reading.{reading_of}
+use Rattle.rtps_receiver.specs.Acts.{acts_of}
+use Rattle.rtps_receiver.specs.Speech.{entity_from, is_entity, is_prefix, is_spoken_by, names, writer_named}
+use Rattle.rtps_receiver.specs.Values.{ActBodyValue, ActValue}
+use Rattle.rtps_receiver.specs.Values.ActBodyValue.{Data, Heartbeat, AckNack, Gap}
+use Rattle.rtps_discovery.specs.declared.matching.Pair.{Pair}
+use Rattle.rtps_wire.specs.Values.{PayloadValue}
+use Rattle.rtps_audit.specs.Answered.{IsFirstAmong, IsToldAll, IsUntoldAmong, base_among}
+use Rattle.rtps_audit.specs.Delivery.{Claims, Datagram, Gives, Speech, Word, greatest, last_announced}
+use Rattle.rtps_audit.specs.Delivery.Word.{Told}
+use Rattle.rtps_audit.specs.Hearing.{HearsTwo, IsHeard, IsToldBy, last_among}
+use Rattle.rtps_audit.specs.Judge.{IsFirstUntold, greatest_base}
+use Rattle.rtps_audit.specs.Placed.{PlacedValue, answer_at, answer_of, answers_among, is_from, placed_in}
+use Rattle.rtps_audit.specs.PlainVerdict.{IsSpoken, SpeaksTwo}
+use Rattle.rtps_audit.specs.RunVerdict.{ClaimsUntold, IsLeast, IsTold}
+use Rattle.rtps_audit.specs.Speech.{announced_for, announced_of_body, base_for, natural, said_by, speech_of, word_for, word_of}
+use Rattle.rtps_audit.specs.declared.answers.Answer.{Answer}
+use Rattle.rtps_audit.specs.declared.claims.Untold.{Untold}
+use Rattle.rtps_audit.proofs.Greatest.{below_greatest, greatest_below}
+use Rattle.rtps_audit.proofs.PlacedActs.{contains_cases, contains_head, contains_none, contains_tail, kept_if_passed, kept_is_there, made_from, makes, stands_there, stands_where}
+use Rattle.rtps_audit.proofs.PlacedLemmas.{both, bytes_eq-sym}
+
+-- ---- places in lists
+
+get_mapped : {X Y : Type 0} (f : X → Y) (xs : List X) (i : ℕ) (x : X) → slice_get xs i ≡ Some x → slice_get (map f xs) i ≡ Some (f x)
+get_mapped f [] i x e = cc
+get_mapped f (y ∷ xs) zero x e = let same : y ≡ x = (let h = e in cc) in ap Some (ap f same)
+get_mapped f (y ∷ xs) (suc i) x e = get_mapped f xs i x e
+
+mapped_get : {X Y : Type 0} (f : X → Y) (xs : List X) (i : ℕ) (y : Y) → slice_get (map f xs) i ≡ Some y → (x : X) × (slice_get xs i ≡ Some x) × (f x ≡ y)
+mapped_get f [] i y e = cc
+mapped_get f (x ∷ xs) zero y e = let same : f x ≡ y = (let h = e in cc) in (x, refl, same)
+mapped_get f (x ∷ xs) (suc i) y e = mapped_get f xs i y e
+
+contained_at : {X : Type 0} (xs : List X) (x : X) → Contains xs x → (k : ℕ) × (slice_get xs k ≡ Some x)
+contained_at [] x among = absurd (contains_none x among)
+contained_at (y ∷ xs) x among = elim (contains_cases y xs x among) [
+  | inl here ↦ (0, ap Some here)
+  | inr there ↦ let rest = contained_at xs x there in (suc rest.0, rest.1)
+]
+
+at_contained : {X : Type 0} (xs : List X) (k : ℕ) (x : X) → slice_get xs k ≡ Some x → Contains xs x
+at_contained [] k x e = cc
+at_contained (y ∷ xs) zero x e = let same : y ≡ x = (let h = e in cc) in subst (Contains (y ∷ xs)) same (contains_head y xs)
+at_contained (y ∷ xs) (suc k) x e = contains_tail y xs x (at_contained xs k x e)
+
+contains_mapped : {X Y : Type 0} (f : X → Y) (xs : List X) (y : Y) → Contains (map f xs) y → (x : X) × Contains xs x × (f x ≡ y)
+contains_mapped f xs y among = let at = contained_at (map f xs) y among in let from = mapped_get f xs at.0 y at.1 in (from.0, at_contained xs at.0 from.0 from.1, from.2)
+
+mapped_contains : {X Y : Type 0} (f : X → Y) (xs : List X) (x : X) → Contains xs x → Contains (map f xs) (f x)
+mapped_contains f xs x among = let at = contained_at xs x among in at_contained (map f xs) at.0 (f x) (get_mapped f xs at.0 x at.1)
+
+if_some : {X : Type 0} (b : Bool) (o : Option X) (x : X) → (if b then o else None) ≡ Some x → (b ≡ true) × (o ≡ Some x)
+if_some true o x e = (refl, e)
+if_some false o x e = cc
+
+and_first : (a b : Bool) → (a && b) ≡ true → a ≡ true
+and_first true b e = refl
+and_first false b e = cc
+
+-- ---- who speaks is who an act is from
+
+by_body : (writer : Guid) (source : GuidPrefix) (body : ActBodyValue) → (is_prefix source writer.prefix && names (writer_named body) writer.entity) ≡ true
+    → (is_prefix writer.prefix source && is_entity writer.entity (entity_from body)) ≡ true
+by_body writer source (AckNack value) e = never (is_prefix source writer.prefix) e
+  where
+    never : (b : Bool) → (b && false) ≡ true → (is_prefix writer.prefix source && is_entity writer.entity value.reader) ≡ true
+    never true e = cc
+    never false e = cc
+by_body writer source (Data value) e = both (bytes_eq-sym writer.prefix.0 source.0) (bytes_eq-sym writer.entity.0 value.writer.0) ∙ e
+by_body writer source (Heartbeat value) e = both (bytes_eq-sym writer.prefix.0 source.0) (bytes_eq-sym writer.entity.0 value.writer.0) ∙ e
+by_body writer source (Gap value) e = both (bytes_eq-sym writer.prefix.0 source.0) (bytes_eq-sym writer.entity.0 value.writer.0) ∙ e
+
+spoken_is_from : (writer : Guid) (placed : PlacedValue) → is_spoken_by placed.act writer ≡ true → is_from writer placed ≡ true
+spoken_is_from writer placed e = by_body writer placed.act.source placed.act.body e
+
+-- ---- words
+
+gives_from : (writer reader : Guid) (recording : List (List ℕ)) (n : ℕ) (word : Word) (heard : IsHeard writer reader (filter (is_from writer) (placed_in recording)) n word) → 1 ≤ n
+    → (i : ℕ) × (k : ℕ) × Gives 1 (speech_of writer reader recording) i k n word × (heard.at.datagram ≡ i + 1)
+gives_from writer reader recording n word heard positive =
+    let stands = stands_where 0 recording heard.at (kept_is_there (is_from writer) (placed_in recording) heard.at heard.among) in
+    let at = contained_at (acts_of (reading_of stands.octets)) heard.at.act stands.among in
+    let gives : Gives 1 (speech_of writer reader recording) stands.place at.0 n word = record {
+      datagram = said_by writer reader (acts_of (reading_of stands.octets));
+      act = word_for writer reader heard.at.act;
+      stands = get_mapped (λ octets. said_by writer reader (acts_of (reading_of octets))) recording stands.place stands.octets stands.stands;
+      speaks = get_mapped (word_for writer reader) (acts_of (reading_of stands.octets)) at.0 heard.at.act at.1;
+      asked = (positive, positive);
+      says = heard.says;
+    } in
+    (stands.place, at.0, gives, stands.at ∙ omega arith)
+
+heard_from : (writer reader : Guid) (recording : List (List ℕ)) (i k n : ℕ) (word : Word) → Gives 1 (speech_of writer reader recording) i k n word
+    → (heard : IsHeard writer reader (filter (is_from writer) (placed_in recording)) n word) × (heard.at.datagram ≡ i + 1)
+heard_from writer reader recording i k n word gives =
+    let octets = mapped_get (λ octets. said_by writer reader (acts_of (reading_of octets))) recording i gives.datagram gives.stands in
+    let acts = acts_of (reading_of octets.0) in
+    let speaks = ap (λ (d : Datagram). slice_get d.acts k) octets.2 ∙ gives.speaks in
+    let act = mapped_get (word_for writer reader) acts k gives.act speaks in
+    let says : word_for writer reader act.0 n ≡ Some word = ap (λ (f : ℕ → Option Word). f n) act.2 ∙ gives.says in
+    let placed : PlacedValue = record { datagram = 0 + i + 1; act = act.0 } in
+    let spoken = and_first _ _ (if_some _ (word_of act.0.body n) word says).0 in
+    let there = stands_there 0 i recording octets.0 act.0 octets.1 (at_contained acts k act.0 act.1) in
+    (record { at = placed; among = kept_if_passed (is_from writer) (placed_in recording) placed there (spoken_is_from writer placed spoken); says = says }, omega arith)
+
+told_from : (writer reader : Guid) (recording : List (List ℕ)) (j n : ℕ) → 1 ≤ n → IsToldBy writer reader (filter (is_from writer) (placed_in recording)) j n → IsTold 1 (speech_of writer reader recording) j n
+told_from writer reader recording j n positive (word, (heard, until)) =
+    let gives = gives_from writer reader recording n word heard positive in
+    let at = gives.3 in
+    record { place = gives.0; act = gives.1; word = word; earlier = omega arith; gives = gives.2 }
+
+told_to : (writer reader : Guid) (recording : List (List ℕ)) (j n : ℕ) → IsTold 1 (speech_of writer reader recording) j n → IsToldBy writer reader (filter (is_from writer) (placed_in recording)) j n
+told_to writer reader recording j n told =
+    let heard = heard_from writer reader recording told.place told.act n told.word told.gives in
+    let at = heard.1 in
+    let earlier = told.earlier in
+    (told.word, (heard.0, omega arith))
+
+two_from : (writer reader : Guid) (recording : List (List ℕ)) (n : ℕ) → HearsTwo writer reader (filter (is_from writer) (placed_in recording)) n → SpeaksTwo 1 (speech_of writer reader recording) n
+two_from writer reader recording n (positive, (x, y, one, two, differ)) =
+    let a = gives_from writer reader recording n (Told x) one positive in
+    let b = gives_from writer reader recording n (Told y) two positive in
+    (x, y, record { place = a.0; act = a.1; gives = a.2 }, record { place = b.0; act = b.1; gives = b.2 }, differ)
+
+two_to : (writer reader : Guid) (recording : List (List ℕ)) (n : ℕ) → SpeaksTwo 1 (speech_of writer reader recording) n → HearsTwo writer reader (filter (is_from writer) (placed_in recording)) n
+two_to writer reader recording n (x, y, one, two, differ) =
+    (one.gives.asked.0, (x, y, (heard_from writer reader recording one.place one.act n (Told x) one.gives).0, (heard_from writer reader recording two.place two.act n (Told y) two.gives).0, differ))
+
+pub conflict_from : (writer reader : Guid) (recording : List (List ℕ)) (conflict : Option ℕ)
+    → MatchOption conflict ((n : ℕ) → ¬ HearsTwo writer reader (filter (is_from writer) (placed_in recording)) n) (IsLeast (HearsTwo writer reader (filter (is_from writer) (placed_in recording))))
+    → MatchOption conflict ((n : ℕ) → ¬ SpeaksTwo 1 (speech_of writer reader recording) n) (IsLeast (SpeaksTwo 1 (speech_of writer reader recording)))
+conflict_from writer reader recording None never = λ n two. never n (two_to writer reader recording n two)
+conflict_from writer reader recording (Some n) least = record { holds = two_from writer reader recording n least.holds; least = λ m two. least.least m (two_to writer reader recording m two) }
+
+-- ---- claims
+
+answered : (pair : Pair) (placed : PlacedValue) (answer : Answer) → answer_of pair placed ≡ Some answer → (base : ℕ) × (base_for pair.writer pair.reader placed.act ≡ Some base) × (answer ≡ record { datagram = placed.datagram; base = pos base })
+answered pair placed answer e = by_value (base_for pair.writer pair.reader placed.act) refl e
+  where
+    by_value : (o : Option ℕ) → base_for pair.writer pair.reader placed.act ≡ o → answer_at placed.datagram o ≡ Some answer → (base : ℕ) × (base_for pair.writer pair.reader placed.act ≡ Some base) × (answer ≡ record { datagram = placed.datagram; base = pos base })
+    by_value None is e = cc
+    by_value (Some base) is e = (base, is, (let h = e in cc))
+
+-- an answer stands in a datagram, with its base
+answer_stands : (pair : Pair) (recording : List (List ℕ)) (answer : Answer) → Contains (answers_among pair (placed_in recording)) answer
+    → (j : ℕ) × (octets : List ℕ) × (base : ℕ) × (slice_get recording j ≡ Some octets) × (answer.datagram ≡ j + 1) × (answer.base ≡ pos base) × Contains (said_by pair.writer pair.reader (acts_of (reading_of octets))).bases base
+answer_stands pair recording answer among =
+    let from = made_from (answer_of pair) (placed_in recording) answer among in
+    let is = answered pair from.0 answer from.2 in
+    let stands = stands_where 0 recording from.0 from.1 in
+    let acts = acts_of (reading_of stands.octets) in
+    (
+      stands.place,
+      stands.octets,
+      is.0,
+      stands.stands,
+      ap (λ (a : Answer). a.datagram) is.2 ∙ stands.at ∙ omega arith,
+      ap (λ (a : Answer). a.base) is.2,
+      makes (base_for pair.writer pair.reader) acts from.0.act is.0 stands.among is.1,
+    )
+
+-- and back
+answer_there : (pair : Pair) (recording : List (List ℕ)) (j : ℕ) (octets : List ℕ) (base : ℕ) → slice_get recording j ≡ Some octets → Contains (said_by pair.writer pair.reader (acts_of (reading_of octets))).bases base
+    → Contains (answers_among pair (placed_in recording)) (record { datagram = j + 1; base = pos base })
+answer_there pair recording j octets base stands among =
+    let from = made_from (base_for pair.writer pair.reader) (acts_of (reading_of octets)) base among in
+    let there = stands_there 0 j recording octets from.0 stands from.1 in
+    makes (answer_of pair) (placed_in recording) (record { datagram = 0 + j + 1; act = from.0 }) (record { datagram = j + 1; base = pos base }) there
+    (ap (answer_at (0 + j + 1)) from.2 ∙ ap (λ d. let made : Answer = record { datagram = d; base = pos base } in Some made) (omega arith))
+
+claim_of : (pair : Pair) (recording : List (List ℕ)) (j n : ℕ) → Claims 1 (speech_of pair.writer pair.reader recording) j n → (answer : Answer) × Contains (answers_among pair (placed_in recording)) answer × (answer.datagram ≡ j + 1) × (pos n <ℤ answer.base)
+claim_of pair recording j n claims =
+    let octets = mapped_get (λ octets. said_by pair.writer pair.reader (acts_of (reading_of octets))) recording j claims.datagram claims.stands in
+    let among = subst (λ (d : Datagram). Contains d.bases claims.base) (sym octets.2) claims.answers in
+    let below = claims.below in
+    (record { datagram = j + 1; base = pos claims.base }, answer_there pair recording j octets.0 claims.base octets.1 among, refl, omega (arith, ints))
+
+pub answers_counted : (pair : Pair) (recording : List (List ℕ)) → (k : ℕ) (d : Answer) → k < Rattle.std.proofs.Common.length (answers_among pair (placed_in recording)) → 1 ≤ (Rattle.std.proofs.Common.get_or (answers_among pair (placed_in recording)) k d).datagram
+answers_counted pair recording k d lt =
+    let stands = answer_stands pair recording _ (Rattle.std.proofs.lemmas.List.Elements.Contains-get_or (answers_among pair (placed_in recording)) k d lt) in
+    let at = stands.4 in
+    omega arith
+
+-- ---- the first claim that is not told
+
+pub first_from : (pair : Pair) (recording : List (List ℕ)) (untold : Option Untold) → IsUntoldAmong pair.writer pair.reader (filter (is_from pair.writer) (placed_in recording)) (answers_among pair (placed_in recording)) untold
+    → IsFirstUntold (speech_of pair.writer pair.reader recording) untold
+first_from pair recording None all = λ j n claims.
+    let answer = claim_of pair recording j n claims in
+    let told = All-contains (IsToldAll pair.writer pair.reader (filter (is_from pair.writer) (placed_in recording))) (answers_among pair (placed_in recording)) answer.0 all answer.1 n claims.asked.0 answer.3 in
+    let at : answer.0.datagram - 1 ≡ j = (let h = answer.2 in omega arith) in
+    told_from pair.writer pair.reader recording j n claims.asked.0 (subst (λ i. IsToldBy pair.writer pair.reader (filter (is_from pair.writer) (placed_in recording)) i n) at told)
+first_from pair recording (Some untold) first = by_sign untold.number refl
+  where
+    placed : List PlacedValue
+    placed = filter (is_from pair.writer) (placed_in recording)
+
+    by_sign : (f : ℤ) → untold.number ≡ f → IsFirstUntold (speech_of pair.writer pair.reader recording) (Some untold)
+    by_sign (negsuc f) e = absurd (let low = first.front.positive in omega (arith, ints))
+    by_sign (pos f) e =
+        let stands = answer_stands pair recording first.answer first.among in
+        let j = stands.0 in
+        let at = stands.4 in
+        let base = stands.5 in
+        let below = first.below in
+        let small = first.small in
+        let positive : 1 ≤ f = (let low = first.front.positive in omega (arith, ints, e)) in
+        let lt : f < stands.2 = omega (arith, ints, e, base) in
+        let here : first.answer.datagram - 1 ≡ j = omega arith in
+        let claim : Claims 1 (speech_of pair.writer pair.reader recording) j f = record {
+          datagram = said_by pair.writer pair.reader (acts_of (reading_of stands.1));
+          base = stands.2;
+          stands = get_mapped (λ octets. said_by pair.writer pair.reader (acts_of (reading_of octets))) recording j stands.1 stands.3;
+          answers = stands.6;
+          asked = (positive, positive);
+          below = lt;
+        } in
+        let untold_here : ClaimsUntold 1 (speech_of pair.writer pair.reader recording) j f = (
+          claim,
+          λ told. first.front.outside f (sym e) (omega (arith, ints, e)) (subst (λ i. IsToldBy pair.writer pair.reader placed i f) (sym here) (told_to pair.writer pair.reader recording j f told)),
+        ) in
+        (
+          j,
+          first.datagram ∙ at,
+          record { holds = (f, untold_here); least = λ m claims. least_place j m (first.datagram ∙ at) claims },
+          subst (λ z. Rattle.rtps_audit.specs.RunVerdict.OnNatural z (IsLeast (ClaimsUntold 1 (speech_of pair.writer pair.reader recording) j))) (sym e)
+          (record { holds = untold_here; least = λ m claims. least_number j f e here small m claims }),
+        )
+      where
+        least_place : (j m : ℕ) → untold.datagram ≡ j + 1 → ((n : ℕ) × ClaimsUntold 1 (speech_of pair.writer pair.reader recording) m n) → j ≤ m
+        least_place j m is (n, (claims, not)) = elim (cases_lt m j) [
+          | inl lt ↦
+              let answer = claim_of pair recording m n claims in
+              let at = answer.2 in
+              let told = All-contains (λ (other : Answer). other.datagram < untold.datagram → IsToldAll pair.writer pair.reader placed other) (answers_among pair (placed_in recording)) answer.0 first.first answer.1 (omega arith) n claims.asked.0 answer.3 in
+              let same : answer.0.datagram - 1 ≡ m = omega arith in
+              absurd (not (told_from pair.writer pair.reader recording m n claims.asked.0 (subst (λ i. IsToldBy pair.writer pair.reader placed i n) same told)))
+          | inr ge ↦ ge
+        ]
+
+        least_number : (j f : ℕ) → untold.number ≡ pos f → first.answer.datagram - 1 ≡ j → untold.number <ℤ pos (2 ^ 63 - 1) → (m : ℕ) → ClaimsUntold 1 (speech_of pair.writer pair.reader recording) j m → f ≤ m
+        least_number j f e here small m (claims, not) = elim (cases_lt m f) [
+          | inl lt ↦
+              let told = first.front.below m claims.asked.0 (omega (arith, ints, e)) (omega (arith, ints, e)) in
+              absurd (not (told_from pair.writer pair.reader recording j m claims.asked.0 (subst (λ i. IsToldBy pair.writer pair.reader placed i m) here told)))
+          | inr ge ↦ ge
+        ]
+
+-- ---- the greatest numbers
+
+same_number : (a b : ℕ) → ((n : ℕ) → n < a → n < b) → ((n : ℕ) → n < b → n < a) → a ≡ b
+same_number a b to back = elim (cases_lt a b) [
+  | inl lt ↦ absurd (let h = back a lt in omega arith)
+  | inr ge ↦ elim (cases_lt b a) [
+    | inl lt ↦ absurd (let h = to b lt in omega arith)
+    | inr le ↦ omega arith
+  ]
+]
+
+last_at : (n i : ℕ) (d : Datagram) (speech : Speech) → slice_get speech i ≡ Some d → n < greatest d.announced → n < last_announced speech
+last_at n i d [] e lt = cc
+last_at n zero d (first ∷ speech) e lt = let same : first ≡ d = (let h = e in cc) in let here = ap (λ (x : Datagram). greatest x.announced) same in omega arith
+last_at n (suc i) d (first ∷ speech) e lt = let rest = last_at n i d speech e lt in omega arith
+
+at_last : (n : ℕ) (speech : Speech) → n < last_announced speech → (i : ℕ) × (d : Datagram) × (slice_get speech i ≡ Some d) × (n < greatest d.announced)
+at_last n [] lt = absurd (omega arith)
+at_last n (first ∷ speech) lt = elim (cases_lt n (greatest first.announced)) [
+  | inl here ↦ (0, first, refl, here)
+  | inr past ↦ let rest = at_last n speech (omega arith) in (suc rest.0, rest.1, rest.2, rest.3)
+]
+
+base_at : (n i : ℕ) (d : Datagram) (speech : Speech) → slice_get speech i ≡ Some d → n < greatest d.bases → n < greatest_base speech
+base_at n i d [] e lt = cc
+base_at n zero d (first ∷ speech) e lt = let same : first ≡ d = (let h = e in cc) in let here = ap (λ (x : Datagram). greatest x.bases) same in omega arith
+base_at n (suc i) d (first ∷ speech) e lt = let rest = base_at n i d speech e lt in omega arith
+
+at_base : (n : ℕ) (speech : Speech) → n < greatest_base speech → (i : ℕ) × (d : Datagram) × (slice_get speech i ≡ Some d) × (n < greatest d.bases)
+at_base n [] lt = absurd (omega arith)
+at_base n (first ∷ speech) lt = elim (cases_lt n (greatest first.bases)) [
+  | inl here ↦ (0, first, refl, here)
+  | inr past ↦ let rest = at_base n speech (omega arith) in (suc rest.0, rest.1, rest.2, rest.3)
+]
+
+pub last_from : (writer reader : Guid) (recording : List (List ℕ)) → last_among writer (filter (is_from writer) (placed_in recording)) ≡ last_announced (speech_of writer reader recording)
+last_from writer reader recording = same_number _ _ to back
+  where
+    of : List ℕ → Datagram
+    of octets = said_by writer reader (acts_of (reading_of octets))
+
+    to : (n : ℕ) → n < last_among writer (filter (is_from writer) (placed_in recording)) → n < last_announced (speech_of writer reader recording)
+    to n lt =
+        let number = below_greatest n (filter_map (λ (at : PlacedValue). announced_for writer at.act) (filter (is_from writer) (placed_in recording))) lt in
+        let from = made_from (λ (at : PlacedValue). announced_for writer at.act) (filter (is_from writer) (placed_in recording)) number.0 number.1 in
+        let stands = stands_where 0 recording from.0 (kept_is_there (is_from writer) (placed_in recording) from.0 from.1) in
+        let there = makes (announced_for writer) (acts_of (reading_of stands.octets)) from.0.act number.0 stands.among from.2 in
+        let at = get_mapped (λ octets. said_by writer reader (acts_of (reading_of octets))) recording stands.place stands.octets stands.stands in
+        last_at n stands.place _ (speech_of writer reader recording) at (greatest_below n number.0 (filter_map (announced_for writer) (acts_of (reading_of stands.octets))) there number.2)
+
+    back : (n : ℕ) → n < last_announced (speech_of writer reader recording) → n < last_among writer (filter (is_from writer) (placed_in recording))
+    back n lt =
+        let found = at_last n (speech_of writer reader recording) lt in
+        let octets = mapped_get (λ octets. said_by writer reader (acts_of (reading_of octets))) recording found.0 found.1 found.2 in
+        let acts = acts_of (reading_of octets.0) in
+        let same = ap (λ (d : Datagram). greatest d.announced) octets.2 in
+        let here = found.3 in
+        let number = below_greatest n (filter_map (announced_for writer) acts) (omega (arith, same)) in
+        let act = made_from (announced_for writer) acts number.0 number.1 in
+        let placed : PlacedValue = record { datagram = 0 + found.0 + 1; act = act.0 } in
+        let spoken = (if_some _ (announced_of_body act.0.body) number.0 act.2).0 in
+        let there = kept_if_passed (is_from writer) (placed_in recording) placed (stands_there 0 found.0 recording octets.0 act.0 octets.1 act.1) (spoken_is_from writer placed spoken) in
+        greatest_below n number.0 _ (makes (λ (at : PlacedValue). announced_for writer at.act) (filter (is_from writer) (placed_in recording)) placed number.0 there act.2) number.2
+
+pub base_from : (pair : Pair) (recording : List (List ℕ)) → base_among (answers_among pair (placed_in recording)) ≡ greatest_base (speech_of pair.writer pair.reader recording)
+base_from pair recording = same_number _ _ to back
+  where
+    to : (n : ℕ) → n < base_among (answers_among pair (placed_in recording)) → n < greatest_base (speech_of pair.writer pair.reader recording)
+    to n lt =
+        let number = below_greatest n (map (λ (answer : Answer). natural answer.base) (answers_among pair (placed_in recording))) lt in
+        let answer = contains_mapped (λ (answer : Answer). natural answer.base) (answers_among pair (placed_in recording)) number.0 number.1 in
+        let stands = answer_stands pair recording answer.0 answer.1 in
+        let at = get_mapped (λ octets. said_by pair.writer pair.reader (acts_of (reading_of octets))) recording stands.0 stands.1 stands.3 in
+        let same : number.0 ≡ stands.2 = sym answer.2 ∙ ap natural stands.5 in
+        let lt' = number.2 in
+        base_at n stands.0 _ (speech_of pair.writer pair.reader recording) at (greatest_below n stands.2 (said_by pair.writer pair.reader (acts_of (reading_of stands.1))).bases stands.6 (omega (arith, same)))
+
+    back : (n : ℕ) → n < greatest_base (speech_of pair.writer pair.reader recording) → n < base_among (answers_among pair (placed_in recording))
+    back n lt =
+        let found = at_base n (speech_of pair.writer pair.reader recording) lt in
+        let octets = mapped_get (λ octets. said_by pair.writer pair.reader (acts_of (reading_of octets))) recording found.0 found.1 found.2 in
+        let same = ap (λ (d : Datagram). greatest d.bases) octets.2 in
+        let here = found.3 in
+        let number = below_greatest n (said_by pair.writer pair.reader (acts_of (reading_of octets.0))).bases (omega (arith, same)) in
+        let there = answer_there pair recording found.0 octets.0 number.0 octets.1 number.1 in
+        greatest_below n number.0 _ (mapped_contains (λ (answer : Answer). natural answer.base) (answers_among pair (placed_in recording)) _ there) number.2

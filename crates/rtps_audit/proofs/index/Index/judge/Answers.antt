@@ -1,0 +1,8 @@
+use Rattle.rtps_audit.proofs.DeliveredLemmas.{complete_where, complete_if_plain}
+use Rattle.rtps_audit.proofs.index.Index.judge.Goals as goal
+
+pub returns-clause-complete : goal.returns-clause-complete
+returns-clause-complete c = λ recording is. complete_where _ _ (c.in_ok-verdict.ensures recording is)
+
+pub returns-clause-plain : goal.returns-clause-plain
+returns-clause-plain c = λ recording is. complete_if_plain _ _ (c.in_ok-verdict.ensures recording is)

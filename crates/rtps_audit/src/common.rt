@@ -1,0 +1,91 @@
+ghost use Rattle.std.specs.Prelude.{◌≡◌, ◌↔◌, ℕ, All, IfOk, IsTrue, List, OnOk};
+ghost use Rattle.rtps_receiver.specs.Speech.{is_heard_by};
+ghost use Rattle.rtps_receiver.specs.Values.{act_value};
+ghost use Rattle.rtps_audit.specs.Common.{nobody};
+
+use crate::hearing::Hearing;
+use crate::index::Index;
+use crate::placed::Placed;
+use crate::verdict::Verdict;
+use rtps_discovery::Pair;
+use rtps_ids::{EntityId, Guid, GuidPrefix, Memory};
+
+/// A reader that hears what is for all readers, and nothing else.
+const NOBODY: Guid = Guid {
+    prefix: GuidPrefix([0; 12]),
+    entity: EntityId([0; 4]),
+};
+
+/// What is heard from a writer by the readers that it does not name, which all hear the same.
+#[derive(Drop)]
+pub(crate) struct Common {
+    pub(crate) writer: Guid,
+    pub(crate) hearing: Hearing,
+}
+
+/// Whether a reader hears of these acts just those that are for all readers.
+fn hears_as_all(acts: &[Placed<'_>], reader: Guid) -> bool
+    ensures { IsTrue result ↔ All (λ placed. is_heard_by (act_value placed.act) reader
+        ≡ is_heard_by (act_value placed.act) nobody) acts.now }
+{
+    for placed in acts {
+        if placed.act.heard_by(reader) != placed.act.heard_by(NOBODY) {
+            return false;
+        }
+    }
+    true
+}
+
+impl Common {
+    ghost use Rattle.rtps_audit.specs.Common.{IsCommon};
+    ghost use Rattle.rtps_audit.specs.Index.{IsIndexOf};
+    ghost use Rattle.rtps_audit.specs.RunVerdict.{IsVerdict};
+    ghost use Rattle.rtps_audit.specs.Speech.{speech_of};
+
+    /// What is heard from a writer.
+    fn of(index: &Index<'_>, writer: Guid) -> Result<Common, Memory>
+        ensures common { (recording : List (List ℕ)) → IsIndexOf recording index.now
+            → IfOk result (IsCommon recording) }
+        ensures writer { IfOk result (λ common. common.writer ≡ writer) }
+    {
+        let everyone = Pair {
+            writer,
+            reader: NOBODY,
+        };
+        let hearing = Hearing::of(index.alloc, index.acts_of(writer), everyone)?;
+        Ok(Common { writer, hearing })
+    }
+
+    /// Of no writer yet.
+    pub(crate) fn new(index: &Index<'_>) -> Result<Common, Memory>
+        ensures { (recording : List (List ℕ)) → IsIndexOf recording index.now → IfOk result (IsCommon recording) }
+    {
+        let common = Common::of(index, NOBODY)?;
+        Ok(common)
+    }
+
+    /// Turns to a writer, if it is another one. After `Memory` nothing has changed.
+    pub(crate) fn turn_to(&mut self, index: &Index<'_>, writer: Guid) -> Result<(), Memory>
+        ensures writer { OnOk result (self.new.writer ≡ writer) }
+        ensures common { (recording : List (List ℕ)) → IsIndexOf recording index.now → IsCommon recording self.old
+            → IsCommon recording self.new }
+    {
+        if self.writer != writer {
+            *self = Common::of(index, writer)?;
+        }
+        Ok(())
+    }
+
+    /// Judges a pair of this writer.
+    pub(crate) fn judge(&self, index: &Index<'_>, pair: Pair) -> Result<Verdict, Memory>
+        ensures { (recording : List (List ℕ)) → IsIndexOf recording index.now → IsCommon recording self.now
+            → self.now.writer ≡ pair.writer → IfOk result (IsVerdict (speech_of pair.writer pair.reader recording)) }
+    {
+        if hears_as_all(index.acts_of(pair.writer), pair.reader) {
+            Ok(self.hearing.verdict(index.answers_of(pair)))
+        } else {
+            let verdict = index.judge(pair)?;
+            Ok(verdict)
+        }
+    }
+}

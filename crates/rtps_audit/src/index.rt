@@ -1,0 +1,112 @@
+ghost use Rattle.std.specs.Prelude.{ℤ, ℕ, ◌≡◌, ◌↔◌, pos, filter, map, IfOk, List};
+ghost use Rattle.rtps_audit.specs.Delivered.{IsDelivered, IsPlain};
+ghost use Rattle.rtps_audit.specs.Delivery.{last_announced};
+ghost use Rattle.rtps_audit.specs.Index.{IsIndexOf};
+ghost use Rattle.rtps_audit.specs.Placed.{answers_among, is_from, placed_in, placed_value};
+ghost use Rattle.rtps_audit.specs.RunVerdict.{IsVerdict};
+ghost use Rattle.rtps_audit.specs.Speech.{speech_of};
+
+use crate::answers::Answer;
+use crate::counting::{one_if, undirected_among};
+use crate::hearing::Hearing;
+use crate::origins::Origins;
+use crate::placed::Placed;
+use crate::report::Counts;
+use crate::verdict::Verdict;
+use rtps_discovery::{Directory, Pair};
+use rtps_ids::{Guid, Memory};
+use rtps_receiver::Walk;
+use std::alloc::Global;
+
+/// What one walk over a recording finds: the acts of each GUID, the answers of each pair, what is announced, and the
+/// counts. It holds no octets, but borrows those of the recording.
+#[derive(Drop)]
+pub struct Index<'a> {
+    pub(crate) origins: Origins<'a>,
+    pub(crate) directory: Directory<'a>,
+    /// No GUID is counted as unsettled yet.
+    pub(crate) counts: Counts,
+    pub(crate) alloc: Global,
+}
+
+impl<'a> Index<'a> {
+    /// The index of a recording, any datagrams in the order of sending. The octets of each are read once.
+    pub fn build(alloc: Global, recording: &[&'a [u8]]) -> Result<Index<'a>, Memory>
+        ensures { IfOk result (IsIndexOf (map (λ datagram. datagram.now) recording.now)) }
+    {
+        let mut origins = Origins::new(alloc);
+        let mut directory = Directory::new(alloc);
+        let mut walk = Walk::new(alloc);
+        let mut place = 0usize;
+        let mut counts = Counts {
+            datagrams: recording.len() as u64,
+            refused: 0,
+            skipped: 0,
+            fragments: 0,
+            undirected: 0,
+            unsettled: 0,
+        };
+        for datagram in recording {
+            place += 1;
+            let tally = walk.read(datagram)?;
+            origins.note_all(place, walk.acts())?;
+            let _ = directory.note_all(walk.acts())?;
+            counts.refused += one_if(tally.refused);
+            counts.skipped += u128::from(tally.skipped);
+            counts.fragments += u128::from(tally.fragments);
+            counts.undirected += u128::from(undirected_among(walk.acts()));
+        }
+        Ok(Index {
+            origins,
+            directory,
+            counts,
+            alloc,
+        })
+    }
+
+    /// The acts from this GUID, by datagram and then by place: of a writer its DATA, HEARTBEAT and GAP, of a reader its
+    /// ACKNACK. It takes no memory.
+    pub fn acts_of(&self, origin: Guid) -> &[Placed<'a>]
+        ensures { (recording : List (List ℕ)) → IsIndexOf recording self.now
+            → map placed_value result.now ≡ filter (is_from origin) (placed_in recording) }
+    {
+        self.origins.acts.of(origin)
+    }
+
+    /// The answers of a pair's reader to its writer, in the order of sending.
+    pub(crate) fn answers_of(&self, pair: Pair) -> &[Answer]
+        ensures { (recording : List (List ℕ)) → IsIndexOf recording self.now
+            → result.now ≡ answers_among pair (placed_in recording) }
+    {
+        self.origins.answers.of(pair)
+    }
+
+    /// Judges what the recording says of a writer and a reader, any two GUIDs, by what the two said.
+    pub fn judge(&self, pair: Pair) -> Result<Verdict, Memory>
+        // Each verdict is answered exactly where all runs give it, with its numbers.
+        ensures verdict { (recording : List (List ℕ)) → IsIndexOf recording self.now
+            → IfOk result (IsVerdict (speech_of pair.writer pair.reader recording)) }
+
+        // Complete is answered exactly where every run delivers.
+        ensures complete { (recording : List (List ℕ)) → IsIndexOf recording self.now
+            → IfOk result (λ verdict. (last : ℤ) → (verdict ≡ Verdict.Complete last)
+            ↔ IsDelivered (speech_of pair.writer pair.reader recording) last) }
+
+        // The plain condition is enough for it.
+        ensures plain { (recording : List (List ℕ)) → IsIndexOf recording self.now
+            → let speech = speech_of pair.writer pair.reader recording in
+            IfOk result (λ verdict. IsPlain speech → verdict ≡ Verdict.Complete (pos (last_announced speech))) }
+    {
+        let verdict = self.judged(pair)?;
+        Ok(verdict)
+    }
+
+    /// The same.
+    fn judged(&self, pair: Pair) -> Result<Verdict, Memory>
+        ensures { (recording : List (List ℕ)) → IsIndexOf recording self.now
+            → IfOk result (IsVerdict (speech_of pair.writer pair.reader recording)) }
+    {
+        let hearing = Hearing::of(self.alloc, self.acts_of(pair.writer), pair)?;
+        Ok(hearing.verdict(self.answers_of(pair)))
+    }
+}
