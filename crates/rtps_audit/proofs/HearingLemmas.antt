@@ -1,6 +1,7 @@
 -- What a listener has heard after one act more, and what a hearing tells of it.
-use Rattle.std.proofs.Common.{◌≡◌, ◌≢◌, ℕ, zero, suc, ℤ, pos, negsuc, ◌+◌, ◌-◌, ◌<◌, ◌≤◌, ◌^◌, ltb, Bool, true, false, List, [], ◌∷◌, ◌++◌, length, get_or, slice_index_or, take, max, map, Option, Some, None, ◌⊎◌, inl, inr, refl, sym, ap, ◌∙◌, subst, arith}
+use Rattle.std.proofs.Common.{◌≡◌, ◌≢◌, ℕ, zero, suc, ℤ, pos, negsuc, ◌+◌, ◌-◌, ◌<◌, ◌≤◌, ◌^◌, ltb, Bool, true, false, not, List, [], ◌∷◌, ◌++◌, length, get_or, slice_index_or, take, max, map, Option, Some, None, ◌⊎◌, inl, inr, refl, sym, ap, ◌∙◌, subst, arith}
 use Rattle.std.specs.Prelude.{Contains, IfSome, if◌then◌else◌, ◌&&◌, MatchOption, is_some, unwrap_or}
+use Rattle.std.specs.Bool.{beq}
 use Rattle.std.specs.List.{All, AllWithin}
 use Rattle.std.specs.List.Sorted.{IsNonDecreasingBy, IsPartitionPoint}
 use Rattle.std.proofs.lemmas.Bool.{cases_lt, ltb-true, ltb-false}
@@ -354,3 +355,10 @@ hears_too hearing writer one other placed alike known = record {
 pub alike_values : (acts : List Placed) (one other : Guid) → All (λ (placed : Placed). is_heard_by (act_value placed.act) one ≡ is_heard_by (act_value placed.act) other) acts
     → All (λ at. is_heard_by at.act one ≡ is_heard_by at.act other) (map placed_value acts)
 alike_values acts one other alike = All-map (λ (at : PlacedValue). is_heard_by at.act one ≡ is_heard_by at.act other) placed_value acts alike
+
+-- tests that are not told apart
+pub same_tests : (a b : Bool) → not (beq a b) ≡ false → a ≡ b
+same_tests true true e = refl
+same_tests true false e = cc
+same_tests false true e = cc
+same_tests false false e = refl

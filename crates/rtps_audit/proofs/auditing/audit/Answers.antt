@@ -2,4 +2,4 @@ use Rattle.rtps_audit.proofs.DeliveredLemmas.{complete_where}
 use Rattle.rtps_audit.proofs.auditing.audit.Goals as goal
 
 pub returns-clause-complete : goal.returns-clause-complete
-returns-clause-complete c = λ k d lt last. complete_where _ _ (c.in_ok-rows.ensures.judged k d lt) last
+returns-clause-complete c = λ k d lt last. complete_where _ _ (c.in_ok-rows.ensures.judged _ c.in_ok-index.ensures k d lt) last

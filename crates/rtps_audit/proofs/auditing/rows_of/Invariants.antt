@@ -1,4 +1,6 @@
-use Rattle.std.proofs.Common.{◌≡◌, All, map, take}
+use Rattle.std.proofs.Common.{◌≡◌, ℕ, All, List, map, take}
+use Rattle.rtps_audit.specs.Common.{IsCommon}
+use Rattle.rtps_audit.specs.Index.{IsIndexOf}
 use Rattle.rtps_audit.specs.Report.{IsJudged}
 use Rattle.rtps_audit.proofs.auditing.rows_of.Given as goal
 
@@ -6,5 +8,6 @@ use Rattle.rtps_audit.proofs.auditing.rows_of.Given as goal
 abbrev pub invariant-loop-pair : goal.invariant-loop-pair
 invariant-loop-pair l = record {
   pairs : map (λ row. row.pair) l.rows.items ≡ take l.pair-index l.pairs;
-  judged : All (IsJudged (map (λ datagram. datagram.now) l.recording)) l.rows.items;
+  judged : (recording : List (List ℕ)) → IsIndexOf recording l.index → All (IsJudged recording) l.rows.items;
+  common : (recording : List (List ℕ)) → IsIndexOf recording l.index → IsCommon recording l.common;
 }
