@@ -82,10 +82,12 @@ fn endpoint_of<'a>(list: &ParamList<'a>, side: Side) -> Result<Endpoint<'a>, Not
     else {
         return Err(NoticeFault::BadText);
     };
-    let reliability = reliability_in(told.reliability, order, side).ok_or(
-        NoticeFault::BadReliability,
-    )?;
-    let durability = durability_in(told.durability, order).ok_or(NoticeFault::BadDurability)?;
+    let Some(reliability) = reliability_in(told.reliability, order, side) else {
+        return Err(NoticeFault::BadReliability);
+    };
+    let Some(durability) = durability_in(told.durability, order) else {
+        return Err(NoticeFault::BadDurability);
+    };
     Ok(Endpoint {
         guid,
         side,
