@@ -47,7 +47,8 @@ pub(crate) fn notice<'a>(act: &Act<'a>) -> Option<(Subject, &'a [u8])>
 fn subject_of(writer: EntityId) -> Option<Subject>
     ensures { result ≡ subject_of_lem writer }
 {
-    if writer.0[3] != entity::KIND {
+    let EntityId([.., kind]) = writer;
+    if kind != entity::KIND {
         None
     } else if writer == entity::PARTICIPANTS {
         Some(Subject::Participant)
