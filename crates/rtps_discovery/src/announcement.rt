@@ -124,8 +124,8 @@ fn reliability_in(value: Option<&[u8]>, order: Order, side: Side) -> Option<Reli
     }
 }
 
-/// The durability that a parameter's value tells, the default where it is absent, or None where it is cut or of no known
-/// kind.
+/// The durability that a parameter's value tells, the default where it is absent, or None where it is cut or of no
+/// known kind.
 fn durability_in(value: Option<&[u8]>, order: Order) -> Option<Durability>
     ensures { result ≡ kind_in order durability_of_kind Durability.Volatile (option_copied value.entry) }
 {
