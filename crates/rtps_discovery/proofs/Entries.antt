@@ -134,6 +134,17 @@ entry_added announced old new endpoint kept sorted updates joins were =
       each = λ guid. added_at announced old new endpoint kept guid _ refl (ap (option_map kept_value) (updates guid)) (were.each guid) joined;
     }
 
+-- of two values that are written at one GUID, the second stands there
+pub written_twice : (old between new : List (Guid × Kept)) (guid : Guid) (first second : Kept)
+    → ((other : Guid) → lookup (is_at (guid_cmp other)) between ≡ cond (eq_by_cmp guid_cmp guid other) (Some first) (lookup (is_at (guid_cmp other)) old))
+    → ((other : Guid) → lookup (is_at (guid_cmp other)) new ≡ cond (eq_by_cmp guid_cmp guid other) (Some second) (lookup (is_at (guid_cmp other)) between))
+    → (other : Guid) → lookup (is_at (guid_cmp other)) new ≡ cond (eq_by_cmp guid_cmp guid other) (Some second) (lookup (is_at (guid_cmp other)) old)
+written_twice old between new guid first second once again other = at_test (eq_by_cmp guid_cmp guid other) _ _ _ (once other) (again other)
+  where
+    at_test : (same : Bool) (x y z : Option Kept) → y ≡ cond same (Some first) x → z ≡ cond same (Some second) y → z ≡ cond same (Some second) x
+    at_test true x y z e f = f
+    at_test false x y z e f = f ∙ e
+
 -- the endpoints that are settled, and how many GUIDs are not
 pub settled : (entries : List (Guid × Kept)) → map endpoint_value (map (λ kept. kept.endpoint) (filter (λ kept. kept.settled) (values_of entries))) ≡ settled_in (entries_value entries)
 settled [] = refl

@@ -16,3 +16,4 @@ pub mod EachHasAMap
 pub mod Told
 pub mod Faults
 pub mod Payloads
+pub mod OtherWriters

@@ -1,13 +1,13 @@
-ghost use Rattle.std.specs.Prelude.{◌≡◌, ◌≤◌, length, option_copied};
-ghost use Rattle.rtps_discovery.specs.Announcement.{Answers, durability_of as durability_of_lem, endpoint_in, endpoint_of, fields_of as fields_of_lem, guid_field, order_of, participant_in, participant_of, reliability_of as reliability_of_lem};
+ghost use Rattle.std.specs.Prelude.{◌≡◌, ◌≤◌, length, option_and_then, option_copied};
+ghost use Rattle.rtps_params.specs.Values.{guid_of};
+ghost use Rattle.rtps_discovery.specs.Announcement.{Answers, default_reliability, durability_of_kind, endpoint_in, endpoint_of, fields_of as fields_of_lem, kind_in, order_of, participant_in, participant_of, reliability_of_kind};
 ghost use Rattle.rtps_discovery.specs.Endpoint.{endpoint_value};
 ghost use Rattle.rtps_discovery.specs.Fields.{fields_value};
 
 use crate::endpoint::{Durability, Endpoint, Reliability, Side};
+use crate::endpoint_parameters::EndpointParameters;
 use crate::fault::NoticeFault;
-use crate::layout::pid::{
-    DURABILITY, ENDPOINT_GUID, PARTICIPANT_GUID, RELIABILITY, TOPIC_NAME, TYPE_NAME,
-};
+use crate::layout::pid::PARTICIPANT_GUID;
 use crate::layout::representation;
 use rtps_ids::{Guid, Order};
 use rtps_params::{ParamList, read_guid, read_text, read_u32};
@@ -19,7 +19,7 @@ pub fn read_participant(payload: &[u8]) -> Result<Guid, NoticeFault>
     ensures { Answers (λ guid. guid) result (participant_of payload.now) }
 {
     match fields_of(payload) {
-        Ok(list) => guid_of(&list, PARTICIPANT_GUID).ok_or(NoticeFault::NoGuid),
+        Ok(list) => guid_in(list.first(PARTICIPANT_GUID)).ok_or(NoticeFault::NoGuid),
         Err(fault) => Err(fault),
     }
 }
@@ -73,16 +73,21 @@ fn payload_order(payload: &[u8]) -> Option<Order>
 fn endpoint_of<'a>(list: &ParamList<'a>, side: Side) -> Result<Endpoint<'a>, NoticeFault>
     ensures { Answers endpoint_value result (endpoint_in side (fields_value list.now)) }
 {
-    let guid = guid_of(list, ENDPOINT_GUID).ok_or(NoticeFault::NoGuid)?;
-    let topic = list.first(TOPIC_NAME).ok_or(NoticeFault::NoTopic)?;
-    let type_name = list.first(TYPE_NAME).ok_or(NoticeFault::NoType)?;
     let order = list.order();
+    let told = EndpointParameters::of(list);
+    let guid = guid_in(told.guid).ok_or(NoticeFault::NoGuid)?;
+    let topic = told.topic.ok_or(NoticeFault::NoTopic)?;
+    let type_name = told.type_name.ok_or(NoticeFault::NoType)?;
     let (Some(topic), Some(type_name)) = (read_text(topic, order), read_text(type_name, order))
     else {
         return Err(NoticeFault::BadText);
     };
-    let reliability = reliability_of(list, side).ok_or(NoticeFault::BadReliability)?;
-    let durability = durability_of(list).ok_or(NoticeFault::BadDurability)?;
+    let Some(reliability) = reliability_in(told.reliability, order, side) else {
+        return Err(NoticeFault::BadReliability);
+    };
+    let Some(durability) = durability_in(told.durability, order) else {
+        return Err(NoticeFault::BadDurability);
+    };
     Ok(Endpoint {
         guid,
         side,
@@ -93,38 +98,41 @@ fn endpoint_of<'a>(list: &ParamList<'a>, side: Side) -> Result<Endpoint<'a>, Not
     })
 }
 
-/// The GUID in the parameter of this id, or None where it is absent or cut.
-fn guid_of(list: &ParamList<'_>, pid: u16) -> Option<Guid>
-    ensures { result ≡ guid_field pid (fields_value list.now) }
+/// The GUID in a parameter's value, or None where that is absent or cut.
+fn guid_in(value: Option<&[u8]>) -> Option<Guid>
+    ensures { result ≡ option_and_then guid_of (option_copied value.entry) }
 {
-    read_guid(list.first(pid)?)
+    read_guid(value?)
 }
 
-/// The reliability of an endpoint of this side, or None where it is cut or of no known kind.
-fn reliability_of(list: &ParamList<'_>, side: Side) -> Option<Reliability>
-    ensures { result ≡ reliability_of_lem side (fields_value list.now) }
+/// The reliability that a parameter's value tells of an endpoint of this side, the default where it is absent, or None
+/// where it is cut or of no known kind.
+fn reliability_in(value: Option<&[u8]>, order: Order, side: Side) -> Option<Reliability>
+    ensures { result
+        ≡ kind_in order reliability_of_kind (default_reliability side) (option_copied value.entry) }
 {
-    let Some(value) = list.first(RELIABILITY) else {
+    let Some(value) = value else {
         return Some(match side {
             Side::Writer => Reliability::Reliable,
             Side::Reader => Reliability::BestEffort,
         });
     };
-    match read_u32(value, list.order())? {
+    match read_u32(value, order)? {
         1 => Some(Reliability::BestEffort),
         2 => Some(Reliability::Reliable),
         _ => None,
     }
 }
 
-/// The durability of an endpoint, or None where it is cut or of no known kind.
-fn durability_of(list: &ParamList<'_>) -> Option<Durability>
-    ensures { result ≡ durability_of_lem (fields_value list.now) }
+/// The durability that a parameter's value tells, the default where it is absent, or None where it is cut or of no
+/// known kind.
+fn durability_in(value: Option<&[u8]>, order: Order) -> Option<Durability>
+    ensures { result ≡ kind_in order durability_of_kind Durability.Volatile (option_copied value.entry) }
 {
-    let Some(value) = list.first(DURABILITY) else {
+    let Some(value) = value else {
         return Some(Durability::Volatile);
     };
-    match read_u32(value, list.order())? {
+    match read_u32(value, order)? {
         0 => Some(Durability::Volatile),
         1 => Some(Durability::TransientLocal),
         2 => Some(Durability::Transient),

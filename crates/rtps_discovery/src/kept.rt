@@ -41,8 +41,16 @@ pub(crate) fn keep_endpoint<'a>(
     ensures err { OnErr result (entries_value endpoints.new.entries ≡ entries_value endpoints.old.entries) }
     ensures absent { OnErr result (entry_at (entries_value endpoints.old.entries) endpoint.entry.guid ≡ None) }
 {
-    let settled = agrees(endpoints.get(&endpoint.guid), &endpoint);
-    endpoints.insert(endpoint.guid, Kept { endpoint, settled })?;
+    let mut kept = Kept {
+        endpoint,
+        settled: true,
+    };
+    let before = endpoints.insert(endpoint.guid, kept)?;
+    if !agrees(before.as_ref(), &endpoint) {
+        // The GUID is there now, so this takes no memory.
+        kept.settled = false;
+        endpoints.insert(endpoint.guid, kept)?;
+    }
     Ok(())
 }
 

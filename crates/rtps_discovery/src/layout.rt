@@ -11,6 +11,10 @@ pub(crate) mod entity {
     pub(crate) const PUBLICATIONS: EntityId = EntityId([0x00, 0x00, 0x03, 0xc2]);
 
     pub(crate) const SUBSCRIPTIONS: EntityId = EntityId([0x00, 0x00, 0x04, 0xc2]);
+
+    /// The last octet of each, which tells that it is a built-in writer of samples with keys (9.3.1.2 "Mapping of the
+    /// EntityId_t").
+    pub(crate) const KIND: u8 = 0xc2;
 }
 
 /// The beginning of a payload (DDSI-RTPS 2.5, 10 "Serialized Payload Representation").

@@ -5,6 +5,7 @@
 mod announcement;
 mod directory_map;
 mod endpoint;
+mod endpoint_parameters;
 mod fault;
 mod kept;
 pub mod laws;

@@ -35,18 +35,22 @@ pub(crate) fn notice<'a>(act: &Act<'a>) -> Option<(Subject, &'a [u8])>
     let ActBody::Data(data) = &act.body else {
         return None;
     };
+    let subject = subject_of(data.writer)?;
     let Payload::Whole(payload) = &data.payload else {
         return None;
     };
-    let subject = subject_of(data.writer)?;
     Some((subject, *payload))
 }
 
-/// Whom this built-in writer announces.
+/// Whom this built-in writer announces. Most writers are of another kind, so one octet answers for them.
+#[tactic(auto, using(crate::proofs::OtherWriters::of_another_kind))]
 fn subject_of(writer: EntityId) -> Option<Subject>
     ensures { result ≡ subject_of_lem writer }
 {
-    if writer == entity::PARTICIPANTS {
+    let EntityId([.., kind]) = writer;
+    if kind != entity::KIND {
+        None
+    } else if writer == entity::PARTICIPANTS {
         Some(Subject::Participant)
     } else if writer == entity::PUBLICATIONS {
         Some(Subject::Endpoint(Side::Writer))

@@ -1,0 +1,64 @@
+ghost use Rattle.std.specs.Prelude.{◌≡◌, ◌∷◌, [], option_copied};
+ghost use Rattle.std.specs.Option.{option_or};
+ghost use Rattle.rtps_params.specs.Reading.{first_value};
+ghost use Rattle.rtps_discovery.specs.Announcement.{field};
+ghost use Rattle.rtps_discovery.specs.Fields.{fields_value};
+
+use crate::layout::pid::{DURABILITY, ENDPOINT_GUID, RELIABILITY, TOPIC_NAME, TYPE_NAME};
+use rtps_params::ParamList;
+
+/// The octets of the first value of each parameter that tells of an endpoint, where there is one.
+#[derive(Clone, Copy)]
+pub(crate) struct EndpointParameters<'a> {
+    pub(crate) guid: Option<&'a [u8]>,
+    pub(crate) topic: Option<&'a [u8]>,
+    pub(crate) type_name: Option<&'a [u8]>,
+    pub(crate) reliability: Option<&'a [u8]>,
+    pub(crate) durability: Option<&'a [u8]>,
+}
+
+impl<'a> EndpointParameters<'a> {
+    /// Those of a list, which is walked once.
+    pub(crate) fn of(list: &ParamList<'a>) -> EndpointParameters<'a>
+        ensures guid { option_copied result.guid ≡ field ENDPOINT_GUID (fields_value list.now) }
+        ensures topic { option_copied result.topic ≡ field TOPIC_NAME (fields_value list.now) }
+        ensures type_name { option_copied result.type_name ≡ field TYPE_NAME (fields_value list.now) }
+        ensures reliability { option_copied result.reliability ≡ field RELIABILITY (fields_value list.now) }
+        ensures durability { option_copied result.durability ≡ field DURABILITY (fields_value list.now) }
+    {
+        let mut found = EndpointParameters {
+            guid: None,
+            topic: None,
+            type_name: None,
+            reliability: None,
+            durability: None,
+        };
+        for (pid, value) in list.params() {
+            found.add(pid, value);
+        }
+        found
+    }
+
+    /// Adds a parameter behind those before it. One whose id has a value already changes nothing.
+    fn add(&mut self, pid: u16, value: &'a [u8])
+        ensures guid { option_copied self.new.guid
+            ≡ option_or (option_copied self.old.guid) (first_value ENDPOINT_GUID ((pid, value.now) ∷ [])) }
+        ensures topic { option_copied self.new.topic
+            ≡ option_or (option_copied self.old.topic) (first_value TOPIC_NAME ((pid, value.now) ∷ [])) }
+        ensures type_name { option_copied self.new.type_name
+            ≡ option_or (option_copied self.old.type_name) (first_value TYPE_NAME ((pid, value.now) ∷ [])) }
+        ensures reliability { option_copied self.new.reliability
+            ≡ option_or (option_copied self.old.reliability) (first_value RELIABILITY ((pid, value.now) ∷ [])) }
+        ensures durability { option_copied self.new.durability
+            ≡ option_or (option_copied self.old.durability) (first_value DURABILITY ((pid, value.now) ∷ [])) }
+    {
+        match pid {
+            ENDPOINT_GUID => self.guid = self.guid.or(Some(value)),
+            TOPIC_NAME => self.topic = self.topic.or(Some(value)),
+            TYPE_NAME => self.type_name = self.type_name.or(Some(value)),
+            RELIABILITY => self.reliability = self.reliability.or(Some(value)),
+            DURABILITY => self.durability = self.durability.or(Some(value)),
+            _ => {}
+        }
+    }
+}
