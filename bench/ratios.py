@@ -6,9 +6,16 @@
     ratios.py orders PROGRAM [N] [-- OTHER]     `audit` of n, 2n and 4n numbers that come in different orders, beside
                                                 `show` of the same file and `audit` of another program
 
+    ratios.py beside PROGRAM OTHER MAKER [NAME ..]
+                                                `show`, `list` and `audit` beside those of a plain program OTHER, on
+                                                recordings that MAKER writes by name (`MAKER NAME > FILE`), as rows of a
+                                                table: seconds, MB, and the ratios. Recordings stay in the folder
+                                                RTPS_BENCH_DIR, where that is set
+
 Each figure is the best of some runs that take turns. Nothing here passes or fails.
 """
 import os
+import subprocess
 import sys
 import tempfile
 
@@ -16,13 +23,14 @@ import make
 from measure import run
 
 RUNS = 5
+NAMES = ['W-small', 'W-robot', 'W-limit', 'W-manypairs', 'W-scatter', 'W-bigset', 'W-hostile']
 MIB = 1 << 20
 
 
-def best(commands):
+def best(commands, runs=RUNS):
     """The least time and the greatest memory of each command."""
     times, peaks = [float('inf')] * len(commands), [0] * len(commands)
-    for _ in range(RUNS):
+    for _ in range(runs):
         for i, command in enumerate(commands):
             seconds, peak, _ = run(command)
             times[i], peaks[i] = min(times[i], seconds), max(peaks[i], peak * 1024)
@@ -61,6 +69,20 @@ def orders(program, n, other):
             print(f'{order}: {", ".join(ratios)}', flush=True)
 
 
+def beside(program, other, maker, names, folder):
+    print('| Recording | Run | Time, peak memory | Times the other\'s time | Times its memory |')
+    print('|---|---|---|---|---|')
+    for name in names:
+        path = os.path.join(folder, name + '.rec')
+        if not os.path.exists(path):
+            with open(path, 'wb') as f:
+                subprocess.run([maker, name], stdout=f, stderr=subprocess.DEVNULL, check=True)
+        for run_name in ('show', 'list', 'audit'):
+            times, peaks = best([[program, run_name, path], [other, run_name, path]], 3)
+            print(f'| {name} | `{run_name}` | {times[0]:.2f} s, {peaks[0] / MIB:.0f} MiB '
+                  f'| {times[0] / times[1]:.2f} | {peaks[0] / peaks[1]:.2f} |', flush=True)
+
+
 def main():
     words = sys.argv[1:]
     other = None
@@ -69,6 +91,9 @@ def main():
         words, other = words[:cut], words[cut + 1]
     if words[:1] == ['list'] and len(words) > 2:
         lists(words[1], words[2:], other)
+    elif words[:1] == ['beside'] and len(words) > 3:
+        with tempfile.TemporaryDirectory() as folder:
+            beside(words[1], words[2], words[3], words[4:] or NAMES, os.environ.get('RTPS_BENCH_DIR', folder))
     elif words[:1] == ['orders'] and len(words) in (2, 3):
         orders(words[1], int(words[2]) if len(words) == 3 else 50000, other)
     else:

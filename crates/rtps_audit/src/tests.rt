@@ -1,4 +1,4 @@
-use crate::{Counts, MergedRanges, PlainRanges, Report, Verdict, audit, judge, judge_by};
+use crate::{Counts, Index, MergedRanges, PlainRanges, Report, Verdict, audit, judge, judge_by};
 use rtps_discovery::Pair;
 use rtps_ids::{EntityId, Guid, GuidPrefix};
 use std::alloc::{AllocError, Global};
@@ -174,7 +174,7 @@ fn push_all(
 }
 
 /// The audit of a recording of the announcements of the pair and then these pieces. Each row is what the pair is judged
-/// by either kind of set.
+/// by either kind of set, and by the index.
 fn audited(alloc: Global, pieces: &[Piece]) -> Result<Report, Fail> {
     let mut datagrams = Vec::new(alloc);
     push_all(alloc, &mut datagrams, &[HeaderA, WriterW, HeaderB, ReaderR])?;
@@ -184,11 +184,13 @@ fn audited(alloc: Global, pieces: &[Piece]) -> Result<Report, Fail> {
         slices.push(datagram.as_slice())?;
     }
     let report = audit(alloc, &slices)?;
+    let index = Index::build(alloc, &slices)?;
     for row in &report.rows {
         let plain = judge_by::<PlainRanges>(alloc, &slices, row.pair)?;
         let merged = judge_by::<MergedRanges>(alloc, &slices, row.pair)?;
-        if plain != row.verdict || merged != row.verdict {
-            return Err("one verdict by any set".into());
+        let indexed = index.judge(row.pair)?;
+        if plain != row.verdict || merged != row.verdict || indexed != row.verdict {
+            return Err("one verdict by any way".into());
         }
     }
     Ok(report)
@@ -382,5 +384,37 @@ fn what_is_counted(rt: HostRuntime) -> Result<(), Fail> {
 fn a_pair_of_any_two_guids_is_judged(rt: HostRuntime) -> Result<(), Fail> {
     let alloc = rt.alloc();
     assert_eq!(rt; judge(alloc, &[], pair())?, Verdict::Complete { last: 0 });
+    Ok(())
+}
+
+#[test]
+fn acts_stand_with_their_origin(rt: HostRuntime) -> Result<(), Fail> {
+    let alloc = rt.alloc();
+    let pieces = [
+        HeaderA,
+        Data(1, 1),
+        Data(2, 2),
+        HeaderB,
+        ToA,
+        AckNack(3),
+        HeaderA,
+        Heartbeat1To3,
+    ];
+    let mut datagrams = Vec::new(alloc);
+    push_all(alloc, &mut datagrams, &pieces)?;
+    let mut slices: Vec<&[u8]> = Vec::new(alloc);
+    for datagram in &datagrams {
+        slices.push(datagram.as_slice())?;
+    }
+    let index = Index::build(alloc, &slices)?;
+    let of_writer = index.acts_of(pair().writer);
+    assert_eq!(rt; of_writer.len(), 3);
+    assert!(rt; of_writer[0].datagram == 1 && of_writer[1].datagram == 1 && of_writer[2].datagram == 3);
+    assert!(rt; of_writer[0].act.at < of_writer[1].act.at);
+    let of_reader = index.acts_of(pair().reader);
+    assert_eq!(rt; of_reader.len(), 1);
+    assert!(rt; of_reader[0].datagram == 2 && of_reader[0].act.origin() == pair().reader);
+    assert_eq!(rt; index.judge(pair())?, judge(alloc, &slices, pair())?);
+    assert_eq!(rt; index.judge(pair())?, Verdict::Open { number: 3 });
     Ok(())
 }
