@@ -1,19 +1,10 @@
-use Rattle.std.proofs.Common.{◌∙◌, sym}
-use Rattle.rtps_wire.proofs.Submessages.{IsTakenApart, item_of_parts, taken_apart}
+use Rattle.std.proofs.Common.{◌∙◌}
+use Rattle.rtps_wire.proofs.Submessages.{item_of_parts}
 use Rattle.rtps_wire.proofs.message.read_item.Goals as goal
-use Rattle.rtps_wire.proofs.message.read_item.Goals.{After-read_body}
-
-apart : (c : After-read_body) → IsTakenApart c.args.rest.now c.split_at.result.0.now c.extent-size.result
-apart c =
-    taken_apart _ _ _ _ _ _ c.if-rest-lt-SIZE.false c.rest_at-behind.ensures c.order_of-order.ensures (sym c.in-Some.ensures)
-    c.if-declared-behind.false c.extent-size.ensures c.split_at.ensures.front
 
 pub returns-in-Ok-clause-item : goal.returns-in-Ok-clause-item
 returns-in-Ok-clause-item c =
-    let parts = apart (goal.at.returns-in-Ok-clause-item c).After-read_body in
-    (parts.fault ∙ c.in-Ok.ensures.0, item_of_parts _ _ _ _ _ c.order_of-order.ensures parts.octets c.in-Ok.ensures.1)
-
-pub returns-in-Err-clause-item : goal.returns-in-Err-clause-item
-returns-in-Err-clause-item c =
-    let parts = apart (goal.at.returns-in-Err-clause-item c).After-read_body in
-    parts.fault ∙ c.in-Err.ensures
+    let e = c.in_ok-raw.ensures in (
+      e.fault ∙ c.in-Ok.ensures.0,
+      item_of_parts _ _ _ _ _ _ _ (record { id_is = e.parts.0; flags_are = e.parts.1; octets_are = e.parts.2 }) c.order_of-order.ensures c.in-Ok.ensures.1,
+    )
