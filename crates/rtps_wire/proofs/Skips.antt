@@ -1,34 +1,47 @@
 -- Whether what is read next is skipped.
-use Rattle.std.proofs.Common.{◌≡◌, ◌<◌, ◌+◌, ℕ, List, [], ◌∷◌, Option, Some, None, length, drop, arith, refl, ap, sym, ◌∙◌}
-use Rattle.rtps_wire.specs.Message.{body_length, body_of, fault_at, item_at}
+use Rattle.std.proofs.Common.{◌≡◌, ◌<◌, ◌+◌, ℕ, List, [], ◌∷◌, Bool, true, false, Option, Some, None, length, drop, arith, refl, ap, sym, ◌∙◌, if◌then◌else◌}
+use Rattle.rtps_wire.specs.Message.{body_fault, body_length, body_octets, body_of, fault_at, flags_of, id_of, item_at}
 use Rattle.rtps_wire.specs.Reading.{outcomes, outcomes_with}
-use Rattle.rtps_wire.specs.Skipped.{skipped_id, skipped_next}
+use Rattle.rtps_wire.specs.Skipped.{is_read, skipped_id, skipped_next}
 use Rattle.rtps_wire.specs.declared.fault.WireFault.{WireFault}
 use Rattle.rtps_wire.proofs.Readings.{outcomes-done, outcomes-step, outcomes-taken}
-use Rattle.rtps_wire.proofs.Submessages.{HasParts}
 
--- its item, if it has one, is skipped where its parts say so
-skipped_at : (rest octets : List ℕ) (at id flags : ℕ) → HasParts rest octets id flags → skipped_id (item_at rest at).body ≡ skipped_id (body_of id flags octets)
+-- what is read is not skipped
+kept : (id flags : ℕ) (body : List ℕ) → is_read id ≡ true → skipped_id (body_of id flags body) ≡ None
+kept id flags body read = grind arith
+
+-- what is not read is skipped
+left_out : (id flags : ℕ) (body : List ℕ) → is_read id ≡ false → skipped_id (body_of id flags body) ≡ Some id
+left_out id flags body other = grind arith
+
+without_fault : (id flags : ℕ) (body : List ℕ) → is_read id ≡ false → body_fault id flags body ≡ None
+without_fault id flags body other = grind arith
+
+-- the item, if there is one, by the id
+id_at : (rest : List ℕ) (at : ℕ) → skipped_id (item_at rest at).body ≡ skipped_id (body_of (id_of rest) (flags_of rest) (body_octets rest))
 unfolding item_at
-skipped_at rest octets at id flags parts = rw (parts.id_is, parts.flags_are, parts.octets_are) refl
+id_at rest at = refl
 
-pub none_refused : (rest : List ℕ) (at : ℕ) (fault : WireFault) → fault_at rest ≡ Some fault → skipped_next (outcomes rest at) ≡ None
-none_refused [] at fault is = ap skipped_next (outcomes-done at)
-none_refused (x ∷ xs) at fault is =
-    ap skipped_next (outcomes-step (x ∷ xs) at (omega arith) ∙ ap (λ f. outcomes_with outcomes f (x ∷ xs) at) is)
+pub none_left : (rest : List ℕ) (at : ℕ) → length rest ≡ 0 → skipped_next (outcomes rest at) ≡ None
+none_left [] at none = ap skipped_next (outcomes-done at)
+none_left (x ∷ xs) at none = absurd (omega arith)
 
-pub none_skipped : (rest octets : List ℕ) (at id flags : ℕ) → HasParts rest octets id flags → skipped_id (body_of id flags octets) ≡ None → skipped_next (outcomes rest at) ≡ None
-none_skipped [] octets at id flags parts read = ap skipped_next (outcomes-done at)
-none_skipped (x ∷ xs) octets at id flags parts read =
-    ap skipped_next (outcomes-step (x ∷ xs) at (omega arith)) ∙ either (fault_at (x ∷ xs))
+pub none_refused : (rest : List ℕ) (at : ℕ) (fault : WireFault) → 0 < length rest → fault_at rest ≡ Some fault → skipped_next (outcomes rest at) ≡ None
+none_refused rest at fault some is = ap skipped_next (outcomes-step rest at some ∙ ap (λ f. outcomes_with outcomes f rest at) is)
+
+pub none_skipped : (rest : List ℕ) (at : ℕ) → 0 < length rest → is_read (id_of rest) ≡ true → skipped_next (outcomes rest at) ≡ None
+none_skipped rest at some read =
+    ap skipped_next (outcomes-step rest at some) ∙ either (fault_at rest)
   where
-    either : (fault : Option WireFault) → skipped_next (outcomes_with outcomes fault (x ∷ xs) at) ≡ None
+    either : (fault : Option WireFault) → skipped_next (outcomes_with outcomes fault rest at) ≡ None
     either (Some fault) = refl
-    either None = skipped_at (x ∷ xs) octets at id flags parts ∙ read
+    either None = id_at rest at ∙ kept (id_of rest) (flags_of rest) (body_octets rest) read
 
-pub one_skipped : (rest rest' octets : List ℕ) (at at' id flags : ℕ) → HasParts rest octets id flags → 0 < length rest → fault_at rest ≡ None
-    → length octets ≡ body_length rest → rest' ≡ drop (4 + length octets) rest → at' ≡ at + (4 + length octets)
-    → (skipped_next (outcomes rest at) ≡ skipped_id (body_of id flags octets)) × (outcomes rest' at' ≡ drop 1 (outcomes rest at))
-one_skipped rest rest' octets at at' id flags parts some good size rest_is at_is =
-    let taken = outcomes-taken rest rest' at at' (4 + length octets) (item_at rest at) some good refl (ap (λ n. 4 + n) size) rest_is at_is in
-    (ap skipped_next taken ∙ skipped_at rest octets at id flags parts, sym (ap (drop 1) taken))
+pub one_skipped : (rest rest' : List ℕ) (at at' size : ℕ) → 0 < length rest → is_read (id_of rest) ≡ false
+    → fault_at rest ≡ body_fault (id_of rest) (flags_of rest) (body_octets rest)
+    → size ≡ body_length rest → rest' ≡ drop (4 + size) rest → at' ≡ at + (4 + size)
+    → (skipped_next (outcomes rest at) ≡ Some (id_of rest)) × (outcomes rest' at' ≡ drop 1 (outcomes rest at))
+one_skipped rest rest' at at' size some other fault size_is rest_is at_is =
+    let good : fault_at rest ≡ None = fault ∙ without_fault (id_of rest) (flags_of rest) (body_octets rest) other in
+    let taken = outcomes-taken rest rest' at at' (4 + size) (item_at rest at) some good refl (ap (λ n. 4 + n) size_is) rest_is at_is in
+    (ap skipped_next taken ∙ (id_at rest at ∙ left_out (id_of rest) (flags_of rest) (body_octets rest) other), sym (ap (drop 1) taken))

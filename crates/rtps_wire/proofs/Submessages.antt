@@ -1,5 +1,5 @@
 -- What the reader of a submessage has taken apart is what the definitions name.
-use Rattle.std.proofs.Common.{◌≡◌, ◌≤◌, ◌+◌, ℕ, List, true, Some, length, drop, take, arith, ap, refl, sym, ◌∙◌}
+use Rattle.std.proofs.Common.{◌≡◌, ◌≤◌, ◌+◌, ℕ, List, true, Some, length, drop, take, arith, ap, sym, ◌∙◌}
 use Rattle.std.specs.Prelude.{nat_le}
 use Rattle.std.proofs.lemmas.Bool.Decides.{nat_tests}
 use Rattle.rtps_ids.specs.Octets.{number_of, read_at}
@@ -33,15 +33,12 @@ taken_apart rest behind octets order declared size whole behind_is order_is foun
       fault = fault_at-body rest whole enough ∙ ap (body_fault (id_of rest) (flags_of rest)) (sym same_octets);
     }
 
--- these are the parts of the first submessage
-pub record HasParts (rest octets : List ℕ) (id flags : ℕ) : Type 0 where
-  pub id_is : id ≡ id_of rest
-  pub flags_are : flags ≡ flags_of rest
-  pub octets_are : octets ≡ body_octets rest
-
 -- the item of these parts
-pub item_of_parts : (rest octets : List ℕ) (at id flags : ℕ) (order : Order) (body : BodyValue) → HasParts rest octets id flags → order ≡ order_of flags
-    → body ≡ body_of id flags octets → ◌≡◌ {A = ItemValue} (record { at = at; order = order; body = body }) (item_at rest at)
+pub item_of_parts : (rest octets : List ℕ) (at : ℕ) (order : Order) (body : BodyValue) → order ≡ order_of (flags_of rest) → octets ≡ body_octets rest
+    → body ≡ body_of (id_of rest) (flags_of rest) octets → ◌≡◌ {A = ItemValue} (record { at = at; order = order; body = body }) (item_at rest at)
 unfolding item_at
-item_of_parts rest octets at id flags order body parts order_is body_is =
-    rw (order_is, body_is, parts.id_is, parts.flags_are, parts.octets_are) refl
+item_of_parts rest octets at order body order_is octets_is body_is =
+    let same : body ≡ body_of (id_of rest) (flags_of rest) (body_octets rest) = body_is ∙ ap (body_of (id_of rest) (flags_of rest)) octets_is in
+    let with_order : Order → ItemValue = λ o. record { at = at; order = o; body = body } in
+    let with_body : BodyValue → ItemValue = λ b. record { at = at; order = order_of (flags_of rest); body = b } in
+    ap with_order order_is ∙ ap with_body same

@@ -3,7 +3,7 @@ ghost use Rattle.std.specs.Iterator.{YieldsFirstBy, item_count};
 ghost use Rattle.rtps_wire.specs.Fault.{Answers};
 ghost use Rattle.rtps_wire.specs.Message.{body_fault, body_length, body_octets, body_of, extent_of, fault_at, flags_of, id_of, item_at, order_of as order_of_lem};
 ghost use Rattle.rtps_wire.specs.Reading.{outcome_value, outcomes_left, read_as, reading_of, refused_with};
-ghost use Rattle.rtps_wire.specs.Skipped.{skipped_id as skipped_id_lem, skipped_next};
+ghost use Rattle.rtps_wire.specs.Skipped.{is_read as is_read_lem, skipped_next};
 ghost use Rattle.rtps_wire.specs.Values.{body_value, item_value};
 
 use crate::body::{Body, Item};
@@ -61,11 +61,17 @@ impl<'a> Items<'a> {
         ensures id { result ≡ skipped_next (outcomes_left self.old) }
         ensures left { MatchOption result (self.new ≡ self.old) (λ id. outcomes_left self.new ≡ drop 1 (outcomes_left self.old)) }
     {
-        let Ok(raw) = raw_at_front(self.rest) else {
+        if self.rest.is_empty() {
+            return None;
+        }
+        let id = self.rest[submessage::ID];
+        if is_read(id) {
+            return None;
+        }
+        let Ok(size) = body_size(self.rest) else {
             return None;
         };
-        let id = skipped_id(&raw)?;
-        let size = submessage::SIZE + raw.octets.len();
+        let size = submessage::SIZE + size;
         self.rest = rest_at(self.rest, size);
         self.at += size;
         Some(id)
@@ -100,60 +106,44 @@ impl<'a> Iterator for Items<'a> {
     }
 }
 
-/// A submessage whose body is not read yet.
-#[derive(Drop)]
-struct RawSubmessage<'a> {
-    id: u8,
-    flags: u8,
-    octets: &'a [u8],
-}
-
-/// Takes the submessage at the front apart.
+/// How many octets the body of the submessage at the front has.
 #[tactic(auto, unfolding(crate::specs::Message::fault_at))]
 #[inline(always)]
-fn raw_at_front(rest: &[u8]) -> Result<RawSubmessage<'_>, WireFault>
-    ensures parts { IfOk result (λ raw. (raw.id ≡ id_of rest.now) × (raw.flags ≡ flags_of rest.now) × (raw.octets.now ≡ body_octets rest.now)) }
-    ensures size { IfOk result (λ raw. (length raw.octets.now ≡ body_length rest.now) × (4 + length raw.octets.now ≤ length rest.now)) }
+fn body_size(rest: &[u8]) -> Result<usize, WireFault>
+    ensures size { IfOk result (λ size. (size ≡ body_length rest.now) × (4 + size ≤ length rest.now)) }
     ensures fault { MatchResult result
-        (λ raw. fault_at rest.now ≡ body_fault raw.id raw.flags raw.octets.now)
+        (λ size. fault_at rest.now ≡ body_fault (id_of rest.now) (flags_of rest.now) (body_octets rest.now))
         (λ fault. fault_at rest.now ≡ Some fault) }
 {
     if rest.len() < submessage::SIZE {
         return Err(WireFault::CutHeader);
     }
-    let (id, flags, behind) = (
-        rest[submessage::ID],
-        rest[submessage::FLAGS],
-        rest_at(rest, submessage::SIZE),
-    );
-    let order = order_of(flags);
+    let order = order_of(rest[submessage::FLAGS]);
     let Some(declared) = u16_at(order, rest, submessage::OCTETS_TO_NEXT) else {
         return Err(WireFault::CutHeader);
     };
     let declared = declared as usize;
-    if declared > behind.len() {
+    let left = rest.len() - submessage::SIZE;
+    if declared > left {
         return Err(WireFault::Overrun);
     }
-    let size = extent(id, declared, behind.len());
-    let (octets, _) = behind.split_at(size);
-    Ok(RawSubmessage { id, flags, octets })
+    Ok(extent(rest[submessage::ID], declared, left))
 }
 
-/// The id of a submessage that is skipped.
+/// Whether submessages of this id are read, and not skipped.
 #[inline(always)]
-fn skipped_id(raw: &RawSubmessage<'_>) -> Option<u8>
-    ensures id { result ≡ skipped_id_lem (body_of raw.now.id raw.now.flags raw.now.octets.now) }
-    ensures good { IfSome result (λ id. body_fault raw.now.id raw.now.flags raw.now.octets.now ≡ None) }
+fn is_read(id: u8) -> bool
+    ensures { result ≡ is_read_lem id }
 {
-    match raw.id {
+    match id {
         id::ACKNACK
         | id::HEARTBEAT
         | id::GAP
         | id::INFO_TS
         | id::INFO_SRC
         | id::INFO_DST
-        | id::DATA => None,
-        id => Some(id),
+        | id::DATA => true,
+        _ => false,
     }
 }
 
@@ -163,11 +153,15 @@ fn read_item(rest: &[u8], at: usize) -> Result<(Item<'_>, usize), WireFault>
     ensures item { Answers (λ found. item_value found.0) result (fault_at rest.now) (item_at rest.now at) }
     ensures size { IfOk result (λ found. (found.1 ≡ 4 + body_length rest.now) × (found.1 ≤ length rest.now)) }
 {
-    let raw = raw_at_front(rest)?;
-    let order = order_of(raw.flags);
-    let size = submessage::SIZE + raw.octets.len();
-    match read_body(raw.id, raw.flags, raw.octets) {
-        Ok(body) => Ok((Item { at, order, body }, size)),
+    let size = match body_size(rest) {
+        Ok(size) => size,
+        Err(fault) => return Err(fault),
+    };
+    let (id, flags) = (rest[submessage::ID], rest[submessage::FLAGS]);
+    let order = order_of(flags);
+    let (octets, _) = rest_at(rest, submessage::SIZE).split_at(size);
+    match read_body(id, flags, octets) {
+        Ok(body) => Ok((Item { at, order, body }, submessage::SIZE + size)),
         Err(fault) => Err(fault),
     }
 }
