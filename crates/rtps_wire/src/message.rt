@@ -148,18 +148,30 @@ fn is_read(id: u8) -> bool
 }
 
 /// Reads the submessage at the front, whose place this is, and says how many octets it has.
+#[tactic(auto, unfolding(crate::specs::Message::fault_at, crate::specs::Message::item_at))]
 #[inline(always)]
 fn read_item(rest: &[u8], at: usize) -> Result<(Item<'_>, usize), WireFault>
     ensures item { Answers (λ found. item_value found.0) result (fault_at rest.now) (item_at rest.now at) }
     ensures size { IfOk result (λ found. (found.1 ≡ 4 + body_length rest.now) × (found.1 ≤ length rest.now)) }
 {
-    let size = match body_size(rest) {
-        Ok(size) => size,
-        Err(fault) => return Err(fault),
-    };
-    let (id, flags) = (rest[submessage::ID], rest[submessage::FLAGS]);
+    if rest.len() < submessage::SIZE {
+        return Err(WireFault::CutHeader);
+    }
+    let (id, flags, behind) = (
+        rest[submessage::ID],
+        rest[submessage::FLAGS],
+        rest_at(rest, submessage::SIZE),
+    );
     let order = order_of(flags);
-    let (octets, _) = rest_at(rest, submessage::SIZE).split_at(size);
+    let Some(declared) = u16_at(order, rest, submessage::OCTETS_TO_NEXT) else {
+        return Err(WireFault::CutHeader);
+    };
+    let declared = declared as usize;
+    if declared > behind.len() {
+        return Err(WireFault::Overrun);
+    }
+    let size = extent(id, declared, behind.len());
+    let (octets, _) = behind.split_at(size);
     match read_body(id, flags, octets) {
         Ok(body) => Ok((Item { at, order, body }, submessage::SIZE + size)),
         Err(fault) => Err(fault),
