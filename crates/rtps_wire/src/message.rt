@@ -1,7 +1,7 @@
 ghost use Rattle.std.specs.Prelude.{◌≡◌, ◌≤◌, ◌+◌, drop, length, IfOk, IfSome, MatchOption, MatchResult, None, Some};
 ghost use Rattle.std.specs.Iterator.{YieldsFirstBy, item_count};
 ghost use Rattle.rtps_wire.specs.Fault.{Answers};
-ghost use Rattle.rtps_wire.specs.Message.{body_fault, body_length, body_octets, body_of, extent_of, fault_at, flags_of, id_of, item_at, order_of as order_of_lem};
+ghost use Rattle.rtps_wire.specs.Message.{body_fault, body_length, body_of, extent_of, fault_at, item_at, octets_to_next_header, order_of as order_of_lem};
 ghost use Rattle.rtps_wire.specs.Reading.{outcome_value, outcomes_left, read_as, reading_of, refused_with};
 ghost use Rattle.rtps_wire.specs.Skipped.{is_read as is_read_lem, skipped_next};
 ghost use Rattle.rtps_wire.specs.Values.{body_value, item_value};
@@ -61,17 +61,19 @@ impl<'a> Items<'a> {
         ensures id { result ≡ skipped_next (outcomes_left self.old) }
         ensures left { MatchOption result (self.new ≡ self.old) (λ id. outcomes_left self.new ≡ drop 1 (outcomes_left self.old)) }
     {
-        if self.rest.is_empty() {
+        if self.rest.len() < submessage::SIZE {
             return None;
         }
         let id = self.rest[submessage::ID];
+        let declared = declared_by(self.rest);
+        let left = self.rest.len() - submessage::SIZE;
         if is_read(id) {
             return None;
         }
-        let Ok(size) = body_size(self.rest) else {
+        if declared > left {
             return None;
-        };
-        let size = submessage::SIZE + size;
+        }
+        let size = submessage::SIZE + extent(id, declared, left);
         self.rest = rest_at(self.rest, size);
         self.at += size;
         Some(id)
@@ -106,28 +108,14 @@ impl<'a> Iterator for Items<'a> {
     }
 }
 
-/// How many octets the body of the submessage at the front has.
-#[tactic(auto, unfolding(crate::specs::Message::fault_at))]
+/// The octetsToNextHeader of the submessage at the front.
 #[inline(always)]
-fn body_size(rest: &[u8]) -> Result<usize, WireFault>
-    ensures size { IfOk result (λ size. (size ≡ body_length rest.now) × (4 + size ≤ length rest.now)) }
-    ensures fault { MatchResult result
-        (λ size. fault_at rest.now ≡ body_fault (id_of rest.now) (flags_of rest.now) (body_octets rest.now))
-        (λ fault. fault_at rest.now ≡ Some fault) }
+fn declared_by(rest: &[u8]) -> usize
+    requires { 4 ≤ length rest.now }
+    ensures { result ≡ octets_to_next_header rest.now }
 {
-    if rest.len() < submessage::SIZE {
-        return Err(WireFault::CutHeader);
-    }
     let order = order_of(rest[submessage::FLAGS]);
-    let Some(declared) = u16_at(order, rest, submessage::OCTETS_TO_NEXT) else {
-        return Err(WireFault::CutHeader);
-    };
-    let declared = declared as usize;
-    let left = rest.len() - submessage::SIZE;
-    if declared > left {
-        return Err(WireFault::Overrun);
-    }
-    Ok(extent(rest[submessage::ID], declared, left))
+    u16_at(order, rest, submessage::OCTETS_TO_NEXT).unwrap_or(0) as usize
 }
 
 /// Whether submessages of this id are read, and not skipped.
@@ -163,10 +151,7 @@ fn read_item(rest: &[u8], at: usize) -> Result<(Item<'_>, usize), WireFault>
         rest_at(rest, submessage::SIZE),
     );
     let order = order_of(flags);
-    let Some(declared) = u16_at(order, rest, submessage::OCTETS_TO_NEXT) else {
-        return Err(WireFault::CutHeader);
-    };
-    let declared = declared as usize;
+    let declared = declared_by(rest);
     if declared > behind.len() {
         return Err(WireFault::Overrun);
     }

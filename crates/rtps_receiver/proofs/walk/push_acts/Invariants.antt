@@ -1,4 +1,4 @@
-use Rattle.std.proofs.Common.{◌≡◌, ◌<◌, ◌≤◌, ◌^◌, ◌+◌, ◌++◌, ℕ, [], length, map}
+use Rattle.std.proofs.Common.{◌≡◌, ◌<◌, ◌≤◌, ◌^◌, ◌+◌, ◌++◌, [], length, map}
 use Rattle.std.specs.Prelude.{◌||◌, is_some}
 use Rattle.rtps_wire.specs.Reading.{items_among, outcomes_left, refusal_among}
 use Rattle.rtps_wire.specs.Tally.{fragments_in, skipped_in}
