@@ -23,7 +23,7 @@ last_of (x ∷ xs) at refusal behind same =
 pub refusal_is_last : (unread : Unread) (refusal : Refusal) (behind : List Outcome) → outcomes_left unread ≡ Err refusal ∷ behind → behind ≡ []
 refusal_is_last unread = last_of unread.rest unread.at
 
--- an item that is taken as skipped is so much of what is counted, and one that is not is none of it
+-- what is skipped next is an item of that id
 pub skipped_first : (left : List Outcome) (id : ℕ) → Some id ≡ skipped_next left → (item : ItemValue) × (item.body ≡ Skipped id) × (left ≡ Ok item ∷ drop 1 left)
 skipped_first [] id is = cc
 skipped_first (Err refusal ∷ later) id is = cc
@@ -39,6 +39,7 @@ skipped_first (Ok item ∷ later) id is = (item, body_skipped item.body id is, r
     body_skipped (InfoDst prefix) id is = cc
     body_skipped (InfoSrc version vendor prefix) id is = cc
 
+-- what is not skipped is not counted
 pub not_counted : (body : BodyValue) → None ≡ skipped_id body → (is_skipped body ≡ false) × (is_fragment body ≡ false)
 not_counted (Skipped id) none = cc
 not_counted (Data value) none = (refl, refl)
