@@ -1,5 +1,5 @@
 -- The acts that are left, one item at a time.
-use Rattle.std.proofs.Common.{◌≡◌, List, [], ◌∷◌, ◌++◌, Option, Some, None, Ok, Err, length, ◌+◌, ◌≤◌, arith, refl, ap, sym, ◌∙◌, append_assoc, option_to_list, unwrap_or}
+use Rattle.std.proofs.Common.{◌≡◌, ℕ, List, [], ◌∷◌, ◌++◌, Option, Some, None, Ok, Err, length, ◌+◌, ◌≤◌, arith, refl, ap, sym, ◌∙◌, append_assoc, option_to_list, unwrap_or}
 use Rattle.std.proofs.lemmas.List.{length-append}
 use Rattle.rtps_wire.proofs.Offered.{refusal_is_last}
 use Rattle.rtps_wire.specs.Reading.{Outcome, Unread, items_among, outcomes_left, read_as, refusal_among, refused_with}
@@ -92,6 +92,13 @@ pub acts_behind-other : (state : State) (item : ItemValue) (items : List ItemVal
     → acts_behind state [] (item ∷ items) ≡ acts_behind (state_behind state (item ∷ [])) [] items
 acts_behind-other state item items none =
     ap (λ b. acts_of_item state item b ++ acts_behind state (item ∷ []) items) none ∙ acts_behind-one state item items
+
+-- what is skipped is no act, and leaves the state as it is
+pub acts_behind-skipped : (state : State) (item : ItemValue) (items : List ItemValue) (id : ℕ) → item.body ≡ Skipped id
+    → acts_behind state [] (item ∷ items) ≡ acts_behind state [] items
+acts_behind-skipped state item items id is =
+    let same : state_behind state (item ∷ []) ≡ state = rw is refl in
+    acts_behind-other state item items (ap act_body is) ∙ ap (λ s. acts_behind s [] items) same
 
 -- ---- what is left, by what is read next
 

@@ -7,7 +7,7 @@ ghost use Rattle.rtps_wire.specs.Tally.{tally_of, tally_of_outcomes};
 use crate::act::Act;
 use crate::state::State;
 use rtps_ids::Memory;
-use rtps_wire::{Items, Tally};
+use rtps_wire::{Body, Items, Tally};
 use std::alloc::Global;
 use std::marker::Model;
 use std::slice;
@@ -71,26 +71,31 @@ fn push_acts<'a>(acts: &mut Vec<Act<'a>>, start: State, items: Items<'a>) -> Res
     ensures tally { IfOk result (λ tally. tally ≡ tally_of_outcomes (outcomes_left items.entry)) }
 {
     let mut state = start;
+    let mut items = items;
     let mut tally = Tally {
         refused: false,
         skipped: 0,
         fragments: 0,
     };
-    for outcome in items {
-        match outcome {
-            Ok(item) => {
-                tally.skipped += one_if(item.body.is_skipped());
-                tally.fragments += one_if(item.body.is_fragment());
+    'items: loop {
+        if let Some(id) = items.take_skipped() {
+            let body = Body::Skipped { id };
+            tally.skipped += one_if(body.is_skipped());
+            tally.fragments += one_if(body.is_fragment());
+            continue;
+        }
+        match items.next() {
+            Some(Ok(item)) => {
                 if let Some(act) = state.act(&item) {
                     acts.extend_from_slice(slice::from_ref(&act))?;
                 } else {
                     state.interpret(&item);
                 }
             }
-            Err(_) => tally.refused = true,
+            Some(Err(_)) => tally.refused = true,
+            None => return Ok(tally),
         }
     }
-    Ok(tally)
 }
 
 #[inline(always)]

@@ -1,5 +1,6 @@
 pub mod OneReading
 pub mod Readings
 pub mod SetFields
+pub mod Skips
 pub mod Submessages
 pub mod Offered

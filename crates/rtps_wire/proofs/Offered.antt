@@ -1,6 +1,10 @@
 -- Lemmas about the definitions of this crate, for the crates above it.
-use Rattle.std.proofs.Common.{◌≡◌, ℕ, List, [], ◌∷◌, Option, None, Some, Err, arith, sym, ◌∙◌}
+use Rattle.std.proofs.Common.{◌≡◌, ℕ, List, [], ◌∷◌, Option, None, Some, Ok, Err, false, drop, arith, refl, sym, ◌∙◌}
 use Rattle.rtps_wire.specs.Reading.{Outcome, Unread, outcomes, outcomes_left, outcomes_with}
+use Rattle.rtps_wire.specs.Skipped.{skipped_id, skipped_next}
+use Rattle.rtps_wire.specs.Tally.{is_fragment, is_skipped}
+use Rattle.rtps_wire.specs.Values.{BodyValue, ItemValue}
+use Rattle.rtps_wire.specs.Values.BodyValue.{Data, Heartbeat, AckNack, Gap, InfoTs, InfoDst, InfoSrc, Skipped}
 use Rattle.rtps_wire.specs.declared.fault.Refusal.{Refusal}
 use Rattle.rtps_wire.specs.declared.fault.WireFault.{WireFault}
 use Rattle.rtps_wire.proofs.Readings.{outcomes-done, outcomes-step}
@@ -18,3 +22,30 @@ last_of (x ∷ xs) at refusal behind same =
 -- nothing is read behind a refusal
 pub refusal_is_last : (unread : Unread) (refusal : Refusal) (behind : List Outcome) → outcomes_left unread ≡ Err refusal ∷ behind → behind ≡ []
 refusal_is_last unread = last_of unread.rest unread.at
+
+-- what is skipped next is an item of that id
+pub skipped_first : (left : List Outcome) (id : ℕ) → Some id ≡ skipped_next left → (item : ItemValue) × (item.body ≡ Skipped id) × (left ≡ Ok item ∷ drop 1 left)
+skipped_first [] id is = cc
+skipped_first (Err refusal ∷ later) id is = cc
+skipped_first (Ok item ∷ later) id is = (item, body_skipped item.body id is, refl)
+  where
+    body_skipped : (body : BodyValue) (id : ℕ) → Some id ≡ skipped_id body → body ≡ Skipped id
+    body_skipped (Skipped other) id is = cc
+    body_skipped (Data value) id is = cc
+    body_skipped (Heartbeat value) id is = cc
+    body_skipped (AckNack value) id is = cc
+    body_skipped (Gap value) id is = cc
+    body_skipped (InfoTs time) id is = cc
+    body_skipped (InfoDst prefix) id is = cc
+    body_skipped (InfoSrc version vendor prefix) id is = cc
+
+-- what is not skipped is not counted
+pub not_counted : (body : BodyValue) → None ≡ skipped_id body → (is_skipped body ≡ false) × (is_fragment body ≡ false)
+not_counted (Skipped id) none = cc
+not_counted (Data value) none = (refl, refl)
+not_counted (Heartbeat value) none = (refl, refl)
+not_counted (AckNack value) none = (refl, refl)
+not_counted (Gap value) none = (refl, refl)
+not_counted (InfoTs time) none = (refl, refl)
+not_counted (InfoDst prefix) none = (refl, refl)
+not_counted (InfoSrc version vendor prefix) none = (refl, refl)

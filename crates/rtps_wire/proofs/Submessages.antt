@@ -1,8 +1,5 @@
 -- What the reader of a submessage has taken apart is what the definitions name.
-use Rattle.std.proofs.Common.{◌≡◌, ◌≤◌, ◌+◌, ℕ, List, true, Some, length, drop, take, arith, ap, sym, ◌∙◌}
-use Rattle.std.specs.Prelude.{nat_le}
-use Rattle.std.proofs.lemmas.Bool.Decides.{nat_tests}
-use Rattle.rtps_ids.specs.Octets.{number_of, read_at}
+use Rattle.std.proofs.Common.{◌≡◌, ◌≤◌, ℕ, List, length, drop, take, ap, sym, ◌∙◌}
 use Rattle.rtps_ids.specs.declared.order.Order.{Order}
 use Rattle.rtps_wire.specs.Message.{body_fault, body_length, body_octets, body_of, extent_of, fault_at, flags_of, id_of, item_at, octets_to_next_header, order_of}
 use Rattle.rtps_wire.specs.Values.{BodyValue, ItemValue}
@@ -13,19 +10,11 @@ pub record IsTakenApart (rest body : List ℕ) (taken : ℕ) : Type 0 where
   pub octets : body ≡ body_octets rest
   pub fault : fault_at rest ≡ body_fault (id_of rest) (flags_of rest) body
 
-number_read : (width at x : ℕ) (order : Order) (rest : List ℕ) → at + width ≤ length rest → read_at (number_of order width) width rest at ≡ Some x → number_of order width (drop at rest) ≡ x
-number_read width at x order rest reach found =
-    let yes : nat_le (at + width) (length rest) ≡ true = grind (arith, nat_tests) in
-    let here : Some (number_of order width (drop at rest)) ≡ Some x = rw yes at found in
-    cc
-
-pub taken_apart : (rest behind octets : List ℕ) (order : Order) (declared size : ℕ) → 4 ≤ length rest → behind ≡ drop 4 rest → order ≡ order_of (flags_of rest)
-    → read_at (number_of order 2) 2 rest 2 ≡ Some declared → declared ≤ length behind → size ≡ extent_of (id_of rest) declared (length behind) → octets ≡ take size behind
-    → IsTakenApart rest octets size
-taken_apart rest behind octets order declared size whole behind_is order_is found within size_is octets_is =
-    let declared_is : octets_to_next_header rest ≡ declared = ap (λ o. number_of o 2 (drop 2 rest)) (sym order_is) ∙ number_read 2 2 declared order rest whole found in
-    let enough : octets_to_next_header rest ≤ length (drop 4 rest) = rw (declared_is, ← behind_is) within in
-    let same_size : size ≡ body_length rest = rw (declared_is, ← behind_is) size_is in
+pub taken_apart : (rest behind octets : List ℕ) (declared size : ℕ) → 4 ≤ length rest → behind ≡ drop 4 rest → declared ≡ octets_to_next_header rest
+    → declared ≤ length behind → size ≡ extent_of (id_of rest) declared (length behind) → octets ≡ take size behind → IsTakenApart rest octets size
+taken_apart rest behind octets declared size whole behind_is declared_is within size_is octets_is =
+    let enough : octets_to_next_header rest ≤ length (drop 4 rest) = rw (← declared_is, ← behind_is) within in
+    let same_size : size ≡ body_length rest = rw (← declared_is, ← behind_is) size_is in
     let same_octets : octets ≡ body_octets rest = rw (← same_size, ← behind_is) octets_is in
     record {
       size = same_size;

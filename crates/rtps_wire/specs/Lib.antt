@@ -12,5 +12,6 @@ pub mod Layout
 pub mod Message
 pub mod Reading
 pub mod SetField
+pub mod Skipped
 pub mod Tally
 pub mod Values

@@ -1,68 +1,113 @@
-use Rattle.std.proofs.Common.{◌≡◌, ◌≤◌, ◌∷◌, [], ◌++◌, Bool, true, false, List, Ok, ap, append_assoc, arith, cond, length, map, sym, ◌∙◌}
+use Rattle.std.proofs.Common.{◌≡◌, ◌≤◌, ◌+◌, ◌∷◌, [], ◌++◌, ℕ, Bool, true, false, List, Ok, ap, append_assoc, arith, cond, length, map, sym, ◌∙◌}
 use Rattle.std.specs.Prelude.{◌||◌, is_some}
 use Rattle.std.proofs.lemmas.List.{map-append}
 use Rattle.std.proofs.lemmas.List.Sums.{sum_by-cons}
+use Rattle.rtps_wire.proofs.Offered.{not_counted, skipped_first}
 use Rattle.rtps_wire.specs.Reading.{Outcome, items_among, outcome_value, outcomes_left, refusal_among}
+use Rattle.rtps_wire.specs.Skipped.{skipped_next}
 use Rattle.rtps_wire.specs.Tally.{fragments_in, is_fragment, is_skipped, skipped_in}
 use Rattle.rtps_wire.specs.Values.{ItemValue, item_value}
 use Rattle.rtps_receiver.specs.Acts.{acts_behind}
 use Rattle.rtps_receiver.specs.Values.{act_value}
-use Rattle.rtps_receiver.proofs.ActSteps.{acts_behind-act, acts_behind-other}
+use Rattle.rtps_receiver.proofs.ActSteps.{acts_behind-act, acts_behind-other, acts_behind-skipped}
 use Rattle.rtps_receiver.proofs.walk.push_acts.Goals as goal
+use Rattle.rtps_receiver.proofs.walk.push_acts.Goals.{In-Some-Ok}
 
-small : (b : Bool) → cond b 1 0 ≤ 1
-small true = omega arith
-small false = omega arith
+-- what is left is one item more than this later part, of which so much is skipped and so much a fragment
+record IsOneMore (left later : List Outcome) (skipped fragments : ℕ) : Type 0 where
+  fewer : 1 + length later ≡ length left
+  skips : skipped_in (items_among left) ≡ skipped + skipped_in (items_among later)
+  fragmented : fragments_in (items_among left) ≡ fragments + fragments_in (items_among later)
+  refused : refusal_among left ≡ refusal_among later
+  few_skipped : skipped ≤ 1
+  few_fragments : fragments ≤ 1
 
-pub loop-outcome-preserved-in-Continue-1 : goal.loop-outcome-preserved-in-Continue-1
-loop-outcome-preserved-in-Continue-1 c =
-    let old = c.loop-outcome.invariant in
-    let state = c.loop-outcome.state in
-    let item = item_value c.in-Ok.item in
-    let later = outcomes_left c.next.new.self in
-    let next : outcomes_left c.loop-outcome.outcome-iterator ≡ Ok item ∷ later = c.in-Some.ensures.steps ∙ ap (λ o. outcome_value o ∷ later) c.in-Ok.is in
-    let is = c.in-Some-act.ensures in
-    let skips : c.one_if.result ≡ cond (is_skipped item.body) 1 0 = c.one_if.ensures ∙ ap (λ b. cond b 1 0) c.is_skipped.ensures in
-    let fragments : c.one_if-in-Ok.result ≡ cond (is_fragment item.body) 1 0 = c.one_if-in-Ok.ensures ∙ ap (λ b. cond b 1 0) c.is_fragment.ensures in
-    let skipped = ap (λ (o : List Outcome). skipped_in (items_among o)) next ∙ sum_by-cons (λ (i : ItemValue). cond (is_skipped i.body) 1 0) item (items_among later) in
-    let fragmented = ap (λ (o : List Outcome). fragments_in (items_among o)) next ∙ sum_by-cons (λ (i : ItemValue). cond (is_fragment i.body) 1 0) item (items_among later) in
-    let fewer = ap length next in
-    let step = ap (λ (o : List Outcome). acts_behind state [] (items_among o)) next ∙ acts_behind-act state item (items_among later) is.0 is.1 in (
-      tt,
-      tt,
-      old.2,
-      omega (arith, old.3, fewer, skips, small (is_skipped item.body)),
-      omega (arith, old.4, fewer, fragments, small (is_fragment item.body)),
-      omega (arith, old.5, skipped, skips),
-      omega (arith, old.6, fragmented, fragments),
-      ap (λ (o : List Outcome). c.loop-outcome.tally.refused || is_some (refusal_among o)) (sym next) ∙ old.7,
-      ap (λ l. l ++ acts_behind state [] (items_among later)) (ap (map act_value) c.in_ok-extend_from_slice-in-Ok.ensures.items ∙ map-append act_value c.loop-outcome.acts.items _ ∙ ap (λ l. map act_value c.loop-outcome.acts.items ++ map act_value l) c.from_ref.ensures.value)
-          ∙ append_assoc (map act_value c.loop-outcome.acts.items) (act_value c.in-Some-act.act ∷ []) (acts_behind state [] (items_among later))
-          ∙ ap (λ a. map act_value c.loop-outcome.acts.items ++ a ∷ acts_behind state [] (items_among later)) is.2
-          ∙ ap (λ l. map act_value c.loop-outcome.acts.items ++ l) (sym step) ∙ old.8,
+one_more : (item : ItemValue) (left later : List Outcome) → left ≡ Ok item ∷ later
+    → IsOneMore left later (cond (is_skipped item.body) 1 0) (cond (is_fragment item.body) 1 0)
+one_more item left later next =
+    record {
+      fewer = omega (arith, ap length next);
+      skips = ap (λ (o : List Outcome). skipped_in (items_among o)) next ∙ sum_by-cons (λ (i : ItemValue). cond (is_skipped i.body) 1 0) item (items_among later);
+      fragmented = ap (λ (o : List Outcome). fragments_in (items_among o)) next ∙ sum_by-cons (λ (i : ItemValue). cond (is_fragment i.body) 1 0) item (items_among later);
+      refused = ap refusal_among next;
+      few_skipped = small (is_skipped item.body);
+      few_fragments = small (is_fragment item.body);
+    }
+  where
+    small : (b : Bool) → cond b 1 0 ≤ 1
+    small true = omega arith
+    small false = omega arith
+
+-- the item that is read, and that it is not counted
+next_is : (c : In-Some-Ok) → outcomes_left c.items.items ≡ Ok (item_value c.in-Some-Ok.item) ∷ outcomes_left c.next.new.self
+next_is c =
+    ap outcomes_left (sym c.in_default.ensures.left) ∙ c.in-Some-Ok.ensures.steps ∙ ap (λ o. outcome_value o ∷ outcomes_left c.next.new.self) c.in-Some-Ok.field-0-is
+
+more_read : (c : In-Some-Ok) → IsOneMore (outcomes_left c.items.items) (outcomes_left c.next.new.self) 0 0
+more_read c =
+    let item = item_value c.in-Some-Ok.item in
+    let apart = not_counted item.body (c.in_default.ensures.id ∙ ap skipped_next (next_is c)) in
+    rw (apart.0, apart.1) at (one_more item (outcomes_left c.items.items) (outcomes_left c.next.new.self) (next_is c))
+
+pub items-preserved-in-Some : goal.items-preserved-in-Some
+items-preserved-in-Some c =
+    let old = c.items.invariant in
+    let left = outcomes_left c.items.items in
+    let later = outcomes_left c.take_skipped.new.self in
+    let first = skipped_first left c.in-Some.id c.in-Some.ensures.id in
+    let item = first.0 in
+    let next : left ≡ Ok item ∷ later = first.2 ∙ ap (λ l. Ok item ∷ l) (sym c.in-Some.ensures.left) in
+    let more = one_more item left later next in
+    let skips : c.one_if.result ≡ cond (is_skipped item.body) 1 0 = c.one_if.ensures ∙ ap (λ b. cond b 1 0) (c.is_skipped.ensures ∙ sym (ap is_skipped first.1)) in
+    let fragments : c.one_if-in-Some.result ≡ cond (is_fragment item.body) 1 0 = c.one_if-in-Some.ensures ∙ ap (λ b. cond b 1 0) (c.is_fragment.ensures ∙ sym (ap is_fragment first.1)) in
+    let step = ap (λ (o : List Outcome). acts_behind c.items.state [] (items_among o)) next ∙ acts_behind-skipped c.items.state item (items_among later) c.in-Some.id first.1 in (
+      old.0,
+      omega (arith, old.1, more.fewer, more.few_skipped, skips),
+      omega (arith, old.2, more.fewer, more.few_fragments, fragments),
+      omega (arith, old.3, more.skips, skips),
+      omega (arith, old.4, more.fragmented, fragments),
+      ap (λ r. c.items.tally.refused || is_some r) (sym more.refused) ∙ old.5,
+      ap (λ l. map act_value c.items.acts.items ++ l) (sym step) ∙ old.6,
     )
 
-pub loop-outcome-preserved-in_default : goal.loop-outcome-preserved-in_default
-loop-outcome-preserved-in_default c =
-    let old = c.loop-outcome.invariant in
-    let state = c.loop-outcome.state in
-    let item = item_value c.in-Ok.item in
+pub items-preserved-in-Continue-1 : goal.items-preserved-in-Continue-1
+items-preserved-in-Continue-1 c =
+    let read = (goal.at.items-preserved-in-Continue-1 c).In-Some-Ok in
+    let old = c.items.invariant in
+    let state = c.items.state in
+    let item = item_value c.in-Some-Ok.item in
     let later = outcomes_left c.next.new.self in
-    let next : outcomes_left c.loop-outcome.outcome-iterator ≡ Ok item ∷ later = c.in-Some.ensures.steps ∙ ap (λ o. outcome_value o ∷ later) c.in-Ok.is in
-    let skips : c.one_if.result ≡ cond (is_skipped item.body) 1 0 = c.one_if.ensures ∙ ap (λ b. cond b 1 0) c.is_skipped.ensures in
-    let fragments : c.one_if-in-Ok.result ≡ cond (is_fragment item.body) 1 0 = c.one_if-in-Ok.ensures ∙ ap (λ b. cond b 1 0) c.is_fragment.ensures in
-    let skipped = ap (λ (o : List Outcome). skipped_in (items_among o)) next ∙ sum_by-cons (λ (i : ItemValue). cond (is_skipped i.body) 1 0) item (items_among later) in
-    let fragmented = ap (λ (o : List Outcome). fragments_in (items_among o)) next ∙ sum_by-cons (λ (i : ItemValue). cond (is_fragment i.body) 1 0) item (items_among later) in
-    let fewer = ap length next in
-    let step = ap (λ (o : List Outcome). acts_behind state [] (items_among o)) next ∙ acts_behind-other state item (items_among later) c.in_default.ensures in (
-      tt,
-      tt,
-      old.2,
-      omega (arith, old.3, fewer, skips, small (is_skipped item.body)),
-      omega (arith, old.4, fewer, fragments, small (is_fragment item.body)),
-      omega (arith, old.5, skipped, skips),
-      omega (arith, old.6, fragmented, fragments),
-      ap (λ (o : List Outcome). c.loop-outcome.tally.refused || is_some (refusal_among o)) (sym next) ∙ old.7,
-      ap (λ s. map act_value c.loop-outcome.acts.items ++ acts_behind s [] (items_among later)) c.interpret.ensures
-          ∙ ap (λ l. map act_value c.loop-outcome.acts.items ++ l) (sym step) ∙ old.8,
+    let more = more_read read in
+    let is = c.in-Some-act.ensures in
+    let before = map act_value c.items.acts.items in
+    let step = ap (λ (o : List Outcome). acts_behind state [] (items_among o)) (next_is read) ∙ acts_behind-act state item (items_among later) is.0 is.1 in (
+      old.0,
+      omega (arith, old.1, more.fewer),
+      omega (arith, old.2, more.fewer),
+      omega (arith, old.3, more.skips),
+      omega (arith, old.4, more.fragmented),
+      ap (λ r. c.items.tally.refused || is_some r) (sym more.refused) ∙ old.5,
+      ap (λ l. l ++ acts_behind state [] (items_among later)) (ap (map act_value) c.in_ok-extend_from_slice-in-Some-Ok.ensures.items ∙ map-append act_value c.items.acts.items _ ∙ ap (λ l. before ++ map act_value l) c.from_ref.ensures.value)
+          ∙ append_assoc before (act_value c.in-Some-act.act ∷ []) (acts_behind state [] (items_among later))
+          ∙ ap (λ a. before ++ a ∷ acts_behind state [] (items_among later)) is.2
+          ∙ ap (λ l. before ++ l) (sym step) ∙ old.6,
+    )
+
+pub items-preserved-in_default-act : goal.items-preserved-in_default-act
+items-preserved-in_default-act c =
+    let read = (goal.at.items-preserved-in_default-act c).In-Some-Ok in
+    let old = c.items.invariant in
+    let state = c.items.state in
+    let item = item_value c.in-Some-Ok.item in
+    let later = outcomes_left c.next.new.self in
+    let more = more_read read in
+    let before = map act_value c.items.acts.items in
+    let step = ap (λ (o : List Outcome). acts_behind state [] (items_among o)) (next_is read) ∙ acts_behind-other state item (items_among later) c.in_default-act.ensures in (
+      old.0,
+      omega (arith, old.1, more.fewer),
+      omega (arith, old.2, more.fewer),
+      omega (arith, old.3, more.skips),
+      omega (arith, old.4, more.fragmented),
+      ap (λ r. c.items.tally.refused || is_some r) (sym more.refused) ∙ old.5,
+      ap (λ s. before ++ acts_behind s [] (items_among later)) c.interpret.ensures ∙ ap (λ l. before ++ l) (sym step) ∙ old.6,
     )

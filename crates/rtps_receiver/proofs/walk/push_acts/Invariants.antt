@@ -7,16 +7,17 @@ use Rattle.rtps_receiver.specs.Values.{act_value}
 use Rattle.rtps_receiver.proofs.walk.push_acts.Given as goal
 
 -- what is read so far and what is left are all
-abbrev pub invariant-loop-outcome : goal.invariant-loop-outcome
-invariant-loop-outcome l =
-    let left = outcomes_left l.outcome-iterator in
-    let all = outcomes_left l.initial.outcome-iterator in
-    (goal.iterator-loop-outcome).can_next l.outcome-iterator
-    × (goal.iterator-loop-outcome).is_finite l.outcome-iterator
-    × (length all < 2 ^ 64)
+abbrev pub invariant-items : goal.invariant-items
+invariant-items l =
+    let left = outcomes_left l.items in
+    let all = outcomes_left l.fn.items in
+    (length all < 2 ^ 64)
     × (l.tally.skipped + length left ≤ length all)
     × (l.tally.fragments + length left ≤ length all)
     × (l.tally.skipped + skipped_in (items_among left) ≡ skipped_in (items_among all))
     × (l.tally.fragments + fragments_in (items_among left) ≡ fragments_in (items_among all))
     × ((l.tally.refused || is_some (refusal_among left)) ≡ is_some (refusal_among all))
     × (map act_value l.acts.items ++ acts_behind l.state [] (items_among left) ≡ acts_behind l.fn.start [] (items_among all))
+
+abbrev pub decreases-items : goal.decreases-items
+decreases-items l = length (outcomes_left l.items)

@@ -1,12 +1,12 @@
-use Rattle.std.proofs.Common.{◌∙◌, sym}
+use Rattle.std.proofs.Common.{◌∙◌}
 use Rattle.rtps_wire.proofs.Submessages.{IsTakenApart, item_of_parts, taken_apart}
 use Rattle.rtps_wire.proofs.message.read_item.Goals as goal
 use Rattle.rtps_wire.proofs.message.read_item.Goals.{After-read_body}
 
 apart : (c : After-read_body) → IsTakenApart c.args.rest.now c.split_at.result.0.now c.extent-size.result
 apart c =
-    taken_apart _ _ _ _ _ _ c.if-rest-lt-SIZE.false c.rest_at-behind.ensures c.order_of-order.ensures (sym c.in-Some.ensures)
-    c.if-declared-behind.false c.extent-size.ensures c.split_at.ensures.front
+    taken_apart _ _ _ _ _ c.if-rest-lt-SIZE.false c.rest_at-behind.ensures c.declared_by-declared.ensures c.if-declared-behind.false
+    c.extent-size.ensures c.split_at.ensures.front
 
 pub returns-in-Ok-clause-item : goal.returns-in-Ok-clause-item
 returns-in-Ok-clause-item c =
