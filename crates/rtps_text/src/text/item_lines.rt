@@ -8,8 +8,8 @@ ghost use Rattle.rtps_wire.specs.Values.{data_value, item_value};
 ghost use Rattle.rtps_text.specs.ShowText.{ack_nack_line, data_line, gap_line, heartbeat_line, info_dst_line, info_src_line, info_ts_line, item_line, bitmap_text, order_text, qos_octets as qos_octets_lem, skipped_line, version_text};
 
 use crate::text::parts::{
-    order_name, push_bitmap, push_digits, push_field, push_flag, push_payload, push_state, push_time,
-    push_version,
+    order_name, push_bitmap, push_digits, push_field, push_flag, push_payload, push_state,
+    push_time, push_version,
 };
 use rtps_ids::{EntityId, GuidPrefix, NumberSet, Order, Stamp, Vendor, Version};
 use rtps_params::ParamList;
@@ -18,11 +18,7 @@ use rtps_wire::{AckNackBody, Body, DataBody, GapBody, HeartbeatBody, Item};
 use std::alloc::AllocError;
 
 /// Appends the line of a submessage, at whose place the receiver is in this state.
-pub(crate) fn push_item(
-    text: &mut String,
-    state: &State,
-    item: &Item<'_>,
-) -> Result<(), AllocError>
+pub(crate) fn push_item(text: &mut String, state: &State, item: &Item<'_>) -> Result<(), AllocError>
     ensures { OnOk result (string_bytes text.new ≡ string_bytes text.old ++ item_line state.now (item_value item.now)) }
 {
     let Item { at, order, body } = item;
@@ -64,7 +60,7 @@ fn push_act(
 ) -> Result<(), AllocError>
     ensures { OnOk result (string_bytes text.new
         ≡ string_bytes text.old ++ (name.now ++ (decimal at ++ (codes " " ++ (order_text order
-            ++ (codes " reader " ++ (encode_lower reader.0 ++ (codes " writer " ++ encode_lower writer.0)))))))) }
+        ++ (codes " reader " ++ (encode_lower reader.0 ++ (codes " writer " ++ encode_lower writer.0)))))))) }
 {
     push_head(text, name, at, order)?;
     text.push_str(" reader ")?;
@@ -109,7 +105,14 @@ fn push_heartbeat(
 ) -> Result<(), AllocError>
     ensures { OnOk result (string_bytes text.new ≡ string_bytes text.old ++ heartbeat_line state.now at order heartbeat.now) }
 {
-    push_act(text, "heartbeat ", at, order, heartbeat.reader, heartbeat.writer)?;
+    push_act(
+        text,
+        "heartbeat ",
+        at,
+        order,
+        heartbeat.reader,
+        heartbeat.writer,
+    )?;
     push_numbers(text, heartbeat)?;
     push_flag(text, " final ", heartbeat.is_final)?;
     push_flag(text, " live ", heartbeat.live)?;
@@ -120,7 +123,7 @@ fn push_heartbeat(
 fn push_numbers(text: &mut String, heartbeat: &HeartbeatBody) -> Result<(), AllocError>
     ensures { OnOk result (string_bytes text.new
         ≡ string_bytes text.old ++ (codes " first " ++ (decimal heartbeat.now.first
-            ++ (codes " last " ++ (signed_decimal heartbeat.now.last ++ (codes " count " ++ decimal heartbeat.now.count)))))) }
+        ++ (codes " last " ++ (signed_decimal heartbeat.now.last ++ (codes " count " ++ decimal heartbeat.now.count)))))) }
 {
     push_field(text, " first ", heartbeat.first.get())?;
     push_field(text, " last ", heartbeat.last)?;
@@ -136,7 +139,14 @@ fn push_ack_nack(
 ) -> Result<(), AllocError>
     ensures { OnOk result (string_bytes text.new ≡ string_bytes text.old ++ ack_nack_line state.now at order ack_nack.now) }
 {
-    push_act(text, "acknack ", at, order, ack_nack.reader, ack_nack.writer)?;
+    push_act(
+        text,
+        "acknack ",
+        at,
+        order,
+        ack_nack.reader,
+        ack_nack.writer,
+    )?;
     push_set(text, &ack_nack.set)?;
     push_field(text, " count ", ack_nack.count)?;
     push_flag(text, " final ", ack_nack.is_final)?;
