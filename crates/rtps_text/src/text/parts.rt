@@ -1,6 +1,6 @@
 //! Appends the parts of a line to a growing text. Nothing is formatted on the way: a part is copied once.
 
-ghost use Rattle.std.specs.Prelude.{◌≡◌, ◌++◌, ◌≤◌, codes, length, IsAscii, OnOk};
+ghost use Rattle.std.specs.Prelude.{◌≡◌, ◌++◌, ◌*◌, ◌≤◌, codes, length, take, IsAscii, OnOk};
 ghost use Rattle.std.specs.String.{string_bytes};
 ghost use Rattle.hex.specs.Hex.{encode_lower};
 ghost use Rattle.rtps_wire.specs.Values.{payload_value};
@@ -34,16 +34,25 @@ pub(crate) fn push_field<N: Integer>(
     push_number(text, number)
 }
 
-/// Appends octets as lower-case hexadecimal digits, two each. There are 12 octets at most.
+/// Appends octets as lower-case hexadecimal digits, two each. There are 16 octets at most.
 #[inline(always)]
 pub(crate) fn push_digits(text: &mut String, octets: &[u8]) -> Result<(), AllocError>
-    requires { length octets.now ≤ 12 }
+    requires { length octets.now ≤ 16 }
     ensures { OnOk result (string_bytes text.new ≡ string_bytes text.old ++ encode_lower octets.now) }
 {
-    let mut room = [0; 24];
-    let digits = &mut room[..2 * octets.len()];
-    let _ = hex::encode_to_slice(octets, digits);
-    text.push_str(text_of(digits))
+    let digits = digits_from(octets);
+    text.push_str(text_of(&digits[..2 * octets.len()]))
+}
+
+// The digits of octets, and behind them others, since a vector is filled.
+#[inline(always)]
+fn digits_from(octets: &[u8]) -> [u8; 32]
+    requires { length octets.now ≤ 16 }
+    ensures { take (2 * length octets.now) result ≡ encode_lower octets.now }
+{
+    let mut filled = [0; 16];
+    filled[..octets.len()].copy_from_slice(octets);
+    rtps_digits::encode(filled)
 }
 
 // Digits as a text.
