@@ -1,10 +1,10 @@
-//! Octets of hexadecimal digits, 32 digits at a time. What a digit is, and what digits stand for, is what `hex` says.
+//! Octets of hexadecimal digits and digits of octets, 32 digits at a time. What a digit is, and what digits stand for, is what `hex` says.
 #![tactic(auto)]
 
-ghost use Rattle.std.specs.Prelude.{◌≡◌, ◌-◌, ◌*◌, ◌/◌, ◌≤◌, ◌&&◌, ◌++◌, length, map, take, drop, is_ok, IsTrue};
+ghost use Rattle.std.specs.Prelude.{bit_and, ◌≡◌, ◌-◌, ◌*◌, ◌/◌, ◌%◌, ◌≤◌, ◌&&◌, ◌++◌, length, map, take, drop, is_ok, IsTrue};
 ghost use Rattle.std.specs.List.{list_all};
-ghost use Rattle.hex.specs.Hex.{decode_of, is_hex_digit};
-ghost use Rattle.rtps_digits.specs.Pairs.{is_low, join, lane_value, octets_of, pairs_of, pairs_with};
+ghost use Rattle.hex.specs.Hex.{decode_of, encode_lower, is_hex_digit};
+ghost use Rattle.rtps_digits.specs.Pairs.{half_digit, is_low, join, lane_value, octets_of, pairs_of, pairs_with};
 
 use std::simd::prelude::*;
 
@@ -104,6 +104,54 @@ pub fn decode(octets: &mut [u8], digits: &[u8]) -> bool
     }
 }
 
+// The digits of the low halves of octets, in lower case.
+#[inline(always)]
+fn low_digits(halves: u8x16) -> u8x16
+    ensures { result ≡ map half_digit halves }
+{
+    halves.simd_lt(u8x16::splat(10)).select(
+        halves + u8x16::splat(b'0'),
+        halves + u8x16::splat(b'a' - 10),
+    )
+}
+
+// The first digit of each octet.
+#[inline(always)]
+fn first_digits(octets: u8x16) -> u8x16
+    ensures { result ≡ map (λ octet. half_digit (octet / 16)) octets }
+{
+    low_digits(octets >> u8x16::splat(4))
+}
+
+// The second digit of each octet.
+#[inline(always)]
+fn second_digits(octets: u8x16) -> u8x16
+    ensures { result ≡ map (λ octet. half_digit (bit_and octet 15)) octets }
+{
+    low_digits(octets & u8x16::splat(15))
+}
+
+// The digits of octets, two each: those of the first eight, and those of the others.
+#[inline(always)]
+fn digits_of(octets: u8x16) -> (u8x16, u8x16)
+    ensures digits { result.0 ++ result.1 ≡ encode_lower octets }
+    ensures size { (length result.0 ≡ 16) × (length result.1 ≡ 16) }
+{
+    first_digits(octets).interleave(second_digits(octets))
+}
+
+/// The digits of 16 octets in lower case, two each.
+#[inline(always)]
+pub fn encode(octets: [u8; 16]) -> [u8; 32]
+    ensures { result ≡ encode_lower octets }
+{
+    let (front, back) = digits_of(u8x16::from_array(octets));
+    let mut digits = [0; 32];
+    front.copy_to_slice(&mut digits);
+    back.copy_to_slice(&mut digits[16..]);
+    digits
+}
+
 #[cfg(test)]
 mod tests {
     use super::*;
@@ -133,6 +181,16 @@ mod tests {
                 }
             }
         }
+        Ok(())
+    }
+
+    #[test]
+    fn octets_are_written_as_digits(rt: HostRuntime) -> Result<(), Fail> {
+        let octets = [
+            0x00, 0x19, 0x2a, 0x3b, 0x4c, 0x5d, 0x6e, 0x7f, 0x80, 0x91, 0xa2, 0xb3, 0xc4, 0xd5,
+            0xe6, 0xff,
+        ];
+        assert_eq!(rt; &encode(octets), b"00192a3b4c5d6e7f8091a2b3c4d5e6ff");
         Ok(())
     }
 }

@@ -1,3 +1,4 @@
 pub mod ListLemmas
 pub mod PiecesLemmas
 pub mod ShowLemmas
+pub mod DigitLemmas

@@ -3,8 +3,8 @@
 pub(crate) mod audit;
 mod audit_lines;
 mod digits;
-mod fields;
 mod item_lines;
 pub(crate) mod list;
 mod list_lines;
+mod parts;
 pub(crate) mod show;

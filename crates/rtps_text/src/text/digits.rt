@@ -1,10 +1,7 @@
-ghost use Rattle.std.specs.Prelude.{◌≡◌, ◌==◌, ◌*◌, ◌∷◌, [], length, Some};
+ghost use Rattle.std.specs.Prelude.{◌≡◌, ◌*◌, ◌∷◌, [], length, Some};
 ghost use Rattle.std.specs.Fmt.{WritesOnOk};
-ghost use Rattle.std.specs.Int.{to_be_bytes, w32};
 ghost use Rattle.hex.specs.Hex.{encode_lower};
-ghost use Rattle.rtps_text.specs.ShowText.{bitmap_text};
 
-use rtps_ids::NumberSet;
 use std::fmt;
 
 /// An octet as two lower-case hexadecimal digits.
@@ -17,38 +14,6 @@ impl fmt::Display for OctetDigits {
     fn fmt<W: fmt::Write>(&self, f: &mut fmt::Formatter<W>) -> fmt::Result {
         let mut digits = [0; 2];
         write_digits(&[self.0], &mut digits, f)
-    }
-}
-
-/// A long of a bitmap as eight lower-case hexadecimal digits, the highest first.
-#[derive(Drop)]
-struct LongDigits(u32);
-
-impl fmt::Display for LongDigits {
-    ghost output = { λ long. Some (encode_lower (to_be_bytes w32 long.0)) };
-
-    fn fmt<W: fmt::Write>(&self, f: &mut fmt::Formatter<W>) -> fmt::Result {
-        let mut digits = [0; 8];
-        write_digits(&self.0.to_be_bytes(), &mut digits, f)
-    }
-}
-
-/// The longs that hold the bits of a set, or a dash where it has none.
-#[derive(Drop)]
-pub(crate) struct SetBitmap<'a>(pub(crate) &'a NumberSet);
-
-impl fmt::Display for SetBitmap<'_> {
-    ghost output = { λ set. Some (bitmap_text set.0.now) };
-
-    fn fmt<W: fmt::Write>(&self, f: &mut fmt::Formatter<W>) -> fmt::Result {
-        let set = self.0;
-        if set.count() == 0 {
-            return write!(f, "-");
-        }
-        for i in 0..set.count().div_ceil(32) as usize {
-            write!(f, "{}", LongDigits(set.word(i)))?;
-        }
-        Ok(())
     }
 }
 

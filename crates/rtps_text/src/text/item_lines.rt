@@ -1,73 +1,88 @@
-ghost use Rattle.std.specs.Prelude.{◌≡◌, Some};
-ghost use Rattle.std.specs.Fmt.{WritesOnOk};
+ghost use Rattle.std.specs.Prelude.{◌≡◌, ◌++◌, OnOk, codes};
+ghost use Rattle.std.specs.Fmt.{decimal, signed_decimal};
 ghost use Rattle.std.specs.Option.{option_map};
+ghost use Rattle.std.specs.String.{string_bytes};
+ghost use Rattle.hex.specs.Hex.{encode_lower};
 ghost use Rattle.rtps_params.specs.Shown.{list_value};
 ghost use Rattle.rtps_wire.specs.Values.{data_value, item_value};
-ghost use Rattle.rtps_text.specs.ShowText.{ack_nack_line, data_line, gap_line, heartbeat_line, item_line, qos_octets as qos_octets_lem};
+ghost use Rattle.rtps_text.specs.ShowText.{ack_nack_line, data_line, gap_line, heartbeat_line, info_dst_line, info_src_line, info_ts_line, item_line, bitmap_text, order_text, qos_octets as qos_octets_lem, skipped_line, version_text};
 
-use crate::text::digits::{OctetDigits, SetBitmap};
-use crate::text::fields::{Digit, OrderText, PayloadText, StateText, TimeText, VersionText};
-use rtps_ids::Order;
+use crate::text::parts::{
+    order_name, push_bitmap, push_digits, push_field, push_flag, push_payload, push_state,
+    push_time, push_version,
+};
+use rtps_ids::{EntityId, GuidPrefix, NumberSet, Order, Stamp, Vendor, Version};
 use rtps_params::ParamList;
 use rtps_receiver::State;
 use rtps_wire::{AckNackBody, Body, DataBody, GapBody, HeartbeatBody, Item};
-use std::fmt;
+use std::alloc::AllocError;
 
-/// The line of a submessage, at whose place the receiver is in this state.
-#[derive(Drop)]
-pub(crate) struct ItemLine<'a> {
-    pub(crate) item: &'a Item<'a>,
-    pub(crate) state: State,
-}
-
-impl fmt::Display for ItemLine<'_> {
-    ghost output = { λ line. Some (item_line line.state (item_value line.item.now)) };
-
-    fn fmt<W: fmt::Write>(&self, f: &mut fmt::Formatter<W>) -> fmt::Result {
-        let Item { at, order, body } = self.item;
-        let state = self.state;
-        let name = OrderText(*order);
-        match body {
-            Body::Data(data) => write_data(state, *at, *order, data, f),
-            Body::Heartbeat(heartbeat) => write_heartbeat(state, *at, *order, heartbeat, f),
-            Body::AckNack(ack_nack) => write_ack_nack(state, *at, *order, ack_nack, f),
-            Body::Gap(gap) => write_gap(state, *at, *order, gap, f),
-            Body::InfoTs(time) => writeln!(f, "info_ts {at} {name} time {}", TimeText(*time)),
-            Body::InfoDst(prefix) => writeln!(f, "info_dst {at} {name} prefix {prefix}"),
-            Body::InfoSrc {
-                version,
-                vendor,
-                prefix,
-            } => {
-                let version = VersionText(*version);
-                writeln!(
-                    f,
-                    "info_src {at} {name} version {version} vendor {vendor} prefix {prefix}"
-                )
-            }
-            Body::Skipped { id } => writeln!(f, "skipped {at} id {}", OctetDigits(*id)),
-        }
+/// Appends the line of a submessage, at whose place the receiver is in this state.
+pub(crate) fn push_item(text: &mut String, state: &State, item: &Item<'_>) -> Result<(), AllocError>
+    ensures { OnOk result (string_bytes text.new ≡ string_bytes text.old ++ item_line state.now (item_value item.now)) }
+{
+    let Item { at, order, body } = item;
+    match body {
+        Body::Data(data) => push_data(text, state, *at, *order, data),
+        Body::Heartbeat(heartbeat) => push_heartbeat(text, state, *at, *order, heartbeat),
+        Body::AckNack(ack_nack) => push_ack_nack(text, state, *at, *order, ack_nack),
+        Body::Gap(gap) => push_gap(text, state, *at, *order, gap),
+        Body::InfoTs(time) => push_info_ts(text, *at, *order, *time),
+        Body::InfoDst(prefix) => push_info_dst(text, *at, *order, *prefix),
+        Body::InfoSrc {
+            version,
+            vendor,
+            prefix,
+        } => push_info_src(text, *at, *order, *version, *vendor, *prefix),
+        Body::Skipped { id } => push_skipped(text, *at, *id),
     }
 }
 
-fn write_data<W: fmt::Write>(
-    state: State,
+// Appends what each line but that of a skipped submessage begins with.
+#[inline(always)]
+fn push_head(text: &mut String, name: &str, at: usize, order: Order) -> Result<(), AllocError>
+    ensures { OnOk result (string_bytes text.new
+        ≡ string_bytes text.old ++ (name.now ++ (decimal at ++ (codes " " ++ order_text order)))) }
+{
+    push_field(text, name, at)?;
+    text.push_str(" ")?;
+    text.push_str(order_name(order))
+}
+
+// Appends what the line of an act begins with, up to the entities that it names.
+fn push_act(
+    text: &mut String,
+    name: &str,
     at: usize,
     order: Order,
-    data: &DataBody,
-    f: &mut fmt::Formatter<W>,
-) -> fmt::Result
-    ensures { WritesOnOk W.write_str_gives f.old result (data_line state at order (data_value data.now)) f.new }
+    reader: EntityId,
+    writer: EntityId,
+) -> Result<(), AllocError>
+    ensures { OnOk result (string_bytes text.new
+        ≡ string_bytes text.old ++ (name.now ++ (decimal at ++ (codes " " ++ (order_text order
+        ++ (codes " reader " ++ (encode_lower reader.0 ++ (codes " writer " ++ encode_lower writer.0)))))))) }
 {
-    write!(f, "data {at} {} reader {} ", OrderText(order), data.reader)?;
-    write!(f, "writer {} number {} ", data.writer, data.number.get())?;
-    writeln!(
-        f,
-        "qos {} payload {} {}",
-        qos_octets(&data.qos),
-        PayloadText(data.payload),
-        StateText(state)
-    )
+    push_head(text, name, at, order)?;
+    text.push_str(" reader ")?;
+    push_digits(text, &reader.0)?;
+    text.push_str(" writer ")?;
+    push_digits(text, &writer.0)
+}
+
+fn push_data(
+    text: &mut String,
+    state: &State,
+    at: usize,
+    order: Order,
+    data: &DataBody<'_>,
+) -> Result<(), AllocError>
+    ensures { OnOk result (string_bytes text.new ≡ string_bytes text.old ++ data_line state.now at order (data_value data.now)) }
+{
+    push_act(text, "data ", at, order, data.reader, data.writer)?;
+    push_field(text, " number ", data.number.get())?;
+    push_field(text, " qos ", qos_octets(&data.qos))?;
+    push_payload(text, data.payload)?;
+    push_state(text, state)
 }
 
 // How many octets the inline QoS has.
@@ -81,82 +96,156 @@ fn qos_octets(qos: &Option<ParamList>) -> usize
     }
 }
 
-fn write_heartbeat<W: fmt::Write>(
-    state: State,
+fn push_heartbeat(
+    text: &mut String,
+    state: &State,
     at: usize,
     order: Order,
     heartbeat: &HeartbeatBody,
-    f: &mut fmt::Formatter<W>,
-) -> fmt::Result
-    ensures { WritesOnOk W.write_str_gives f.old result (heartbeat_line state at order heartbeat.now) f.new }
+) -> Result<(), AllocError>
+    ensures { OnOk result (string_bytes text.new ≡ string_bytes text.old ++ heartbeat_line state.now at order heartbeat.now) }
 {
-    write!(
-        f,
-        "heartbeat {at} {} reader {} ",
-        OrderText(order),
-        heartbeat.reader
-    )?;
-    write!(
-        f,
-        "writer {} first {} ",
+    push_act(
+        text,
+        "heartbeat ",
+        at,
+        order,
+        heartbeat.reader,
         heartbeat.writer,
-        heartbeat.first.get()
     )?;
-    write!(f, "last {} count {} ", heartbeat.last, heartbeat.count)?;
-    writeln!(
-        f,
-        "final {} live {} {}",
-        Digit(heartbeat.is_final),
-        Digit(heartbeat.live),
-        StateText(state)
-    )
+    push_numbers(text, heartbeat)?;
+    push_flag(text, " final ", heartbeat.is_final)?;
+    push_flag(text, " live ", heartbeat.live)?;
+    push_state(text, state)
 }
 
-fn write_ack_nack<W: fmt::Write>(
-    state: State,
+// Appends the fields of a heartbeat that are numbers.
+fn push_numbers(text: &mut String, heartbeat: &HeartbeatBody) -> Result<(), AllocError>
+    ensures { OnOk result (string_bytes text.new
+        ≡ string_bytes text.old ++ (codes " first " ++ (decimal heartbeat.now.first
+        ++ (codes " last " ++ (signed_decimal heartbeat.now.last ++ (codes " count " ++ decimal heartbeat.now.count)))))) }
+{
+    push_field(text, " first ", heartbeat.first.get())?;
+    push_field(text, " last ", heartbeat.last)?;
+    push_field(text, " count ", heartbeat.count)
+}
+
+fn push_ack_nack(
+    text: &mut String,
+    state: &State,
     at: usize,
     order: Order,
     ack_nack: &AckNackBody,
-    f: &mut fmt::Formatter<W>,
-) -> fmt::Result
-    ensures { WritesOnOk W.write_str_gives f.old result (ack_nack_line state at order ack_nack.now) f.new }
+) -> Result<(), AllocError>
+    ensures { OnOk result (string_bytes text.new ≡ string_bytes text.old ++ ack_nack_line state.now at order ack_nack.now) }
 {
-    let set = &ack_nack.set;
-    write!(
-        f,
-        "acknack {at} {} reader {} ",
-        OrderText(order),
-        ack_nack.reader
+    push_act(
+        text,
+        "acknack ",
+        at,
+        order,
+        ack_nack.reader,
+        ack_nack.writer,
     )?;
-    write!(f, "writer {} base {} ", ack_nack.writer, set.base())?;
-    write!(f, "bits {} {} ", set.count(), SetBitmap(set))?;
-    writeln!(
-        f,
-        "count {} final {} {}",
-        ack_nack.count,
-        Digit(ack_nack.is_final),
-        StateText(state)
-    )
+    push_set(text, &ack_nack.set)?;
+    push_field(text, " count ", ack_nack.count)?;
+    push_flag(text, " final ", ack_nack.is_final)?;
+    push_state(text, state)
 }
 
-fn write_gap<W: fmt::Write>(
-    state: State,
+fn push_gap(
+    text: &mut String,
+    state: &State,
     at: usize,
     order: Order,
     gap: &GapBody,
-    f: &mut fmt::Formatter<W>,
-) -> fmt::Result
-    ensures { WritesOnOk W.write_str_gives f.old result (gap_line state at order gap.now) f.new }
+) -> Result<(), AllocError>
+    ensures { OnOk result (string_bytes text.new ≡ string_bytes text.old ++ gap_line state.now at order gap.now) }
 {
-    let list = &gap.list;
-    write!(f, "gap {at} {} reader {} ", OrderText(order), gap.reader)?;
-    write!(f, "writer {} start {} ", gap.writer, gap.start.get())?;
-    writeln!(
-        f,
-        "base {} bits {} {} {}",
-        list.base(),
-        list.count(),
-        SetBitmap(list),
-        StateText(state)
-    )
+    push_act(text, "gap ", at, order, gap.reader, gap.writer)?;
+    push_field(text, " start ", gap.start.get())?;
+    push_set(text, &gap.list)?;
+    push_state(text, state)
+}
+
+// Appends the base of a set, how many bits it has, and the bits.
+#[inline(always)]
+fn push_set(text: &mut String, set: &NumberSet) -> Result<(), AllocError>
+    ensures { OnOk result (string_bytes text.new
+        ≡ string_bytes text.old ++ (codes " base " ++ (decimal set.now.base ++ (codes " bits " ++ (decimal set.now.count ++ (codes " " ++ bitmap_text set.now)))))) }
+{
+    push_field(text, " base ", set.base())?;
+    push_field(text, " bits ", set.count())?;
+    text.push_str(" ")?;
+    push_bitmap(text, set)
+}
+
+fn push_info_ts(
+    text: &mut String,
+    at: usize,
+    order: Order,
+    time: Option<Stamp>,
+) -> Result<(), AllocError>
+    ensures { OnOk result (string_bytes text.new ≡ string_bytes text.old ++ info_ts_line at order time) }
+{
+    push_head(text, "info_ts ", at, order)?;
+    text.push_str(" time ")?;
+    push_time(text, time)?;
+    text.push_str("\n")
+}
+
+fn push_info_dst(
+    text: &mut String,
+    at: usize,
+    order: Order,
+    prefix: GuidPrefix,
+) -> Result<(), AllocError>
+    ensures { OnOk result (string_bytes text.new ≡ string_bytes text.old ++ info_dst_line at order prefix) }
+{
+    push_head(text, "info_dst ", at, order)?;
+    text.push_str(" prefix ")?;
+    push_digits(text, &prefix.0)?;
+    text.push_str("\n")
+}
+
+fn push_info_src(
+    text: &mut String,
+    at: usize,
+    order: Order,
+    version: Version,
+    vendor: Vendor,
+    prefix: GuidPrefix,
+) -> Result<(), AllocError>
+    ensures { OnOk result (string_bytes text.new ≡ string_bytes text.old ++ info_src_line at order version vendor prefix) }
+{
+    push_head(text, "info_src ", at, order)?;
+    push_origin(text, version, vendor, prefix)
+}
+
+/// Appends the end of a line: by which protocol someone sends, who made it, and who it is.
+pub(crate) fn push_origin(
+    text: &mut String,
+    version: Version,
+    vendor: Vendor,
+    prefix: GuidPrefix,
+) -> Result<(), AllocError>
+    ensures { OnOk result (string_bytes text.new
+        ≡ string_bytes text.old ++ (codes " version " ++ (version_text version ++ (codes " vendor " ++ (encode_lower vendor.0 ++ (codes " prefix " ++ (encode_lower prefix.0 ++ codes "\n"))))))) }
+{
+    text.push_str(" version ")?;
+    push_version(text, version)?;
+    text.push_str(" vendor ")?;
+    push_digits(text, &vendor.0)?;
+    text.push_str(" prefix ")?;
+    push_digits(text, &prefix.0)?;
+    text.push_str("\n")
+}
+
+fn push_skipped(text: &mut String, at: usize, id: u8) -> Result<(), AllocError>
+    ensures { OnOk result (string_bytes text.new ≡ string_bytes text.old ++ skipped_line at id) }
+{
+    push_field(text, "skipped ", at)?;
+    text.push_str(" id ")?;
+    push_digits(text, &[id])?;
+    text.push_str("\n")
 }

@@ -1,12 +1,12 @@
-ghost use Rattle.std.specs.Prelude.{◌≡◌, ◌++◌, ◌+◌, IfOk, OnOk, Some};
+ghost use Rattle.std.specs.Prelude.{◌≡◌, ◌++◌, ◌+◌, IfOk, None, OnOk, Some};
 ghost use Rattle.std.specs.String.{string_bytes};
 ghost use Rattle.rtps_wire.specs.Reading.{outcomes_left, reading_of};
 ghost use Rattle.rtps_text.specs.ShowText.{IsShown, datagram_line, outcomes_text, reading_text, refusal_line, text_from};
 
 use crate::ending::Ending;
 use crate::recording::Recording;
-use crate::text::fields::VersionText;
-use crate::text::item_lines::ItemLine;
+use crate::text::item_lines::{push_item, push_origin};
+use crate::text::parts::push_field;
 use rtps_ids::Memory;
 use rtps_receiver::State;
 use rtps_wire::{Header, Items, Refusal};
@@ -40,21 +40,30 @@ fn push_datagram(text: &mut String, number: usize, octets: &[u8]) -> Result<(), 
 {
     match Items::open(octets) {
         Ok((header, items)) => {
-            let state = State::at_start(header);
-            let header = Some(header);
-            write!(text, "{}", DatagramLine { number, header })?;
-            push_items(text, state, items)
+            push_opened(text, number, &header)?;
+            push_items(text, State::at_start(header), items)
         }
         Err(refusal) => {
-            let header = None;
-            write!(
-                text,
-                "{}{}",
-                DatagramLine { number, header },
-                RefusalLine(refusal)
-            )
+            push_unread(text, number)?;
+            write!(text, "{}", RefusalLine(refusal))
         }
     }
+}
+
+// Appends the line of a datagram that has a header.
+fn push_opened(text: &mut String, number: usize, header: &Header) -> Result<(), AllocError>
+    ensures { OnOk result (string_bytes text.new ≡ string_bytes text.old ++ datagram_line number (Some header.now)) }
+{
+    push_field(text, "datagram ", number)?;
+    push_origin(text, header.version, header.vendor, header.prefix)
+}
+
+// Appends the line of a datagram that has none.
+fn push_unread(text: &mut String, number: usize) -> Result<(), AllocError>
+    ensures { OnOk result (string_bytes text.new ≡ string_bytes text.old ++ datagram_line number None) }
+{
+    push_field(text, "datagram ", number)?;
+    text.push_str(" unread\n")
 }
 
 // Appends the lines of what is left of a datagram, from a state of the receiver on.
@@ -65,38 +74,13 @@ fn push_items(text: &mut String, start: State, items: Items<'_>) -> Result<(), A
     for outcome in items {
         match outcome {
             Ok(item) => {
-                let item = &item;
-                write!(text, "{}", ItemLine { item, state })?;
-                state.interpret(item);
+                push_item(text, &state, &item)?;
+                state.interpret(&item);
             }
             Err(refusal) => write!(text, "{}", RefusalLine(refusal))?,
         }
     }
     Ok(())
-}
-
-// The line of a datagram, by its header, if it has one.
-#[derive(Drop)]
-struct DatagramLine {
-    number: usize,
-    header: Option<Header>,
-}
-
-impl fmt::Display for DatagramLine {
-    ghost output = { λ line. Some (datagram_line line.number line.header) };
-
-    fn fmt<W: fmt::Write>(&self, f: &mut fmt::Formatter<W>) -> fmt::Result {
-        let number = self.number;
-        let Some(header) = self.header else {
-            return writeln!(f, "datagram {number} unread");
-        };
-        write!(
-            f,
-            "datagram {number} version {} ",
-            VersionText(header.version)
-        )?;
-        writeln!(f, "vendor {} prefix {}", header.vendor, header.prefix)
-    }
 }
 
 // The line of a refusal.

@@ -19,7 +19,7 @@ loop-outcome-preserved c =
     let last : outcomes_left left ≡ Err c.in-Err.refusal ∷ [] = step ∙ ap (λ (more : List Outcome). Err c.in-Err.refusal ∷ more) none in (
       tt,
       tt,
-      ap (λ (more : List Outcome). string_bytes c.write-in-Err.new.self ++ outcomes_text c.loop-outcome.state more) none
+      ap (λ (more : List Outcome). string_bytes c.write.new.self ++ outcomes_text c.loop-outcome.state more) none
           ∙ append-nil _ ∙ c.in_ok-write-in-Err.ensures.bytes
           ∙ ap (λ (more : List Outcome). string_bytes c.loop-outcome.text ++ outcomes_text c.loop-outcome.state more) (sym last) ∙ c.loop-outcome.invariant.2,
     )
@@ -34,8 +34,8 @@ loop-outcome-preserved-in-Ok c =
     let step : outcomes_left c.loop-outcome.outcome-iterator ≡ Ok item ∷ later = c.in-Some.ensures.steps ∙ ap (λ o. outcome_value o ∷ later) c.in-Ok.is in (
       tt,
       tt,
-      ap (λ s. string_bytes c.write.new.self ++ outcomes_text s later) c.interpret.ensures
-          ∙ ap (λ bytes. bytes ++ outcomes_text (state_behind state (item ∷ [])) later) c.in_ok-write-in-Ok.ensures.bytes
+      ap (λ s. string_bytes c.push_item.new.text ++ outcomes_text s later) c.interpret.ensures
+          ∙ ap (λ bytes. bytes ++ outcomes_text (state_behind state (item ∷ [])) later) c.in_ok-push_item-in-Ok.ensures
           ∙ append_assoc old (item_line state item) (outcomes_text (state_behind state (item ∷ [])) later)
           ∙ ap (λ bytes. old ++ bytes) (sym (outcomes_text-item state item later))
           ∙ ap (λ (more : List Outcome). old ++ outcomes_text state more) (sym step) ∙ c.loop-outcome.invariant.2,
