@@ -8,7 +8,7 @@ use Rattle.std.specs.Str.{IsAscii}
 use Rattle.hex.proofs.HexLemmas.{IsAscii-encode_with, length-encode_with}
 use Rattle.hex.specs.Hex.{encode_lower, encode_with, lower_digits}
 
-ascii_where_low : (codes : List ℕ) → list_all (λ code. ltb code 128) codes ≡ true → IsAscii codes
+pub ascii_where_low : (codes : List ℕ) → list_all (λ code. ltb code 128) codes ≡ true → IsAscii codes
 ascii_where_low [] low = IsAscii-nil
 ascii_where_low (code ∷ codes) low =
     let parts = and_parts (ltb code 128) (list_all (λ c. ltb c 128) codes) low in
