@@ -1,5 +1,5 @@
 -- The digits that the vectors' lanes hold.
-use Rattle.std.proofs.Common.{◌≡◌, ℕ, zero, suc, ◌+◌, ◌/◌, ◌%◌, ◌^◌, ◌<◌, List, [], ◌∷◌, ◌++◌, Bool, true, false, ◌&&◌, cond, eqb, ltb, length, map, replicate, get_or, drop, slice_index, inl, inr, refl, sym, ap, subst, ◌∙◌, arith, bit_and, length-drop, length-take, drop-cons, take, w8, Fits}
+use Rattle.std.proofs.Common.{◌≡◌, ℕ, zero, suc, ◌+◌, ◌/◌, ◌%◌, ◌<◌, List, [], ◌∷◌, ◌++◌, Bool, true, false, ◌&&◌, cond, eqb, ltb, length, map, replicate, get_or, drop, slice_index, inl, inr, refl, sym, ap, subst, ◌∙◌, arith, bit_and, length-drop, length-take, drop-cons, take, w8, Fits}
 use Rattle.std.proofs.lemmas.Bool.{and_parts, cases_lt, eqb-true}
 use Rattle.std.proofs.lemmas.List.{append-nil, get_or-append-add, get_or-map, get_or_append_left, length-map, nil_from_length, take_at}
 use Rattle.std.proofs.lemmas.Nat.{and_mask}

@@ -1,5 +1,5 @@
 -- Facts on the digits of octets.
-use Rattle.std.proofs.Common.{◌≡◌, ℕ, ◌*◌, ◌/◌, ◌%◌, List, [], ◌∷◌, ◌++◌, Bool, true, ◌&&◌, ltb, length, take, refl, ap, ◌∙◌}
+use Rattle.std.proofs.Common.{◌≡◌, ℕ, ◌*◌, ◌/◌, ◌%◌, List, [], ◌∷◌, ◌++◌, true, ltb, length, take, refl, ap, ◌∙◌}
 use Rattle.std.proofs.lemmas.Bool.{and_parts, ltb-true}
 use Rattle.std.proofs.lemmas.List.{take_at}
 use Rattle.std.proofs.lemmas.Str.Ascii.{IsAscii-cons, IsAscii-nil}
@@ -8,7 +8,7 @@ use Rattle.std.specs.Str.{IsAscii}
 use Rattle.hex.proofs.HexLemmas.{IsAscii-encode_with, length-encode_with}
 use Rattle.hex.specs.Hex.{encode_lower, encode_with, lower_digits}
 
-ascii_where_low : (codes : List ℕ) → list_all (λ code. ltb code 128) codes ≡ true → IsAscii codes
+pub ascii_where_low : (codes : List ℕ) → list_all (λ code. ltb code 128) codes ≡ true → IsAscii codes
 ascii_where_low [] low = IsAscii-nil
 ascii_where_low (code ∷ codes) low =
     let parts = and_parts (ltb code 128) (list_all (λ c. ltb c 128) codes) low in

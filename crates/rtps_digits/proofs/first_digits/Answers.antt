@@ -1,4 +1,4 @@
-use Rattle.std.proofs.Common.{◌∙◌, ap, map, ℕ, ◌/◌, ◌%◌}
+use Rattle.std.proofs.Common.{◌∙◌, ap, map}
 use Rattle.std.proofs.lemmas.Simd.{map-map, zip2_splat}
 use Rattle.rtps_digits.specs.Pairs.{half_digit}
 use Rattle.rtps_digits.proofs.first_digits.Goals as goal

@@ -8,7 +8,7 @@ ghost use Rattle.rtps_wire.specs.Values.{data_value, item_value};
 ghost use Rattle.rtps_text.specs.ShowText.{ack_nack_line, data_line, gap_line, heartbeat_line, info_dst_line, info_src_line, info_ts_line, item_line, bitmap_text, order_text, qos_octets as qos_octets_lem, skipped_line, version_text};
 
 use crate::text::parts::{
-    order_name, push_bitmap, push_digits, push_field, push_flag, push_payload, push_state,
+    order_name, push_bitmap, push_digits, push_field, push_flag, push_id, push_payload, push_state,
     push_time, push_version,
 };
 use rtps_ids::{EntityId, GuidPrefix, NumberSet, Order, Stamp, Vendor, Version};
@@ -245,7 +245,5 @@ fn push_skipped(text: &mut String, at: usize, id: u8) -> Result<(), AllocError>
     ensures { OnOk result (string_bytes text.new ≡ string_bytes text.old ++ skipped_line at id) }
 {
     push_field(text, "skipped ", at)?;
-    text.push_str(" id ")?;
-    push_digits(text, &[id])?;
-    text.push_str("\n")
+    push_id(text, id)
 }

@@ -1,6 +1,6 @@
 //! Appends the parts of a line to a growing text. Nothing is formatted on the way: a part is copied once.
 
-ghost use Rattle.std.specs.Prelude.{◌≡◌, ◌++◌, ◌*◌, ◌≤◌, codes, length, take, IsAscii, OnOk};
+ghost use Rattle.std.specs.Prelude.{◌≡◌, ◌++◌, ◌∷◌, [], ◌*◌, ◌≤◌, codes, length, take, IsAscii, OnOk};
 ghost use Rattle.std.specs.String.{string_bytes};
 ghost use Rattle.hex.specs.Hex.{encode_lower};
 ghost use Rattle.rtps_wire.specs.Values.{payload_value};
@@ -11,6 +11,8 @@ use rtps_ids::{GuidPrefix, NumberSet, Order, Stamp, Version};
 use rtps_receiver::State;
 use rtps_wire::Payload;
 use std::alloc::AllocError;
+
+static DIGITS: [u8; 16] = *b"0123456789abcdef";
 
 /// Appends a number in decimal.
 #[inline(always)]
@@ -61,6 +63,33 @@ fn text_of(digits: &[u8]) -> &str
     ensures { result.now ≡ digits.now }
 {
     unsafe { str::from_utf8_unchecked(digits) }
+}
+
+/// Appends the end of a line: an id. It is one copy, since lines that end so can be very many.
+#[inline(always)]
+pub(crate) fn push_id(text: &mut String, id: u8) -> Result<(), AllocError>
+    ensures { OnOk result (string_bytes text.new
+        ≡ string_bytes text.old ++ (codes " id " ++ (encode_lower (id ∷ []) ++ codes "\n"))) }
+{
+    text.push_str(text_of(&id_field(id)))
+}
+
+#[tactic(auto, unfolding(hex::specs::Hex::encode_with))]
+#[inline(always)]
+fn id_field(id: u8) -> [u8; 7]
+    ensures { result ≡ codes " id " ++ (encode_lower (id ∷ []) ++ codes "\n") }
+{
+    let [high, low] = digit_pair(id);
+    [b' ', b'i', b'd', b' ', high, low, b'\n']
+}
+
+// The digits of one octet, for which a vector is too much.
+#[tactic(auto, unfolding(hex::specs::Hex::encode_with))]
+#[inline(always)]
+fn digit_pair(octet: u8) -> [u8; 2]
+    ensures { result ≡ encode_lower (octet ∷ []) }
+{
+    [DIGITS[(octet / 16) as usize], DIGITS[(octet % 16) as usize]]
 }
 
 /// The name of an order of octets.
