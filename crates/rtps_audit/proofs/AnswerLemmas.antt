@@ -1,16 +1,14 @@
 -- The claims of one answer more, and what the answers of a pair say of its speech.
-use Rattle.std.proofs.Common.{◌≡◌, ℕ, zero, suc, ℤ, pos, negsuc, ◌+◌, ◌-◌, ◌<◌, ◌≤◌, ◌^◌, Bool, true, false, ◌&&◌, List, [], ◌∷◌, ◌++◌, length, map, max, Option, Some, None, ◌⊎◌, inl, inr, refl, sym, ap, ◌∙◌, subst, arith}
-use Rattle.std.specs.Prelude.{Contains, MatchOption, if◌then◌else◌, int_lt, nat_lt, ◌<ℤ◌, ◌≤ℤ◌}
+use Rattle.std.proofs.Common.{◌≡◌, ℕ, ℤ, pos, negsuc, ◌-◌, ◌<◌, ◌≤◌, ◌^◌, Bool, true, false, ◌&&◌, List, [], ◌∷◌, ◌++◌, max, Option, Some, None, ◌⊎◌, inl, inr, refl, sym, subst, arith}
+use Rattle.std.specs.Prelude.{if◌then◌else◌, int_lt, ◌<ℤ◌, ◌≤ℤ◌}
 use Rattle.std.specs.List.{All}
-use Rattle.std.proofs.lemmas.Bool.{cases_lt}
 use Rattle.std.proofs.lemmas.Bool.Decides.{nat_tests}
 use Rattle.std.proofs.lemmas.Int.{ints}
-use Rattle.std.proofs.lemmas.List.Elements.{All-nil, All-push, All-weaker, Contains-append_left, Contains-push}
+use Rattle.std.proofs.lemmas.List.Elements.{All-push, All-weaker, Contains-append_left, Contains-push}
 use Rattle.rtps_ids.specs.declared.identity.Guid.{Guid}
 use Rattle.rtps_audit.specs.Answered.{IsFirstAmong, IsToldAll, IsUntoldAmong, base_among}
-use Rattle.rtps_audit.specs.Claims.{FindsUntold, is_earlier}
-use Rattle.rtps_audit.specs.Delivery.{greatest}
-use Rattle.rtps_audit.specs.Hearing.{IsFrontBy, IsToldBy}
+use Rattle.rtps_audit.specs.Claims.{is_earlier}
+use Rattle.rtps_audit.specs.Hearing.{IsFrontBy}
 use Rattle.rtps_audit.specs.Placed.{PlacedValue}
 use Rattle.rtps_audit.specs.Speech.{natural}
 use Rattle.rtps_audit.specs.declared.answers.Answer.{Answer}
@@ -61,7 +59,7 @@ untold_on writer reader placed answers answer front old new small is found known
       answer = answer;
       among = Contains-push answers answer;
       datagram = refl;
-      below = elim (sign answer.base) [ | inl same ↦ subst (λ z. front <ℤ z) (sym same) (below_base front _ is.positive lt) | inr below ↦ absurd (let low = below_base front _ is.positive lt in let positive = is.positive in let none = below.1 in omega (arith, ints)) ];
+      below = elim (sign answer.base) [ inl same ↦ subst (λ z. front <ℤ z) (sym same) (below_base front _ is.positive lt) | inr below ↦ absurd (let low = below_base front _ is.positive lt in let positive = is.positive in let none = below.1 in omega (arith, ints)) ];
       small = let lt = below_base front _ is.positive lt in omega (arith, ints);
       front = is;
       first = All-push (λ (other : Answer). other.datagram < answer.datagram → IsToldAll writer reader placed other) answers answer first (λ lt. absurd (omega arith));

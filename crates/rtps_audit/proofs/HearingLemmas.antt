@@ -1,6 +1,6 @@
 -- What a listener has heard after one act more, and what a hearing tells of it.
-use Rattle.std.proofs.Common.{◌≡◌, ◌≢◌, ℕ, zero, suc, ℤ, pos, negsuc, ◌+◌, ◌-◌, ◌<◌, ◌≤◌, ◌^◌, ltb, Bool, true, false, not, List, [], ◌∷◌, ◌++◌, length, get_or, slice_index_or, take, max, map, Option, Some, None, ◌⊎◌, inl, inr, refl, sym, ap, ◌∙◌, subst, arith}
-use Rattle.std.specs.Prelude.{Contains, IfSome, if◌then◌else◌, ◌&&◌, MatchOption, is_some, unwrap_or}
+use Rattle.std.proofs.Common.{◌≡◌, ℕ, zero, suc, ℤ, pos, negsuc, ◌+◌, ◌-◌, ◌<◌, ◌≤◌, ◌^◌, ltb, Bool, true, false, not, List, [], ◌∷◌, ◌++◌, length, get_or, slice_index_or, take, max, map, Option, Some, None, ◌⊎◌, inl, inr, refl, sym, ap, ◌∙◌, subst, arith}
+use Rattle.std.specs.Prelude.{IfSome, if◌then◌else◌, ◌&&◌, MatchOption, is_some, unwrap_or}
 use Rattle.std.specs.Bool.{beq}
 use Rattle.std.specs.List.{All, AllWithin}
 use Rattle.std.specs.List.Sorted.{IsNonDecreasingBy, IsPartitionPoint}
@@ -16,7 +16,7 @@ use Rattle.rtps_receiver.specs.Values.{act_value}
 use Rattle.rtps_audit.specs.Coverage.{IsFront, TellsMore}
 use Rattle.rtps_audit.specs.Delivery.{Word}
 use Rattle.rtps_audit.specs.Delivery.Word.{Told}
-use Rattle.rtps_audit.specs.Hearing.{HearsTwo, IsCut, IsFrontBy, IsHeard, IsListening, IsTimeline, IsToldBy, Hears, Marks, front_after, last_among}
+use Rattle.rtps_audit.specs.Hearing.{HearsTwo, IsCut, IsFrontBy, IsHeard, IsListening, IsTimeline, IsToldBy, Hears, Marks, front_after}
 use Rattle.rtps_audit.specs.KeptPayloads.{IsKept, KeepsMore, KeepsTwo}
 use Rattle.rtps_audit.specs.Placed.{PlacedValue, placed_value}
 use Rattle.rtps_audit.specs.RunVerdict.{IsLeast}

@@ -1,7 +1,7 @@
 -- What the acts of an index say of a pair's speech: its words, its claims and its numbers.
 use Rattle.std.proofs.Common.{◌≡◌, ◌≢◌, ℕ, zero, suc, ℤ, pos, negsuc, ◌+◌, ◌-◌, ◌<◌, ◌≤◌, ◌^◌, Bool, true, false, ◌&&◌, List, [], ◌∷◌, map, max, filter, Option, Some, None, slice_get, ◌⊎◌, inl, inr, refl, sym, ap, ◌∙◌, subst, arith}
 use Rattle.std.specs.Prelude.{Contains, MatchOption, if◌then◌else◌, ◌<ℤ◌}
-use Rattle.std.specs.List.{All, filter_map}
+use Rattle.std.specs.List.{filter_map}
 use Rattle.std.proofs.lemmas.Bool.{cases_lt}
 use Rattle.std.proofs.lemmas.Int.{ints}
 use Rattle.std.proofs.lemmas.List.Elements.{All-contains}
@@ -10,17 +10,16 @@ use Rattle.rtps_ids.specs.declared.identity.GuidPrefix.{GuidPrefix}
 use Rattle.rtps_wire.specs.Reading.{reading_of}
 use Rattle.rtps_receiver.specs.Acts.{acts_of}
 use Rattle.rtps_receiver.specs.Speech.{entity_from, is_entity, is_prefix, is_spoken_by, names, writer_named}
-use Rattle.rtps_receiver.specs.Values.{ActBodyValue, ActValue}
+use Rattle.rtps_receiver.specs.Values.{ActBodyValue}
 use Rattle.rtps_receiver.specs.Values.ActBodyValue.{Data, Heartbeat, AckNack, Gap}
 use Rattle.rtps_discovery.specs.declared.matching.Pair.{Pair}
-use Rattle.rtps_wire.specs.Values.{PayloadValue}
-use Rattle.rtps_audit.specs.Answered.{IsFirstAmong, IsToldAll, IsUntoldAmong, base_among}
+use Rattle.rtps_audit.specs.Answered.{IsToldAll, IsUntoldAmong, base_among}
 use Rattle.rtps_audit.specs.Delivery.{Claims, Datagram, Gives, Speech, Word, greatest, last_announced}
 use Rattle.rtps_audit.specs.Delivery.Word.{Told}
 use Rattle.rtps_audit.specs.Hearing.{HearsTwo, IsHeard, IsToldBy, last_among}
 use Rattle.rtps_audit.specs.Judge.{IsFirstUntold, greatest_base}
 use Rattle.rtps_audit.specs.Placed.{PlacedValue, answer_at, answer_of, answers_among, is_from, placed_in}
-use Rattle.rtps_audit.specs.PlainVerdict.{IsSpoken, SpeaksTwo}
+use Rattle.rtps_audit.specs.PlainVerdict.{SpeaksTwo}
 use Rattle.rtps_audit.specs.RunVerdict.{ClaimsUntold, IsLeast, IsTold}
 use Rattle.rtps_audit.specs.Speech.{announced_for, announced_of_body, base_for, natural, said_by, speech_of, word_for, word_of}
 use Rattle.rtps_audit.specs.declared.answers.Answer.{Answer}
@@ -158,8 +157,7 @@ answer_stands pair recording answer among =
     let from = made_from (answer_of pair) (placed_in recording) answer among in
     let is = answered pair from.0 answer from.2 in
     let stands = stands_where 0 recording from.0 from.1 in
-    let acts = acts_of (reading_of stands.octets) in
-    (
+    let acts = acts_of (reading_of stands.octets) in (
       stands.place,
       stands.octets,
       is.0,
@@ -228,13 +226,12 @@ first_from pair recording (Some untold) first = by_sign untold.number refl
         let untold_here : ClaimsUntold 1 (speech_of pair.writer pair.reader recording) j f = (
           claim,
           λ told. first.front.outside f (sym e) (omega (arith, ints, e)) (subst (λ i. IsToldBy pair.writer pair.reader placed i f) (sym here) (told_to pair.writer pair.reader recording j f told)),
-        ) in
-        (
+        ) in (
           j,
           first.datagram ∙ at,
           record { holds = (f, untold_here); least = λ m claims. least_place j m (first.datagram ∙ at) claims },
           subst (λ z. Rattle.rtps_audit.specs.RunVerdict.OnNatural z (IsLeast (ClaimsUntold 1 (speech_of pair.writer pair.reader recording) j))) (sym e)
-          (record { holds = untold_here; least = λ m claims. least_number j f e here small m claims }),
+              (record { holds = untold_here; least = λ m claims. least_number j f e here small m claims }),
         )
       where
         least_place : (j m : ℕ) → untold.datagram ≡ j + 1 → ((n : ℕ) × ClaimsUntold 1 (speech_of pair.writer pair.reader recording) m n) → j ≤ m

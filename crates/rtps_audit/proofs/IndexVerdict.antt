@@ -1,5 +1,5 @@
 -- The verdict by what is heard and by the answers is that on the speech.
-use Rattle.std.proofs.Common.{◌≡◌, ◌≤◌, ◌∙◌, ℕ, All, List, filter, subst, sym, ap}
+use Rattle.std.proofs.Common.{◌≡◌, ◌≤◌, ◌∙◌, ℕ, All, List, filter, subst, sym}
 use Rattle.rtps_discovery.specs.declared.matching.Pair.{Pair}
 use Rattle.rtps_audit.specs.Answered.{IsAnsweredBy}
 use Rattle.rtps_audit.specs.Hearing.{Hears}

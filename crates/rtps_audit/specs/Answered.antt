@@ -1,6 +1,6 @@
 -- The verdict by what a reader hears and by its answers. own: of an answer, what counts is whether each number that it
 -- claims was told before it.
-use Rattle.std.specs.Prelude.{ℕ, ℤ, pos, ◌≡◌, ◌≤◌, ◌<◌, ◌-◌, ◌^◌, ◌<ℤ◌, List, map, Option, Contains, MatchOption}
+use Rattle.std.specs.Prelude.{ℕ, pos, ◌≡◌, ◌≤◌, ◌<◌, ◌-◌, ◌^◌, ◌<ℤ◌, List, map, Option, Contains, MatchOption}
 use Rattle.std.specs.List.{All}
 use Rattle.rtps_ids.specs.declared.identity.Guid.{Guid}
 use Rattle.rtps_audit.specs.Claims.{verdict_by}

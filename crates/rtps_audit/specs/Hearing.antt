@@ -1,6 +1,6 @@
 -- What a reader can have been told of a writer's numbers by the time that a datagram is sent. own: it is worked out once
 -- for all readers that hear the same.
-use Rattle.std.specs.Prelude.{ℕ, zero, suc, ℤ, pos, ◌≡◌, ◌≢◌, ◌≤◌, ◌<◌, ◌-◌, ◌^◌, ◌↔◌, ◌<ℤ◌, ◌≤ℤ◌, ◌⊎◌, ◌++◌, ◌∷◌, [], List, length, Option, Some, Contains, MatchOption, slice_index_or, Bool, true}
+use Rattle.std.specs.Prelude.{ℕ, zero, suc, ℤ, pos, ◌≡◌, ◌≢◌, ◌≤◌, ◌<◌, ◌-◌, ◌^◌, ◌↔◌, ◌<ℤ◌, ◌≤ℤ◌, ◌⊎◌, ◌++◌, ◌∷◌, [], List, length, Some, Contains, MatchOption, slice_index_or, Bool, true}
 use Rattle.std.specs.List.{All, AllWithin, filter_map}
 use Rattle.std.specs.List.Sorted.{IsNonDecreasingBy}
 use Rattle.rtps_ids.specs.declared.identity.Guid.{Guid}

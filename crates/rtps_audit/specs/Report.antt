@@ -1,12 +1,11 @@
 -- What a report says of a recording: one row for each reliable pair, and what was counted. own: the
 -- counts tell what the verdicts do not speak of.
-use Rattle.std.specs.Prelude.{ℕ, Bool, true, false, ◌≡◌, ◌&&◌, List, length, map, All, count_by, sum_by}
+use Rattle.std.specs.Prelude.{ℕ, Bool, ◌≡◌, ◌&&◌, List, length, map, All, count_by, sum_by}
 use Rattle.rtps_wire.specs.Reading.{reading_of}
 use Rattle.rtps_wire.specs.Tally.{tally_of}
 use Rattle.rtps_receiver.specs.Acts.{acts_in, acts_of}
-use Rattle.rtps_receiver.specs.Speech.{is_for_all}
-use Rattle.rtps_receiver.specs.Values.{ActBodyValue, ActValue}
-use Rattle.rtps_receiver.specs.Values.ActBodyValue.{Data, Heartbeat, AckNack, Gap}
+use Rattle.rtps_receiver.specs.Speech.{is_ack_nack, is_for_all}
+use Rattle.rtps_receiver.specs.Values.{ActValue}
 use Rattle.rtps_discovery.specs.Directory.{DirectoryValue, IsMapOf, settled_in, unsettled_in}
 use Rattle.rtps_discovery.specs.Matching.{matches_among, reliable_pairs}
 use Rattle.rtps_audit.specs.RunVerdict.{IsVerdict}
@@ -14,12 +13,6 @@ use Rattle.rtps_audit.specs.Speech.{speech_of}
 use Rattle.rtps_audit.specs.declared.report.Counts.{Counts}
 use Rattle.rtps_audit.specs.declared.report.Report.{Report}
 use Rattle.rtps_audit.specs.declared.report.Row.{Row}
-
-abbrev pub is_ack_nack : ActBodyValue → Bool
-is_ack_nack (AckNack value) = true
-is_ack_nack (Data value) = false
-is_ack_nack (Heartbeat value) = false
-is_ack_nack (Gap value) = false
 
 -- an ACKNACK for everyone, of any reader and to any writer. It answers nobody (DDSI-RTPS 2.5, 8.3.4 "The RTPS Message
 -- Receiver"; own: it claims nothing, so it is counted)

@@ -36,7 +36,7 @@ pub(crate) fn answer_in(act: &Act<'_>) -> Option<(Pair, i64)>
     ensures { MatchOption result
         ((pair : PairValue) → base_for pair.writer pair.reader (act_value act.now) ≡ None)
         (λ answer. (pair : PairValue) → option_map pos (base_for pair.writer pair.reader (act_value act.now))
-            ≡ cond (is_eq (pair_cmp pair answer.0)) (Some answer.1) None) }
+        ≡ cond (is_eq (pair_cmp pair answer.0)) (Some answer.1) None) }
 {
     let ActBody::AckNack(ack_nack) = &act.body else {
         return None;

@@ -59,11 +59,7 @@ impl Hearing {
     }
 
     /// What the pair's reader hears from its writer by these acts, which are from the writer and in the order of sending.
-    pub(crate) fn of(
-        alloc: Global,
-        acts: &[Placed<'_>],
-        pair: Pair,
-    ) -> Result<Hearing, Memory>
+    pub(crate) fn of(alloc: Global, acts: &[Placed<'_>], pair: Pair) -> Result<Hearing, Memory>
         ensures { IfOk result (λ hearing. IsNonDecreasingBy (λ placed. placed.datagram) acts.now
             → Hears hearing pair.writer pair.reader (map placed_value acts.now)) }
     {

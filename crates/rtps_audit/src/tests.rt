@@ -409,7 +409,9 @@ fn acts_stand_with_their_origin(rt: HostRuntime) -> Result<(), Fail> {
     let index = Index::build(alloc, &slices)?;
     let of_writer = index.acts_of(pair().writer);
     assert_eq!(rt; of_writer.len(), 3);
-    assert!(rt; of_writer[0].datagram == 1 && of_writer[1].datagram == 1 && of_writer[2].datagram == 3);
+    assert!(rt;
+        of_writer[0].datagram == 1 && of_writer[1].datagram == 1 && of_writer[2].datagram == 3
+    );
     assert!(rt; of_writer[0].act.at < of_writer[1].act.at);
     let of_reader = index.acts_of(pair().reader);
     assert_eq!(rt; of_reader.len(), 1);

@@ -4,7 +4,6 @@ use Rattle.std.proofs.lemmas.List.{take_all, take_more}
 use Rattle.rtps_audit.specs.Answered.{IsUntoldAmong, base_among}
 use Rattle.rtps_audit.specs.Claims.{verdict_by}
 use Rattle.rtps_audit.specs.Speech.{natural}
-use Rattle.rtps_audit.specs.declared.answers.Answer.{Answer}
 use Rattle.rtps_audit.proofs.AnswerLemmas.{base_on, untold_on}
 use Rattle.rtps_audit.proofs.hearing.Hearing.verdict.Goals as goal
 

@@ -1,6 +1,6 @@
-use Rattle.std.proofs.Common.{◌∙◌, ap, subst, sym}
+use Rattle.std.proofs.Common.{subst}
 use Rattle.rtps_audit.specs.Hearing.{Hears}
-use Rattle.rtps_audit.specs.Placed.{is_from, placed_in}
+use Rattle.rtps_audit.specs.Placed.{is_from}
 use Rattle.rtps_audit.proofs.IndexVerdict.{verdict_by_index}
 use Rattle.rtps_audit.proofs.PlacedActs.{kept_in_order}
 use Rattle.rtps_audit.proofs.index.Index.judged.Goals as goal
