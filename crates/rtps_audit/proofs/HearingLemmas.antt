@@ -13,7 +13,7 @@ use Rattle.rtps_ids.specs.declared.identity.Guid.{Guid}
 use Rattle.rtps_wire.specs.Values.{PayloadValue}
 use Rattle.rtps_receiver.specs.Speech.{is_heard_by, is_spoken_by}
 use Rattle.rtps_receiver.specs.Values.{act_value}
-use Rattle.rtps_audit.specs.Coverage.{IsFront, TellsMore}
+use Rattle.rtps_coverage.specs.Coverage.{IsFront, TellsMore}
 use Rattle.rtps_audit.specs.Delivery.{Word}
 use Rattle.rtps_audit.specs.Delivery.Word.{Told}
 use Rattle.rtps_audit.specs.Hearing.{HearsTwo, IsCut, IsFrontBy, IsHeard, IsListening, IsTimeline, IsToldBy, Hears, Marks, front_after}
@@ -210,7 +210,7 @@ listening_on covered old new writer reader placed p datagram le tells keeps is_f
               let same : n ≡ f = omega (arith, ints, at, e) in
               let positive : 1 ≤ n = (let low = is_front.positive in omega (arith, ints, at)) in
               let inside = from n positive small (told_late d n late told) in
-              let out = subst (λ z. Rattle.rtps_audit.specs.Coverage.has (covered new.words.told) z ≡ false) e is_front.outside in
+              let out = subst (λ z. Rattle.rtps_coverage.specs.Coverage.has (covered new.words.told) z ≡ false) e is_front.outside in
               let clash : true ≡ false = sym (ap (covered new.words.told) (sym same) ∙ inside) ∙ out in
               cc;
           below = λ n positive small lt. let told = to n positive small (is_front.below n positive lt) in let until = told.1.1 in (told.0, (told.1.0, omega arith));

@@ -8,7 +8,7 @@ use Rattle.std.proofs.lemmas.Bool.{cases_lt}
 use Rattle.rtps_wire.specs.Values.{PayloadValue}
 use Rattle.rtps_receiver.specs.Values.{ActValue}
 use Rattle.rtps_ids.specs.declared.identity.Guid.{Guid}
-use Rattle.rtps_audit.specs.Coverage.{IsFront, TellsMore}
+use Rattle.rtps_coverage.specs.Coverage.{IsFront, TellsMore}
 use Rattle.rtps_audit.specs.Delivery.{Word, Datagram, Speech, IsAsked, greatest, last_announced}
 use Rattle.rtps_audit.specs.Delivery.Word.{Told}
 use Rattle.rtps_audit.specs.OneDatagram.{Says, IsSaid, Tells, ClaimsIn}

@@ -1,7 +1,3 @@
-pub mod SpanLemmas
-pub mod KeptLemmas
-pub mod NowLemmas
-pub mod CoverageLemmas
 pub mod PayloadLemmas
 pub mod Greatest
 pub mod ActPlaces

@@ -4,7 +4,7 @@ use Rattle.std.specs.Prelude.{Contains, is_some}
 use Rattle.std.proofs.lemmas.Bool.Decides.{nat_tests}
 use Rattle.std.proofs.lemmas.List.Elements.{Contains-append_left, Contains-append_right, Contains-append_cases}
 use Rattle.rtps_wire.specs.Values.{PayloadValue, payload_value}
-use Rattle.rtps_audit.specs.Coverage.{TellsMore}
+use Rattle.rtps_coverage.specs.Coverage.{TellsMore}
 use Rattle.rtps_audit.specs.Delivery.{Word}
 use Rattle.rtps_audit.specs.Delivery.Word.{Told as told}
 use Rattle.rtps_audit.specs.KeptPayloads.{IsKept, KeepsMore}

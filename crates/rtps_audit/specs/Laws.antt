@@ -1,15 +1,10 @@
 -- Laws over definitions alone. Those on deliveries hold whatever the number is from which on numbers are asked for.
 -- own: what a reader of the definitions would ask of them.
 use Rattle.std.specs.Prelude.{ℕ, ◌<◌, ◌≤◌, ◌≡◌, ◌↔◌, pos, List, [], ◌∷◌, length, All, Contains}
-use Rattle.std.specs.List.{list_any}
 use Rattle.rtps_audit.specs.Delivery.{Word, Speech, DeliveryState, IsAsked, Gives, Claims, Holds, IsReached, HasRun, last_announced_from}
 use Rattle.rtps_audit.specs.RunVerdict.{IsVerdictFrom}
 use Rattle.rtps_audit.specs.PlainVerdict.{IsFounded, SpeaksTwo, IsClaimed, IsPlainVerdictFrom}
 use Rattle.rtps_audit.specs.FullRun.{IsBoundedBy, IsFullRunAllowed}
-use Rattle.rtps_audit.specs.Spans.{has_number}
-use Rattle.rtps_audit.specs.MergedRanges.{covered_of, count_of, ranges_of}
-use Rattle.rtps_audit.specs.declared.merged_ranges.MergedRanges.{MergedRanges}
-use Rattle.rtps_audit.specs.declared.span.Span.{Span}
 use Rattle.rtps_audit.specs.declared.verdict.Verdict.{Verdict}
 use Rattle.rtps_audit.specs.declared.verdict.Verdict.TheVariants.{Complete}
 
@@ -60,20 +55,6 @@ pub record SaysTheSame (from : ℕ) (one other : Speech) : Type 0 where
   pub words : (i n : ℕ) (word : Word) → ((k : ℕ) × Gives from one i k n word) ↔ ((k : ℕ) × Gives from other i k n word)
   pub claims : (j n : ℕ) → Claims from one j n ↔ Claims from other j n
   pub announced : last_announced_from from one ≡ last_announced_from from other
-
--- none of the ranges is empty, and each later one begins past the end of it
-abbrev pub AreApart : List Span → Type 0
-AreApart [] = Unit {0}
-AreApart (span ∷ later) = (span.lo < span.hi) × All (λ other. span.hi < other.lo) later × AreApart later
-
--- the ranges of a set, as they are now: no two overlap or touch, the set has their numbers and no others, and they are counted
-pub record HasRangesApart (set : MergedRanges) : Type 0 where
-  pub apart : AreApart (ranges_of set)
-  pub numbers : (n : ℕ) → covered_of set n ≡ list_any (has_number n) (ranges_of set)
-  pub count : count_of set ≡ length (ranges_of set)
-
-abbrev pub RangesLieApart : Type 0
-RangesLieApart = (set : MergedRanges) → HasRangesApart set
 
 -- the verdict does not depend on how words are shared out among acts
 abbrev pub VerdictsFollowWhatIsSaid : Type 0

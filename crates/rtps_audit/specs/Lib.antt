@@ -1,8 +1,3 @@
-pub mod Coverage
-pub mod Spans
-pub mod PlainRanges
-pub mod KeptSpans
-pub mod MergedRanges
 pub mod Delivery
 pub mod RunVerdict
 pub mod PlainVerdict

@@ -5,7 +5,7 @@ ghost use Rattle.rtps_ids.specs.declared.identity.Guid.{Guid as GuidValue};
 use crate::answers::Answer;
 use crate::claims::Claims;
 use crate::listener::Listener;
-use crate::merged_ranges::MergedRanges;
+use rtps_coverage::MergedRanges;
 use crate::placed::Placed;
 use crate::verdict::Verdict;
 use rtps_discovery::Pair;

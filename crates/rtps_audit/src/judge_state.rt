@@ -1,13 +1,13 @@
 ghost use Rattle.std.specs.Prelude.{◌≡◌, ◌+◌, ◌<◌, ◌≤◌, ◌^◌, ◌∷◌, ◌++◌, [], is_some, map, unwrap_or, IfSome, List, OnOk};
 ghost use Rattle.rtps_receiver.specs.Values.{ActValue, act_body_value, act_value};
-ghost use Rattle.rtps_audit.specs.Coverage.{TellsMore};
+ghost use Rattle.rtps_coverage.specs.Coverage.{TellsMore};
 ghost use Rattle.rtps_audit.specs.Delivery.{Datagram, Speech};
 ghost use Rattle.rtps_audit.specs.RunVerdict.{IsVerdict};
 ghost use Rattle.rtps_audit.specs.KeptPayloads.{KeepsMore};
 ghost use Rattle.rtps_audit.specs.Speech.{announced_for, announced_of_body, base_for, base_of_body, said_by, word_for};
 
 use crate::claims::Claims;
-use crate::coverage::Coverage;
+use rtps_coverage::Coverage;
 use crate::said::{base_in, note_heard, number_in};
 use crate::verdict::Verdict;
 use crate::words::Words;

@@ -4,9 +4,9 @@ ghost use Rattle.rtps_audit.specs.Delivery.{last_announced};
 ghost use Rattle.rtps_audit.specs.RunVerdict.{IsVerdict};
 ghost use Rattle.rtps_audit.specs.Speech.{speech_of};
 
-use crate::coverage::Coverage;
+use rtps_coverage::Coverage;
 use crate::judge_state::Judge;
-use crate::merged_ranges::MergedRanges;
+use rtps_coverage::MergedRanges;
 use crate::verdict::Verdict;
 use rtps_discovery::Pair;
 use rtps_ids::Memory;

@@ -1,7 +1,7 @@
 //! Laws over definitions alone. Each function does nothing: its clause is the law, and its
 //! proof the law's proof. The laws on deliveries hold whatever the number is from which on numbers are asked for.
 
-ghost use Rattle.rtps_audit.specs.Laws.{ReachedStatesAreSound, RunsExistWhereFounded, FullRunDecides, VerdictsAgree, PlainMeansComplete, HasNoTwoVerdicts, EachHasAVerdict, VerdictsFollowWhatIsSaid, RangesLieApart};
+ghost use Rattle.rtps_audit.specs.Laws.{ReachedStatesAreSound, RunsExistWhereFounded, FullRunDecides, VerdictsAgree, PlainMeansComplete, HasNoTwoVerdicts, EachHasAVerdict, VerdictsFollowWhatIsSaid};
 
 /// Whatever datagrams are sent and whatever words are taken, in any order: each word that the reader holds was
 /// given by an act of a datagram that was sent, and each number that an answer in such a datagram claims is
@@ -45,10 +45,4 @@ pub fn each_has_a_verdict()
 /// The verdict does not depend on how the words of a datagram are shared out among its acts.
 pub fn verdicts_follow_what_is_said()
     ensures { VerdictsFollowWhatIsSaid }
-{}
-
-/// The ranges of [`crate::MergedRanges`], as they are at any time: none is empty, no two overlap or touch, the set has
-/// their numbers and no others, and its length is how many they are.
-pub fn ranges_lie_apart()
-    ensures { RangesLieApart }
 {}

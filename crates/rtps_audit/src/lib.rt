@@ -7,7 +7,6 @@ mod auditing;
 mod claims;
 mod common;
 mod counting;
-mod coverage;
 mod groups;
 mod hearing;
 mod index;
@@ -15,14 +14,11 @@ mod judge_state;
 mod judging;
 pub mod laws;
 mod listener;
-mod merged_ranges;
 mod origins;
 mod payloads;
 mod placed;
-mod plain_ranges;
 mod report;
 mod said;
-mod span;
 #[cfg(test)]
 mod tests;
 #[cfg(test)]
@@ -31,11 +27,9 @@ mod verdict;
 mod words;
 
 pub use auditing::audit;
-pub use coverage::Coverage;
 pub use index::Index;
 pub use judging::{judge, judge_by};
-pub use merged_ranges::MergedRanges;
 pub use placed::Placed;
-pub use plain_ranges::PlainRanges;
 pub use report::{Counts, Report, Row};
+pub use rtps_coverage::{Coverage, MergedRanges, PlainRanges};
 pub use verdict::Verdict;

@@ -1,7 +1,7 @@
 ghost use Rattle.std.specs.Prelude.{◌≡◌, ◌<◌, ◌≤◌, ◌^◌, ◌++◌, ◌∷◌, [], ℕ, List, OnOk};
 ghost use Rattle.rtps_ids.specs.declared.identity.Guid.{Guid as GuidValue};
 
-use crate::coverage::Coverage;
+use rtps_coverage::Coverage;
 use crate::hearing::{Front, Hearing};
 use crate::placed::Placed;
 use crate::said::{note_heard, number_in};
@@ -22,7 +22,7 @@ pub(crate) struct Listener<'a, C> {
 
 impl<'a, C: Coverage> Listener<'a, C> {
     ghost use Rattle.std.specs.Prelude.{IfSome};
-    ghost use Rattle.rtps_audit.specs.Coverage.{IsFront};
+    ghost use Rattle.rtps_coverage.specs.Coverage.{IsFront};
     ghost use Rattle.rtps_audit.specs.Hearing.{Hears, IsListening, Marks};
     ghost use Rattle.rtps_audit.specs.Placed.{PlacedValue, placed_value};
 

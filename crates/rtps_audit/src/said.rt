@@ -1,10 +1,10 @@
 ghost use Rattle.std.specs.Prelude.{◌≡◌, ◌<◌, ◌^◌, is_some, unwrap_or, OnOk};
 ghost use Rattle.rtps_receiver.specs.Values.{act_value};
-ghost use Rattle.rtps_audit.specs.Coverage.{TellsMore};
+ghost use Rattle.rtps_coverage.specs.Coverage.{TellsMore};
 ghost use Rattle.rtps_audit.specs.KeptPayloads.{KeepsMore};
 ghost use Rattle.rtps_audit.specs.Speech.{announced_for, base_for, word_for};
 
-use crate::coverage::Coverage;
+use rtps_coverage::Coverage;
 use crate::words::Words;
 use rtps_discovery::Pair;
 use rtps_ids::Memory;

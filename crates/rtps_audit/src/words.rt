@@ -1,11 +1,11 @@
 ghost use Rattle.std.specs.Prelude.{ℕ, ◌≡◌, ◌<◌, ◌≤◌, ◌^◌, ◌&&◌, [], nat_le, nat_lt, is_some, false, OnOk, All, IfSome, MatchOption};
 ghost use Rattle.rtps_receiver.specs.Values.{act_body_value};
-ghost use Rattle.rtps_audit.specs.Coverage.{TellsMore};
+ghost use Rattle.rtps_coverage.specs.Coverage.{TellsMore};
 ghost use Rattle.rtps_audit.specs.RunVerdict.{IsLeast};
 ghost use Rattle.rtps_audit.specs.KeptPayloads.{IsNumbered, KeepsMore, KeepsTwo};
 ghost use Rattle.rtps_audit.specs.Speech.{is_in_gap, is_in_gap_below, word_of};
 
-use crate::coverage::Coverage;
+use rtps_coverage::Coverage;
 use crate::payloads::{KeptPayload, least_conflict, put_in_order};
 use rtps_ids::Memory;
 use rtps_receiver::ActBody;

@@ -1,5 +1,5 @@
 use Rattle.std.proofs.Common.{◌-◌, ◌^◌}
-use Rattle.rtps_audit.specs.Coverage.{TellsMore}
+use Rattle.rtps_coverage.specs.Coverage.{TellsMore}
 use Rattle.rtps_audit.specs.Speech.{is_in_gap_below}
 use Rattle.rtps_audit.proofs.words.add_gap.Given as goal
 

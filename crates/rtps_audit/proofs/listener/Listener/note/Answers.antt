@@ -1,7 +1,7 @@
 use Rattle.std.proofs.Common.{max, ap, sym, subst, ◌∙◌}
 use Rattle.std.specs.Prelude.{is_some}
 use Rattle.rtps_receiver.specs.Values.{act_value}
-use Rattle.rtps_audit.specs.Coverage.{IsFront, TellsMore}
+use Rattle.rtps_coverage.specs.Coverage.{IsFront, TellsMore}
 use Rattle.rtps_audit.specs.KeptPayloads.{KeepsMore}
 use Rattle.rtps_audit.specs.Placed.{placed_value}
 use Rattle.rtps_audit.specs.Speech.{word_for}

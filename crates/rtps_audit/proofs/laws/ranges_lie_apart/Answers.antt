@@ -1,5 +1,0 @@
-use Rattle.rtps_audit.proofs.NowLemmas.{ranges_lie_apart}
-use Rattle.rtps_audit.proofs.laws.ranges_lie_apart.Goals as goal
-
-pub returns : goal.returns
-returns c = ranges_lie_apart

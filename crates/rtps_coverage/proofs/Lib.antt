@@ -1,0 +1,4 @@
+pub mod SpanLemmas
+pub mod KeptLemmas
+pub mod NowLemmas
+pub mod CoverageLemmas

@@ -1,0 +1,5 @@
+use Rattle.rtps_coverage.proofs.NowLemmas.{ranges_lie_apart}
+use Rattle.rtps_coverage.proofs.laws.ranges_lie_apart.Goals as goal
+
+pub returns : goal.returns
+returns c = ranges_lie_apart

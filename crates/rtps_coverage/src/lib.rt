@@ -1,0 +1,12 @@
+//! Growing sets of sequence numbers (DDSI-RTPS 2.5, 8.3.5.4 "SequenceNumber"), as ranges.
+#![tactic(auto)]
+
+mod coverage;
+pub mod laws;
+mod merged_ranges;
+mod plain_ranges;
+mod span;
+
+pub use coverage::Coverage;
+pub use merged_ranges::MergedRanges;
+pub use plain_ranges::PlainRanges;

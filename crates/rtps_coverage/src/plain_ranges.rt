@@ -1,0 +1,150 @@
+ghost use Rattle.std.specs.Prelude.{ℕ, ◌≡◌, ◌≤◌, ◌<◌, ◌^◌, false, true, nat_lt, All};
+ghost use Rattle.std.specs.List.{filter, find, list_any};
+ghost use Rattle.rtps_coverage.specs.Spans.{has_number, Reaches, IsBounded};
+
+use crate::coverage::Coverage;
+use crate::span::Span;
+use rtps_ids::Memory;
+use std::alloc::Global;
+
+/// A set of sequence numbers as its front, below which each positive number is in the set, and the ranges
+/// beyond it in no order.
+///
+/// A range that begins at the front or below costs no growth. Each range that is kept makes those adds
+/// slower which move the front.
+#[derive(Drop)]
+pub struct PlainRanges {
+    front: u64,
+    beyond: Vec<Span>,
+    ghost front_in_range: { (1 ≤ front) × (front < 2 ^ 63) },
+    ghost beyond_in_range: { All IsBounded beyond.items },
+    ghost front_outside: { list_any (has_number front) beyond.items ≡ false },
+}
+
+/// The first of the ranges that has the number.
+fn span_of(spans: &[Span], number: u64) -> Option<Span>
+    ensures { result ≡ find (has_number number) spans.now }
+{
+    spans
+        .iter()
+        .copied()
+        .find(|span| span.lo <= number && number < span.hi)
+}
+
+/// The least number from `front` on that lies in none of the ranges.
+fn reach(front: u64, spans: &[Span]) -> u64
+    requires front { front < 2 ^ 63 }
+    requires spans { All IsBounded spans.now }
+    ensures reaches { Reaches spans.now front result }
+    ensures in_range { result < 2 ^ 63 }
+{
+    let mut reached = front;
+    while let Some(span) = span_of(spans, reached) {
+        reached = span.hi;
+    }
+    reached
+}
+
+/// Keeps the ranges that begin past the front.
+fn keep_past(spans: &mut Vec<Span>, front: u64)
+    ensures { spans.new.items ≡ filter (λ span. nat_lt front span.lo) spans.old.items }
+{
+    spans.retain(|span| front < span.lo);
+}
+
+impl Coverage for PlainRanges {
+    ghost use Rattle.std.specs.Prelude.{ℕ, ℤ, ◌≡◌, ◌||◌, ◌≤ℤ◌, pos, IsOk, OnOk, OnErr};
+    ghost use Rattle.rtps_coverage.specs.Coverage.{JoinsRange, IsSameSet, IsFront};
+    ghost use Rattle.rtps_coverage.specs.PlainRanges.{covered_of, covered_in_range};
+
+    ghost covered = { covered_of };
+
+    ghost in_range = { covered_in_range };
+
+    fn empty(alloc: Global) -> Self {
+        PlainRanges {
+            front: 1,
+            beyond: Vec::new(alloc),
+        }
+    }
+
+    /// As of any set. A range that begins at the front or below needs no growth.
+    fn add(&mut self, lo: i64, hi: i64) -> Result<(), Memory>
+        requires positive { pos 1 ≤ℤ lo }
+        requires ordered { lo ≤ℤ hi }
+        ensures ok { OnOk result (JoinsRange (covered_of self.old) (covered_of self.new) lo hi) }
+        ensures err { OnErr result (IsSameSet (covered_of self.old) (covered_of self.new)) }
+        ensures in_order { (front : ℤ) → IsFront (covered_of self.old) front → lo ≤ℤ front
+            → IsOk result }
+    {
+        let lo = lo.cast_unsigned();
+        let hi = hi.cast_unsigned();
+        if hi <= lo || hi <= self.front {
+            return Ok(());
+        }
+        if lo > self.front {
+            self.beyond.push(Span { lo, hi })?;
+            return Ok(());
+        }
+        self.front = reach(hi, &self.beyond);
+        keep_past(&mut self.beyond, self.front);
+        Ok(())
+    }
+
+    fn front(&self) -> i64 {
+        self.front.cast_signed()
+    }
+
+    fn covers(&self, n: i64) -> bool {
+        if n < 1 {
+            return false;
+        }
+        let n = n.cast_unsigned();
+        n < self.front || span_of(&self.beyond, n).is_some()
+    }
+}
+
+#[cfg(test)]
+mod tests {
+    use super::*;
+    use std::test::Fail;
+
+    fn added<C: Coverage>(alloc: Global, ranges: &[(i64, i64)]) -> Result<C, Memory> {
+        let mut set = C::empty(alloc);
+        for (lo, hi) in ranges {
+            if 1 <= *lo && *lo <= *hi {
+                set.add(*lo, *hi)?;
+            }
+        }
+        Ok(set)
+    }
+
+    #[test]
+    fn ranges_join_in_any_order(rt: HostRuntime) -> Result<(), Fail> {
+        let set: PlainRanges = added(rt.alloc(), &[(3, 5), (8, 8), (9, 11), (5, 7), (1, 3)])?;
+        assert_eq!(rt; set.front(), 7);
+        for (number, want) in [
+            (-1, false),
+            (0, false),
+            (1, true),
+            (6, true),
+            (7, false),
+            (8, false),
+            (9, true),
+            (10, true),
+            (11, false),
+        ] {
+            assert_eq!(rt; set.covers(number), want, "at {number}");
+        }
+        Ok(())
+    }
+
+    #[test]
+    fn the_greatest_number_is_never_covered(rt: HostRuntime) -> Result<(), Fail> {
+        let set: PlainRanges = added(rt.alloc(), &[(1, i64::MAX), (i64::MAX, i64::MAX)])?;
+        assert_eq!(rt; set.front(), i64::MAX);
+        assert!(rt; set.covers(i64::MAX - 1));
+        assert!(rt; !set.covers(i64::MAX));
+        Ok(())
+    }
+}
