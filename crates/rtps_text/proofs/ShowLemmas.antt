@@ -6,9 +6,10 @@ use Rattle.rtps_receiver.specs.declared.state.State.{State}
 use Rattle.rtps_wire.specs.Message.{Reading}
 use Rattle.rtps_wire.specs.Reading.{Outcome, items_among, read_as, reading_of, refusal_among, refused_with}
 use Rattle.rtps_wire.specs.Values.{ItemValue}
+use Rattle.rtps_wire.specs.Values.BodyValue.{Skipped}
 use Rattle.rtps_wire.specs.declared.fault.Refusal.{Refusal}
 use Rattle.rtps_wire.specs.declared.header.Header.{Header}
-use Rattle.rtps_text.specs.ShowText.{datagram_line, ending_text, item_line, outcomes_text, reading_text, refusal_line, text_from}
+use Rattle.rtps_text.specs.ShowText.{body_line, datagram_line, ending_text, item_line, outcomes_text, reading_text, refusal_line, skipped_line, text_from}
 
 -- the lines of a datagram whose header is read, and of one whose header is refused
 pub reading_text-opened : (number : ℕ) (reading : Reading) (header : Header) (state : State) (read : List Outcome) → reading ≡ read_as header read → state ≡ state_at_start header
@@ -35,3 +36,11 @@ pub outcomes_text-item : (state : State) (item : ItemValue) (later : List Outcom
 outcomes_text-item state item later =
     ap (λ lines. (item_line state item ++ lines) ++ ending_text (refusal_among later)) (gathered-one item_line state item (items_among later))
     ∙ append_assoc (item_line state item) (gathered item_line (state_behind state (item ∷ [])) [] (items_among later)) (ending_text (refusal_among later))
+
+-- the line of what is skipped, and those of the later ones in the same state
+pub outcomes_text-skipped : (state : State) (item : ItemValue) (later : List Outcome) (id : ℕ) → item.body ≡ Skipped id
+    → outcomes_text state (Ok item ∷ later) ≡ skipped_line item.at id ++ outcomes_text state later
+outcomes_text-skipped state item later id is =
+    let same : state_behind state (item ∷ []) ≡ state = rw is refl in
+    let line : item_line state item ≡ skipped_line item.at id = ap (body_line state item.at item.order) is in
+    outcomes_text-item state item later ∙ ap (λ s. item_line state item ++ outcomes_text s later) same ∙ ap (λ l. l ++ outcomes_text state later) line

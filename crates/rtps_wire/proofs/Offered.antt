@@ -1,5 +1,6 @@
 -- Lemmas about the definitions of this crate, for the crates above it.
 use Rattle.std.proofs.Common.{◌≡◌, ℕ, List, [], ◌∷◌, Option, None, Some, Ok, Err, false, drop, arith, refl, sym, ◌∙◌}
+use Rattle.rtps_wire.specs.Message.{item_at}
 use Rattle.rtps_wire.specs.Reading.{Outcome, Unread, outcomes, outcomes_left, outcomes_with}
 use Rattle.rtps_wire.specs.Skipped.{skipped_id, skipped_next}
 use Rattle.rtps_wire.specs.Tally.{is_fragment, is_skipped}
@@ -22,6 +23,21 @@ last_of (x ∷ xs) at refusal behind same =
 -- nothing is read behind a refusal
 pub refusal_is_last : (unread : Unread) (refusal : Refusal) (behind : List Outcome) → outcomes_left unread ≡ Err refusal ∷ behind → behind ≡ []
 refusal_is_last unread = last_of unread.rest unread.at
+
+at_with : (more : List ℕ → ℕ → List Outcome) (fault : Option WireFault) (rest : List ℕ) (at : ℕ) (item : ItemValue) (later : List Outcome)
+    → outcomes_with more fault rest at ≡ Ok item ∷ later → item.at ≡ at
+unfolding item_at
+at_with more (Some fault) rest at item later same = cc
+at_with more None rest at item later same = cc
+
+at_of : (rest : List ℕ) (at : ℕ) (item : ItemValue) (later : List Outcome) → outcomes rest at ≡ Ok item ∷ later → item.at ≡ at
+at_of [] at item later same = let empty : outcomes [] at ≡ [] = outcomes-done at in cc
+at_of (x ∷ xs) at item later same =
+    at_with outcomes _ (x ∷ xs) at item later (sym (outcomes-step (x ∷ xs) at (omega arith)) ∙ same)
+
+-- what is read next stands at the first unread octet
+pub next_stands_at : (unread : Unread) (item : ItemValue) (later : List Outcome) → outcomes_left unread ≡ Ok item ∷ later → item.at ≡ unread.at
+next_stands_at unread = at_of unread.rest unread.at
 
 -- what is skipped next is an item of that id
 pub skipped_first : (left : List Outcome) (id : ℕ) → Some id ≡ skipped_next left → (item : ItemValue) × (item.body ≡ Skipped id) × (left ≡ Ok item ∷ drop 1 left)

@@ -54,6 +54,13 @@ impl<'a> Items<'a> {
         }
     }
 
+    /// The place of the first octet that is unread, which is that of the next item, or of the refusal.
+    pub fn at(&self) -> usize
+        ensures { result ≡ self.now.at }
+    {
+        self.at
+    }
+
     /// Takes the next item where it is one that is skipped, and answers its id. Else it takes nothing: the next item is
     /// another, or there is a refusal, or nothing is left. It is faster than the iterator, which makes an `Item`.
     #[inline(always)]

@@ -241,7 +241,8 @@ pub(crate) fn push_origin(
     text.push_str("\n")
 }
 
-fn push_skipped(text: &mut String, at: usize, id: u8) -> Result<(), AllocError>
+/// Appends the line of a submessage that is skipped.
+pub(crate) fn push_skipped(text: &mut String, at: usize, id: u8) -> Result<(), AllocError>
     ensures { OnOk result (string_bytes text.new ≡ string_bytes text.old ++ skipped_line at id) }
 {
     push_field(text, "skipped ", at)?;

@@ -5,7 +5,7 @@ ghost use Rattle.rtps_text.specs.ShowText.{IsShown, datagram_line, outcomes_text
 
 use crate::ending::Ending;
 use crate::recording::Recording;
-use crate::text::item_lines::{push_item, push_origin};
+use crate::text::item_lines::{push_item, push_origin, push_skipped};
 use crate::text::parts::push_field;
 use rtps_ids::Memory;
 use rtps_receiver::State;
@@ -66,21 +66,28 @@ fn push_unread(text: &mut String, number: usize) -> Result<(), AllocError>
     text.push_str(" unread\n")
 }
 
-// Appends the lines of what is left of a datagram, from a state of the receiver on.
+// Appends the lines of what is left of a datagram, from a state of the receiver on. No item is made of a submessage that
+// is skipped.
 fn push_items(text: &mut String, start: State, items: Items<'_>) -> Result<(), AllocError>
     ensures { OnOk result (string_bytes text.new ≡ string_bytes text.old ++ outcomes_text start (outcomes_left items.entry)) }
 {
     let mut state = start;
-    for outcome in items {
-        match outcome {
-            Ok(item) => {
+    let mut items = items;
+    'items: loop {
+        let at = items.at();
+        if let Some(id) = items.take_skipped() {
+            push_skipped(text, at, id)?;
+            continue;
+        }
+        match items.next() {
+            Some(Ok(item)) => {
                 push_item(text, &state, &item)?;
                 state.interpret(&item);
             }
-            Err(refusal) => write!(text, "{}", RefusalLine(refusal))?,
+            Some(Err(refusal)) => write!(text, "{}", RefusalLine(refusal))?,
+            None => return Ok(()),
         }
     }
-    Ok(())
 }
 
 // The line of a refusal.
