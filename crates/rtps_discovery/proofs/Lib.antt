@@ -17,3 +17,4 @@ pub mod Told
 pub mod Faults
 pub mod Payloads
 pub mod OtherWriters
+pub mod DataAlone

@@ -1,4 +1,5 @@
 ghost use Rattle.std.specs.Prelude.{◌≡◌, ◌++◌, if◌then◌else◌, map, IfOk, OnOk, List};
+ghost use Rattle.rtps_receiver.specs.Acts.{data_among};
 ghost use Rattle.rtps_receiver.specs.Values.{ActValue, act_value};
 ghost use Rattle.rtps_discovery.specs.Directory.{IsMapOf};
 ghost use Rattle.rtps_discovery.specs.Notice.{faults_in, is_fault};
@@ -9,9 +10,26 @@ use rtps_ids::Memory;
 use rtps_receiver::Act;
 
 impl<'a> Directory<'a> {
-    /// Notes acts in their order, as [`Directory::note`] does, and says how many are announcements with a fault. After
-    /// `Memory` the directory has kept those before the one that was too many.
+    /// Notes acts in their order, as [`Directory::note`] does, and says how many are announcements with a fault. Only DATA
+    /// are announcements, so the DATA among acts are enough. After `Memory` the directory has kept those before the one
+    /// that was too many.
     pub fn note_all(&mut self, acts: &[Act<'a>]) -> Result<u64, Memory>
+        ensures map { OnOk result ((before : List ActValue)
+            → IsMapOf before self.old → IsMapOf (before ++ map act_value acts.now) self.new) }
+        ensures faults { IfOk result (λ faults. faults ≡ faults_in (map act_value acts.now)) }
+
+        // The same of all acts of which these are the DATA.
+        ensures data_map { OnOk result ((before all : List ActValue) → map act_value acts.now ≡ data_among all
+            → IsMapOf before self.old → IsMapOf (before ++ all) self.new) }
+        ensures data_faults { (all : List ActValue) → map act_value acts.now ≡ data_among all
+            → IfOk result (λ faults. faults ≡ faults_in all) }
+    {
+        let faults = self.note_each(acts)?;
+        Ok(faults)
+    }
+
+    // The same.
+    fn note_each(&mut self, acts: &[Act<'a>]) -> Result<u64, Memory>
         ensures map { OnOk result ((before : List ActValue)
             → IsMapOf before self.old → IsMapOf (before ++ map act_value acts.now) self.new) }
         ensures faults { IfOk result (λ faults. faults ≡ faults_in (map act_value acts.now)) }

@@ -1,5 +1,5 @@
 -- The acts that are left, one item at a time.
-use Rattle.std.proofs.Common.{◌≡◌, ℕ, List, [], ◌∷◌, ◌++◌, Option, Some, None, Ok, Err, length, ◌+◌, ◌≤◌, arith, refl, ap, sym, ◌∙◌, append_assoc, option_to_list, unwrap_or}
+use Rattle.std.proofs.Common.{◌≡◌, ℕ, Bool, true, false, List, [], ◌∷◌, ◌++◌, Option, Some, None, Ok, Err, length, ◌+◌, ◌≤◌, arith, refl, ap, sym, ◌∙◌, append_assoc, option_to_list, unwrap_or}
 use Rattle.std.proofs.lemmas.List.{length-append}
 use Rattle.rtps_wire.proofs.Offered.{refusal_is_last}
 use Rattle.rtps_wire.specs.Reading.{Outcome, Unread, items_among, outcomes_left, read_as, refusal_among, refused_with}
@@ -11,7 +11,7 @@ use Rattle.rtps_wire.specs.declared.fault.WireFault.{WireFault}
 use Rattle.rtps_wire.specs.declared.header.Header.{Header}
 use Rattle.rtps_ids.specs.declared.identity.GuidPrefix.{GuidPrefix}
 use Rattle.rtps_ids.specs.declared.identity.Stamp.{Stamp}
-use Rattle.rtps_receiver.specs.Acts.{ActOutcome, Awaited, act_at, act_body, acts_among, acts_behind, acts_of_item, acts_left, acts_of, acts_then, gathered, last_said, later, says_destination, says_source, says_time, state_at_start, state_behind}
+use Rattle.rtps_receiver.specs.Acts.{ActOutcome, Awaited, act_at, act_body, acts_among, acts_behind, acts_of_item, acts_left, acts_of, acts_then, data_among, gathered, is_data, last_said, later, says_destination, says_source, says_time, state_at_start, state_behind}
 use Rattle.rtps_receiver.specs.Values.{ActBodyValue, ActValue}
 use Rattle.rtps_receiver.specs.declared.state.State.{State}
 
@@ -190,3 +190,41 @@ few_left state unread =
       few_behind state [] (items_among (outcomes_left unread)),
       items_and_refusal (outcomes_left unread),
     )
+
+
+-- ---- the DATA among acts
+
+abbrev pub is_data_item : BodyValue → Bool
+is_data_item (Data value) = true
+is_data_item _ = false
+
+-- a DATA first
+pub data_behind-data : (state : State) (item : ItemValue) (items : List ItemValue) (body : ActBodyValue) → act_body item.body ≡ Some body → is_data body ≡ true
+    → data_among (acts_behind state [] (item ∷ items)) ≡ act_at state item.at item.order body ∷ data_among (acts_behind state [] items)
+data_behind-data state item items body is said = ap data_among (acts_behind-act state item items body is) ∙ rw said refl
+
+-- another item first
+pub data_behind-other : (state : State) (item : ItemValue) (items : List ItemValue) → is_data_item item.body ≡ false
+    → data_among (acts_behind state [] (item ∷ items)) ≡ data_among (acts_behind (state_behind state (item ∷ [])) [] items)
+data_behind-other state item items other = by_body item.body refl other
+  where
+    act : (body : BodyValue) (said : ActBodyValue) → item.body ≡ body → act_body body ≡ Some said → is_data said ≡ false
+        → data_among (acts_behind state [] (item ∷ items)) ≡ data_among (acts_behind (state_behind state (item ∷ [])) [] items)
+    act body said is what none =
+        ap data_among (acts_behind-act state item items said (ap act_body is ∙ what)) ∙ rw none refl
+        ∙ ap (λ s. data_among (acts_behind s [] items)) (sym (act_says_nothing state item body said is what))
+    by_body : (body : BodyValue) → item.body ≡ body → is_data_item body ≡ false
+        → data_among (acts_behind state [] (item ∷ items)) ≡ data_among (acts_behind (state_behind state (item ∷ [])) [] items)
+    by_body (Data value) is not = cc
+    by_body (Heartbeat value) is not = act (Heartbeat value) _ is refl refl
+    by_body (AckNack value) is not = act (AckNack value) _ is refl refl
+    by_body (Gap value) is not = act (Gap value) _ is refl refl
+    by_body (InfoTs time) is not = ap data_among (acts_behind-other state item items (ap act_body is))
+    by_body (InfoDst prefix) is not = ap data_among (acts_behind-other state item items (ap act_body is))
+    by_body (InfoSrc version vendor prefix) is not = ap data_among (acts_behind-other state item items (ap act_body is))
+    by_body (Skipped id) is not = ap data_among (acts_behind-other state item items (ap act_body is))
+
+-- a skipped item first
+pub data_behind-skipped : (state : State) (item : ItemValue) (items : List ItemValue) (id : ℕ) → item.body ≡ Skipped id
+    → data_among (acts_behind state [] (item ∷ items)) ≡ data_among (acts_behind state [] items)
+data_behind-skipped state item items id is = ap data_among (acts_behind-skipped state item items id is)

@@ -1,6 +1,6 @@
 -- Acts: the DATA, HEARTBEAT, ACKNACK and GAP of a datagram with the receiver's state at their places. DDSI-RTPS 2.5,
 -- 8.3.4 "The RTPS Message Receiver" and 8.3.4.1 "Rules Followed By The Message Receiver".
-use Rattle.std.specs.Prelude.{ℕ, ◌≡◌, if◌then◌else◌, List, [], ◌∷◌, ◌++◌, flat_map, map, Option, Some, None, unwrap_or, option_to_list, Result, Ok, Err}
+use Rattle.std.specs.Prelude.{ℕ, ◌≡◌, if◌then◌else◌, Bool, true, false, filter, List, [], ◌∷◌, ◌++◌, flat_map, map, Option, Some, None, unwrap_or, option_to_list, Result, Ok, Err}
 use Rattle.rtps_ids.specs.declared.identity.GuidPrefix.{GuidPrefix}
 use Rattle.rtps_ids.specs.declared.identity.Stamp.{Stamp}
 use Rattle.rtps_ids.specs.declared.order.Order.{Order}
@@ -107,6 +107,14 @@ acts_of reading = acts_with reading.header reading.items
 -- the acts of a recording, which is the octets of its datagrams in the order of sending
 abbrev pub acts_in : List (List ℕ) → List ActValue
 acts_in recording = flat_map (λ datagram. acts_of (reading_of datagram)) recording
+
+-- the DATA among acts
+abbrev pub is_data : ActBodyValue → Bool
+is_data (DataAct value) = true
+is_data _ = false
+
+abbrev pub data_among : List ActValue → List ActValue
+data_among acts = filter (λ act. is_data act.body) acts
 
 -- what is still to come of a message
 pub record Awaited : Type 0 where

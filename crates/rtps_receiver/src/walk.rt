@@ -1,5 +1,5 @@
 ghost use Rattle.std.specs.Prelude.{◌≡◌, ◌<◌, ◌^◌, [], length, map, if◌then◌else◌, IfOk, OnOk};
-ghost use Rattle.rtps_receiver.specs.Acts.{acts_behind, acts_of};
+ghost use Rattle.rtps_receiver.specs.Acts.{acts_behind, acts_of, data_among};
 ghost use Rattle.rtps_receiver.specs.Values.{act_value};
 ghost use Rattle.rtps_wire.specs.Reading.{items_among, outcomes_left, reading_of};
 ghost use Rattle.rtps_wire.specs.Tally.{tally_of, tally_of_outcomes};
@@ -55,6 +55,17 @@ impl<'a> Walk<'a> {
         }
     }
 
+    /// Reads a datagram as [`Walk::read`] does, but keeps its DATA alone. It is faster for whom the rest says nothing.
+    pub fn read_data(&mut self, datagram: &'a [u8]) -> Result<(), Memory>
+        ensures { OnOk result (self.new ≡ data_among (acts_of (reading_of datagram.now))) }
+    {
+        self.acts.truncate(0);
+        match Items::open(datagram) {
+            Ok((header, items)) => push_data(&mut self.acts, State::at_start(header), items),
+            Err(_) => Ok(()),
+        }
+    }
+
     /// The acts of the datagram that was read last, in order, each with the receiver's state at its place.
     pub fn acts(&self) -> &[Act<'a>]
         ensures { map act_value result.now ≡ self.now }
@@ -94,6 +105,33 @@ fn push_acts<'a>(acts: &mut Vec<Act<'a>>, start: State, items: Items<'a>) -> Res
             }
             Some(Err(_)) => tally.refused = true,
             None => return Ok(tally),
+        }
+    }
+}
+
+// Appends the DATA of what is unread of a datagram, from this state on.
+fn push_data<'a>(acts: &mut Vec<Act<'a>>, start: State, items: Items<'a>) -> Result<(), Memory>
+    requires { acts.old.items ≡ [] }
+    ensures { OnOk result (map act_value acts.new.items
+        ≡ data_among (acts_behind start [] (items_among (outcomes_left items.entry)))) }
+{
+    let mut state = start;
+    let mut items = items;
+    'items: loop {
+        if let Some(_) = items.take_skipped() {
+            continue;
+        }
+        match items.next() {
+            Some(Ok(item)) => match &item.body {
+                Body::Data(_) => {
+                    if let Some(act) = state.act(&item) {
+                        acts.extend_from_slice(slice::from_ref(&act))?;
+                    }
+                }
+                _ => state.interpret(&item),
+            },
+            Some(Err(_)) => {}
+            None => return Ok(()),
         }
     }
 }

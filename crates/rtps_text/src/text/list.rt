@@ -38,7 +38,7 @@ fn note_datagrams<'a>(
     let mut walk = Walk::new(alloc);
     let mut faults = 0u128;
     for octets in recording.datagrams() {
-        let _ = walk.read(octets)?;
+        walk.read_data(octets)?;
         faults += u128::from(directory.note_all(walk.acts())?);
     }
     Ok(faults)

@@ -1,28 +1,12 @@
-use Rattle.std.proofs.Common.{◌++◌, ◌∷◌, [], ◌∙◌, ap, append_assoc, arith, map, refl, subst, sym, take}
-use Rattle.std.proofs.lemmas.List.{append-nil, take_all}
-use Rattle.rtps_receiver.specs.Values.{act_value}
-use Rattle.rtps_receiver.specs.declared.act.Act.{Act}
+use Rattle.std.proofs.Common.{◌≡◌, ◌++◌, ap, subst, ◌∙◌}
+use Rattle.rtps_discovery.proofs.DataAlone.{faults_alone, map_alone}
 use Rattle.rtps_discovery.specs.Directory.{IsMapOf}
-use Rattle.rtps_discovery.specs.Notice.{announcement_of, answer_of, faults_in}
-use Rattle.rtps_discovery.proofs.Faults.{acts_more, faults_of, faults_more, one_fault}
+use Rattle.rtps_discovery.specs.Notice.{faults_in}
 use Rattle.rtps_discovery.proofs.directory_map.Directory.note_all.Goals as goal
 
-pub loop-act-init : goal.loop-act-init
-loop-act-init c = record { map = λ before is. subst (λ l. IsMapOf l c.args.self.now) (sym (append-nil before)) is; faults = refl; few = omega arith }
+pub returns-clause-data_map : goal.returns-clause-data_map
+returns-clause-data_map c before all is old =
+    map_alone before all _ (subst (λ acts. IsMapOf (before ++ acts) c.note_each.new.self) is (c.in_ok-faults.ensures.map before old))
 
-pub loop-act-preserved : goal.loop-act-preserved
-loop-act-preserved c =
-    let old = c.loop-act.invariant in
-    let acts = c.args.acts.now in
-    let i = c.loop-act.act-index in
-    let done = map act_value (take i acts) in
-    let more = acts_more acts i c.act-item.result c.loop-act-test.true ∙ ap (λ (a : Act). done ++ act_value a ∷ []) (sym c.act-item.is) in
-    let same = c.fault_count-faults.ensures ∙ ap faults_of c.in_ok-noted.ensures.noted in
-    record {
-      map = λ before is. subst (λ l. IsMapOf l c.note.new.self) (append_assoc before done _ ∙ ap (λ l. before ++ l) (sym more)) (c.in_ok-noted.ensures.map (before ++ done) (old.map before is));
-      faults = omega (arith, old.faults, same, ap faults_in more, faults_more done (act_value c.act-item.result));
-      few = omega (arith, old.few, same, one_fault (answer_of (announcement_of (act_value c.act-item.result))));
-    }
-
-pub returns-clause-map : goal.returns-clause-map
-returns-clause-map c = λ before is. subst (λ l. IsMapOf (before ++ map act_value l) c.loop-act.self) (take_all _ _ (omega arith)) (c.loop-act.invariant.map before is)
+pub returns-clause-data_faults : goal.returns-clause-data_faults
+returns-clause-data_faults c all is = c.in_ok-faults.ensures.faults ∙ ap faults_in is ∙ faults_alone all

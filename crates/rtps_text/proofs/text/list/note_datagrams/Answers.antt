@@ -15,14 +15,14 @@ loop-octets-preserved c =
     let acts = acts_of (reading_of octets) in
     let more = acts_in-push done octets in
     let noted = c.in_ok-note_all.ensures in
-    let heard = c.acts.ensures ∙ c.in_ok-read.ensures.acts in
-    let faults = c.from.ensures ∙ noted.faults ∙ ap faults_in heard in
+    let heard = c.acts.ensures ∙ c.in_ok-read_data.ensures in
+    let faults = c.from.ensures ∙ noted.data_faults acts heard in
     let count = ap (λ n. c.loop-octets.faults + n) faults in (
       tt,
       tt,
       done ++ octets ∷ [],
       append_assoc done (octets ∷ []) c.next.new.self ∙ ap (λ left. done ++ left) (sym c.in-Some.ensures.steps) ∙ invariant.3,
-      subst (λ all. IsMapOf all c.note_all.new.self) (ap (λ l. acts_in done ++ l) heard ∙ sym more) (noted.map (acts_in done) invariant.4),
+      subst (λ all. IsMapOf all c.note_all.new.self) (sym more) (noted.data_map (acts_in done) acts heard invariant.4),
       count ∙ (ap (λ n. n + faults_in acts) invariant.5 ∙ (sym (faults_in-append (acts_in done) acts) ∙ ap faults_in (sym more))),
       omega (arith, c.from.ensures, noted.faults, invariant.6, length-append done (octets ∷ [])),
     )

@@ -2,7 +2,7 @@ use Rattle.std.proofs.Common.{◌≡◌, ◌++◌, ◌≤◌, List, map, take}
 use Rattle.rtps_discovery.specs.Directory.{IsMapOf}
 use Rattle.rtps_discovery.specs.Notice.{faults_in}
 use Rattle.rtps_receiver.specs.Values.{ActValue, act_value}
-use Rattle.rtps_discovery.proofs.directory_map.Directory.note_all.Given as goal
+use Rattle.rtps_discovery.proofs.directory_map.Directory.note_each.Given as goal
 
 -- the acts so far are noted
 abbrev pub invariant-loop-act : goal.invariant-loop-act
