@@ -1,3 +1,4 @@
 pub mod Offered
 pub mod SetBits
 pub mod RunBits
+pub mod NumberOrder

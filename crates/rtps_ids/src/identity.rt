@@ -1,13 +1,45 @@
-ghost use Rattle.std.specs.Prelude.{◌≡◌, ◌*◌, ◌++◌, ◌∷◌, length, Some};
+ghost use Rattle.std.specs.Prelude.{◌≡◌, ◌*◌, ◌++◌, ◌∷◌, length, Some, refl};
+ghost use Rattle.std.specs.Cmp.{on_po, on_total};
+ghost use Rattle.std.specs.Cmp.Lexicographic.{nat_list_cmp_total, slice_cmp, texts_po, texts_ties};
 ghost use Rattle.std.specs.Fmt.{WritesOnOk};
+ghost use Rattle.std.specs.Ordering.{nat_cmp};
 ghost use Rattle.hex.specs.Hex.{encode_lower};
 
+use byteorder::{BigEndian, ByteOrder};
+use std::cmp::Ordering;
 use std::fmt;
 
 /// The prefix of a GUID, which all endpoints of one participant share (DDSI-RTPS 2.5, 8.2.4.1 "Identifying RTPS
 /// entities: The GUID"). Prefixes compare octet by octet. It prints 24 lower-case hexadecimal digits.
-#[derive(Clone, Copy, PartialEq, Eq, PartialOrd, Ord, Debug)]
+#[derive(Clone, Copy, PartialEq, Eq, Debug)]
 pub struct GuidPrefix(pub [u8; 12]);
+
+impl PartialOrd for GuidPrefix {
+    ghost partial_cmp = { λ x y. Some (slice_cmp nat_cmp x.0 y.0) };
+
+    ghost laws = { on_po (λ prefix. prefix.0) texts_po };
+
+    fn partial_cmp(&self, other: &GuidPrefix) -> Option<Ordering> {
+        Some(self.cmp(other))
+    }
+}
+
+impl Ord for GuidPrefix {
+    ghost cmp = { λ x y. slice_cmp nat_cmp x.0 y.0 };
+
+    ghost total = { on_total (λ prefix. prefix.0) nat_list_cmp_total };
+
+    ghost matches_partial_cmp = { λ x y. refl };
+
+    ghost matches_eq = { λ x y. texts_ties x.0 y.0 };
+
+    #[inline]
+    fn cmp(&self, other: &GuidPrefix) -> Ordering {
+        let (first, last) = self.0.split_at(8);
+        let (other_first, other_last) = other.0.split_at(8);
+        long_order(first, other_first).then(word_order(last, other_last))
+    }
+}
 
 impl fmt::Display for GuidPrefix {
     ghost output = { λ prefix. Some (encode_lower prefix.0) };
@@ -19,8 +51,34 @@ impl fmt::Display for GuidPrefix {
 }
 
 /// Which entity of its participant a GUID names (DDSI-RTPS 2.5, 8.2.4.1). It prints 8 lower-case hexadecimal digits.
-#[derive(Clone, Copy, PartialEq, Eq, PartialOrd, Ord, Debug)]
+#[derive(Clone, Copy, PartialEq, Eq, Debug)]
 pub struct EntityId(pub [u8; 4]);
+
+impl PartialOrd for EntityId {
+    ghost partial_cmp = { λ x y. Some (slice_cmp nat_cmp x.0 y.0) };
+
+    ghost laws = { on_po (λ entity. entity.0) texts_po };
+
+    fn partial_cmp(&self, other: &EntityId) -> Option<Ordering> {
+        Some(self.cmp(other))
+    }
+}
+
+impl Ord for EntityId {
+    ghost cmp = { λ x y. slice_cmp nat_cmp x.0 y.0 };
+
+    ghost total = { on_total (λ entity. entity.0) nat_list_cmp_total };
+
+    ghost matches_partial_cmp = { λ x y. refl };
+
+    ghost matches_eq = { λ x y. texts_ties x.0 y.0 };
+
+    // As of a prefix.
+    #[inline]
+    fn cmp(&self, other: &EntityId) -> Ordering {
+        word_order(&self.0, &other.0)
+    }
+}
 
 impl fmt::Display for EntityId {
     ghost output = { λ entity. Some (encode_lower entity.0) };
@@ -73,6 +131,26 @@ pub struct Version {
 pub struct Stamp {
     pub seconds: u32,
     pub fraction: u32,
+}
+
+/// The order of four octets: that of the numbers that they spell, the highest first, which is one comparison.
+#[inline(always)]
+fn word_order(one: &[u8], other: &[u8]) -> Ordering
+    requires one { length one.now ≡ 4 }
+    requires other { length other.now ≡ 4 }
+    ensures { result ≡ slice_cmp nat_cmp one.now other.now }
+{
+    BigEndian::read_u32(one).cmp(&BigEndian::read_u32(other))
+}
+
+/// The order of eight octets.
+#[inline(always)]
+fn long_order(one: &[u8], other: &[u8]) -> Ordering
+    requires one { length one.now ≡ 8 }
+    requires other { length other.now ≡ 8 }
+    ensures { result ≡ slice_cmp nat_cmp one.now other.now }
+{
+    BigEndian::read_u64(one).cmp(&BigEndian::read_u64(other))
 }
 
 /// Writes octets in lower-case hexadecimal, by way of `digits`, of which there are two for each octet.

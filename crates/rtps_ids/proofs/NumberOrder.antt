@@ -1,0 +1,101 @@
+-- Octets compare as the numbers that they spell, the highest first.
+use Rattle.std.proofs.Common.{Fits, w8, ◌≡◌, ℕ, ◌+◌, ◌*◌, ◌^◌, ◌<◌, ◌≤◌, suc, List, [], ◌∷◌, ◌++◌, length, get_or, refl, sym, ap, ◌∙◌, arith, inl, inr}
+use Rattle.std.specs.Cmp.{nat_cmp_is}
+use Rattle.std.specs.Cmp.Lexicographic.{slice_cmp}
+use Rattle.std.specs.Ordering.{nat_cmp, ordering_then}
+use Rattle.std.specs.declared.cmp.Ordering.{Ordering}
+use Rattle.std.specs.declared.cmp.Ordering.TheVariants.{Less, Equal, Greater}
+use Rattle.std.proofs.lemmas.Bool.{cases_lt}
+use Rattle.byteorder.specs.Endian.{big_number}
+
+-- the number that octets spell behind n, the highest first
+abbrev spelled : ℕ → List ℕ → ℕ
+spelled n [] = n
+spelled n (x ∷ xs) = spelled (n * 256 + x) xs
+
+abbrev AreOctets : List ℕ → Type 0
+AreOctets xs = (i : ℕ) → Fits w8 (get_or xs i 0)
+
+later : (x : ℕ) (xs : List ℕ) → AreOctets (x ∷ xs) → AreOctets xs
+later x xs octets i = octets (suc i)
+
+-- the first difference decides
+below : (m n : ℕ) (xs ys : List ℕ) → length xs ≡ length ys → AreOctets xs → AreOctets ys → m < n → spelled m xs < spelled n ys
+below m n [] [] same one other lt = lt
+below m n [] (y ∷ ys) same one other lt = absurd (omega (arith, same))
+below m n (x ∷ xs) [] same one other lt = absurd (omega (arith, same))
+below m n (x ∷ xs) (y ∷ ys) same one other lt =
+    let small : x < 256 = omega (arith, one 0) in
+    below (m * 256 + x) (n * 256 + y) xs ys (omega (arith, same)) (later x xs one) (later y ys other) (omega (arith, small, lt))
+
+less : (a b : ℕ) → a < b → nat_cmp a b ≡ Less
+less a b lt = sym (nat_cmp_is a b Less lt)
+
+greater : (a b : ℕ) → b < a → nat_cmp a b ≡ Greater
+greater a b lt = sym (nat_cmp_is a b Greater lt)
+
+spelled_order : (n : ℕ) (xs ys : List ℕ) → length xs ≡ length ys → AreOctets xs → AreOctets ys → nat_cmp (spelled n xs) (spelled n ys) ≡ slice_cmp nat_cmp xs ys
+spelled_order n [] [] same one other = sym (nat_cmp_is n n Equal refl)
+spelled_order n [] (y ∷ ys) same one other = absurd (omega (arith, same))
+spelled_order n (x ∷ xs) [] same one other = absurd (omega (arith, same))
+spelled_order n (x ∷ xs) (y ∷ ys) same one other = elim (cases_lt x y) [
+  | inl lt ↦
+      less _ _ (below (n * 256 + x) (n * 256 + y) xs ys rest (later x xs one) (later y ys other) (omega (arith, lt)))
+      ∙ ap (λ o. ordering_then o (slice_cmp nat_cmp xs ys)) (sym (less x y lt))
+  | inr not ↦ elim (cases_lt y x) [
+      | inl gt ↦
+          greater _ _ (below (n * 256 + y) (n * 256 + x) ys xs (sym rest) (later y ys other) (later x xs one) (omega (arith, gt)))
+          ∙ ap (λ o. ordering_then o (slice_cmp nat_cmp xs ys)) (sym (greater x y gt))
+      | inr not' ↦
+          let equal : y ≡ x = omega (arith, not, not') in
+          ap (λ k. nat_cmp (spelled (n * 256 + x) xs) (spelled (n * 256 + k) ys)) equal
+          ∙ spelled_order (n * 256 + x) xs ys rest (later x xs one) (later y ys other)
+          ∙ ap (λ o. ordering_then o (slice_cmp nat_cmp xs ys)) (nat_cmp_is x y Equal (sym equal))
+    ]
+]
+  where
+    rest : length xs ≡ length ys
+    rest = omega (arith, same)
+
+-- four octets and eight, as they are read
+four : (xs : List ℕ) → length xs ≡ 4 → big_number 4 xs ≡ spelled 0 xs
+four [] e = absurd (omega (arith, e))
+four (a ∷ []) e = absurd (omega (arith, e))
+four (a ∷ b ∷ []) e = absurd (omega (arith, e))
+four (a ∷ b ∷ c ∷ []) e = absurd (omega (arith, e))
+four (a ∷ b ∷ c ∷ d ∷ []) e = omega arith
+four (a ∷ b ∷ c ∷ d ∷ x ∷ xs) e = absurd (omega (arith, e))
+
+eight : (xs : List ℕ) → length xs ≡ 8 → big_number 8 xs ≡ spelled 0 xs
+eight [] e = absurd (omega (arith, e))
+eight (a ∷ []) e = absurd (omega (arith, e))
+eight (a ∷ b ∷ []) e = absurd (omega (arith, e))
+eight (a ∷ b ∷ c ∷ []) e = absurd (omega (arith, e))
+eight (a ∷ b ∷ c ∷ d ∷ []) e = absurd (omega (arith, e))
+eight (a ∷ b ∷ c ∷ d ∷ f ∷ []) e = absurd (omega (arith, e))
+eight (a ∷ b ∷ c ∷ d ∷ f ∷ g ∷ []) e = absurd (omega (arith, e))
+eight (a ∷ b ∷ c ∷ d ∷ f ∷ g ∷ h ∷ []) e = absurd (omega (arith, e))
+eight (a ∷ b ∷ c ∷ d ∷ f ∷ g ∷ h ∷ i ∷ []) e = omega arith
+eight (a ∷ b ∷ c ∷ d ∷ f ∷ g ∷ h ∷ i ∷ x ∷ xs) e = absurd (omega (arith, e))
+
+pub four_order : (xs ys : List ℕ) → length xs ≡ 4 → length ys ≡ 4 → AreOctets xs → AreOctets ys → nat_cmp (big_number 4 xs) (big_number 4 ys) ≡ slice_cmp nat_cmp xs ys
+four_order xs ys one other octets others =
+    ap (λ n. nat_cmp n (big_number 4 ys)) (four xs one) ∙ ap (nat_cmp (spelled 0 xs)) (four ys other) ∙ spelled_order 0 xs ys (one ∙ sym other) octets others
+
+pub eight_order : (xs ys : List ℕ) → length xs ≡ 8 → length ys ≡ 8 → AreOctets xs → AreOctets ys → nat_cmp (big_number 8 xs) (big_number 8 ys) ≡ slice_cmp nat_cmp xs ys
+eight_order xs ys one other octets others =
+    ap (λ n. nat_cmp n (big_number 8 ys)) (eight xs one) ∙ ap (nat_cmp (spelled 0 xs)) (eight ys other) ∙ spelled_order 0 xs ys (one ∙ sym other) octets others
+
+then_assoc : (a b c : Ordering) → ordering_then (ordering_then a b) c ≡ ordering_then a (ordering_then b c)
+then_assoc Less b c = refl
+then_assoc Equal b c = refl
+then_assoc Greater b c = refl
+
+-- lists in two parts
+pub slice_cmp-append : (xs ys more others : List ℕ) → length xs ≡ length ys
+    → slice_cmp nat_cmp (xs ++ more) (ys ++ others) ≡ ordering_then (slice_cmp nat_cmp xs ys) (slice_cmp nat_cmp more others)
+slice_cmp-append [] [] more others e = refl
+slice_cmp-append [] (y ∷ ys) more others e = absurd (omega (arith, e))
+slice_cmp-append (x ∷ xs) [] more others e = absurd (omega (arith, e))
+slice_cmp-append (x ∷ xs) (y ∷ ys) more others e =
+    ap (ordering_then (nat_cmp x y)) (slice_cmp-append xs ys more others (omega (arith, e))) ∙ sym (then_assoc (nat_cmp x y) (slice_cmp nat_cmp xs ys) (slice_cmp nat_cmp more others))
