@@ -1,12 +1,12 @@
 -- What is written is the list of what was given.
-use Rattle.std.proofs.Common.{◌≡◌, ◌≢◌, ℕ, zero, suc, ◌+◌, ◌<◌, ◌≤◌, ◌^◌, Bool, true, false, cond, eqb, List, [], ◌∷◌, ◌++◌, length, drop, Ok, Some, None, All, refl, sym, ap, ◌∙◌, arith}
+use Rattle.std.proofs.Common.{◌≡◌, ◌≢◌, ℕ, suc, ◌<◌, ◌≤◌, ◌^◌, Bool, true, false, cond, eqb, List, [], ◌∷◌, ◌++◌, length, drop, Ok, Some, None, All, refl, sym, ap, ◌∙◌, arith}
 use Rattle.std.specs.List.{flat_map}
 use Rattle.std.proofs.lemmas.Bool.Decides.{nat_tests}
 use Rattle.std.proofs.lemmas.List.{append-nil, drop_at}
 use Rattle.rtps_ids.specs.Octets.{number_of, octets_of}
 use Rattle.rtps_ids.specs.declared.order.Order.{Order}
 use Rattle.rtps_ids.proofs.Offered.{length-octets_of, number-octets_of}
-use Rattle.rtps_params.specs.Grammar.{AreParameters, IsList, IsParameter, Pairs, length_of, without_pads}
+use Rattle.rtps_params.specs.Grammar.{AreParameters, IsList, IsParameter, Pairs, without_pads}
 use Rattle.rtps_params.specs.Reading.{list_end, pairs_of}
 use Rattle.rtps_params.specs.Writing.{list_fault, parameter_fault, parameter_octets, sentinel_octets, written_list}
 use Rattle.rtps_params.specs.declared.list_fault.ListFault.TheVariants.{PidReserved, ValueTooLong, ValueUnaligned}

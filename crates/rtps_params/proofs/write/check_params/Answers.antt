@@ -1,4 +1,3 @@
-use Rattle.std.proofs.Common.{Some, sym}
 use Rattle.std.proofs.lemmas.Result.{err_from_is_err_and}
 use Rattle.rtps_params.proofs.Written.{fault_here, none_more}
 use Rattle.rtps_params.proofs.write.check_params.Goals as goal

@@ -6,7 +6,6 @@ use Rattle.rtps_params.proofs.Growth.{grown, lacks, on_err, stays}
 use Rattle.rtps_ids.proofs.Offered.{length-octets_of}
 use Rattle.rtps_ids.specs.declared.order.Order.{Order}
 use Rattle.rtps_params.specs.Item.{pair_of}
-use Rattle.rtps_params.specs.Writing.{written_list}
 use Rattle.rtps_params.proofs.Written.{each_octets, length-written_list, octets_within, value_fits}
 use Rattle.rtps_params.proofs.write.put_params.Goals as goal
 
