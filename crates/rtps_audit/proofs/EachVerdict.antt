@@ -185,7 +185,7 @@ two_or_not {from} speech n = elim (asked_or_not from n) [
   | inr never ↦ inr (λ (x, y, one, two, differ). never one.gives.asked)
 ]
 
-claimed_or_not : {from : ℕ} (speech : Speech) (n : ℕ) → IsAsked from n → Decided (IsClaimed from speech n)
+pub claimed_or_not : {from : ℕ} (speech : Speech) (n : ℕ) → IsAsked from n → Decided (IsClaimed from speech n)
 claimed_or_not speech n asked = elim (cases_lt n (greatest_base speech)) [
   | inl lt ↦ inl (claimed_from_below n speech asked lt)
   | inr le ↦ inr (λ claimed. let below = below_from_claims n claimed.0 speech claimed.1 in omega arith)

@@ -20,5 +20,8 @@ pub mod IndexVerdict
 pub mod JudgeLemmas
 pub mod FullRunLemmas
 pub mod EachVerdict
+pub mod FirstMissed
+pub mod Bounded
+pub mod FullRuns
 pub mod DeliveredLemmas
 pub mod RecordingActs

@@ -3,6 +3,8 @@
 use Rattle.std.specs.Prelude.{ℕ, zero, suc, ◌<◌, ◌≡◌, ◌&&◌, nat_le, if◌then◌else◌, List, [], ◌∷◌, ◌++◌, length, Option, Some, None}
 use Rattle.rtps_audit.specs.Delivery.{Word, Speech, DeliveryState, start, Event, Gives, Follows}
 use Rattle.rtps_audit.specs.Delivery.Event.{Send, Take}
+use Rattle.rtps_audit.specs.declared.verdict.Verdict.{Verdict}
+use Rattle.rtps_audit.specs.declared.verdict.Verdict.TheVariants.{Unfounded, Conflict, Open, Complete}
 
 -- the take of a word, if there is one
 abbrev pub take_of : ℕ → ℕ → ℕ → Option Word → List Event
@@ -38,3 +40,21 @@ IsBoundedBy from speech bound = (i k n : ℕ) (word : Word) → Gives from speec
 -- it is allowed, and sends every datagram
 abbrev pub IsFullRunAllowed : ℕ → Speech → ℕ → Type 0
 IsFullRunAllowed from speech bound = (end : DeliveryState) × Follows from speech start (full_run from speech bound) end × (end.sent ≡ length speech)
+
+-- The run that takes all that it can is a run. It takes each word of the recording, since none is for a number from some
+-- bound on.
+pub record IsFullRun (from : ℕ) (speech : Speech) : Type 0 where
+  pub bound : ℕ
+  pub bounded : IsBoundedBy from speech bound
+  pub allowed : IsFullRunAllowed from speech bound
+
+-- it is one by every verdict but that there is no run
+abbrev pub HasFullRunFrom : ℕ → Speech → Verdict → Type 0
+HasFullRunFrom from speech (Unfounded datagram number) = ¬ IsFullRun from speech
+HasFullRunFrom from speech (Conflict number) = IsFullRun from speech
+HasFullRunFrom from speech (Open number) = IsFullRun from speech
+HasFullRunFrom from speech (Complete last) = IsFullRun from speech
+
+-- for all numbers
+abbrev pub HasFullRun : Speech → Verdict → Type 0
+HasFullRun speech verdict = HasFullRunFrom 1 speech verdict

@@ -1,12 +1,14 @@
 -- Laws over definitions alone. Those on deliveries hold whatever the number is from which on numbers are asked for.
 -- own: what a reader of the definitions would ask of them.
-use Rattle.std.specs.Prelude.{ℕ, ◌<◌, ◌≤◌, ◌≡◌, ◌↔◌, pos, List, [], ◌∷◌, length, All, Contains}
-use Rattle.rtps_audit.specs.Delivery.{Word, Speech, DeliveryState, IsAsked, Gives, Claims, Holds, IsReached, HasRun, last_announced_from}
-use Rattle.rtps_audit.specs.RunVerdict.{IsVerdictFrom}
+use Rattle.std.specs.Prelude.{ℕ, ℤ, ◌<◌, ◌≤◌, ◌≡◌, ◌↔◌, ◌^◌, pos, List, ◌++◌, length, All, Contains}
+use Rattle.rtps_ids.specs.declared.identity.Guid.{Guid}
+use Rattle.rtps_audit.specs.Delivery.{Word, Speech, DeliveryState, start, IsAsked, Event, Gives, Claims, Holds, Follows, IsReached, Ends, HasRun, last_announced_from}
+use Rattle.rtps_audit.specs.RunVerdict.{OnNatural, EndsInConflict, IsVerdictFrom}
 use Rattle.rtps_audit.specs.PlainVerdict.{IsFounded, SpeaksTwo, IsClaimed, IsPlainVerdictFrom}
-use Rattle.rtps_audit.specs.FullRun.{IsBoundedBy, IsFullRunAllowed}
+use Rattle.rtps_audit.specs.FullRun.{IsBoundedBy, IsFullRunAllowed, IsFullRun}
+use Rattle.rtps_audit.specs.Speech.{speech_of}
 use Rattle.rtps_audit.specs.declared.verdict.Verdict.{Verdict}
-use Rattle.rtps_audit.specs.declared.verdict.Verdict.TheVariants.{Complete}
+use Rattle.rtps_audit.specs.declared.verdict.Verdict.TheVariants.{Conflict, Open, Complete}
 
 -- a word that is held was given by an act of a datagram that is sent
 abbrev pub HeldWasGiven : ℕ → Speech → DeliveryState → Type 0
@@ -59,3 +61,56 @@ pub record SaysTheSame (from : ℕ) (one other : Speech) : Type 0 where
 -- the verdict does not depend on how words are shared out among acts
 abbrev pub VerdictsFollowWhatIsSaid : Type 0
 VerdictsFollowWhatIsSaid = (from : ℕ) (one other : Speech) (verdict : Verdict) → SaysTheSame from one other → IsVerdictFrom from one verdict → IsVerdictFrom from other verdict
+
+-- what is recorded are octets
+abbrev pub AreOctets : List (List ℕ) → Type 0
+AreOctets recording = All (All (λ octet. octet < 256)) recording
+
+-- each word of a recording of octets is for a number that fits (DDSI-RTPS 2.5, 9.3.2 "Mapping of the Types that Appear
+-- Within Submessages or Built-in Topic Data": a sequence number has 64 bits, of which one is the sign)
+abbrev pub RecordingsAreBounded : Type 0
+RecordingsAreBounded =
+    (from : ℕ) (writer reader : Guid) (recording : List (List ℕ)) → AreOctets recording → IsBoundedBy from (speech_of writer reader recording) (2 ^ 63)
+
+-- of any two GUIDs each recording has a verdict
+abbrev pub EachRecordingHasAVerdict : Type 0
+EachRecordingHasAVerdict = (from : ℕ) (writer reader : Guid) (recording : List (List ℕ)) → (verdict : Verdict) × IsVerdictFrom from (speech_of writer reader recording) verdict
+
+-- and a run exists exactly where the run that takes all it can after each send is one
+abbrev pub FullRunDecidesRecordings : Type 0
+FullRunDecidesRecordings =
+    (from : ℕ) (writer reader : Guid) (recording : List (List ℕ)) → HasRun from (speech_of writer reader recording) ↔ IsFullRun from (speech_of writer reader recording)
+
+-- a word that is held stays held, whatever events are allowed after it
+abbrev pub HeldStaysHeld : Type 0
+HeldStaysHeld =
+    (from : ℕ) (speech : Speech) (old : DeliveryState) (events : List Event) (new : DeliveryState) → Follows from speech old events new
+    → (n : ℕ) (word : Word) → Contains old.held (n, word) → Contains new.held (n, word)
+
+-- These events are a run, at no time of which the reader has a word for n.
+pub record IsRunWithout (from : ℕ) (speech : Speech) (n : ℕ) (events : List Event) : Type 0 where
+  pub end : DeliveryState
+  pub follows : Follows from speech start events end
+  pub ends : end.sent ≡ length speech
+  pub never : (before behind : List Event) (state : DeliveryState) → events ≡ before ++ behind → Follows from speech start before state → ¬ Holds state n
+
+-- The number n is the first that a reader may miss: some run never has a word for it, and every run ends with one for
+-- each smaller number that is asked for.
+pub record IsFirstMissed (from : ℕ) (speech : Speech) (n : ℕ) : Type 0 where
+  pub asked : IsAsked from n
+  pub announced : n ≤ last_announced_from from speech
+  pub missed : (events : List Event) × IsRunWithout from speech n events
+  pub smaller : (end : DeliveryState) → Ends from speech end → (m : ℕ) → IsAsked from m → m < n → Holds end m
+
+-- what the verdict open says
+abbrev pub OpenIsFirstMissed : Type 0
+OpenIsFirstMissed = (from : ℕ) (speech : Speech) (number : ℤ) → IsVerdictFrom from speech (Open number) → OnNatural number (IsFirstMissed from speech)
+
+-- some run ends with two different payloads for n, and none does for a smaller number
+pub record IsFirstConflict (from : ℕ) (speech : Speech) (n : ℕ) : Type 0 where
+  pub conflict : EndsInConflict from speech n
+  pub smaller : (m : ℕ) → m < n → ¬ EndsInConflict from speech m
+
+-- what the verdict conflict says
+abbrev pub ConflictIsFirst : Type 0
+ConflictIsFirst = (from : ℕ) (speech : Speech) (number : ℤ) → IsVerdictFrom from speech (Conflict number) → OnNatural number (IsFirstConflict from speech)

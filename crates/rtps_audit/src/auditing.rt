@@ -1,5 +1,6 @@
 ghost use Rattle.std.specs.Prelude.{ℤ, ℕ, ◌≡◌, ◌↔◌, map, All, IfOk, List};
 ghost use Rattle.rtps_audit.specs.Delivered.{IsDelivered};
+ghost use Rattle.rtps_audit.specs.FullRun.{HasFullRun};
 ghost use Rattle.rtps_audit.specs.Index.{IsIndexOf};
 ghost use Rattle.rtps_audit.specs.Report.{IsJudged, IsReport};
 ghost use Rattle.rtps_audit.specs.Speech.{speech_of};
@@ -53,6 +54,10 @@ pub fn audit(alloc: Global, recording: &[&[u8]]) -> Result<Report, Memory>
     ensures complete { let octets = map (λ datagram. datagram.now) recording.now in
         IfOk result (λ report. All (λ row. (last : ℤ) → (row.verdict ≡ Verdict.Complete last)
         ↔ IsDelivered (speech_of row.pair.writer row.pair.reader octets) last) report.rows.items) }
+
+    // Where any run of a row's pair exists, the one that takes all it can after each send is a run.
+    ensures full_run { let octets = map (λ datagram. datagram.now) recording.now in
+        IfOk result (λ report. All (λ row. HasFullRun (speech_of row.pair.writer row.pair.reader octets) row.verdict) report.rows.items) }
 {
     let index = Index::build(alloc, recording)?;
     let pairs = index.directory.pairs()?;

@@ -1,6 +1,7 @@
 ghost use Rattle.std.specs.Prelude.{ℤ, ℕ, ◌≡◌, ◌↔◌, pos, filter, map, IfOk, List};
 ghost use Rattle.rtps_audit.specs.Delivered.{IsDelivered, IsPlain};
 ghost use Rattle.rtps_audit.specs.Delivery.{last_announced};
+ghost use Rattle.rtps_audit.specs.FullRun.{HasFullRun};
 ghost use Rattle.rtps_audit.specs.Index.{IsIndexOf};
 ghost use Rattle.rtps_audit.specs.Placed.{answers_among, is_from, placed_in, placed_value};
 ghost use Rattle.rtps_audit.specs.RunVerdict.{IsVerdict};
@@ -96,6 +97,10 @@ impl<'a> Index<'a> {
         ensures plain { (recording : List (List ℕ)) → IsIndexOf recording self.now
             → let speech = speech_of pair.writer pair.reader recording in
             IfOk result (λ verdict. IsPlain speech → verdict ≡ Verdict.Complete (pos (last_announced speech))) }
+
+        // Where any run exists, the one that takes all it can after each send is a run.
+        ensures full_run { (recording : List (List ℕ)) → IsIndexOf recording self.now
+            → IfOk result (HasFullRun (speech_of pair.writer pair.reader recording)) }
     {
         let verdict = self.judged(pair)?;
         Ok(verdict)

@@ -7,10 +7,10 @@ ghost use Rattle.rtps_audit.specs.KeptPayloads.{KeepsMore};
 ghost use Rattle.rtps_audit.specs.Speech.{announced_for, announced_of_body, base_for, base_of_body, said_by, word_for};
 
 use crate::claims::Claims;
-use rtps_coverage::Coverage;
 use crate::said::{base_in, note_heard, number_in};
 use crate::verdict::Verdict;
 use crate::words::Words;
+use rtps_coverage::Coverage;
 use rtps_discovery::Pair;
 use rtps_ids::Memory;
 use rtps_receiver::Act;

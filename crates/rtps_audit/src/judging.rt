@@ -1,13 +1,13 @@
 ghost use Rattle.std.specs.Prelude.{ℤ, ◌≡◌, ◌↔◌, pos, map, IfOk};
 ghost use Rattle.rtps_audit.specs.Delivered.{IsDelivered, IsPlain};
 ghost use Rattle.rtps_audit.specs.Delivery.{last_announced};
+ghost use Rattle.rtps_audit.specs.FullRun.{HasFullRun};
 ghost use Rattle.rtps_audit.specs.RunVerdict.{IsVerdict};
 ghost use Rattle.rtps_audit.specs.Speech.{speech_of};
 
-use rtps_coverage::Coverage;
 use crate::judge_state::Judge;
-use rtps_coverage::MergedRanges;
 use crate::verdict::Verdict;
+use rtps_coverage::{Coverage, MergedRanges};
 use rtps_discovery::Pair;
 use rtps_ids::Memory;
 use rtps_receiver::Walk;
@@ -45,6 +45,10 @@ pub fn judge_by<C: Coverage>(
     // The plain condition is enough for it.
     ensures plain { let speech = speech_of pair.writer pair.reader (map (λ datagram. datagram.now) recording.now) in
         IfOk result (λ verdict. IsPlain speech → verdict ≡ Verdict.Complete (pos (last_announced speech))) }
+
+    // Where any run exists, the one that takes all it can after each send is a run.
+    ensures full_run { IfOk result (HasFullRun
+        (speech_of pair.writer pair.reader (map (λ datagram. datagram.now) recording.now))) }
 {
     let verdict = judged::<C>(alloc, recording, pair)?;
     Ok(verdict)
@@ -59,6 +63,8 @@ pub fn judge(alloc: Global, recording: &[&[u8]], pair: Pair) -> Result<Verdict, 
         IfOk result (λ verdict. (last : ℤ) → (verdict ≡ Verdict.Complete last) ↔ IsDelivered speech last) }
     ensures plain { let speech = speech_of pair.writer pair.reader (map (λ datagram. datagram.now) recording.now) in
         IfOk result (λ verdict. IsPlain speech → verdict ≡ Verdict.Complete (pos (last_announced speech))) }
+    ensures full_run { IfOk result (HasFullRun
+        (speech_of pair.writer pair.reader (map (λ datagram. datagram.now) recording.now))) }
 {
     judge_by::<MergedRanges>(alloc, recording, pair)
 }

@@ -1,7 +1,7 @@
 //! Laws over definitions alone. Each function does nothing: its clause is the law, and its
 //! proof the law's proof. The laws on deliveries hold whatever the number is from which on numbers are asked for.
 
-ghost use Rattle.rtps_audit.specs.Laws.{ReachedStatesAreSound, RunsExistWhereFounded, FullRunDecides, VerdictsAgree, PlainMeansComplete, HasNoTwoVerdicts, EachHasAVerdict, VerdictsFollowWhatIsSaid};
+ghost use Rattle.rtps_audit.specs.Laws.{ReachedStatesAreSound, RunsExistWhereFounded, FullRunDecides, VerdictsAgree, PlainMeansComplete, HasNoTwoVerdicts, EachHasAVerdict, VerdictsFollowWhatIsSaid, RecordingsAreBounded, EachRecordingHasAVerdict, FullRunDecidesRecordings, HeldStaysHeld, OpenIsFirstMissed, ConflictIsFirst};
 
 /// Whatever datagrams are sent and whatever words are taken, in any order: each word that the reader holds was
 /// given by an act of a datagram that was sent, and each number that an answer in such a datagram claims is
@@ -45,4 +45,36 @@ pub fn each_has_a_verdict()
 /// The verdict does not depend on how the words of a datagram are shared out among its acts.
 pub fn verdicts_follow_what_is_said()
     ensures { VerdictsFollowWhatIsSaid }
+{}
+
+/// Each word that a recording of octets has for a number is for one below 2^63.
+pub fn recordings_are_bounded()
+    ensures { RecordingsAreBounded }
+{}
+
+/// Each recording has a verdict on any two GUIDs.
+pub fn each_recording_has_a_verdict()
+    ensures { EachRecordingHasAVerdict }
+{}
+
+/// In each recording, a run exists exactly where the run that takes all it can after each send is one.
+pub fn full_run_decides_recordings()
+    ensures { FullRunDecidesRecordings }
+{}
+
+/// A word that the reader holds stays held, whatever is sent and taken after it.
+pub fn held_stays_held()
+    ensures { HeldStaysHeld }
+{}
+
+/// Where the verdict is open, some run never has a word for its number, and every run ends with one for each smaller
+/// number that is asked for.
+pub fn open_is_first_missed()
+    ensures { OpenIsFirstMissed }
+{}
+
+/// Where the verdict is conflict, some run ends with two different payloads for its number, and none does for a
+/// smaller one.
+pub fn conflict_is_first()
+    ensures { ConflictIsFirst }
 {}

@@ -1,11 +1,11 @@
 ghost use Rattle.std.specs.Prelude.{◌≡◌, ◌<◌, ◌≤◌, ◌^◌, ◌++◌, ◌∷◌, [], ℕ, List, OnOk};
 ghost use Rattle.rtps_ids.specs.declared.identity.Guid.{Guid as GuidValue};
 
-use rtps_coverage::Coverage;
 use crate::hearing::{Front, Hearing};
 use crate::placed::Placed;
 use crate::said::{note_heard, number_in};
 use crate::words::Words;
+use rtps_coverage::Coverage;
 use rtps_discovery::Pair;
 use rtps_ids::Memory;
 use std::alloc::Global;

@@ -4,8 +4,8 @@ ghost use Rattle.rtps_coverage.specs.Coverage.{TellsMore};
 ghost use Rattle.rtps_audit.specs.KeptPayloads.{KeepsMore};
 ghost use Rattle.rtps_audit.specs.Speech.{announced_for, base_for, word_for};
 
-use rtps_coverage::Coverage;
 use crate::words::Words;
+use rtps_coverage::Coverage;
 use rtps_discovery::Pair;
 use rtps_ids::Memory;
 use rtps_receiver::{Act, ActBody};

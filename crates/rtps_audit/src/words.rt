@@ -5,8 +5,8 @@ ghost use Rattle.rtps_audit.specs.RunVerdict.{IsLeast};
 ghost use Rattle.rtps_audit.specs.KeptPayloads.{IsNumbered, KeepsMore, KeepsTwo};
 ghost use Rattle.rtps_audit.specs.Speech.{is_in_gap, is_in_gap_below, word_of};
 
-use rtps_coverage::Coverage;
 use crate::payloads::{KeptPayload, least_conflict, put_in_order};
+use rtps_coverage::Coverage;
 use rtps_ids::Memory;
 use rtps_receiver::ActBody;
 use rtps_wire::GapBody;
