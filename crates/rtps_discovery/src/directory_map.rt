@@ -94,7 +94,9 @@ impl<'a> Directory<'a> {
     pub fn participants(&self) -> Result<Vec<Guid>, Memory>
         ensures { IfOk result (λ guids. guids.items ≡ self.now.participants) }
     {
-        Ok(self.participants.iter().copied().collect(self.alloc)?)
+        let mut guids = Vec::with_capacity(self.alloc, self.participants.len())?;
+        guids.extend(self.participants.iter().copied())?;
+        Ok(guids)
     }
 
     /// The endpoints whose announcements agree, in the order of their GUIDs.

@@ -82,8 +82,10 @@ pub(crate) fn settled<'a>(
     ensures { IfOk result (λ found. found.items
         ≡ map (λ kept. kept.endpoint) (filter (λ kept. kept.settled) (values endpoints.now))) }
 {
-    let found = endpoints.values().filter(|kept| kept.settled);
-    Ok(found.map(|kept| kept.endpoint).collect(alloc)?)
+    let mut found = Vec::with_capacity(alloc, endpoints.len())?;
+    let settled = endpoints.values().filter(|kept| kept.settled);
+    found.extend(settled.map(|kept| kept.endpoint))?;
+    Ok(found)
 }
 
 /// How many GUIDs have announcements that disagree.

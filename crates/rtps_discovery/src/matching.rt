@@ -61,6 +61,11 @@ pub(crate) fn match_of(writer: &Endpoint<'_>, reader: &Endpoint<'_>) -> Match
 pub(crate) fn reliable_pairs(alloc: Global, found: &[Match]) -> Result<Vec<Pair>, Memory>
     ensures { IfOk result (λ pairs. pairs.items ≡ reliable_pairs_lem found.now) }
 {
-    let reliable = found.iter().filter(|found| found.reliable);
-    Ok(reliable.map(|found| found.pair).collect(alloc)?)
+    let mut pairs = Vec::new(alloc);
+    for one in found {
+        if one.reliable {
+            pairs.push(one.pair)?;
+        }
+    }
+    Ok(pairs)
 }

@@ -39,12 +39,13 @@ fn readers_by_topic<'a>(
 fn readers_among<'a>(alloc: Global, endpoints: &[Endpoint<'a>]) -> Result<Vec<Endpoint<'a>>, Memory>
     ensures { IfOk result (λ readers. readers.items ≡ readers_among_lem endpoints.now) }
 {
-    let endpoints = endpoints.iter().copied();
-    Ok(
-        endpoints
-            .filter(|endpoint| endpoint.side == Side::Reader)
-            .collect(alloc)?,
-    )
+    let mut readers = Vec::new(alloc);
+    for endpoint in endpoints {
+        if endpoint.side == Side::Reader {
+            readers.push(*endpoint)?;
+        }
+    }
+    Ok(readers)
 }
 
 /// The readers of a topic, among readers that are sorted by topic.
