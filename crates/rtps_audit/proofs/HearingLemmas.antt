@@ -1,6 +1,6 @@
 -- What a listener has heard after one act more, and what a hearing tells of it.
 use Rattle.std.proofs.Common.{◌≡◌, ℕ, zero, suc, ℤ, pos, negsuc, ◌+◌, ◌-◌, ◌<◌, ◌≤◌, ◌^◌, ltb, Bool, true, false, not, List, [], ◌∷◌, ◌++◌, length, get_or, slice_index_or, take, max, map, Option, Some, None, ◌⊎◌, inl, inr, refl, sym, ap, ◌∙◌, subst, arith}
-use Rattle.std.specs.Prelude.{IfSome, if◌then◌else◌, ◌&&◌, MatchOption, is_some, unwrap_or}
+use Rattle.std.specs.Prelude.{IfSome, if◌then◌else◌, ◌&&◌, ◌||◌, MatchOption, is_some, unwrap_or}
 use Rattle.std.specs.Bool.{beq}
 use Rattle.std.specs.List.{All, AllWithin}
 use Rattle.std.specs.List.Sorted.{IsNonDecreasingBy, IsPartitionPoint}
@@ -11,9 +11,11 @@ use Rattle.std.proofs.lemmas.List.Elements.{All-contains, All-map, All-nil, All-
 use Rattle.std.proofs.lemmas.List.Sorted.{IsNonDecreasingBy-push, IsNonDecreasingBy-short}
 use Rattle.rtps_ids.specs.declared.identity.Guid.{Guid}
 use Rattle.rtps_wire.specs.Values.{PayloadValue}
-use Rattle.rtps_receiver.specs.Speech.{is_heard_by, is_spoken_by}
-use Rattle.rtps_receiver.specs.Values.{act_value}
+use Rattle.rtps_receiver.specs.Speech.{is_for, is_for_all, is_heard_by, is_spoken_by, names, reader_named, unknown_entity}
+use Rattle.rtps_ids.specs.declared.identity.GuidPrefix.{GuidPrefix}
+use Rattle.rtps_receiver.specs.Values.{ActValue, act_value}
 use Rattle.rtps_coverage.specs.Coverage.{IsFront, TellsMore}
+use Rattle.rtps_audit.specs.Common.{nobody}
 use Rattle.rtps_audit.specs.Delivery.{Word}
 use Rattle.rtps_audit.specs.Delivery.Word.{Told}
 use Rattle.rtps_audit.specs.Hearing.{HearsTwo, IsCut, IsFrontBy, IsHeard, IsListening, IsTimeline, IsToldBy, Hears, Marks, front_after}
@@ -362,3 +364,18 @@ same_tests true true e = refl
 same_tests true false e = cc
 same_tests false true e = cc
 same_tests false false e = refl
+
+-- what is for all readers is heard by all
+pub for_all_alike : (act : ActValue) (reader : Guid) → is_some act.dest ≡ false → is_heard_by act nobody ≡ true → is_heard_by act reader ≡ is_heard_by act nobody
+for_all_alike act reader for_all heard = by_dest act.dest for_all refl ∙ sym heard
+  where
+    either : (a b : Bool) → (a || a) ≡ true → (a || b) ≡ true
+    either true b e = refl
+    either false b e = cc
+    by_dest : (dest : Option GuidPrefix) → is_some dest ≡ false → act.dest ≡ dest → is_heard_by act reader ≡ true
+    by_dest (Some prefix) e is = cc
+    by_dest None e is =
+        let known : (names (reader_named act.body) unknown_entity || names (reader_named act.body) unknown_entity) ≡ true =
+            sym (ap (λ d. (is_for_all d || is_for d nobody.prefix) && (names (reader_named act.body) unknown_entity || names (reader_named act.body) unknown_entity)) is) ∙ heard in
+        ap (λ d. (is_for_all d || is_for d reader.prefix) && (names (reader_named act.body) unknown_entity || names (reader_named act.body) reader.entity)) is
+        ∙ either (names (reader_named act.body) unknown_entity) (names (reader_named act.body) reader.entity) known

@@ -1,6 +1,7 @@
 -- What is heard from a writer by the readers that it does not name. own: they all hear the same, so it is worked out once.
-use Rattle.std.specs.Prelude.{ℕ, List, filter, replicate}
+use Rattle.std.specs.Prelude.{ℕ, ◌≡◌, true, All, List, filter, replicate}
 use Rattle.rtps_ids.specs.declared.identity.Guid.{Guid}
+use Rattle.rtps_receiver.specs.Speech.{is_heard_by}
 use Rattle.rtps_audit.specs.Hearing.{Hears}
 use Rattle.rtps_audit.specs.Placed.{is_from, placed_in}
 use Rattle.rtps_audit.specs.declared.common.Common.{Common}
@@ -9,6 +10,8 @@ use Rattle.rtps_audit.specs.declared.common.Common.{Common}
 abbrev pub nobody : Guid
 nobody = record { prefix = record { 0 = replicate 12 0 }; entity = record { 0 = replicate 4 0 } }
 
--- it is what is heard from its writer in this recording
-abbrev pub IsCommon : List (List ℕ) → Common → Type 0
-IsCommon recording common = Hears common.hearing common.writer nobody (filter (is_from common.writer) (placed_in recording))
+-- It is what is heard from its writer in this recording, and where it says so, all readers hear it.
+pub record IsCommon (recording : List (List ℕ)) (common : Common) : Type 0 where
+  pub hearing : Hears common.hearing common.writer nobody (filter (is_from common.writer) (placed_in recording))
+  pub for_all : common.for_all ≡ true
+    → (reader : Guid) → All (λ at. is_heard_by at.act reader ≡ is_heard_by at.act nobody) (filter (is_from common.writer) (placed_in recording))

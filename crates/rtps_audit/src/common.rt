@@ -1,4 +1,5 @@
 ghost use Rattle.std.specs.Prelude.{◌≡◌, ◌↔◌, ℕ, All, IfOk, IsTrue, List, OnOk};
+ghost use Rattle.rtps_ids.specs.declared.identity.Guid.{Guid as GuidValue};
 ghost use Rattle.rtps_receiver.specs.Speech.{is_heard_by};
 ghost use Rattle.rtps_receiver.specs.Values.{act_value};
 ghost use Rattle.rtps_audit.specs.Common.{nobody};
@@ -21,6 +22,8 @@ const NOBODY: Guid = Guid {
 pub(crate) struct Common {
     pub(crate) writer: Guid,
     pub(crate) hearing: Hearing,
+    /// It names no reader at all, so that they are all readers.
+    pub(crate) for_all: bool,
 }
 
 /// Whether a reader hears of these acts just those that are for all readers.
@@ -36,7 +39,22 @@ fn hears_as_all(acts: &[Placed<'_>], reader: Guid) -> bool
     true
 }
 
+/// Whether these acts are for all readers, so that all hear the same.
+fn are_for_all(acts: &[Placed<'_>]) -> bool
+    ensures { IsTrue result → (reader : GuidValue) → All (λ placed. is_heard_by (act_value placed.act) reader
+        ≡ is_heard_by (act_value placed.act) nobody) acts.now }
+{
+    for placed in acts {
+        if placed.act.dest.is_some() || !placed.act.heard_by(NOBODY) {
+            return false;
+        }
+    }
+    true
+}
+
 impl Common {
+    ghost use Rattle.std.specs.Prelude.{filter};
+    ghost use Rattle.rtps_audit.specs.Placed.{is_from, placed_in};
     ghost use Rattle.rtps_audit.specs.Common.{IsCommon};
     ghost use Rattle.rtps_audit.specs.Index.{IsIndexOf};
     ghost use Rattle.rtps_audit.specs.RunVerdict.{IsVerdict};
@@ -52,8 +70,14 @@ impl Common {
             writer,
             reader: NOBODY,
         };
-        let hearing = Hearing::of(index.alloc, index.acts_of(writer), everyone)?;
-        Ok(Common { writer, hearing })
+        let acts = index.acts_of(writer);
+        let hearing = Hearing::of(index.alloc, acts, everyone)?;
+        let for_all = are_for_all(acts);
+        Ok(Common {
+            writer,
+            hearing,
+            for_all,
+        })
     }
 
     /// Of no writer yet.
@@ -64,7 +88,7 @@ impl Common {
         Ok(common)
     }
 
-    /// Turns to a writer, if it is another one. After `Memory` nothing has changed.
+    /// Turns to a writer, if it is another one.
     pub(crate) fn turn_to(&mut self, index: &Index<'_>, writer: Guid) -> Result<(), Memory>
         ensures writer { OnOk result (self.new.writer ≡ writer) }
         ensures common { (recording : List (List ℕ)) → IsIndexOf recording index.now → IsCommon recording self.old
@@ -76,12 +100,21 @@ impl Common {
         Ok(())
     }
 
+    /// Whether this is what the reader of a pair of this writer hears.
+    fn is_heard_by(&self, index: &Index<'_>, pair: Pair) -> bool
+        ensures { (recording : List (List ℕ)) → IsIndexOf recording index.now → IsCommon recording self.now
+            → self.now.writer ≡ pair.writer → IsTrue result
+            → All (λ at. is_heard_by at.act pair.reader ≡ is_heard_by at.act nobody) (filter (is_from pair.writer) (placed_in recording)) }
+    {
+        self.for_all || hears_as_all(index.acts_of(pair.writer), pair.reader)
+    }
+
     /// Judges a pair of this writer.
     pub(crate) fn judge(&self, index: &Index<'_>, pair: Pair) -> Result<Verdict, Memory>
         ensures { (recording : List (List ℕ)) → IsIndexOf recording index.now → IsCommon recording self.now
             → self.now.writer ≡ pair.writer → IfOk result (IsVerdict (speech_of pair.writer pair.reader recording)) }
     {
-        if hears_as_all(index.acts_of(pair.writer), pair.reader) {
+        if self.is_heard_by(index, pair) {
             Ok(self.hearing.verdict(index.answers_of(pair)))
         } else {
             let verdict = index.judge(pair)?;

@@ -25,7 +25,7 @@ impl<K: Ord + Copy + Drop, V: Copy + Drop> Groups<K, V> {
         }
     }
 
-    /// Appends values to those of their key. After `Memory` there are as many values as before.
+    /// Appends values to those of their key. After `Memory` the lists are of no use.
     pub(crate) fn push(&mut self, key: K, values: &[V]) -> Result<(), Memory>
         ensures { OnOk result ((other : K) → values_at K.cmp self.new.map other
             ≡ values_at K.cmp self.old.map other ++ cond (is_eq (K.cmp other key)) values.now []) }

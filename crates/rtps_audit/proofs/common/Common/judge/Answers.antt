@@ -8,12 +8,11 @@ use Rattle.rtps_audit.proofs.HearingLemmas.{alike_values, hears_too}
 use Rattle.rtps_audit.proofs.IndexVerdict.{verdict_by_index}
 use Rattle.rtps_audit.proofs.common.Common.judge.Goals as goal
 
-pub returns-then-hears_as_all : goal.returns-then-hears_as_all
-returns-then-hears_as_all c = λ recording is known same.
+pub returns-then-is_heard_by : goal.returns-then-is_heard_by
+returns-then-is_heard_by c = λ recording is known same.
     let pair = c.args.pair in
     let hearing = c.args.self.now.hearing in
-    let acts = c.acts_of.ensures recording is in
-    let all = subst (λ (w : Guid). Hears hearing w nobody (filter (is_from w) (placed_in recording))) same known in
-    let alike = subst (All (λ (at : PlacedValue). is_heard_by at.act pair.reader ≡ is_heard_by at.act nobody)) acts (alike_values c.acts_of.result.now pair.reader nobody (c.hears_as_all.ensures.0 c.if-hears_as_all.true)) in
+    let all = subst (λ (w : Guid). Hears hearing w nobody (filter (is_from w) (placed_in recording))) same known.hearing in
+    let alike = c.is_heard_by.ensures recording is known same c.if-is_heard_by.true in
     let heard = hears_too hearing pair.writer nobody pair.reader (filter (is_from pair.writer) (placed_in recording)) (λ k d lt. sym (alike k d lt)) all in
     verdict_by_index pair recording hearing _ c.verdict.result heard (c.answers_of.ensures recording is) (c.verdict.ensures pair.writer pair.reader)
