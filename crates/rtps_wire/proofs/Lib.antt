@@ -4,3 +4,8 @@ pub mod SetFields
 pub mod Skips
 pub mod Submessages
 pub mod Offered
+pub mod Octets
+pub mod WrittenFields
+pub mod WrittenInfo
+pub mod WrittenHeartbeat
+pub mod WrittenSets

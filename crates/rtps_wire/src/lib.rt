@@ -11,6 +11,7 @@ pub mod laws;
 mod layout;
 mod message;
 mod read;
+mod write_fault;
 #[cfg(test)]
 mod tests;
 
@@ -21,3 +22,4 @@ pub use fault::{Refusal, WireFault};
 pub use flags::DataFlags;
 pub use header::Header;
 pub use message::Items;
+pub use write_fault::WriteFault;
