@@ -1,13 +1,20 @@
 -- Lemmas about the definitions of this crate, for the crates above it: what octets without a set, or with one, say of
--- it, and whether a number is in a set.
-use Rattle.std.proofs.Common.{◌≡◌, ◌+◌, ◌-◌, ◌<◌, ◌≤◌, List, ℕ, zero, suc, ℤ, pos, negsuc, Bool, true, false, Some, None, length, refl, ◌∙◌, ap, arith}
-use Rattle.std.specs.Prelude.{int_le}
+-- it, whether a number is in a set, and that the octets of a number are read as that number.
+use Rattle.std.proofs.Common.{◌≡◌, ◌+◌, ◌-◌, ◌*◌, ◌/◌, ◌%◌, ◌^◌, ◌<◌, ◌≤◌, List, ◌++◌, drop, ℕ, zero, suc, ℤ, pos, negsuc, ◌-ℤ◌, Bool, true, false, Some, None, length, refl, ◌∙◌, ap, sym, arith, append_assoc}
+use Rattle.std.specs.Prelude.{int_le, nat_lt, FitsSigned}
+use Rattle.std.specs.Int.{cast_signed, cast_unsigned, w64}
+use Rattle.byteorder.specs.Endian.{twos_complement}
+use Rattle.byteorder.specs.Numbers.{big_number-reads_back, length-bytes_high_first, length-bytes_low_first, little_number-reads_back}
 use Rattle.std.specs.Bool.{Decides}
 use Rattle.std.specs.Int.RustNames.{unsigned_abs}
+use Rattle.std.proofs.Math.Facts.{Fits-of_z}
 use Rattle.std.proofs.lemmas.Bool.Decides.{nat_tests}
-use Rattle.std.proofs.lemmas.Int.{ints}
+use Rattle.std.proofs.lemmas.Int.{ints, to_z-of_z}
+use Rattle.std.proofs.lemmas.List.{drop_at, length-append}
 use Rattle.rtps_ids.specs.NumberSet.{IsMember, NumberSetValue, bit_of, is_bad, is_member, octets_of_count, set_fault, spelled_base, spelled_count}
+use Rattle.rtps_ids.specs.Octets.{number_of, octets_of, sequence_number_octets, sequence_number_of}
 use Rattle.rtps_ids.specs.declared.order.Order.{Order}
+use Rattle.rtps_ids.specs.declared.order.Order.TheVariants.{Big, Little}
 use Rattle.rtps_ids.specs.declared.set_fault.SetFault.TheVariants.{BadSet, CutWords}
 
 -- the octets hold a count, and the set is bad
@@ -72,3 +79,54 @@ not_member set n never = test (is_member set n) refl
     test : (b : Bool) → is_member set n ≡ b → is_member set n ≡ false
     test true e = absurd (never (to_member set n e))
     test false e = e
+
+-- a number has as many octets as were asked for
+pub length-octets_of : (order : Order) (width value : ℕ) → length (octets_of order width value) ≡ width
+unfolding octets_of
+length-octets_of Big width value = length-bytes_high_first width value
+length-octets_of Little width value = length-bytes_low_first 0 width value
+
+pub length-sequence_number_octets : (order : Order) (value : ℤ) → length (sequence_number_octets order value) ≡ 8
+unfolding sequence_number_octets
+length-sequence_number_octets order value =
+    let bits = cast_unsigned w64 value in
+    length-append (octets_of order 4 (bits / 2 ^ 32)) _ ∙ omega (arith, length-octets_of order 4 (bits / 2 ^ 32), length-octets_of order 4 (bits % 2 ^ 32))
+
+-- the octets of a number are read as the number, whatever follows
+pub number-octets_of : (order : Order) (width value : ℕ) (rest : List ℕ) → value < 256 ^ width → number_of order width (octets_of order width value ++ rest) ≡ value
+unfolding octets_of number_of
+number-octets_of Big width value rest fits = big_number-reads_back width value rest fits
+number-octets_of Little width value rest fits = little_number-reads_back width value rest fits
+
+below : (bits wide : ℕ) → bits < wide → pos bits -ℤ pos wide ≡ negsuc (wide - suc bits)
+below bits wide lt = omega (arith, ints)
+
+twos_complement-cast_unsigned : (value : ℤ) → FitsSigned w64 value → twos_complement 8 (cast_unsigned w64 value) ≡ value
+twos_complement-cast_unsigned value fits = by (nat_lt (cast_unsigned w64 value) (2 ^ 63)) refl
+  where
+    back : cast_signed w64 (cast_unsigned w64 value) ≡ value
+    back = to_z-of_z w64 value fits
+
+    by : (t : Bool) → nat_lt (cast_unsigned w64 value) (2 ^ 63) ≡ t → twos_complement 8 (cast_unsigned w64 value) ≡ value
+    by true e = rw e (rw e at back)
+    by false e = rw e (below (cast_unsigned w64 value) (2 ^ 64) (Fits-of_z fits).fits ∙ (rw e at back))
+
+-- and those of a sequence number
+pub sequence_number-octets : (order : Order) (value : ℤ) (rest : List ℕ) → FitsSigned w64 value → sequence_number_of order (sequence_number_octets order value ++ rest) ≡ value
+unfolding sequence_number_octets sequence_number_of
+sequence_number-octets order value rest fits =
+    let bits = cast_unsigned w64 value in
+    let small : bits < 2 ^ 64 = (Fits-of_z fits).fits in
+    let after : octets_of order 4 (bits / 2 ^ 32) ++ (octets_of order 4 (bits % 2 ^ 32) ++ rest) ≡ (octets_of order 4 (bits / 2 ^ 32) ++ octets_of order 4 (bits % 2 ^ 32)) ++ rest = sym (append_assoc (octets_of order 4 (bits / 2 ^ 32)) _ rest) in
+    let high : number_of order 4 ((octets_of order 4 (bits / 2 ^ 32) ++ octets_of order 4 (bits % 2 ^ 32)) ++ rest) ≡ bits / 2 ^ 32 =
+    ap (number_of order 4) (sym after) ∙ number-octets_of order 4 (bits / 2 ^ 32) _ (omega arith) in
+    let low : number_of order 4 (drop 4 ((octets_of order 4 (bits / 2 ^ 32) ++ octets_of order 4 (bits % 2 ^ 32)) ++ rest)) ≡ bits % 2 ^ 32 =
+    ap (λ (l : List ℕ). number_of order 4 (drop 4 l)) (sym after) ∙ ap (number_of order 4) (drop_at _ _ 4 (length-octets_of order 4 _)) ∙ number-octets_of order 4 (bits % 2 ^ 32) rest (omega arith) in
+    let whole : bits / 2 ^ 32 * 2 ^ 32 + bits % 2 ^ 32 ≡ bits = omega arith in
+    ap (λ (n : ℕ). twos_complement 8 (n * 2 ^ 32 + number_of order 4 (drop 4 ((octets_of order 4 (bits / 2 ^ 32) ++ octets_of order 4 (bits % 2 ^ 32)) ++ rest)))) high
+    ∙ ap (λ (n : ℕ). twos_complement 8 (bits / 2 ^ 32 * 2 ^ 32 + n)) low
+    ∙ ap (twos_complement 8) whole
+    ∙ twos_complement-cast_unsigned value fits
+
+-- those, for tactics
+pub ruleset octets_read_back = (length-octets_of, length-sequence_number_octets, number-octets_of, sequence_number-octets)

@@ -1,8 +1,9 @@
 //! Laws of the definitions, as contracts of functions that do nothing.
 
-ghost use Rattle.std.specs.Prelude.{◌≡◌, ◌↔◌, ◌<◌, ◌+◌, ◌/◌, ◌%◌, ◌-◌, ℕ, List, None, pos, true};
-ghost use Rattle.std.specs.Int.{bit_at};
+ghost use Rattle.std.specs.Prelude.{◌≡◌, ◌↔◌, ◌<◌, ◌+◌, ◌/◌, ◌%◌, ◌-◌, ◌^◌, ◌++◌, ℕ, ℤ, List, FitsSigned, None, length, pos, true};
+ghost use Rattle.std.specs.Int.{bit_at, w64};
 ghost use Rattle.rtps_ids.specs.NumberSet.{IsMember, NumberSetValue, bit_of, cleared_words, is_member, set_fault, spelled_count, spelled_set, spelled_word};
+ghost use Rattle.rtps_ids.specs.Octets.{number_of, octets_of, sequence_number_octets, sequence_number_of};
 ghost use Rattle.rtps_ids.specs.declared.order.Order.{Order};
 
 /// The bits of a set that is kept are those of the words that it was made from, up to its count; later ones are
@@ -26,4 +27,20 @@ pub fn members_are_the_bits_that_are_set()
     ensures { (order : Order) (octets : List ℕ) (i : ℕ) → set_fault order octets ≡ None
         → IsMember (spelled_set order octets) (pos ((spelled_set order octets).base + i))
         ↔ ((i < spelled_count order octets) × (bit_at (spelled_word order octets (i / 32)) (31 - i % 32) ≡ 1)) }
+{}
+
+/// The octets of a number, as many as were asked for, are read as that number, whatever follows.
+#[tactic(auto, using(crate::proofs::Offered::octets_read_back))]
+pub fn octets_of_a_number_are_read_as_it()
+    ensures length { (order : Order) (width value : ℕ) → length (octets_of order width value) ≡ width }
+    ensures number { (order : Order) (width value : ℕ) (rest : List ℕ) → value < 256 ^ width
+        → number_of order width (octets_of order width value ++ rest) ≡ value }
+{}
+
+/// The eight octets of a sequence number are read as that number, whatever follows.
+#[tactic(auto, using(crate::proofs::Offered::octets_read_back))]
+pub fn octets_of_a_sequence_number_are_read_as_it()
+    ensures length { (order : Order) (value : ℤ) → length (sequence_number_octets order value) ≡ 8 }
+    ensures number { (order : Order) (value : ℤ) (rest : List ℕ) → FitsSigned w64 value
+        → sequence_number_of order (sequence_number_octets order value ++ rest) ≡ value }
 {}

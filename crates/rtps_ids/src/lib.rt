@@ -16,7 +16,7 @@ mod tests;
 pub use identity::{EntityId, Guid, GuidPrefix, Stamp, Vendor, Version};
 pub use memory::Memory;
 pub use number::SeqNum;
-pub use octets::{number_at, u16_at, u32_at};
+pub use octets::{number_at, put_number, put_u16, put_u32, u16_at, u32_at};
 pub use order::Order;
 pub use set::NumberSet;
 pub use set_fault::SetFault;

@@ -1,6 +1,6 @@
 use crate::{
-    EntityId, Guid, GuidPrefix, NumberSet, Order, SeqNum, SetFault, Vendor, number_at, u16_at,
-    u32_at,
+    EntityId, Guid, GuidPrefix, NumberSet, Order, SeqNum, SetFault, Vendor, number_at, put_number,
+    put_u16, put_u32, u16_at, u32_at,
 };
 use std::test::Fail;
 
@@ -19,6 +19,23 @@ fn numbers_in_either_order(rt: HostRuntime) {
     );
     assert_eq!(rt; number_at(Order::Big, &[255; 8], 0), Some(-1));
     assert_eq!(rt; number_at(Order::Big, &octets, usize::MAX), None);
+}
+
+#[test]
+fn numbers_are_written_in_either_order(rt: HostRuntime) -> Result<(), Fail> {
+    let mut octets = Vec::new(rt.alloc());
+    put_u16(Order::Big, 258, &mut octets)?;
+    put_u32(Order::Little, 0x0102_0304, &mut octets)?;
+    put_number(Order::Little, 1, &mut octets)?;
+    put_number(Order::Big, -2, &mut octets)?;
+    assert_eq!(rt;
+        octets.as_slice(),
+        [
+            1, 2, 4, 3, 2, 1, 0, 0, 0, 0, 1, 0, 0, 0, 255, 255, 255, 255, 255, 255, 255, 254,
+        ]
+        .as_slice()
+    );
+    Ok(())
 }
 
 #[test]
