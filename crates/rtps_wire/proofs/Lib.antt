@@ -4,8 +4,10 @@ pub mod SetFields
 pub mod Skips
 pub mod Submessages
 pub mod Offered
-pub mod Octets
 pub mod WrittenFields
 pub mod WrittenInfo
 pub mod WrittenHeartbeat
 pub mod WrittenSets
+pub mod WrittenAckNack
+pub mod WrittenGap
+pub mod WrittenData

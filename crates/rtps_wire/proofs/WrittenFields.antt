@@ -1,13 +1,14 @@
 -- Fields of written octets, found at their places.
 use Rattle.std.proofs.Common.{◌≡◌, ◌<◌, ◌+◌, ◌^◌, ℕ, ℤ, pos, List, [], ◌++◌, length, take, drop, refl, ap, sym, ◌∙◌, subst, arith}
 use Rattle.std.specs.Prelude.{◌≤ℤ◌, ◌<ℤ◌}
+use Rattle.std.proofs.lemmas.Int.{ints}
 use Rattle.std.proofs.lemmas.List.{append-nil, drop-drop, drop_at, take_all, take_at}
 use Rattle.rtps_ids.specs.Octets.{number_of, octets_of, sequence_number_octets, sequence_number_of}
 use Rattle.rtps_ids.specs.declared.identity.EntityId.{EntityId}
 use Rattle.rtps_ids.specs.declared.identity.GuidPrefix.{GuidPrefix}
 use Rattle.rtps_ids.specs.declared.identity.Vendor.{Vendor}
 use Rattle.rtps_ids.specs.declared.order.Order.{Order}
-use Rattle.rtps_wire.proofs.Octets.{number_of-octets, sequence_number_of-octets}
+use Rattle.rtps_ids.proofs.Offered.{number-octets_of, sequence_number-octets}
 use Rattle.rtps_wire.specs.Fields.{entity_at, prefix_at, vendor_at}
 
 -- behind a field that is passed over
@@ -38,11 +39,11 @@ prefix_read prefix at octets is found =
     ap made (taken_last prefix.0 (drop at octets) 12 is found)
 
 pub word_read : (order : Order) (value : ℕ) (rest octets : List ℕ) → value < 2 ^ 32 → octets ≡ octets_of order 4 value ++ rest → number_of order 4 octets ≡ value
-word_read order value rest octets small found = ap (number_of order 4) found ∙ number_of-octets order 4 value rest small
+word_read order value rest octets small found = ap (number_of order 4) found ∙ number-octets_of order 4 value rest small
 
 pub word_read_last : (order : Order) (value : ℕ) (octets : List ℕ) → value < 2 ^ 32 → octets ≡ octets_of order 4 value → number_of order 4 octets ≡ value
 word_read_last order value octets small found = word_read order value [] octets small (found ∙ sym (append-nil _))
 
 pub sequence_number_read : (order : Order) (value : ℤ) (rest octets : List ℕ) → pos 0 ≤ℤ value → value <ℤ pos (2 ^ 63) → octets ≡ sequence_number_octets order value ++ rest
     → sequence_number_of order octets ≡ value
-sequence_number_read order value rest octets low high found = ap (sequence_number_of order) found ∙ sequence_number_of-octets order value rest low high
+sequence_number_read order value rest octets low high found = ap (sequence_number_of order) found ∙ sequence_number-octets order value rest (omega (arith, ints))

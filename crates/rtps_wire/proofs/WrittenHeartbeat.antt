@@ -9,7 +9,7 @@ use Rattle.rtps_ids.specs.Octets.{octets_of, sequence_number_octets}
 use Rattle.rtps_ids.specs.declared.identity.EntityId.{EntityId}
 use Rattle.rtps_ids.specs.declared.order.Order.{Order}
 use Rattle.rtps_ids.specs.declared.order.Order.TheVariants.{Big, Little}
-use Rattle.rtps_wire.proofs.Octets.{length-octets_of, length-sequence_number_octets}
+use Rattle.rtps_ids.proofs.Offered.{length-octets_of, length-sequence_number_octets}
 use Rattle.rtps_wire.proofs.WrittenFields.{entity_read, past, sequence_number_read, word_read_last}
 use Rattle.rtps_wire.specs.Flags.{flag_if, order_flag}
 use Rattle.rtps_wire.specs.Held.{IsHeldHeartbeat}

@@ -10,7 +10,7 @@ use Rattle.rtps_ids.specs.declared.identity.Version.{Version}
 use Rattle.rtps_ids.specs.Octets.{number_of}
 use Rattle.rtps_ids.specs.declared.order.Order.{Order}
 use Rattle.rtps_ids.specs.declared.order.Order.TheVariants.{Big, Little}
-use Rattle.rtps_wire.proofs.Octets.{length-octets_of}
+use Rattle.rtps_ids.proofs.Offered.{length-octets_of}
 use Rattle.rtps_wire.proofs.WrittenFields.{past, prefix_read, vendor_read, word_read, word_read_last}
 use Rattle.rtps_wire.specs.Flags.{order_flag}
 use Rattle.rtps_wire.specs.Held.{IsHeldTime}

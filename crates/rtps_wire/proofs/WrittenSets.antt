@@ -10,7 +10,7 @@ use Rattle.std.proofs.lemmas.List.{get_or-take, length-append, length-take, leng
 use Rattle.rtps_ids.specs.NumberSet.{IsKeptSet, NumberSetValue, cleared, cleared_words, is_bad, octets_of_count, spelled_base, spelled_count, spelled_set, spelled_word}
 use Rattle.rtps_ids.specs.Octets.{number_of, octets_of, sequence_number_octets}
 use Rattle.rtps_ids.specs.declared.order.Order.{Order}
-use Rattle.rtps_wire.proofs.Octets.{length-octets_of, length-sequence_number_octets, number_of-octets}
+use Rattle.rtps_ids.proofs.Offered.{length-octets_of, length-sequence_number_octets}
 use Rattle.rtps_wire.proofs.WrittenFields.{past, sequence_number_read, word_read}
 use Rattle.rtps_wire.specs.Held.{IsHeldSet}
 use Rattle.rtps_wire.specs.SetField.{set_octets}
@@ -64,7 +64,7 @@ set_good set held =
 pub record SpellsSet (order : Order) (set : NumberSetValue) (octets : List ℕ) : Type 0 where
   pub base : spelled_base order octets ≡ pos set.base
   pub count : spelled_count order octets ≡ set.count
-  pub set : spelled_set order octets ≡ set
+  pub whole : spelled_set order octets ≡ set
 
 cleared_same : (count i word other : ℕ) → (32 * i < count → word ≡ other) → cleared count word i ≡ cleared count other i
 cleared_same count i word other same =
@@ -114,7 +114,7 @@ set_spelled order set rest octets held is =
         ∙ (words_read order (kept_words set) rest i (small_words set held) (omega arith) ∙ get_or-take (word_count set.count) set.words i 0 inside)) in
     let words_are = ap (λ n. cleared_words n (λ i. spelled_word order octets i)) count_is
         ∙ (cleared_words_same set.count _ _ word_is ∙ sym held.kept.clear) in
-    record { base = base_is; count = count_is; set = made _ _ _ _ _ _ (ap unsigned_abs base_is) count_is words_are }
+    record { base = base_is; count = count_is; whole = made _ _ _ _ _ _ (ap unsigned_abs base_is) count_is words_are }
   where
     word_place : (i : ℕ) → 12 + 4 * i ≡ 8 + (4 + 4 * i)
     word_place i = omega arith
