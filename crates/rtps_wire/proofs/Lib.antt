@@ -11,3 +11,5 @@ pub mod WrittenSets
 pub mod WrittenAckNack
 pub mod WrittenGap
 pub mod WrittenData
+pub mod WrittenBodies
+pub mod WrittenMessage
