@@ -17,11 +17,11 @@ use Rattle.rtps_wire.proofs.WrittenBodies.{body_good, body_same, extent_same, or
 use Rattle.rtps_wire.proofs.WrittenFields.{past, vendor_read, taken}
 use Rattle.rtps_wire.specs.Header.{header_fault, header_octets, header_of}
 use Rattle.rtps_wire.specs.Held.{IsHeldBody, IsHeldHeader, IsHeldItem}
-use Rattle.rtps_wire.specs.Message.{Reading, ReadsFrom, ReadsWith, body_fault, body_length, body_octets, body_of, extent_of, fault_at, flags_of, id_of, item_at, next_rest, octets_to_next_header, order_of}
+use Rattle.rtps_wire.specs.Message.{ReadsFrom, ReadsWith, body_fault, body_length, body_octets, body_of, extent_of, fault_at, flags_of, id_of, item_at, next_rest, octets_to_next_header, order_of}
 use Rattle.rtps_wire.specs.Reading.{reading_of}
 use Rattle.rtps_wire.specs.Values.{BodyValue, ItemValue}
 use Rattle.rtps_wire.specs.Writable.{first_of, is_none_left, is_not_writable, item_fault, items_fault, write_fault}
-use Rattle.rtps_wire.specs.Written.{item_octets, message_octets, placed, submessage_octets, written_body, written_flags, written_id}
+use Rattle.rtps_wire.specs.Written.{clean_reading, item_octets, message_octets, placed, submessage_octets, written_body, written_flags, written_id}
 use Rattle.rtps_wire.specs.declared.header.Header.{Header}
 use Rattle.rtps_wire.specs.declared.write_fault.WriteFault.{WriteFault}
 use Rattle.rtps_wire.specs.declared.write_fault.WriteFault.TheVariants.{NotWritable, TooLong, Unaligned}
@@ -144,14 +144,14 @@ no_header_fault true later none = (refl, none)
 no_header_fault false later none = cc
 
 pub written_reads : (header : Header) (items : List ItemValue) → IsHeldHeader header → All IsHeldItem items → write_fault header items ≡ None
-    → ◌≡◌ {A = Reading} (reading_of (message_octets header items)) (record { header = Some header; items = placed 20 items; ending = None })
+    → reading_of (message_octets header items) ≡ clean_reading header items
 written_reads header items held all_held good =
     let rest = flat_map item_octets items in
     let datagram = message_octets header items in
     let parts = no_header_fault (header.version.major == 2) (items_fault items) good in
     let front : header_fault datagram ≡ None = header_good header rest held parts.0 in
     let behind : drop 20 datagram ≡ rest = drop_at (header_octets header) rest 20 (header_long header held) in
-    let reading : Reading = record { header = Some header; items = placed 20 items; ending = None } in
+    let reading = clean_reading header items in
     let reads_rest : ReadsFrom (drop 20 datagram) 20 (placed 20 items) None = rw behind (reads_items items 20 all_held parts.1) in
     let reads : ReadsWith None datagram reading = (ap Some (sym (header_same header rest held)), reads_rest) in
     sym (one_reading datagram reading (rw front reads))

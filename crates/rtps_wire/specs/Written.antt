@@ -1,7 +1,7 @@
 -- The written form of a message. DDSI-RTPS 2.5, 8.3.3 "The Overall Structure of an RTPS Message", 9.4.4 "Mapping of
 -- the RTPS Header" and 9.4.5 "Mapping of the RTPS Submessages". own: octetsToNextHeader is always the length of the
 -- body, also where the standard lets it be 0, so that no submessage takes what stands behind it.
-use Rattle.std.specs.Prelude.{ℕ, ◌+◌, bit_or, List, [], ◌∷◌, ◌++◌, length}
+use Rattle.std.specs.Prelude.{ℕ, ◌+◌, bit_or, List, [], ◌∷◌, ◌++◌, length, Some, None}
 use Rattle.std.specs.List.{flat_map}
 use Rattle.rtps_ids.specs.Octets.{octets_of}
 use Rattle.rtps_ids.specs.declared.order.Order.{Order}
@@ -12,9 +12,11 @@ use Rattle.rtps_wire.specs.Gap.{gap_octets}
 use Rattle.rtps_wire.specs.Header.{header_octets}
 use Rattle.rtps_wire.specs.Heartbeat.{heartbeat_flags, heartbeat_octets}
 use Rattle.rtps_wire.specs.Info.{info_dst_octets, info_src_octets, info_ts_flags, info_ts_octets}
+use Rattle.rtps_wire.specs.Message.{Reading}
 use Rattle.rtps_wire.specs.Values.{BodyValue, ItemValue}
 use Rattle.rtps_wire.specs.Values.BodyValue.{Data, Heartbeat, AckNack, Gap, InfoTs, InfoDst, InfoSrc, Skipped}
 use Rattle.rtps_wire.specs.declared.header.Header.{Header}
+use Rattle.rtps_wire.specs.declared.layout.header.TheConstants.{SIZE}
 use Rattle.rtps_wire.specs.declared.layout.id.TheConstants.{ACKNACK, DATA, GAP, HEARTBEAT, INFO_DST, INFO_SRC, INFO_TS}
 
 -- the id, the flags and the octets of a body; what was skipped has no written form, and then they say nothing
@@ -65,3 +67,7 @@ message_octets header items = header_octets header ++ flat_map item_octets items
 abbrev pub placed : ℕ → List ItemValue → List ItemValue
 placed at [] = []
 placed at (item ∷ items) = record item { at = at } ∷ placed (at + length (item_octets item)) items
+
+-- what such a message says: its header, these items, and no refusal
+abbrev pub clean_reading : Header → List ItemValue → Reading
+clean_reading header items = record { header = Some header; items = placed SIZE items; ending = None }
