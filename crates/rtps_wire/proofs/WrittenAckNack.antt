@@ -78,3 +78,6 @@ ack_nack_same order body held =
       set.whole
       (word_read_last order body.count _ held.count count_at)
       (final_flag order body.is_final)
+
+pub ack_nack_long : (order : Order) (body : AckNackBody) → IsHeldAckNack body → length (ack_nack_octets order body) ≡ 12 + octets_of_count body.set.count
+ack_nack_long order body held = (places order body held).long

@@ -158,3 +158,6 @@ data_same order body held same =
       (ap unsigned_abs (number_is order body octets held at))
       (ap (qos_of order number) behind ∙ qos.same)
       (ap (λ xs. payload_of number (behind_qos order number xs)) behind ∙ (ap (payload_of number) qos.behind ∙ payload_same number body.payload flags.1 flags.2))
+
+pub data_long : (order : Order) (body : DataValue) → IsHeldData body → length (data_octets order body) ≡ 20 + (length (qos_octets body.qos) + length (payload_octets body.payload))
+data_long order body held = (places order body held).long ∙ ap (λ n. 20 + n) (length-append (qos_octets body.qos) (payload_octets body.payload))

@@ -77,3 +77,6 @@ gap_same order body held =
       (entity_read body.writer 4 at.writer.0 octets held.writer at.writer.1)
       (ap unsigned_abs (start_is order body octets held at))
       (list_is order body octets held at).whole
+
+pub gap_long : (order : Order) (body : GapBody) → IsHeldGap body → length (gap_octets order body) ≡ 16 + octets_of_count body.list.count
+gap_long order body held = (places order body held).long

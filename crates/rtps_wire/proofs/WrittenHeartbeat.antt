@@ -114,3 +114,6 @@ heartbeat_same order body held good =
       (word_read_last order body.count (drop 24 octets) held.count at.count)
       (final_flag order body.is_final body.live)
       (live_flag order body.is_final body.live)
+
+pub heartbeat_long : (order : Order) (body : HeartbeatBody) → IsHeldHeartbeat body → length (heartbeat_octets order body) ≡ 28
+heartbeat_long order body held = (places order body held).long

@@ -7,7 +7,7 @@ use Rattle.rtps_ids.specs.declared.identity.GuidPrefix.{GuidPrefix}
 use Rattle.rtps_ids.specs.declared.identity.Stamp.{Stamp}
 use Rattle.rtps_ids.specs.declared.identity.Vendor.{Vendor}
 use Rattle.rtps_ids.specs.declared.identity.Version.{Version}
-use Rattle.rtps_ids.specs.Octets.{number_of}
+use Rattle.rtps_ids.specs.Octets.{number_of, octets_of}
 use Rattle.rtps_ids.specs.declared.order.Order.{Order}
 use Rattle.rtps_ids.specs.declared.order.Order.TheVariants.{Big, Little}
 use Rattle.rtps_ids.proofs.Offered.{length-octets_of}
@@ -62,3 +62,6 @@ info_ts_same Big None held = refl
 info_ts_same Little None held = refl
 info_ts_same Big (Some stamp) held = ap Some (stamp_same Big stamp held)
 info_ts_same Little (Some stamp) held = ap Some (stamp_same Little stamp held)
+
+pub info_ts_long : (order : Order) (stamp : Stamp) → length (info_ts_octets order (Some stamp)) ≡ 8
+info_ts_long order stamp = omega (arith, length-append (octets_of order 4 stamp.seconds) (octets_of order 4 stamp.fraction), length-octets_of order 4 stamp.seconds, length-octets_of order 4 stamp.fraction)

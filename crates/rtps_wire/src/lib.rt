@@ -11,6 +11,7 @@ pub mod laws;
 mod layout;
 mod message;
 mod read;
+mod write;
 mod write_fault;
 #[cfg(test)]
 mod tests;
