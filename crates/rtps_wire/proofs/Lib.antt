@@ -13,3 +13,4 @@ pub mod WrittenGap
 pub mod WrittenData
 pub mod WrittenBodies
 pub mod WrittenMessage
+pub mod WrittenItems

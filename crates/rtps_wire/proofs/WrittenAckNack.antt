@@ -39,7 +39,7 @@ places order body held =
       writer = (from_set, past body.reader.0 from_writer 4 0 (omega arith));
       behind_writer = past body.reader.0 from_writer 8 4 (omega arith) ∙ past body.writer.0 from_set 4 0 (omega arith);
       behind_set = past body.reader.0 from_writer (8 + size) (4 + size) (omega arith)
-        ∙ (past body.writer.0 from_set (4 + size) size (omega arith) ∙ past (set_octets order body.set) from_count size 0 (omega arith));
+          ∙ (past body.writer.0 from_set (4 + size) size (omega arith) ∙ past (set_octets order body.set) from_count size 0 (omega arith));
     }
 
 good_sizes : (length count : ℕ) → length ≡ 12 + octets_of_count count → (nat_lt length 24 ≡ false) × (nat_lt length (8 + octets_of_count count + 4) ≡ false)
@@ -73,11 +73,11 @@ ack_nack_same order body held =
     let set = set_spelled order body.set _ _ held.set at.behind_writer in
     let count_at = ap (λ n. drop (8 + octets_of_count n) octets) set.count ∙ at.behind_set in
     made _ _ _ _ _ _ _ _ _ _
-      (entity_read body.reader 0 _ octets held.reader refl)
-      (entity_read body.writer 4 at.writer.0 octets held.writer at.writer.1)
-      set.whole
-      (word_read_last order body.count _ held.count count_at)
-      (final_flag order body.is_final)
+    (entity_read body.reader 0 _ octets held.reader refl)
+    (entity_read body.writer 4 at.writer.0 octets held.writer at.writer.1)
+    set.whole
+    (word_read_last order body.count _ held.count count_at)
+    (final_flag order body.is_final)
 
 pub ack_nack_long : (order : Order) (body : AckNackBody) → IsHeldAckNack body → length (ack_nack_octets order body) ≡ 12 + octets_of_count body.set.count
 ack_nack_long order body held = (places order body held).long

@@ -114,7 +114,7 @@ qos_stands order flags None more flag held same = record { good = rw flag refl; 
 qos_stands order flags (Some list) more flag held same =
     let orders = same_order order list.order same in
     let end : list_end order (list.octets ++ more) ≡ Ok (length list.octets) =
-        ap (λ o. list_end o (list.octets ++ more)) orders ∙ end_of_list list.order (pairs_of list.order list.octets) list.octets more held in
+    ap (λ o. list_end o (list.octets ++ more)) orders ∙ end_of_list list.order (pairs_of list.order list.octets) list.octets more held in
     record {
       good = rw (flag, end) refl;
       same = rw (flag, end) (ap Some (qos_made order list.order _ list.octets orders (take_at list.octets more (length list.octets) refl)));
@@ -153,11 +153,11 @@ data_same order body held same =
     let qos = qos_stands order number body.qos (payload_octets body.payload) flags.0 held.qos same in
     let behind : behind_fields order octets ≡ qos_octets body.qos ++ payload_octets body.payload = ap (λ o. drop (4 + o) octets) at.offset ∙ at.behind in
     made _ _ _ _ _ _ _ _ _ _
-      (entity_read body.reader 4 at.reader.0 octets held.reader at.reader.1)
-      (entity_read body.writer 8 at.writer.0 octets held.writer at.writer.1)
-      (ap unsigned_abs (number_is order body octets held at))
-      (ap (qos_of order number) behind ∙ qos.same)
-      (ap (λ xs. payload_of number (behind_qos order number xs)) behind ∙ (ap (payload_of number) qos.behind ∙ payload_same number body.payload flags.1 flags.2))
+    (entity_read body.reader 4 at.reader.0 octets held.reader at.reader.1)
+    (entity_read body.writer 8 at.writer.0 octets held.writer at.writer.1)
+    (ap unsigned_abs (number_is order body octets held at))
+    (ap (qos_of order number) behind ∙ qos.same)
+    (ap (λ xs. payload_of number (behind_qos order number xs)) behind ∙ (ap (payload_of number) qos.behind ∙ payload_same number body.payload flags.1 flags.2))
 
 pub data_long : (order : Order) (body : DataValue) → IsHeldData body → length (data_octets order body) ≡ 20 + (length (qos_octets body.qos) + length (payload_octets body.payload))
 data_long order body held = (places order body held).long ∙ ap (λ n. 20 + n) (length-append (qos_octets body.qos) (payload_octets body.payload))

@@ -73,10 +73,10 @@ gap_same order body held =
     let octets = gap_octets order body in
     let at = places order body held in
     made _ _ _ _ _ _ _ _
-      (entity_read body.reader 0 _ octets held.reader refl)
-      (entity_read body.writer 4 at.writer.0 octets held.writer at.writer.1)
-      (ap unsigned_abs (start_is order body octets held at))
-      (list_is order body octets held at).whole
+    (entity_read body.reader 0 _ octets held.reader refl)
+    (entity_read body.writer 4 at.writer.0 octets held.writer at.writer.1)
+    (ap unsigned_abs (start_is order body octets held at))
+    (list_is order body octets held at).whole
 
 pub gap_long : (order : Order) (body : GapBody) → IsHeldGap body → length (gap_octets order body) ≡ 16 + octets_of_count body.list.count
 gap_long order body held = (places order body held).long

@@ -107,13 +107,13 @@ heartbeat_same order body held good =
     let at = places order body held in
     let are = numbers order body octets held good at in
     made _ _ _ _ _ _ _ _ _ _ _ _ _ _
-      (entity_read body.reader 0 at.reader.0 octets held.reader at.reader.1)
-      (entity_read body.writer 4 at.writer.0 octets held.writer at.writer.1)
-      (ap unsigned_abs are.first)
-      are.last
-      (word_read_last order body.count (drop 24 octets) held.count at.count)
-      (final_flag order body.is_final body.live)
-      (live_flag order body.is_final body.live)
+    (entity_read body.reader 0 at.reader.0 octets held.reader at.reader.1)
+    (entity_read body.writer 4 at.writer.0 octets held.writer at.writer.1)
+    (ap unsigned_abs are.first)
+    are.last
+    (word_read_last order body.count (drop 24 octets) held.count at.count)
+    (final_flag order body.is_final body.live)
+    (live_flag order body.is_final body.live)
 
 pub heartbeat_long : (order : Order) (body : HeartbeatBody) → IsHeldHeartbeat body → length (heartbeat_octets order body) ≡ 28
 heartbeat_long order body held = (places order body held).long

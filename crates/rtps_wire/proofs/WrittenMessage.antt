@@ -40,15 +40,15 @@ framed order id flags body more rest order_is small extent is =
     let whole = id ∷ flags ∷ (octets_of order 2 (length body) ++ (body ++ more)) in
     let field = length-octets_of order 2 (length body) in
     let declared_whole : octets_to_next_header whole ≡ length body =
-        ap (λ o. number_of o 2 (drop 2 whole)) order_is ∙ number-octets_of order 2 (length body) (body ++ more) (omega arith) in
+    ap (λ o. number_of o 2 (drop 2 whole)) order_is ∙ number-octets_of order 2 (length body) (body ++ more) (omega arith) in
     let behind_whole : drop 4 whole ≡ body ++ more = drop_at (octets_of order 2 (length body)) (body ++ more) 2 field in
     let size_whole : body_length whole ≡ length body =
-        ap (λ n. extent_of id n (length (drop 4 whole))) declared_whole ∙ extent (length (drop 4 whole)) in
+    ap (λ n. extent_of id n (length (drop 4 whole))) declared_whole ∙ extent (length (drop 4 whole)) in
     let octets_whole : body_octets whole ≡ body =
-        ap (λ n. take n (drop 4 whole)) size_whole ∙ (ap (take (length body)) behind_whole ∙ take_at body more (length body) refl) in
+    ap (λ n. take n (drop 4 whole)) size_whole ∙ (ap (take (length body)) behind_whole ∙ take_at body more (length body) refl) in
     let next_whole : next_rest whole ≡ more =
-        ap (λ n. drop (4 + n) whole) size_whole
-        ∙ (past (id ∷ flags ∷ octets_of order 2 (length body)) (body ++ more) (4 + length body) (length body) (omega arith) ∙ drop_at body more (length body) refl) in
+    ap (λ n. drop (4 + n) whole) size_whole
+    ∙ (past (id ∷ flags ∷ octets_of order 2 (length body)) (body ++ more) (4 + length body) (length body) (omega arith) ∙ drop_at body more (length body) refl) in
     let within_whole : octets_to_next_header whole ≤ length (drop 4 whole) = rw (declared_whole, behind_whole) (omega (arith, length-append body more)) in
     let all : Framed whole body more = record { declared = declared_whole; size = size_whole; octets = octets_whole; next = next_whole; within = within_whole } in
     let P : List ℕ → Type 0 = λ xs. Framed xs body more in
@@ -69,18 +69,18 @@ item order body at more held writable small =
     let flags = written_flags order body in
     let rest = submessage_octets order body ++ more in
     let stands : rest ≡ written_id body ∷ flags ∷ (octets_of order 2 (length octets) ++ (octets ++ more)) =
-        ap (λ xs. written_id body ∷ flags ∷ xs) (append_assoc (octets_of order 2 (length octets)) octets more) in
+    ap (λ xs. written_id body ∷ flags ∷ xs) (append_assoc (octets_of order 2 (length octets)) octets more) in
     let frame = framed order (written_id body) flags octets more rest (order_same order body) small (λ left. extent_same order body left held writable) stands in
     record {
       some = omega arith;
       good = fault_at-body rest (omega (arith, length-append (octets_of order 2 (length octets)) octets, length-octets_of order 2 (length octets), length-append (octets_of order 2 (length octets) ++ octets) more)) frame.within
-        ∙ (ap (body_fault (written_id body) flags) frame.octets ∙ body_good order body held writable);
+          ∙ (ap (body_fault (written_id body) flags) frame.octets ∙ body_good order body held writable);
       same = item_of_parts rest octets at order body (sym (order_same order body)) (sym frame.octets) (sym (body_same order body held writable));
       size = frame.size;
       next = frame.next;
     }
 
-no_first : (first later : Option WriteFault) → first_of first later ≡ None → (first ≡ None) × (later ≡ None)
+pub no_first : (first later : Option WriteFault) → first_of first later ≡ None → (first ≡ None) × (later ≡ None)
 no_first None later none = (refl, none)
 no_first (Some fault) later none = cc
 
@@ -90,7 +90,7 @@ no_row true long unaligned none = cc
 no_row false true unaligned none = cc
 no_row false false unaligned none = (refl, refl)
 
-no_fault : (is_last : Bool) (value : ItemValue) → item_fault is_last value ≡ None
+pub no_fault : (is_last : Bool) (value : ItemValue) → item_fault is_last value ≡ None
     → (is_not_writable value.order value.body ≡ false) × (length (written_body value.order value.body) < 2 ^ 16)
 no_fault is_last value none =
     let rows = no_row (is_not_writable value.order value.body) (nat_le (2 ^ 16) (length (written_body value.order value.body))) _ none in
@@ -136,8 +136,8 @@ header_same header rest held =
     let regrouped = append_assoc header.vendor.0 header.prefix.0 rest in
     let made : List ℕ → GuidPrefix = λ xs. record { 0 = xs } in
     header_made header.version _ _ _ _
-      (vendor_read header.vendor 6 (header.prefix.0 ++ rest) (header_octets header ++ rest) held.vendor regrouped)
-      (ap made (taken header.prefix.0 rest _ 12 held.prefix (ap (drop 2) regrouped ∙ past header.vendor.0 (header.prefix.0 ++ rest) 2 0 (omega arith))))
+    (vendor_read header.vendor 6 (header.prefix.0 ++ rest) (header_octets header ++ rest) held.vendor regrouped)
+    (ap made (taken header.prefix.0 rest _ 12 held.prefix (ap (drop 2) regrouped ∙ past header.vendor.0 (header.prefix.0 ++ rest) 2 0 (omega arith))))
 
 no_header_fault : (is_two : Bool) (later : Option WriteFault) → (if not is_two then Some NotWritable else later) ≡ None → (is_two ≡ true) × (later ≡ None)
 no_header_fault true later none = (refl, none)

@@ -108,14 +108,13 @@ set_spelled order set rest octets held is =
     let count_is : spelled_count order octets ≡ set.count = word_read order set.count (ws ++ rest) (drop 8 octets) (omega arith) (behind_base 0) in
     let many = kept_words-length set held in
     let word_is : (i : ℕ) → 32 * i < set.count → spelled_word order octets i ≡ get_or set.words i 0 = λ i before.
-        let inside : i < word_count set.count = omega arith in
-        ap (λ n. number_of order 4 (drop n octets)) (word_place i)
-        ∙ (ap (number_of order 4) (behind_base (4 + 4 * i) ∙ past c (ws ++ rest) (4 + 4 * i) (4 * i) (omega arith))
-        ∙ (words_read order (kept_words set) rest i (small_words set held) (omega arith) ∙ get_or-take (word_count set.count) set.words i 0 inside)) in
+    let inside : i < word_count set.count = omega arith in
+    ap (λ n. number_of order 4 (drop n octets)) (word_place i)
+    ∙ (ap (number_of order 4) (behind_base (4 + 4 * i) ∙ past c (ws ++ rest) (4 + 4 * i) (4 * i) (omega arith))
+    ∙ (words_read order (kept_words set) rest i (small_words set held) (omega arith) ∙ get_or-take (word_count set.count) set.words i 0 inside)) in
     let words_are = ap (λ n. cleared_words n (λ i. spelled_word order octets i)) count_is
-        ∙ (cleared_words_same set.count _ _ word_is ∙ sym held.kept.clear) in
+    ∙ (cleared_words_same set.count _ _ word_is ∙ sym held.kept.clear) in
     record { base = base_is; count = count_is; whole = made _ _ _ _ _ _ (ap unsigned_abs base_is) count_is words_are }
   where
     word_place : (i : ℕ) → 12 + 4 * i ≡ 8 + (4 + 4 * i)
     word_place i = omega arith
-

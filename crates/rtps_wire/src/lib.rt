@@ -11,10 +11,10 @@ pub mod laws;
 mod layout;
 mod message;
 mod read;
-mod write;
-mod write_fault;
 #[cfg(test)]
 mod tests;
+mod write;
+mod write_fault;
 
 pub use body::{AckNackBody, Body, DataBody, GapBody, HeartbeatBody, Item, Payload};
 pub use counting::tally;
@@ -23,4 +23,5 @@ pub use fault::{Refusal, WireFault};
 pub use flags::DataFlags;
 pub use header::Header;
 pub use message::Items;
+pub use write::write_message;
 pub use write_fault::WriteFault;

@@ -1,12 +1,12 @@
+//! The bodies that are written, one file a submessage, and messages of them.
+
 mod ack_nack;
 mod data;
 mod fields;
 mod gap;
 mod heartbeat;
 mod info;
+mod item;
+mod message;
 
-pub(crate) use ack_nack::ack_nack;
-pub(crate) use data::data;
-pub(crate) use gap::gap;
-pub(crate) use heartbeat::heartbeat;
-pub(crate) use info::{info_dst, info_src, info_ts};
+pub use message::write_message;

@@ -25,11 +25,7 @@ pub(crate) fn size(body: AckNackBody) -> u16
 }
 
 /// Appends the body of an ACKNACK.
-pub(crate) fn ack_nack(
-    order: Order,
-    body: &AckNackBody,
-    out: &mut Vec<u8>,
-) -> Result<(), Memory>
+pub(crate) fn ack_nack(order: Order, body: &AckNackBody, out: &mut Vec<u8>) -> Result<(), Memory>
     ensures written { OnOk result (out.new.items ≡ out.old.items ++ ack_nack_octets order body.now) }
     ensures kept { take (vec_len out.old) out.new.items ≡ out.old.items }
 {

@@ -3,9 +3,9 @@ ghost use Rattle.rtps_ids.specs.declared.order.Order.{Order};
 ghost use Rattle.rtps_wire.specs.Held.{IsHeldHeartbeat};
 ghost use Rattle.rtps_wire.specs.Heartbeat.{heartbeat_flags, heartbeat_octets, is_bad_range as is_bad_range_lem};
 
+use super::fields::flag;
 use crate::body::HeartbeatBody;
 use crate::layout::heartbeat;
-use super::fields::flag;
 use rtps_ids::{Memory, Order, put_number, put_u32};
 
 /// Whether no heartbeat says these numbers.
@@ -33,11 +33,7 @@ pub(crate) fn size(body: HeartbeatBody) -> u16
 }
 
 /// Appends the body of a HEARTBEAT.
-pub(crate) fn heartbeat(
-    order: Order,
-    body: &HeartbeatBody,
-    out: &mut Vec<u8>,
-) -> Result<(), Memory>
+pub(crate) fn heartbeat(order: Order, body: &HeartbeatBody, out: &mut Vec<u8>) -> Result<(), Memory>
     ensures written { OnOk result (out.new.items ≡ out.old.items ++ heartbeat_octets order body.now) }
     ensures kept { take (vec_len out.old) out.new.items ≡ out.old.items }
 {

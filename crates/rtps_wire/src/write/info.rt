@@ -1,5 +1,4 @@
 ghost use Rattle.std.specs.Prelude.{◌≡◌, ◌++◌, length, take, vec_len, OnOk};
-ghost use Rattle.rtps_ids.specs.declared.identity.Version.{Version};
 ghost use Rattle.rtps_ids.specs.declared.order.Order.{Order};
 ghost use Rattle.rtps_wire.specs.Held.{IsHeldTime};
 ghost use Rattle.rtps_wire.specs.Info.{info_dst_octets, info_src_octets, info_ts_flags as info_ts_flags_lem, info_ts_octets};
@@ -30,11 +29,7 @@ pub(crate) fn info_ts_size(time: Option<Stamp>) -> u16
 }
 
 /// Appends the body of an INFO_TS.
-pub(crate) fn info_ts(
-    order: Order,
-    time: &Option<Stamp>,
-    out: &mut Vec<u8>,
-) -> Result<(), Memory>
+pub(crate) fn info_ts(order: Order, time: &Option<Stamp>, out: &mut Vec<u8>) -> Result<(), Memory>
     ensures written { OnOk result (out.new.items ≡ out.old.items ++ info_ts_octets order time.now) }
     ensures kept { take (vec_len out.old) out.new.items ≡ out.old.items }
 {
@@ -64,11 +59,11 @@ pub(crate) fn info_dst(prefix: &GuidPrefix, out: &mut Vec<u8>) -> Result<(), Mem
 }
 
 /// How many octets the body of an INFO_SRC has.
-pub(crate) fn info_src_size(vendor: Vendor, prefix: GuidPrefix) -> u16
+pub(crate) fn info_src_size(version: Version, vendor: Vendor, prefix: GuidPrefix) -> u16
     ensures held { (length vendor.0 ≡ 2) × (length prefix.0 ≡ 12) }
-    ensures size { (version : Version) → length (info_src_octets version vendor prefix) ≡ result }
+    ensures size { length (info_src_octets version vendor prefix) ≡ result }
 {
-    let _ = (vendor, prefix);
+    let _ = (version, vendor, prefix);
     header::SIZE as u16
 }
 

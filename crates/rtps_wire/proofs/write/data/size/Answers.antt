@@ -47,6 +47,6 @@ returns-clause-size c order =
     let payload : length c.payload_octets-payload.result.now ≡ length (payload_octets body.payload) = ap length c.payload_octets-payload.ensures in
     let held = sums _ _ _ _ _ (omega (arith, c.entity_size.ensures.size, c.entity_size-2.ensures.size, c.number_size.ensures.size)) c.saturating_add.ensures c.saturating_add-size.ensures in
     let size : length (data_octets order body) ≡ 20 + (c.match-body.qos + length c.payload_octets-payload.result.now) =
-        rw (qos, payload) (data_long order body (what_it_holds c)) in
+    rw (qos, payload) (data_long order body (what_it_holds c)) in
     let all = fits _ _ c.try_from.result c.ok.result c.try_from.ensures c.ok.ensures.value held.0 held.1 in
     rw size all
