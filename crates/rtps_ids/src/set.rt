@@ -1,5 +1,5 @@
-ghost use Rattle.std.specs.Prelude.{◌≡◌, ◌<◌, ◌≤◌, ◌^◌, ◌/◌, length, ◌↔◌, ◌<ℤ◌, ℤ, pos, true, false, None, Some, IsTrue, IsSome, IfSome, MatchOption, MatchResult, slice_index};
-ghost use Rattle.rtps_ids.specs.NumberSet.{IsMember, cleared_words, bit_of, is_bad as is_bad_lem, octets_of_count, set_fault, spelled_set, spelled_word, cleared as cleared_lem};
+ghost use Rattle.std.specs.Prelude.{◌≡◌, ◌<◌, ◌≤◌, ◌^◌, ◌/◌, length, ◌↔◌, ◌<ℤ◌, ℤ, pos, true, false, None, Some, All, IsTrue, IsSome, IfSome, MatchOption, MatchResult, slice_index};
+ghost use Rattle.rtps_ids.specs.NumberSet.{IsKeptSet, IsMember, cleared_words, bit_of, is_bad as is_bad_lem, octets_of_count, set_fault, spelled_set, spelled_word, cleared as cleared_lem};
 ghost use Rattle.rtps_ids.specs.Runs.{IsRunFrom, HasNoneFrom};
 
 use crate::bits::first_bit;
@@ -82,8 +82,12 @@ impl NumberSet {
 
     /// How many numbers have a bit, 0 to 256.
     pub fn count(&self) -> u32
-        ensures { result ≡ self.now.count }
+        ensures count { result ≡ self.now.count }
+        // What every set that is kept has.
+        ensures kept { IsKeptSet self.now }
+        ensures words { All (λ word. word < 2 ^ 32) self.now.words }
     {
+        words_fit(self.words);
         self.count
     }
 
@@ -123,6 +127,13 @@ impl NumberSet {
         let past = first_bit(&self.words, first, false).min(self.count as usize);
         Some(self.base + first as u64..self.base + past as u64)
     }
+}
+
+/// A word of 32 bits is below 2^32, as its type says.
+fn words_fit(words: [u32; 8])
+    ensures { All (λ word. word < 2 ^ 32) words }
+{
+    let _ = words;
 }
 
 /// Whether this bit is set, counted from the highest of the first word.

@@ -4,3 +4,13 @@ pub mod SetFields
 pub mod Skips
 pub mod Submessages
 pub mod Offered
+pub mod WrittenFields
+pub mod WrittenInfo
+pub mod WrittenHeartbeat
+pub mod WrittenSets
+pub mod WrittenAckNack
+pub mod WrittenGap
+pub mod WrittenData
+pub mod WrittenBodies
+pub mod WrittenMessage
+pub mod WrittenItems

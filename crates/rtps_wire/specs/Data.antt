@@ -1,11 +1,11 @@
 -- DATA. DDSI-RTPS 2.5, 8.3.8.2 "Data" and 9.4.5.4 "Data Submessage".
-use Rattle.std.specs.Prelude.{ℕ, ℤ, ◌+◌, ◌==◌, ◌&&◌, ◌||◌, bit_and, pos, int_le, nat_lt, Bool, List, [], ◌∷◌, length, take, drop, is_err, Option, Some, None, if◌then◌else◌}
+use Rattle.std.specs.Prelude.{ℕ, ℤ, ◌+◌, ◌-◌, ◌==◌, ◌&&◌, ◌||◌, bit_and, bit_or, not, pos, int_le, nat_lt, Bool, false, List, [], ◌∷◌, ◌++◌, length, take, drop, is_err, Option, Some, None, if◌then◌else◌}
 use Rattle.std.specs.Int.RustNames.{unsigned_abs}
 use Rattle.std.specs.Result.{result_unwrap_or}
-use Rattle.rtps_ids.specs.Octets.{number_of, sequence_number_of}
+use Rattle.rtps_ids.specs.Octets.{number_of, octets_of, sequence_number_octets, sequence_number_of}
 use Rattle.rtps_ids.specs.declared.order.Order.{Order}
 use Rattle.rtps_params.specs.Reading.{list_end}
-use Rattle.rtps_params.specs.Shown.{ListValue}
+use Rattle.rtps_params.specs.Shown.{ListValue, is_same_order}
 use Rattle.rtps_wire.specs.Fault.{first_fault}
 use Rattle.rtps_wire.specs.Fields.{entity_at}
 use Rattle.rtps_wire.specs.Values.{DataValue, PayloadValue}
@@ -71,3 +71,35 @@ data_of order flags body =
       qos = qos_of order flags (behind_fields order body);
       payload = payload_of flags (behind_qos order flags (behind_fields order body));
     }
+
+-- an inline list of another order than the submessage's
+abbrev pub is_other_order : Order → Option ListValue → Bool
+is_other_order order None = false
+is_other_order order (Some list) = not (is_same_order order list.order)
+
+-- the flags and the octets of a DATA that is written: what the inline QoS and the payload say and take
+abbrev pub qos_flag : Option ListValue → ℕ
+qos_flag None = 0
+qos_flag (Some list) = Q.0
+
+abbrev pub qos_octets : Option ListValue → List ℕ
+qos_octets None = []
+qos_octets (Some list) = list.octets
+
+abbrev pub payload_flag : PayloadValue → ℕ
+payload_flag Absent = 0
+payload_flag (Whole octets) = D.0
+payload_flag (Key octets) = K.0
+
+abbrev pub payload_octets : PayloadValue → List ℕ
+payload_octets Absent = []
+payload_octets (Whole octets) = octets
+payload_octets (Key octets) = octets
+
+abbrev pub data_flags : DataValue → ℕ
+data_flags body = bit_or (qos_flag body.qos) (payload_flag body.payload)
+
+-- own: extraFlags are written as 0, and the inline QoS right behind the fields
+abbrev pub data_octets : Order → DataValue → List ℕ
+data_octets order body =
+    0 ∷ 0 ∷ (octets_of order 2 (SIZE - QOS_FROM) ++ (body.reader.0 ++ (body.writer.0 ++ (sequence_number_octets order (pos body.number) ++ (qos_octets body.qos ++ payload_octets body.payload)))))

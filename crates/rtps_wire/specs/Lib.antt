@@ -3,8 +3,10 @@ pub mod Data
 pub mod Fault
 pub mod FaultText
 pub mod Fields
+pub mod Flags
 pub mod Gap
 pub mod Header
+pub mod Held
 pub mod Heartbeat
 pub mod Info
 pub mod InlineQos
@@ -15,3 +17,5 @@ pub mod SetField
 pub mod Skipped
 pub mod Tally
 pub mod Values
+pub mod Writable
+pub mod Written

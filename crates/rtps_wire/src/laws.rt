@@ -1,9 +1,14 @@
 //! Laws of the definitions, as contracts of functions that do nothing.
 
-ghost use Rattle.std.specs.Prelude.{◌≡◌, ◌++◌, ℕ, List, map, option_to_list, Ok, Err};
+ghost use Rattle.std.specs.Prelude.{◌≡◌, ◌++◌, ℕ, List, All, map, option_to_list, Ok, Err, None};
+ghost use Rattle.rtps_wire.specs.Held.{IsHeldHeader, IsHeldItem};
 ghost use Rattle.rtps_wire.specs.Layout.{ack_nack_is, data_is, gap_is, header_is, heartbeat_is, id_is, info_dst_is, info_ts_is, submessage_is};
 ghost use Rattle.rtps_wire.specs.Message.{Reading, Reads};
 ghost use Rattle.rtps_wire.specs.Reading.{items_among, outcomes, reading_of, refusal_among};
+ghost use Rattle.rtps_wire.specs.Values.{ItemValue};
+ghost use Rattle.rtps_wire.specs.Writable.{write_fault};
+ghost use Rattle.rtps_wire.specs.Written.{clean_reading, message_octets};
+ghost use Rattle.rtps_wire.specs.declared.header.Header.{Header};
 
 /// Each datagram has a reading, and only one, and what `Items` gives of it are its items in order and then the refusal
 /// that ends it, if one does.
@@ -11,6 +16,14 @@ pub fn one_reading()
     ensures exists { (datagram : List ℕ) → Reads datagram (reading_of datagram) }
     ensures unique { (datagram : List ℕ) (reading other : Reading) → Reads datagram reading → Reads datagram other → reading ≡ other }
     ensures order { (rest : List ℕ) (at : ℕ) → outcomes rest at ≡ map Ok (items_among (outcomes rest at)) ++ map Err (option_to_list (refusal_among (outcomes rest at))) }
+{}
+
+/// What is written reads back: the octets of a header and of items that are writable are read as that header and those
+/// items, each at its place, and have a clean end.
+#[tactic(auto, using(crate::proofs::WrittenMessage::written_reads))]
+pub fn written_reads_back()
+    ensures { (header : Header) (items : List ItemValue) → IsHeldHeader header → All IsHeldItem items → write_fault header items ≡ None
+        → reading_of (message_octets header items) ≡ clean_reading header items }
 {}
 
 /// The ids, flags, sizes and places that readers and definitions name are those of the standard.

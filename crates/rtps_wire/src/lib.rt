@@ -13,6 +13,8 @@ mod message;
 mod read;
 #[cfg(test)]
 mod tests;
+mod write;
+mod write_fault;
 
 pub use body::{AckNackBody, Body, DataBody, GapBody, HeartbeatBody, Item, Payload};
 pub use counting::tally;
@@ -21,3 +23,5 @@ pub use fault::{Refusal, WireFault};
 pub use flags::DataFlags;
 pub use header::Header;
 pub use message::Items;
+pub use write::write_message;
+pub use write_fault::WriteFault;

@@ -1,0 +1,120 @@
+-- A written set of sequence numbers is good and spells what was written.
+use Rattle.std.proofs.Common.{◌≡◌, ◌<◌, ◌≤◌, ◌+◌, ◌*◌, ◌/◌, ◌^◌, ℕ, zero, suc, ℤ, pos, List, [], ◌∷◌, ◌++◌, Bool, true, false, Option, Some, None, length, take, drop, get_or, map, min, refl, ap, sym, ◌∙◌, append_assoc, arith, inl, inr}
+use Rattle.std.specs.Prelude.{nat_lt}
+use Rattle.std.specs.Int.RustNames.{unsigned_abs}
+use Rattle.std.specs.List.{flat_map, range_with_len}
+use Rattle.std.proofs.lemmas.Bool.{cases_lt}
+use Rattle.std.proofs.lemmas.Bool.Decides.{nat_tests}
+use Rattle.std.proofs.lemmas.Int.{ints}
+use Rattle.std.proofs.lemmas.List.{get_or-take, length-append, length-take, length-take-le}
+use Rattle.rtps_ids.specs.NumberSet.{IsKeptSet, NumberSetValue, cleared, cleared_words, is_bad, octets_of_count, spelled_base, spelled_count, spelled_set, spelled_word}
+use Rattle.rtps_ids.specs.Octets.{number_of, octets_of, sequence_number_octets}
+use Rattle.rtps_ids.specs.declared.order.Order.{Order}
+use Rattle.rtps_ids.proofs.Offered.{length-octets_of, length-sequence_number_octets}
+use Rattle.rtps_wire.proofs.WrittenFields.{past, sequence_number_read, word_read}
+use Rattle.rtps_wire.specs.Held.{IsHeldSet}
+use Rattle.rtps_wire.specs.SetField.{set_octets}
+
+length-words : (order : Order) (words : List ℕ) → length (flat_map (octets_of order 4) words) ≡ 4 * length words
+length-words order [] = refl
+length-words order (word ∷ words) = omega (arith, length-append {A = ℕ}, length-octets_of order 4 word, length-words order words)
+
+words_read : (order : Order) (words rest : List ℕ) (i : ℕ) → ((k : ℕ) → k < length words → get_or words k 0 < 2 ^ 32) → i < length words
+    → number_of order 4 (drop (4 * i) (flat_map (octets_of order 4) words ++ rest)) ≡ get_or words i 0
+words_read order [] rest i small inside = absurd (omega arith)
+words_read order (word ∷ words) rest zero small inside =
+    word_read order word (flat_map (octets_of order 4) words ++ rest) _ (small 0 (omega arith)) (append_assoc (octets_of order 4 word) (flat_map (octets_of order 4) words) rest)
+words_read order (word ∷ words) rest (suc i) small inside =
+    ap (λ xs. number_of order 4 (drop (4 * suc i) xs)) (append_assoc (octets_of order 4 word) (flat_map (octets_of order 4) words) rest)
+    ∙ (ap (number_of order 4) (past (octets_of order 4 word) (flat_map (octets_of order 4) words ++ rest) (4 * suc i) (4 * i) (omega (arith, length-octets_of order 4 word)))
+    ∙ words_read order words rest i (λ k h. small (suc k) (omega arith)) (omega arith))
+
+-- how many words hold so many bits
+abbrev word_count : ℕ → ℕ
+word_count count = (count + 31) / 32
+
+kept_words : NumberSetValue → List ℕ
+kept_words set = take (word_count set.count) set.words
+
+kept_words-length : (set : NumberSetValue) → IsHeldSet set → length (kept_words set) ≡ word_count set.count
+unfolding kept_words
+kept_words-length set held =
+    let few = held.kept.few in
+    let eight = held.kept.eight in
+    length-take-le (word_count set.count) set.words (omega arith)
+
+pub length-set_octets : (order : Order) (set : NumberSetValue) → IsHeldSet set → length (set_octets order set) ≡ octets_of_count set.count
+unfolding kept_words
+length-set_octets order set held =
+    omega (arith, length-append {A = ℕ}, length-sequence_number_octets order (pos set.base), length-octets_of order 4 set.count, length-words order (kept_words set), kept_words-length set held)
+
+pub set_good : (set : NumberSetValue) → IsHeldSet set → is_bad (pos set.base) set.count ≡ false
+unfolding is_bad
+set_good set held =
+    let few = held.kept.few in
+    let start = held.kept.start in
+    let end = held.kept.end in
+    by_base set.base set.count few start end
+  where
+    by_base : (base count : ℕ) → count < 257 → (base ≡ 0 → count ≡ 0) → (0 < base → base + count < 2 ^ 63 + 1) → is_bad (pos base) count ≡ false
+    by_base zero count few start end = let none : count ≡ 0 = start refl in grind (arith, nat_tests)
+    by_base (suc base) count few start end = let fits : suc base + count < 2 ^ 63 + 1 = end (omega arith) in grind (arith, nat_tests)
+
+-- what a set at the beginning of octets spells
+pub record SpellsSet (order : Order) (set : NumberSetValue) (octets : List ℕ) : Type 0 where
+  pub base : spelled_base order octets ≡ pos set.base
+  pub count : spelled_count order octets ≡ set.count
+  pub whole : spelled_set order octets ≡ set
+
+cleared_same : (count i word other : ℕ) → (32 * i < count → word ≡ other) → cleared count word i ≡ cleared count other i
+cleared_same count i word other same =
+    elim (cases_lt (32 * i) count) [
+      | inl before ↦ ap (λ w. cleared count w i) (same before)
+      | inr past_it ↦ let none : nat_lt (32 * i) count ≡ false = grind (arith, nat_tests) in rw none refl
+    ]
+
+map_same : (f g : ℕ → ℕ) (xs : List ℕ) → ((i : ℕ) → f i ≡ g i) → map f xs ≡ map g xs
+map_same f g [] same = refl
+map_same f g (x ∷ xs) same = let one = same x in let more = map_same f g xs same in cc
+
+cleared_words_same : (count : ℕ) (word other : ℕ → ℕ) → ((i : ℕ) → 32 * i < count → word i ≡ other i) → cleared_words count word ≡ cleared_words count other
+unfolding cleared_words
+cleared_words_same count word other same = map_same _ _ (range_with_len 0 8) (λ i. cleared_same count i (word i) (other i) (same i))
+
+made : (base base' count count' : ℕ) (words words' : List ℕ) → base ≡ base' → count ≡ count' → words ≡ words'
+    → ◌≡◌ {A = NumberSetValue} (record { base = base; count = count; words = words }) (record { base = base'; count = count'; words = words' })
+made base base' count count' words words' p q r = cc
+
+small_words : (set : NumberSetValue) → IsHeldSet set → (k : ℕ) → k < length (kept_words set) → get_or (kept_words set) k 0 < 2 ^ 32
+unfolding kept_words
+small_words set held k inside =
+    let shorter = length-take (word_count set.count) set.words in
+    let small : get_or set.words k 0 < 2 ^ 32 = held.words k 0 (omega arith) in
+    rw (get_or-take (word_count set.count) set.words k 0 (omega arith)) small
+
+pub set_spelled : (order : Order) (set : NumberSetValue) (rest octets : List ℕ) → IsHeldSet set → octets ≡ set_octets order set ++ rest → SpellsSet order set octets
+unfolding kept_words
+set_spelled order set rest octets held is =
+    let b = sequence_number_octets order (pos set.base) in
+    let c = octets_of order 4 set.count in
+    let ws = flat_map (octets_of order 4) (kept_words set) in
+    let stands : octets ≡ b ++ (c ++ (ws ++ rest)) = is ∙ (append_assoc b (c ++ ws) rest ∙ ap (λ xs. b ++ xs) (append_assoc c ws rest)) in
+    let b_long = length-sequence_number_octets order (pos set.base) in
+    let c_long = length-octets_of order 4 set.count in
+    let low = held.kept.low in
+    let few = held.kept.few in
+    let base_is : spelled_base order octets ≡ pos set.base = sequence_number_read order (pos set.base) (c ++ (ws ++ rest)) octets (omega (arith, ints)) (omega (arith, ints)) stands in
+    let behind_base = λ (at : ℕ). ap (drop (8 + at)) stands ∙ past b (c ++ (ws ++ rest)) (8 + at) at (omega arith) in
+    let count_is : spelled_count order octets ≡ set.count = word_read order set.count (ws ++ rest) (drop 8 octets) (omega arith) (behind_base 0) in
+    let many = kept_words-length set held in
+    let word_is : (i : ℕ) → 32 * i < set.count → spelled_word order octets i ≡ get_or set.words i 0 = λ i before.
+    let inside : i < word_count set.count = omega arith in
+    ap (λ n. number_of order 4 (drop n octets)) (word_place i)
+    ∙ (ap (number_of order 4) (behind_base (4 + 4 * i) ∙ past c (ws ++ rest) (4 + 4 * i) (4 * i) (omega arith))
+    ∙ (words_read order (kept_words set) rest i (small_words set held) (omega arith) ∙ get_or-take (word_count set.count) set.words i 0 inside)) in
+    let words_are = ap (λ n. cleared_words n (λ i. spelled_word order octets i)) count_is
+    ∙ (cleared_words_same set.count _ _ word_is ∙ sym held.kept.clear) in
+    record { base = base_is; count = count_is; whole = made _ _ _ _ _ _ (ap unsigned_abs base_is) count_is words_are }
+  where
+    word_place : (i : ℕ) → 12 + 4 * i ≡ 8 + (4 + 4 * i)
+    word_place i = omega arith

@@ -1,0 +1,36 @@
+ghost use Rattle.std.specs.Prelude.{◌≡◌, ◌++◌, length, take, vec_len, OnOk};
+ghost use Rattle.rtps_ids.specs.declared.order.Order.{Order};
+ghost use Rattle.rtps_wire.specs.Held.{IsHeldAckNack};
+ghost use Rattle.rtps_wire.specs.AckNack.{ack_nack_flags, ack_nack_octets};
+
+use super::fields::{flag, put_set, set_size};
+use crate::body::AckNackBody;
+use crate::layout::ack_nack;
+use rtps_ids::{Memory, Order, put_u32};
+
+/// The flags of an ACKNACK.
+pub(crate) fn flags(body: &AckNackBody) -> u8
+    ensures { result ≡ ack_nack_flags body.now }
+{
+    flag(body.is_final, ack_nack::FINAL)
+}
+
+/// How many octets the body of an ACKNACK has.
+#[tactic(auto, using(crate::proofs::WrittenAckNack::ack_nack_long))]
+pub(crate) fn size(body: AckNackBody) -> u16
+    ensures held { IsHeldAckNack body }
+    ensures size { (order : Order) → length (ack_nack_octets order body) ≡ result }
+{
+    12 + set_size(body.set)
+}
+
+/// Appends the body of an ACKNACK.
+pub(crate) fn ack_nack(order: Order, body: &AckNackBody, out: &mut Vec<u8>) -> Result<(), Memory>
+    ensures written { OnOk result (out.new.items ≡ out.old.items ++ ack_nack_octets order body.now) }
+    ensures kept { take (vec_len out.old) out.new.items ≡ out.old.items }
+{
+    out.extend_from_slice(&body.reader.0)?;
+    out.extend_from_slice(&body.writer.0)?;
+    put_set(order, &body.set, out)?;
+    put_u32(order, body.count, out)
+}

@@ -1,0 +1,89 @@
+ghost use Rattle.std.specs.Prelude.{◌≡◌, ◌≤◌, ◌++◌, ◌^◌, length, take, vec_len, MatchOption, OnOk};
+ghost use Rattle.rtps_wire.specs.Data.{data_flags, data_octets, is_other_order as is_other_order_lem, payload_flag as payload_flag_lem, payload_octets as payload_octets_lem};
+ghost use Rattle.rtps_ids.specs.declared.order.Order.{Order};
+ghost use Rattle.rtps_wire.specs.Held.{IsHeldData};
+ghost use Rattle.rtps_wire.specs.Values.{data_value, payload_value};
+
+use super::fields::{entity_size, number_size};
+use crate::body::{DataBody, Payload};
+use crate::flags::DataFlags;
+use crate::layout::data;
+use bitflags::Flags;
+use rtps_ids::{Memory, Order, put_number, put_u16};
+
+/// Whether the inline QoS has another order than this.
+pub(crate) fn is_other_order(order: Order, body: &DataBody<'_>) -> bool
+    ensures { result ≡ is_other_order_lem order (data_value body.now).qos }
+{
+    match body.qos {
+        Some(list) => list.order() != order,
+        None => false,
+    }
+}
+
+/// The flags of a DATA.
+pub(crate) fn flags(body: &DataBody<'_>) -> u8
+    ensures { result ≡ data_flags (data_value body.now) }
+{
+    let qos = match body.qos {
+        Some(_) => DataFlags::Q.bits(),
+        None => 0,
+    };
+    qos | payload_flag(&body.payload)
+}
+
+/// The flag that tells a payload's kind.
+fn payload_flag(payload: &Payload<'_>) -> u8
+    ensures { result ≡ payload_flag_lem (payload_value payload.now) }
+{
+    match payload {
+        Payload::Absent => 0,
+        Payload::Whole(_) => DataFlags::D.bits(),
+        Payload::Key(_) => DataFlags::K.bits(),
+    }
+}
+
+/// The octets of a payload.
+fn payload_octets<'a>(payload: &Payload<'a>) -> &'a [u8]
+    ensures { result.now ≡ payload_octets_lem (payload_value payload.now) }
+{
+    match payload {
+        Payload::Absent => &[],
+        Payload::Whole(octets) | Payload::Key(octets) => octets,
+    }
+}
+
+/// How many octets the body of a DATA has, where octetsToNextHeader can say so.
+pub(crate) fn size(body: &DataBody<'_>) -> Option<u16>
+    ensures held { IsHeldData (data_value body.now) }
+    ensures size { (order : Order) → MatchOption result (2 ^ 16 ≤ length (data_octets order (data_value body.now))) (λ size. length (data_octets order (data_value body.now)) ≡ size) }
+{
+    let fields = data::READER
+        + entity_size(body.reader)
+        + entity_size(body.writer)
+        + number_size(body.number);
+    let qos = match body.qos {
+        Some(list) => list.octets().len(),
+        None => 0,
+    };
+    let payload = payload_octets(&body.payload).len();
+    let size = fields.saturating_add(qos).saturating_add(payload);
+    u16::try_from(size).ok()
+}
+
+/// Appends the body of a DATA.
+pub(crate) fn data(order: Order, body: &DataBody<'_>, out: &mut Vec<u8>) -> Result<(), Memory>
+    ensures written { OnOk result (out.new.items ≡ out.old.items ++ data_octets order (data_value body.now)) }
+    ensures kept { take (vec_len out.old) out.new.items ≡ out.old.items }
+{
+    out.extend_from_slice(&[0, 0])?;
+    put_u16(order, (data::SIZE - data::QOS_FROM) as u16, out)?;
+    out.extend_from_slice(&body.reader.0)?;
+    out.extend_from_slice(&body.writer.0)?;
+    put_number(order, body.number.get(), out)?;
+    if let Some(list) = body.qos {
+        out.extend_from_slice(list.octets())?;
+    }
+    out.extend_from_slice(payload_octets(&body.payload))?;
+    Ok(())
+}

@@ -1,0 +1,76 @@
+ghost use Rattle.std.specs.Prelude.{◌≡◌, ◌+◌, ◌/◌, ◌≤◌, ◌++◌, take, vec_len, OnOk};
+ghost use Rattle.rtps_ids.specs.NumberSet.{octets_of_count};
+ghost use Rattle.rtps_wire.specs.Held.{IsHeldEntity, IsHeldNumber, IsHeldSet};
+ghost use Rattle.std.specs.List.{flat_map};
+ghost use Rattle.rtps_ids.specs.Octets.{octets_of};
+ghost use Rattle.rtps_wire.specs.Flags.{flag_if, order_flag as order_flag_lem};
+ghost use Rattle.rtps_wire.specs.SetField.{set_octets};
+
+use crate::layout::submessage;
+use rtps_ids::{EntityId, Memory, NumberSet, Order, SeqNum, put_number, put_u32};
+
+/// A flag, where it is set.
+#[inline(always)]
+pub(crate) fn flag(is_set: bool, flag: u8) -> u8
+    ensures { result ≡ flag_if is_set flag }
+{
+    if is_set { flag } else { 0 }
+}
+
+/// The flag that tells the order.
+#[inline(always)]
+pub(crate) fn order_flag(order: Order) -> u8
+    ensures { result ≡ order_flag_lem order }
+{
+    match order {
+        Order::Big => 0,
+        Order::Little => submessage::E,
+    }
+}
+
+/// How many octets an entity id takes.
+pub(crate) fn entity_size(entity: EntityId) -> usize
+    ensures held { IsHeldEntity entity }
+    ensures size { result ≡ 4 }
+{
+    entity.0.len()
+}
+
+/// How many octets a sequence number takes.
+pub(crate) fn number_size(number: SeqNum) -> usize
+    ensures held { IsHeldNumber number }
+    ensures size { result ≡ 8 }
+{
+    let _value = number.get();
+    8
+}
+
+/// How many octets a sequence number set takes.
+pub(crate) fn set_size(set: NumberSet) -> u16
+    ensures held { IsHeldSet set }
+    ensures size { result ≡ octets_of_count set.count }
+    ensures small { result ≤ 44 }
+{
+    12 + 4 * set.count().div_ceil(32) as u16
+}
+
+/// Appends a sequence number set.
+pub(crate) fn put_set(order: Order, set: &NumberSet, out: &mut Vec<u8>) -> Result<(), Memory>
+    ensures written { OnOk result (out.new.items ≡ out.old.items ++ set_octets order set.now) }
+    ensures kept { take (vec_len out.old) out.new.items ≡ out.old.items }
+{
+    put_number(order, set.base(), out)?;
+    put_u32(order, set.count(), out)?;
+    put_words(order, set, out)
+}
+
+/// Appends as many words of a set as hold its bits.
+fn put_words(order: Order, set: &NumberSet, out: &mut Vec<u8>) -> Result<(), Memory>
+    ensures written { OnOk result (out.new.items ≡ out.old.items ++ flat_map (octets_of order 4) (take ((set.now.count + 31) / 32) set.now.words)) }
+    ensures kept { take (vec_len out.old) out.new.items ≡ out.old.items }
+{
+    for i in 0..set.count().div_ceil(32) as usize {
+        put_u32(order, set.word(i), out)?;
+    }
+    Ok(())
+}

@@ -1,0 +1,37 @@
+ghost use Rattle.std.specs.Prelude.{◌≡◌, ◌==◌, ◌++◌, length, take, vec_len, OnOk};
+ghost use Rattle.rtps_ids.specs.declared.order.Order.{Order};
+ghost use Rattle.rtps_wire.specs.Held.{IsHeldGap};
+ghost use Rattle.rtps_wire.specs.Gap.{gap_octets};
+
+use super::fields::{put_set, set_size};
+use crate::body::GapBody;
+use crate::layout::gap;
+use rtps_ids::{Memory, Order, put_number};
+
+/// Whether a list is that of no GAP.
+pub(crate) fn is_bad_list(body: &GapBody) -> bool
+    ensures { result ≡ (body.now.list.base == 0) }
+{
+    body.list.base() == 0
+}
+
+/// How many octets the body of a GAP has.
+#[tactic(auto, using(crate::proofs::WrittenGap::gap_long))]
+pub(crate) fn size(body: GapBody) -> u16
+    ensures held { IsHeldGap body }
+    ensures size { (order : Order) → length (gap_octets order body) ≡ result }
+{
+    let _start = body.start.get();
+    gap::LIST as u16 + set_size(body.list)
+}
+
+/// Appends the body of a GAP.
+pub(crate) fn gap(order: Order, body: &GapBody, out: &mut Vec<u8>) -> Result<(), Memory>
+    ensures written { OnOk result (out.new.items ≡ out.old.items ++ gap_octets order body.now) }
+    ensures kept { take (vec_len out.old) out.new.items ≡ out.old.items }
+{
+    out.extend_from_slice(&body.reader.0)?;
+    out.extend_from_slice(&body.writer.0)?;
+    put_number(order, body.start.get(), out)?;
+    put_set(order, &body.list, out)
+}

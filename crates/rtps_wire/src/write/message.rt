@@ -1,0 +1,127 @@
+ghost use Rattle.std.specs.Prelude.{◌≡◌, ◌==◌, ◌++◌, drop, map, take, vec_len, unwrap_or, All, IfErr, OnErr, IfNone, OnOk, None};
+ghost use Rattle.std.specs.List.{flat_map};
+ghost use Rattle.rtps_wire.specs.Header.{header_octets};
+ghost use Rattle.rtps_wire.specs.Held.{IsHeldHeader, IsHeldItem};
+ghost use Rattle.rtps_wire.specs.Reading.{reading_of};
+ghost use Rattle.rtps_wire.specs.Values.{item_value};
+ghost use Rattle.rtps_wire.specs.Writable.{items_fault, write_fault as write_fault_lem};
+ghost use Rattle.rtps_wire.specs.Written.{clean_reading, item_octets, message_octets};
+
+use super::item;
+use crate::body::Item;
+use crate::header::Header;
+use crate::layout::header;
+use crate::write_fault::WriteFault;
+use rtps_ids::Memory;
+
+/// Appends a message: the header, and the items in order, wherever they were read. `Items` over what was appended gives
+/// the header and the items back, each at its place, and no refusal (DDSI-RTPS 2.5, 8.3.3 "The Overall Structure of an
+/// RTPS Message", 9.4.4 and 9.4.5). Flags that have no field here, and parts that readers ignore, are written as 0,
+/// octetsToInlineQos as 16, and octetsToNextHeader as the length of the body.
+///
+/// The error is the first reason against the header and then against the items, first to last: `NotWritable`, then
+/// `TooLong`, then `Unaligned` of each. Where nothing is against them, it is `Memory`. Each leaves `out` as it was.
+pub fn write_message(
+    header: &Header,
+    items: &[Item<'_>],
+    out: &mut Vec<u8>,
+) -> Result<(), WriteFault>
+    ensures written { OnOk result (out.new.items ≡ out.old.items ++ message_octets header.now (map item_value items.now)) }
+    // What was appended reads back.
+    ensures reads_back { OnOk result (reading_of (drop (vec_len out.old) out.new.items) ≡ clean_reading header.now (map item_value items.now)) }
+    ensures writable { OnOk result (write_fault_lem header.now (map item_value items.now) ≡ None) }
+    ensures fault { IfErr result (λ fault. fault ≡ unwrap_or (write_fault_lem header.now (map item_value items.now)) WriteFault.Memory) }
+    ensures unchanged { OnErr result (out.new.items ≡ out.old.items) }
+{
+    if let Some(fault) = refusal(header, items) {
+        return Err(fault);
+    }
+    let before = out.len();
+    match put_message(header, items, out) {
+        Ok(()) => Ok(()),
+        Err(Memory) => {
+            out.truncate(before);
+            Err(WriteFault::Memory)
+        }
+    }
+}
+
+/// The first reason against a message.
+fn refusal(header: &Header, items: &[Item<'_>]) -> Option<WriteFault>
+    ensures fault { result ≡ write_fault_lem header.now (map item_value items.now) }
+    ensures header { IsHeldHeader header.now }
+    ensures items { IfNone result (All IsHeldItem (map item_value items.now)) }
+{
+    let is_good = has_version(*header);
+    if !is_good {
+        return Some(WriteFault::NotWritable);
+    }
+    items_refusal(items)
+}
+
+/// Whether the header is of the version that is read.
+fn has_version(header: Header) -> bool
+    ensures version { result ≡ (header.version.major == 2) }
+    ensures held { IsHeldHeader header }
+{
+    header.version.major == header::VERSION
+}
+
+/// The first reason against items.
+fn items_refusal(items: &[Item<'_>]) -> Option<WriteFault>
+    ensures fault { result ≡ items_fault (map item_value items.now) }
+    ensures held { IfNone result (All IsHeldItem (map item_value items.now)) }
+{
+    for (i, item) in items.iter().enumerate() {
+        if let Some(fault) = item::refusal(item, i + 1 == items.len()) {
+            return Some(fault);
+        }
+    }
+    None
+}
+
+/// Appends a message against which there is no reason.
+fn put_message(header: &Header, items: &[Item<'_>], out: &mut Vec<u8>) -> Result<(), Memory>
+    requires { items_fault (map item_value items.now) ≡ None }
+    ensures written { OnOk result (out.new.items ≡ out.old.items ++ message_octets header.now (map item_value items.now)) }
+    ensures kept { take (vec_len out.old) out.new.items ≡ out.old.items }
+{
+    out.reserve(room_for(items))?;
+    put_header(header, out)?;
+    put_items(items, out)
+}
+
+/// How many octets a message of these items has.
+fn room_for(items: &[Item<'_>]) -> usize {
+    let mut room = header::SIZE;
+    for item in items {
+        let size = item::size(&item.body).unwrap_or(0);
+        room = room.saturating_add(4 + usize::from(size));
+    }
+    room
+}
+
+/// Appends a header.
+fn put_header(header: &Header, out: &mut Vec<u8>) -> Result<(), Memory>
+    ensures written { OnOk result (out.new.items ≡ out.old.items ++ header_octets header.now) }
+    ensures kept { take (vec_len out.old) out.new.items ≡ out.old.items }
+{
+    let version = header.version;
+    out.extend_from_slice(b"RTPS")?;
+    out.extend_from_slice(&[version.major, version.minor])?;
+    out.extend_from_slice(&header.vendor.0)?;
+    out.extend_from_slice(&header.prefix.0)?;
+    Ok(())
+}
+
+/// Appends items against which there is no reason.
+fn put_items(items: &[Item<'_>], out: &mut Vec<u8>) -> Result<(), Memory>
+    requires { items_fault (map item_value items.now) ≡ None }
+    ensures written { OnOk result (out.new.items ≡ out.old.items ++ flat_map item_octets (map item_value items.now)) }
+    ensures kept { take (vec_len out.old) out.new.items ≡ out.old.items }
+{
+    for item in items {
+        item::put_item(item, out)?;
+    }
+    Ok(())
+}

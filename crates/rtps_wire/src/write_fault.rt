@@ -1,0 +1,47 @@
+ghost use Rattle.std.specs.Prelude.{◌≡◌, Some};
+ghost use Rattle.rtps_wire.specs.FaultText.{write_fault_name, write_fault_number};
+
+use std::error::Error;
+use std::fmt;
+
+/// Why a message is not written. Its header is looked at first, and then its items, first to last; the first condition
+/// that holds is named.
+#[derive(Clone, Copy, PartialEq, Eq, Debug)]
+pub enum WriteFault {
+    /// A header whose major version is not 2. A submessage that was skipped, a heartbeat whose last is below 0 or below
+    /// its first less one, a GAP whose list has base 0, or an inline QoS in another order than its submessage's.
+    NotWritable = 13,
+    /// A body of more than 65,535 octets.
+    TooLong = 14,
+    /// A body that is no multiple of 4 octets and is not the last.
+    Unaligned = 15,
+    /// There was no memory.
+    Memory = 16,
+}
+
+impl WriteFault {
+    /// Its number, from 13 on, behind those of [`crate::WireFault`].
+    pub fn number(self) -> u8
+        ensures { result ≡ write_fault_number self }
+    {
+        self as u8
+    }
+}
+
+impl fmt::Display for WriteFault {
+    ghost output = { λ fault. Some (write_fault_name fault) };
+
+    /// Its name.
+    #[tactic(auto, unfolding(crate::specs::FaultText::write_fault_name))]
+    fn fmt<W: fmt::Write>(&self, f: &mut fmt::Formatter<W>) -> fmt::Result {
+        let name = match self {
+            WriteFault::NotWritable => "NotWritable",
+            WriteFault::TooLong => "TooLong",
+            WriteFault::Unaligned => "Unaligned",
+            WriteFault::Memory => "Memory",
+        };
+        f.write_str(name)
+    }
+}
+
+impl Error for WriteFault {}
