@@ -3,3 +3,4 @@ pub mod ListText
 pub mod Places
 pub mod Room
 pub mod ShowText
+pub mod Laws
