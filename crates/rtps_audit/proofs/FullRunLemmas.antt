@@ -41,7 +41,7 @@ one_take speech s i k n (Some word) lt gives = (
 )
 
 -- the word for a number that is asked for is the act's
-says_asked : (from : ℕ) (act : ℕ → Option Word) (n : ℕ) (word : Word) → asked_word from act n ≡ Some word → IsAsked from n × (act n ≡ Some word)
+pub says_asked : (from : ℕ) (act : ℕ → Option Word) (n : ℕ) (word : Word) → asked_word from act n ≡ Some word → IsAsked from n × (act n ≡ Some word)
 says_asked from act n word e = by_test (nat_le 1 n && nat_le from n) refl e
   where
     by_test : (b : Bool) → (nat_le 1 n && nat_le from n) ≡ b → (if b then act n else None) ≡ Some word → IsAsked from n × (act n ≡ Some word)

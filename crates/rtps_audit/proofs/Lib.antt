@@ -23,5 +23,7 @@ pub mod EachVerdict
 pub mod FirstMissed
 pub mod Bounded
 pub mod FullRuns
+pub mod OneFullRun
+pub mod OneReport
 pub mod DeliveredLemmas
 pub mod RecordingActs

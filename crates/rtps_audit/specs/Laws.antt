@@ -5,8 +5,10 @@ use Rattle.rtps_ids.specs.declared.identity.Guid.{Guid}
 use Rattle.rtps_audit.specs.Delivery.{Word, Speech, DeliveryState, start, IsAsked, Event, Gives, Claims, Holds, Follows, IsReached, Ends, HasRun, last_announced_from}
 use Rattle.rtps_audit.specs.RunVerdict.{OnNatural, EndsInConflict, IsVerdictFrom}
 use Rattle.rtps_audit.specs.PlainVerdict.{IsFounded, SpeaksTwo, IsClaimed, IsPlainVerdictFrom}
-use Rattle.rtps_audit.specs.FullRun.{IsBoundedBy, IsFullRunAllowed, IsFullRun}
+use Rattle.rtps_audit.specs.FullRun.{IsBoundedBy, IsFullRunAllowed, IsFullRun, full_run}
+use Rattle.rtps_audit.specs.Report.{IsReport}
 use Rattle.rtps_audit.specs.Speech.{speech_of}
+use Rattle.rtps_audit.specs.declared.report.Report.{Report}
 use Rattle.rtps_audit.specs.declared.verdict.Verdict.{Verdict}
 use Rattle.rtps_audit.specs.declared.verdict.Verdict.TheVariants.{Conflict, Open, Complete}
 
@@ -30,6 +32,10 @@ RunsExistWhereFounded = (from : ℕ) (speech : Speech) → HasRun from speech �
 -- told makes what it can take finite
 abbrev pub FullRunDecides : Type 0
 FullRunDecides = (from : ℕ) (speech : Speech) (bound : ℕ) → IsBoundedBy from speech bound → HasRun from speech ↔ IsFullRunAllowed from speech bound
+
+-- by whatever bound, it is the same run
+abbrev pub FullRunIsOne : Type 0
+FullRunIsOne = (from : ℕ) (speech : Speech) (bound other : ℕ) → IsBoundedBy from speech bound → IsBoundedBy from speech other → full_run from speech bound ≡ full_run from speech other
 
 -- the verdict by runs is the one by conditions on the recording alone
 abbrev pub VerdictsAgree : Type 0
@@ -114,3 +120,9 @@ pub record IsFirstConflict (from : ℕ) (speech : Speech) (n : ℕ) : Type 0 whe
 -- what the verdict conflict says
 abbrev pub ConflictIsFirst : Type 0
 ConflictIsFirst = (from : ℕ) (speech : Speech) (number : ℤ) → IsVerdictFrom from speech (Conflict number) → OnNatural number (IsFirstConflict from speech)
+
+-- a recording has one report: the same rows, and the same counts
+abbrev pub HasOneReport : Type 0
+HasOneReport =
+    (recording : List (List ℕ)) (one other : Report) → IsReport recording one → IsReport recording other
+    → (one.rows.items ≡ other.rows.items) × (one.counts ≡ other.counts)

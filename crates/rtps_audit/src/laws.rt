@@ -1,7 +1,9 @@
 //! Laws over definitions alone. Each function does nothing: its clause is the law, and its
 //! proof the law's proof. The laws on deliveries hold whatever the number is from which on numbers are asked for.
 
-ghost use Rattle.rtps_audit.specs.Laws.{ReachedStatesAreSound, RunsExistWhereFounded, FullRunDecides, VerdictsAgree, PlainMeansComplete, HasNoTwoVerdicts, EachHasAVerdict, VerdictsFollowWhatIsSaid, RecordingsAreBounded, EachRecordingHasAVerdict, FullRunDecidesRecordings, HeldStaysHeld, OpenIsFirstMissed, ConflictIsFirst};
+ghost use Rattle.rtps_audit.specs.Laws.{ReachedStatesAreSound, RunsExistWhereFounded, FullRunDecides, FullRunIsOne, VerdictsAgree, PlainMeansComplete, HasNoTwoVerdicts, EachHasAVerdict, VerdictsFollowWhatIsSaid, RecordingsAreBounded, EachRecordingHasAVerdict, FullRunDecidesRecordings, HeldStaysHeld, OpenIsFirstMissed, ConflictIsFirst, HasOneReport};
+
+use rtps_discovery::laws::one_map;
 
 /// Whatever datagrams are sent and whatever words are taken, in any order: each word that the reader holds was
 /// given by an act of a datagram that was sent, and each number that an answer in such a datagram claims is
@@ -19,6 +21,11 @@ pub fn runs_exist_where_founded()
 /// loses a word.
 pub fn full_run_decides()
     ensures { FullRunDecides }
+{}
+
+/// By whatever bound on the numbers that are told, the run that takes all it can is the same.
+pub fn full_run_is_one()
+    ensures { FullRunIsOne }
 {}
 
 /// Where each claimed number has a word in an earlier datagram, no number has two different payloads and each
@@ -78,3 +85,10 @@ pub fn open_is_first_missed()
 pub fn conflict_is_first()
     ensures { ConflictIsFirst }
 {}
+
+/// A recording has one report.
+pub fn one_report()
+    ensures { HasOneReport }
+{
+    one_map();
+}

@@ -4,3 +4,4 @@ pub mod Places
 pub mod Room
 pub mod SampleText
 pub mod ShowText
+pub mod Laws

@@ -3,6 +3,7 @@
 #![tactic(auto)]
 
 mod ending;
+pub mod laws;
 mod recording;
 mod text;
 

@@ -1,5 +1,6 @@
 pub mod LinesLemmas
 pub mod ReadingLemmas
+pub mod RunsLemmas
 pub mod RecordingLemmas
 pub mod UnfinishedLemmas
 pub mod WordsLemmas

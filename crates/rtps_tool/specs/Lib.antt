@@ -1,6 +1,7 @@
 pub mod Answers
 pub mod Choices
 pub mod FaultText
+pub mod Laws
 pub mod Lines
 pub mod RecordingText
 pub mod RunFaults

@@ -1,0 +1,5 @@
+use Rattle.rtps_audit.proofs.OneFullRun.{full_run_is_one}
+use Rattle.rtps_audit.proofs.laws.full_run_is_one.Goals as goal
+
+pub returns : goal.returns
+returns c = full_run_is_one

@@ -1,0 +1,19 @@
+//! Laws of the definitions, each the contract of a function that does nothing.
+
+ghost use Rattle.rtps_text.specs.AuditText.{IsAudited};
+ghost use Rattle.rtps_text.specs.Laws.{HasOneText};
+ghost use Rattle.rtps_text.specs.ListText.{IsListed};
+ghost use Rattle.rtps_text.specs.ShowText.{IsShown};
+
+use rtps_audit::laws::one_report;
+use rtps_discovery::laws::one_map;
+
+/// What is printed of a recording, and how a run on it ends, is decided by its datagrams alone.
+pub fn one_text()
+    ensures shown { HasOneText IsShown }
+    ensures listed { HasOneText IsListed }
+    ensures audited { HasOneText IsAudited }
+{
+    one_map();
+    one_report();
+}

@@ -1,0 +1,14 @@
+use Rattle.rtps_text.specs.AuditText.{IsAudited}
+use Rattle.rtps_text.specs.ListText.{IsListed}
+use Rattle.rtps_text.specs.ShowText.{IsShown}
+use Rattle.rtps_tool.proofs.RunsLemmas.{runs_agree}
+use Rattle.rtps_tool.proofs.laws.runs_agree.Goals as goal
+
+pub returns-clause-show : goal.returns-clause-show
+returns-clause-show c = runs_agree IsShown c.one_text.ensures.shown
+
+pub returns-clause-list : goal.returns-clause-list
+returns-clause-list c = runs_agree IsListed c.one_text.ensures.listed
+
+pub returns-clause-audit : goal.returns-clause-audit
+returns-clause-audit c = runs_agree IsAudited c.one_text.ensures.audited
