@@ -1,0 +1,79 @@
+//! Hostile use of the libraries, counted: datagrams that are cut and turned, readers and writers that fail, and memory
+//! that is refused. Standard input has recordings, with an empty line between them; the first one announces the pair,
+//! and each other goes on from there.
+//!
+//!     rtps_hostile              tries all recordings, and prints a line for each group with what was counted
+//!     rtps_hostile CALL         makes this call on the first recording, once more where it is refused memory, and
+//!                               prints whether it was; `tests/refused.py` has each request refused in turn
+//!
+//! A difference is told on standard error; the status is then 1. It is 3 where memory is refused outside of the call,
+//! or the input cannot be read.
+#![tactic(auto)]
+
+mod cuts;
+mod fault;
+mod recordings;
+mod refusals;
+mod streams;
+mod verdicts;
+
+use fault::Fault;
+use std::io::Write;
+use std::process::ExitCode;
+use std::{env, io};
+
+fn main(rt: HostRuntime) -> ExitCode {
+    match run(&rt) {
+        Ok(()) => ExitCode::from(0),
+        Err(fault) => {
+            let _ = writeln!(rt.stderr(), "rtps_hostile: {fault}");
+            ExitCode::from(fault.status())
+        }
+    }
+}
+
+fn run(rt: &HostRuntime) -> Result<(), Fault> {
+    let args = env::args(rt)?.collect::<Vec<String>>(rt.alloc())?;
+    let text = io::read_to_string(rt.alloc(), rt.stdin())?;
+    match args.get(1) {
+        Some(call) => try_refused(rt, call.as_str(), text.as_str()),
+        None => try_all(rt, text.as_str()),
+    }
+}
+
+fn try_refused(rt: &HostRuntime, call: &str, text: &str) -> Result<(), Fault> {
+    let refused = refusals::try_call(rt.alloc(), call, text)?;
+    let answer = if refused {
+        "Memory, and then as if it were the first"
+    } else {
+        "as with ample memory"
+    };
+    println!(rt; "{call}: {answer}")?;
+    Ok(())
+}
+
+fn try_all(rt: &HostRuntime, text: &str) -> Result<(), Fault> {
+    let alloc = rt.alloc();
+    let texts = recordings::texts(alloc, text)?;
+    let recordings = recordings::read(alloc, &texts)?;
+    let (datagrams, cuts) = cuts::count(&recordings)?;
+    println!(rt; "cuts: {cuts} of {datagrams} datagrams")?;
+    let (octets, verdicts) = verdicts::count(alloc, &recordings)?;
+    println!(rt; "changed octets: {octets}, each in 3 ways, with {verdicts} rows of audits")?;
+    let first = texts.first().ok_or(Fault::Input)?;
+    try_streams(rt, first.as_bytes())?;
+    for call in refusals::CALLS {
+        try_refused(rt, call, first.as_str())?;
+    }
+    Ok(())
+}
+
+fn try_streams(rt: &HostRuntime, text: &[u8]) -> Result<(), Fault> {
+    let reads = streams::count_reads(rt.alloc(), text)?;
+    println!(rt; "failed reads: {reads}")?;
+    let writers = streams::count_writers(rt.alloc(), text)?;
+    println!(rt; "failed writes: {writers}")?;
+    let octets = streams::count_octets(rt.alloc(), text)?;
+    println!(rt; "octets that were read and written one by one: {octets}")?;
+    Ok(())
+}

@@ -1,0 +1,54 @@
+//! Calls that may be refused memory. Each is made with ample memory first, then once more with its requests counted,
+//! and where that is refused a third time: its answer has to be the first one then, and what it grows has to be unchanged by the refusal.
+
+mod library;
+mod tool;
+
+use crate::fault::Fault;
+use crate::recordings::datagrams;
+use rtps_tool::read_recording;
+use std::alloc::{AllocError, Global};
+
+/// All calls that can be tried.
+pub(crate) const CALLS: [&str; 20] = [
+    "note",
+    "participants",
+    "endpoints",
+    "matched",
+    "pairs",
+    "walk",
+    "add_plain",
+    "add_merged",
+    "judge",
+    "judge_by_plain",
+    "build",
+    "index_judge",
+    "audit",
+    "read_recording",
+    "read_words",
+    "read_help",
+    "read_refused_words",
+    "show",
+    "list",
+    "audit_run",
+];
+
+/// Requests between one of this size and the next are counted by `tests/refuse_requests.c`. Nothing else asks for so much.
+const MARK: usize = 7_654_321;
+
+/// Begins or ends a count of requests.
+fn mark(alloc: Global) -> Result<(), AllocError> {
+    let _room: Vec<u8> = Vec::with_capacity(alloc, MARK)?;
+    Ok(())
+}
+
+/// Whether the call was refused memory on the recording that is the text. An `Err` tells of another fault, or of an
+/// answer that differs.
+pub(crate) fn try_call(alloc: Global, call: &str, text: &str) -> Result<bool, Fault> {
+    if let Some(refused) = tool::try_call(alloc, call, text)? {
+        return Ok(refused);
+    }
+    let recording = read_recording(alloc, text.as_bytes())?;
+    let recording = datagrams(alloc, &recording)?;
+    library::try_call(alloc, call, &recording)?.ok_or(Fault::Call)
+}

@@ -1,0 +1,207 @@
+//! The calls of the library, on a recording of datagrams.
+
+use super::mark;
+use crate::fault::Fault;
+use crate::verdicts::PAIR;
+use rtps_audit::{Coverage, Index, MergedRanges, PlainRanges, audit, judge, judge_by};
+use rtps_discovery::{Directory, Noted};
+use rtps_ids::Memory;
+use rtps_receiver::{Act, Walk};
+use std::alloc::Global;
+
+// Whether this call was refused memory, made once more; then its answer is the first one when it is made again.
+macro_rules! is_refused {
+    ($alloc:expr, $call:expr) => {{
+        let wanted = $call?;
+        mark($alloc)?;
+        let first = $call;
+        mark($alloc)?;
+        let (answer, refused) = match first {
+            Ok(answer) => (answer, false),
+            Err(Memory) => ($call?, true),
+        };
+        if answer != wanted {
+            return Err(Fault::Differs("the answer is another after a refusal"));
+        }
+        refused
+    }};
+}
+
+/// Whether the call was refused memory; None where it is none of these.
+pub(super) fn try_call(
+    alloc: Global,
+    call: &str,
+    recording: &[&[u8]],
+) -> Result<Option<bool>, Fault> {
+    let refused = match call {
+        "note" => is_note_refused(alloc, recording)?,
+        "participants" | "endpoints" | "matched" | "pairs" => {
+            is_listing_refused(alloc, call, recording)?
+        }
+        "walk" => is_walk_refused(alloc, recording)?,
+        "add_plain" => is_add_refused::<PlainRanges>(alloc)?,
+        "add_merged" => is_add_refused::<MergedRanges>(alloc)?,
+        "judge" => is_refused!(alloc, judge(alloc, recording, PAIR)),
+        "judge_by_plain" => is_refused!(alloc, judge_by::<PlainRanges>(alloc, recording, PAIR)),
+        "build" => is_build_refused(alloc, recording)?,
+        "index_judge" => {
+            let index = Index::build(alloc, recording)?;
+            is_refused!(alloc, index.judge(PAIR))
+        }
+        "audit" => is_audit_refused(alloc, recording)?,
+        _ => return Ok(None),
+    };
+    Ok(Some(refused))
+}
+
+fn is_note_refused(alloc: Global, recording: &[&[u8]]) -> Result<bool, Fault> {
+    let mut walk = Walk::new(alloc);
+    let mut wanted = Directory::new(alloc);
+    let mut tried = Directory::new(alloc);
+    let mut refused = false;
+    for datagram in recording {
+        let _ = walk.read(datagram)?;
+        for act in walk.acts() {
+            if is_one_note_refused(alloc, &mut wanted, &mut tried, act)? {
+                refused = true;
+            }
+        }
+    }
+    if !are_same(&wanted, &tried)? {
+        return Err(Fault::Differs("the directory is another after a refusal"));
+    }
+    Ok(refused)
+}
+
+// Notes an act in both directories, in the one of them a second time where it is refused.
+fn is_one_note_refused<'a>(
+    alloc: Global,
+    wanted: &mut Directory<'a>,
+    tried: &mut Directory<'a>,
+    act: &Act<'a>,
+) -> Result<bool, Fault> {
+    mark(alloc)?;
+    let first = tried.note(act);
+    mark(alloc)?;
+    if first.is_err() && !are_same(wanted, tried)? {
+        return Err(Fault::Differs("a refusal changes the directory"));
+    }
+    let (noted, refused): (Noted, bool) = match first {
+        Ok(noted) => (noted, false),
+        Err(Memory) => (tried.note(act)?, true),
+    };
+    if noted != wanted.note(act)? {
+        return Err(Fault::Differs("an act is noted otherwise after a refusal"));
+    }
+    Ok(refused)
+}
+
+// Whether two directories list the same.
+fn are_same(one: &Directory<'_>, other: &Directory<'_>) -> Result<bool, Fault> {
+    Ok(
+        one.participants()? == other.participants()?
+            && one.endpoints()? == other.endpoints()?
+            && one.matched()? == other.matched()?
+            && one.pairs()? == other.pairs()?
+            && one.unsettled() == other.unsettled(),
+    )
+}
+
+fn is_listing_refused(alloc: Global, call: &str, recording: &[&[u8]]) -> Result<bool, Fault> {
+    let mut walk = Walk::new(alloc);
+    let mut directory = Directory::new(alloc);
+    for datagram in recording {
+        let _ = walk.read(datagram)?;
+        let _ = directory.note_all(walk.acts())?;
+    }
+    Ok(match call {
+        "participants" => is_refused!(alloc, directory.participants()),
+        "endpoints" => is_refused!(alloc, directory.endpoints()),
+        "matched" => is_refused!(alloc, directory.matched()),
+        _ => is_refused!(alloc, directory.pairs()),
+    })
+}
+
+fn is_walk_refused(alloc: Global, recording: &[&[u8]]) -> Result<bool, Fault> {
+    let mut wanted = Walk::new(alloc);
+    let mut tried = Walk::new(alloc);
+    let mut refused = false;
+    for datagram in recording {
+        mark(alloc)?;
+        let first = tried.read(datagram);
+        mark(alloc)?;
+        let tally = match first {
+            Ok(tally) => tally,
+            Err(Memory) => {
+                refused = true;
+                tried.read(datagram)?
+            }
+        };
+        if tally != wanted.read(datagram)? || tried.acts().len() != wanted.acts().len() {
+            return Err(Fault::Differs("a datagram is read otherwise after a refusal"));
+        }
+    }
+    Ok(refused)
+}
+
+fn is_add_refused<C: Coverage>(alloc: Global) -> Result<bool, Fault> {
+    let mut wanted = C::empty(alloc);
+    let mut tried = C::empty(alloc);
+    let mut refused = false;
+    for n in 0..40u8 {
+        let lo = i64::from(100 - 2 * n);
+        mark(alloc)?;
+        let first = tried.add(lo, lo + 1);
+        mark(alloc)?;
+        if first.is_err() {
+            refused = true;
+            if !are_same_numbers(&wanted, &tried) {
+                return Err(Fault::Differs("a refusal changes the set"));
+            }
+            tried.add(lo, lo + 1)?;
+        }
+        wanted.add(lo, lo + 1)?;
+    }
+    if !are_same_numbers(&wanted, &tried) {
+        return Err(Fault::Differs("the set is another after a refusal"));
+    }
+    Ok(refused)
+}
+
+// Whether two sets have the same of the numbers below 200.
+fn are_same_numbers<C: Coverage>(one: &C, other: &C) -> bool {
+    one.front() == other.front() && (0..200).all(|n| one.covers(n) == other.covers(n))
+}
+
+fn is_build_refused(alloc: Global, recording: &[&[u8]]) -> Result<bool, Fault> {
+    let wanted = Index::build(alloc, recording)?;
+    mark(alloc)?;
+    let first = Index::build(alloc, recording);
+    mark(alloc)?;
+    let (index, refused) = match first {
+        Ok(index) => (index, false),
+        Err(Memory) => (Index::build(alloc, recording)?, true),
+    };
+    if index.acts_of(PAIR.writer).len() != wanted.acts_of(PAIR.writer).len()
+        || index.acts_of(PAIR.reader).len() != wanted.acts_of(PAIR.reader).len()
+        || index.judge(PAIR)? != wanted.judge(PAIR)?
+    {
+        return Err(Fault::Differs("the index is another after a refusal"));
+    }
+    Ok(refused)
+}
+
+fn is_audit_refused(alloc: Global, recording: &[&[u8]]) -> Result<bool, Fault> {
+    let wanted = audit(alloc, recording)?;
+    mark(alloc)?;
+    let first = audit(alloc, recording);
+    mark(alloc)?;
+    let (report, refused) = match first {
+        Ok(report) => (report, false),
+        Err(Memory) => (audit(alloc, recording)?, true),
+    };
+    if report.rows != wanted.rows || report.counts != wanted.counts {
+        return Err(Fault::Differs("the report is another after a refusal"));
+    }
+    Ok(refused)
+}

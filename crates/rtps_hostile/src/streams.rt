@@ -1,0 +1,182 @@
+//! Readers and writers that give and take octet by octet, and that fail at each place.
+
+use crate::fault::Fault;
+use rtps_tool::{Ending, RunFault, run_audit, run_list, run_show};
+use std::alloc::Global;
+use std::io::{self, ErrorKind, Read, Write};
+
+/// Gives one octet a read. One of its reads fails, counted from 1, and those behind it go on.
+#[derive(Drop)]
+struct Slow<'a> {
+    left: &'a [u8],
+    reads: usize,
+    fails_at: usize,
+    failure: ErrorKind,
+}
+
+impl Read for Slow<'_> {
+    fn read(&mut self, buf: &mut [u8]) -> io::Result<usize> {
+        self.reads = self.reads.saturating_add(1);
+        if self.reads == self.fails_at {
+            return Err(io::Error::from(self.failure));
+        }
+        let left = self.left;
+        match (left, buf) {
+            ([first, rest @ ..], [place, ..]) => {
+                *place = *first;
+                self.left = rest;
+                Ok(1)
+            }
+            _ => Ok(0),
+        }
+    }
+}
+
+/// Takes so many octets at most a write while there is room, and then fails, or takes none.
+#[derive(Drop)]
+struct Narrow {
+    held: Vec<u8>,
+    most: usize,
+    room: usize,
+    fails: bool,
+}
+
+impl Write for Narrow {
+    fn write(&mut self, buf: &[u8]) -> io::Result<usize> {
+        let room = self.room.saturating_sub(self.held.len());
+        if room == 0 && self.fails {
+            return Err(io::Error::from(ErrorKind::BrokenPipe));
+        }
+        let size = buf.len().min(self.most).min(room);
+        self.held.extend_from_slice(&buf[..size])?;
+        Ok(size)
+    }
+
+    fn flush(&mut self) -> io::Result<()> {
+        Ok(())
+    }
+}
+
+/// A run that prints of a recording.
+#[derive(Clone, Copy)]
+pub(crate) enum Run {
+    Show,
+    List,
+    Audit,
+}
+
+pub(crate) const RUNS: [Run; 3] = [Run::Show, Run::List, Run::Audit];
+
+impl Run {
+    pub(crate) fn of<R: Read, W: Write>(
+        self,
+        alloc: Global,
+        input: &mut R,
+        output: &mut W,
+    ) -> Result<Ending, RunFault> {
+        match self {
+            Run::Show => run_show(alloc, input, output),
+            Run::List => run_list(alloc, input, output),
+            Run::Audit => run_audit(alloc, input, output),
+        }
+    }
+}
+
+/// What a run prints of a text where nothing fails, and how it ends. A `Vec` fails to take octets for want of memory alone.
+pub(crate) fn text_of(alloc: Global, run: Run, input: &[u8]) -> Result<(Vec<u8>, Ending), Fault> {
+    let mut left = input;
+    let mut output = Vec::new(alloc);
+    match run.of(alloc, &mut left, &mut output) {
+        Ok(ending) => Ok((output, ending)),
+        Err(RunFault::Memory | RunFault::Output { .. }) => Err(Fault::Memory),
+        Err(_) => Err(Fault::Differs("a run fails with nothing that fails")),
+    }
+}
+
+fn octet_by_octet(left: &[u8], fails_at: usize, failure: ErrorKind) -> Slow<'_> {
+    let reads = 0;
+    Slow {
+        left,
+        reads,
+        fails_at,
+        failure,
+    }
+}
+
+/// Counts reads that fail: each of them, also the one that would find the end, in two ways. Nothing is written.
+pub(crate) fn count_reads(alloc: Global, input: &[u8]) -> Result<usize, Fault> {
+    let mut count = 0usize;
+    for run in RUNS {
+        for failure in [ErrorKind::ConnectionReset, ErrorKind::Interrupted] {
+            for fails_at in 1..input.len().saturating_add(2) {
+                let mut output = Vec::new(alloc);
+                let outcome = run.of(
+                    alloc,
+                    &mut octet_by_octet(input, fails_at, failure),
+                    &mut output,
+                );
+                if outcome != Err(RunFault::Input) || !output.is_empty() {
+                    return Err(Fault::Differs("a failed read is answered otherwise"));
+                }
+                count = count.saturating_add(1);
+            }
+        }
+    }
+    Ok(count)
+}
+
+/// Counts writers that have room for fewer octets than the text has, each number of them, in four ways.
+pub(crate) fn count_writers(alloc: Global, input: &[u8]) -> Result<usize, Fault> {
+    let mut count = 0usize;
+    for run in RUNS {
+        let (text, _) = text_of(alloc, run, input)?;
+        for (most, fails) in [
+            (1, true),
+            (1, false),
+            (usize::MAX, true),
+            (usize::MAX, false),
+        ] {
+            for room in 0..text.len() {
+                let held = Vec::new(alloc);
+                let mut output = Narrow {
+                    held,
+                    most,
+                    room,
+                    fails,
+                };
+                let outcome = run.of(alloc, &mut { input }, &mut output);
+                let written = room as u64;
+                if outcome != Err(RunFault::Output { written })
+                    || output.held.as_slice() != &text[..room]
+                {
+                    return Err(Fault::Differs("a failed write is answered otherwise"));
+                }
+                count = count.saturating_add(1);
+            }
+        }
+    }
+    Ok(count)
+}
+
+/// Counts the octets of the texts of runs whose octets are read and written one by one.
+pub(crate) fn count_octets(alloc: Global, input: &[u8]) -> Result<usize, Fault> {
+    let mut count = 0usize;
+    for run in RUNS {
+        let (text, ending) = text_of(alloc, run, input)?;
+        let held = Vec::new(alloc);
+        let (most, room, fails) = (1, usize::MAX, true);
+        let mut output = Narrow {
+            held,
+            most,
+            room,
+            fails,
+        };
+        let mut input = octet_by_octet(input, 0, ErrorKind::Other);
+        let outcome = run.of(alloc, &mut input, &mut output);
+        if outcome != Ok(ending) || output.held.as_slice() != text.as_slice() {
+            return Err(Fault::Differs("what comes and goes octet by octet is another text"));
+        }
+        count = count.saturating_add(text.len());
+    }
+    Ok(count)
+}

@@ -1,0 +1,245 @@
+#!/usr/bin/env python3
+"""Tests the program with hostile recordings: datagrams that are cut and changed, and what takes much to read.
+
+    tests/hostile.py PROGRAM
+
+Each group prints a line with what was counted. What is wanted was worked out, or is what the second implementation,
+bench/reference.py, says. The last line is 'N passed, M failed'.
+"""
+import os
+import subprocess
+import sys
+import tempfile
+
+ROOT = os.path.dirname(os.path.dirname(os.path.realpath(__file__)))
+sys.dont_write_bytecode = True
+sys.path.insert(0, os.path.join(ROOT, 'bench'))
+import make
+import reference
+
+A, B, WRITER, READER = make.A, make.B, make.WRITER, make.READER
+MOST = 65535
+GUID_W, GUID_R = b'\0\x5a\0\x10' + A + WRITER, b'\0\x5a\0\x10' + B + READER
+END = b'\0\1\0\0'
+
+
+class Tests:
+    def __init__(self, program):
+        self.program, self.passed, self.failed = program, 0, 0
+        self.text = tempfile.NamedTemporaryFile()
+
+    def run(self, view, text):
+        """standard output, standard error and status of the program"""
+        self.text.seek(0)
+        self.text.truncate()
+        self.text.write(text)
+        self.text.flush()
+        done = subprocess.run([self.program, view, self.text.name], capture_output=True)
+        return done.stdout.decode(), done.stderr.decode(), done.returncode
+
+    def holds(self, name, wanted, got):
+        if wanted == got:
+            self.passed += 1
+            return
+        self.failed += 1
+        print(f'FAILED: {name}')
+        for one, other in zip(f'{wanted}'.split('\\n'), f'{got}'.split('\\n')):
+            if one != other:
+                print(f'-- wanted {one[:200]}\n-- got    {other[:200]}')
+                break
+
+    def answers(self, name, view, text, wanted, status=0):
+        self.holds(f'{view}: {name}', (wanted, '', status), self.run(view, text))
+
+    def agrees(self, name, datagrams, views=('show', 'list', 'audit')):
+        """each view is what the second implementation says"""
+        text = text_of(datagrams)
+        for view in views:
+            self.answers(name, view, text, *reference.answer(view, text))
+
+
+def text_of(datagrams):
+    return b''.join(datagram.hex().encode() + b'\n' for datagram in datagrams)
+
+
+def recordings():
+    """the recordings with a stored audit, each as datagrams"""
+    folder = os.path.join(ROOT, 'tests', 'rows')
+    for name in sorted(os.listdir(folder)):
+        if name.endswith('.audit'):
+            with open(os.path.join(folder, name[:-6] + '.rec'), 'rb') as f:
+                yield name[:-6], reference.recording_of(f.read())
+
+
+def changed(datagram):
+    """the datagrams that differ in one octet, which is 00, ff, or has its lowest bit turned"""
+    for at, octet in enumerate(datagram):
+        for value in (0, 0xff, octet ^ 1):
+            yield datagram[:at] + bytes([value]) + datagram[at + 1:]
+
+
+# ---- cut and changed
+
+# Where a datagram of an unknown submessage, DATA, INFO_TS, DATA and an unknown submessage is cut: from this length on,
+# how many items are read, and the refusal behind them.
+CUTS = [(0, 0, '0 Short'), (20, 0, None), (21, 0, '20 CutHeader'), (24, 0, '20 Overrun'),
+        (32, 1, None), (33, 1, '32 CutHeader'), (36, 1, '32 Overrun'),
+        (64, 2, None), (65, 2, '64 CutHeader'), (68, 3, None), (69, 3, '68 CutHeader'), (72, 3, '68 Overrun'),
+        (100, 4, None), (101, 4, '100 CutHeader'), (104, 5, None)]
+
+
+def cut_by_table(tests):
+    datagram = dict(recordings())['skipped_submessages_and_a_time'][2]
+    assert len(datagram) == 104
+    whole = tests.run('show', text_of([datagram]))[0].splitlines()
+    wanted = []
+    for length in range(105):
+        _, items, refusal = [row for row in CUTS if row[0] <= length][-1]
+        head = whole[0] if length >= 20 else 'datagram 1 unread'
+        wanted.append(head.replace('datagram 1', f'datagram {length + 1}'))
+        wanted += whole[1:1 + items]
+        wanted += [f'refused {refusal}'] if refusal else []
+    # A line of a recording that is empty is no datagram, so the cut of no octets stands as one of two digits.
+    text = text_of([datagram[:max(length, 1)] for length in range(105)])
+    tests.answers('a datagram that is cut to each length', 'show', text, '\n'.join(wanted) + '\n')
+    print('cuts by the table: 105 of one datagram')
+
+
+def cut_and_changed(tests):
+    datagrams = sorted({datagram for _, recording in recordings() for datagram in recording})
+    cuts = [datagram[:length] for datagram in datagrams for length in range(1, len(datagram))]
+    changes = [one for datagram in datagrams for one in changed(datagram)]
+    tests.agrees('datagrams that are cut', cuts, ('show',))
+    tests.agrees('datagrams with a changed octet', changes, ('show', 'list'))
+    print(f'cuts: {len(cuts)} of {len(datagrams)} datagrams; changed octets: {len(changes)}')
+
+
+def audits_of_changed(tests):
+    recording = dict(recordings())['complete']
+    count, verdicts = 0, {}
+    for place, datagram in enumerate(recording):
+        for one in changed(datagram):
+            text = text_of(recording[:place] + [one] + recording[place + 1:])
+            wanted = reference.answer('audit', text)
+            tests.answers(f'datagram {place + 1} is {one.hex()}', 'audit', text, *wanted)
+            row = wanted[0].split('\n')[1].split(' ')
+            found = row[2] if len(row) < 12 else 'no pair'
+            verdicts[found] = verdicts.get(found, 0) + 1
+            count += 1
+    told = ', '.join(f'{number} {found}' for found, number in sorted(verdicts.items()))
+    print(f'audits of changed octets: {count}, of which {told}')
+
+
+# ---- large datagrams
+
+def submessage(sid, flags, body):
+    return bytes([sid, flags]) + len(body).to_bytes(2, 'big') + body
+
+
+def parameter(pid, value):
+    return pid.to_bytes(2, 'big') + len(value).to_bytes(2, 'big') + value
+
+
+def with_list(octets, number=1):
+    """a DATA of the writer with these octets as its inline list and eight as its payload"""
+    body = b'\0\0\0\x10' + bytes(4) + WRITER + number.to_bytes(8, 'big') + octets
+    return submessage(0x15, 6, body + bytes(8))
+
+
+def empty_submessages(tests):
+    datagram = make.header(A) + b'\1\0\0\0' * 16378 + bytes(3)
+    assert len(datagram) == MOST
+    lines = [f'datagram 1 version 2.5 vendor 0000 prefix {A.hex()}']
+    lines += [f'skipped {20 + 4 * i} id 01' for i in range(16378)] + ['refused 65532 CutHeader']
+    text = text_of([datagram])
+    tests.answers('empty submessages', 'show', text, '\n'.join(lines) + '\n')
+    wanted = 'pairs 0\ndatagrams 1 refused 1 skipped 16378 fragments 0 undirected 0 unsettled 0\n'
+    tests.answers('empty submessages', 'audit', text, wanted)
+    tests.agrees('ACKNACK headers up to the end', [make.header(B) + b'\6\0\0\0' * 16378 + bytes(3)])
+    print('empty submessages: 16378 in one datagram')
+
+
+def parameter_lists(tests):
+    room = MOST - 20 - 24 - 8
+    nested, depth = END, 0
+    while len(nested) + 8 <= room:
+        nested, depth = parameter(0x8001, nested) + END, depth + 1
+    repeated = parameter(0x0070, b'') * ((room - 4) // 4)
+    full = repeated + END
+    assert room - len(full) < 4
+    full += bytes(room - len(full))
+    lists = [nested, full, repeated, parameter(0, b'') * ((room - 4) // 4) + END, parameter(1, nested[:-8]),
+             parameter(0x8001, bytes(room - 8)) + END, parameter(0x8001, bytes(room - 7))[:room], b'\x80\1\xff\xff' + bytes(room - 4)]
+    datagrams = [make.header(A) + with_list(octets) for octets in lists]
+    little = make.header(A) + bytes([0x15, 7]) + bytes(2) + b'\0\0\x10\0' + bytes(4) + WRITER + bytes(4) + b'\1\0\0\0' + b'\x70\0\0\0' * 16000 + b'\1\0\0\0'
+    tests.agrees('inline lists', [*datagrams, little])
+    assert max(map(len, datagrams)) == MOST
+    names = make.NAMES * 1000
+    announced = [make.announced(b'\0\0\3\xc2', A, WRITER, names + nested[:8000]), make.announced(b'\0\0\4\xc2', B, READER, make.RELIABLE * 4000)]
+    announced += [make.announced(b'\0\0\4\xc2', B, b'\0\0\2\4', names + make.RELIABLE), make.announced(b'\0\1\0\xc2', A, WRITER, b'\0\x50\0\x10' + A + b'\0\0\1\xc1')]
+    tests.agrees('announcements with lists that repeat', announced)
+    print(f'parameter lists: {len(lists) + 1} of up to {room} octets, one {depth} lists deep; 4 in announcements')
+
+
+def endpoints_that_disagree(tests):
+    names = [b'\0\5\0\x0c\0\0\0\5' + b'%04d' % i + bytes(4) + make.NAMES[16:] for i in range(1000)]
+    writers = [announcement(b'\0\0\3\xc2', GUID_W + name) for name in names]
+    reader = announcement(b'\0\0\4\xc2', GUID_R + make.NAMES + make.RELIABLE)
+    tests.agrees('one GUID with 1000 topics', [*writers, reader])
+    other = [announcement(built_in, GUID_W + name) for built_in in (b'\0\0\3\xc2', b'\0\0\4\xc2') for name in names[:500]]
+    tests.agrees('one GUID as writer and reader', [*other, reader, *other])
+    print('endpoints that disagree: 1000 of one GUID')
+
+
+def announcement(built_in, octets):
+    return make.header(A) + make.data(built_in, 1, b'\0\2\0\0' + octets + END)
+
+
+def text_value(pid, octets):
+    value = (len(octets) + 1).to_bytes(4, 'big') + octets + b'\0'
+    return parameter(pid, value + bytes(-len(value) % 4))
+
+
+def topics_of_every_octet(tests):
+    topics = [bytes([octet]) for octet in range(256)] + [bytes(range(256)), bytes(range(255, -1, -1)) * 100, b'\\' * 60000]
+    datagrams = []
+    for place, topic in enumerate(topics):
+        names = text_value(5, topic) + text_value(7, topic[:2000])
+        for built_in, prefix in ((b'\0\0\3\xc2', A), (b'\0\0\4\xc2', B)):
+            guid = b'\0\x5a\0\x10' + prefix + place.to_bytes(4, 'big')
+            datagrams.append(announcement(built_in, guid + names + make.RELIABLE))
+    tests.agrees('topics of every octet', datagrams)
+    print(f'topics: {len(topics)} of every octet')
+
+
+def acknowledgements(tests):
+    most = (MOST - 36) // 28
+    samples = [*make.announcements(1), *(make.header(A) + make.data(WRITER, n, bytes(4)) for n in range(1, 11))]
+    for name, bases in (('ascending', [min(i, 11) for i in range(most)]), ('descending', [most - i for i in range(most)]), ('one too many', [11] * (most - 1) + [12])):
+        many = b''.join(make.ack_nack(READER, WRITER, base) for base in bases)
+        tests.agrees(f'ACKNACKs, {name}', [*samples, make.header(B) + make.to(A) + many, make.header(B) + many], ('audit',))
+    print(f'acknowledgements: {most} in one datagram, in 3 orders, and as many to everyone')
+
+
+def many_datagrams(tests):
+    count = 1000000
+    text = (make.header(A).hex().encode() + b'\n') * count
+    wanted = f'pairs 0\ndatagrams {count} refused 0 skipped 0 fragments 0 undirected 0 unsettled 0\n'
+    tests.answers('datagrams with nothing in them', 'audit', text, wanted)
+    tests.answers('datagrams with nothing in them', 'list', text, 'participants 0 endpoints 0 unsettled 0 faults 0\n')
+    print(f'datagrams with nothing in them: {count}')
+
+
+def main():
+    if len(sys.argv) != 2:
+        raise SystemExit(__doc__)
+    tests = Tests(os.path.realpath(sys.argv[1]))
+    for group in (cut_by_table, cut_and_changed, audits_of_changed, empty_submessages, parameter_lists,
+                  endpoints_that_disagree, topics_of_every_octet, acknowledgements, many_datagrams):
+        group(tests)
+    print(f'{tests.passed} passed, {tests.failed} failed')
+    return 0 if tests.passed and not tests.failed else 1
+
+
+if __name__ == '__main__':
+    sys.exit(main())

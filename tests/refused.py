@@ -1,0 +1,112 @@
+#!/usr/bin/env python3
+"""Tests that memory which is refused is told, and leaves nothing behind.
+
+    tests/refused.py PROGRAM CALLS
+
+PROGRAM is rtps-audit, and CALLS the built program of crates/rtps_hostile. Each call that CALLS knows, and each subcommand
+of PROGRAM, is run once for each request for memory that it makes, and that request is refused. A call has to answer that
+memory was refused, and the same call after that as if it were the first; a subcommand has to end with status 3 and to
+have written nothing. Reading words may go on as with ample memory, and then has to answer the same. Each prints a line
+with how many requests were refused. The last line is 'N passed, M failed'.
+
+One request is refused by tests/refuse_requests.c, which is built with the compiler of the toolchain.
+"""
+import os
+import shutil
+import subprocess
+import sys
+import tempfile
+
+TESTS = os.path.dirname(os.path.realpath(__file__))
+ROOT = os.path.dirname(TESTS)
+sys.dont_write_bytecode = True
+sys.path.insert(0, os.path.join(ROOT, 'bench'))
+import make
+
+CALLS = ['note', 'participants', 'endpoints', 'matched', 'pairs', 'walk', 'add_plain', 'add_merged', 'judge', 'judge_by_plain',
+         'build', 'index_judge', 'audit', 'read_recording', 'show', 'list', 'audit_run']
+WORDS = ['read_words', 'read_help', 'read_refused_words']
+
+# The size of the requests between which CALLS has its requests counted, as in its source.
+MARK = 7654321
+
+
+def built(folder):
+    """the library that refuses a request"""
+    rt = shutil.which('rt')
+    kit = os.path.join(os.path.dirname(os.path.dirname(os.path.realpath(rt))), 'toolchain', 'bin', 'clang') if rt else ''
+    compiler = [kit, '-nostdlib', '-fuse-ld=lld'] if os.path.exists(kit) else ['cc']
+    library = os.path.join(folder, 'refuse_requests.so')
+    subprocess.run([*compiler, '-O2', '-shared', '-fPIC', '-o', library, os.path.join(TESTS, 'refuse_requests.c')], check=True)
+    return library
+
+
+def run(library, words, request, text, mark):
+    """standard output, standard error without what the library says, the status, and whether a request was refused"""
+    settings = {**os.environ, 'LD_PRELOAD': library, 'REFUSED_REQUEST': str(request), 'REFUSED_MARK': str(mark)}
+    done = subprocess.run(words, input=text, capture_output=True, env=settings)
+    lines = done.stderr.decode().splitlines()
+    told = [line for line in lines if line != 'refused']
+    return (done.stdout.decode(), told, done.returncode), len(told) < len(lines)
+
+
+def sweep(library, words, text, wanted, may_go_on, mark=0):
+    """Refuses each request in turn: how many times that is answered as wanted, how many times as with ample memory, and
+    how often otherwise."""
+    ample, _ = run(library, words, 0, text, mark)
+    told = went_on = failed = request = 0
+    while True:
+        request += 1
+        answer, refused = run(library, words, request, text, mark)
+        if not refused:
+            return told, went_on, failed + (answer != ample)
+        if answer == wanted:
+            told += 1
+        elif answer == ample and may_go_on:
+            went_on += 1
+        else:
+            failed += 1
+            print(f'-- request {request} of {words[1:]}: {answer}'[:500])
+
+
+def many_endpoints():
+    """a recording of 40 participants, writers and readers, of which one pair speaks"""
+    datagrams = []
+    for i in range(40):
+        prefixes = bytes([0xaa - i]) * 12, bytes([0xbb + i]) * 12
+        for built_in, prefix, entity in ((b'\0\0\3\xc2', prefixes[0], make.WRITER), (b'\0\0\4\xc2', prefixes[1], make.READER)):
+            datagrams.append(make.announced(built_in, prefix, entity, make.RELIABLE).replace(b'pose', b'po%02d' % (i % 7)))
+        payload = b'\0\2\0\0\0\x50\0\x10' + prefixes[0] + b'\0\0\1\xc1\0\1\0\0'
+        datagrams.append(make.header(prefixes[0]) + make.data(b'\0\1\0\xc2', 1, payload))
+    datagrams += make.samples([*range(1, 40, 2), *range(2, 40, 2)], 39)
+    return b''.join(datagram.hex().encode() + b'\n' for datagram in datagrams)
+
+
+def main():
+    if len(sys.argv) != 3:
+        raise SystemExit(__doc__)
+    program, calls = map(os.path.realpath, sys.argv[1:])
+    with open(os.path.join(ROOT, 'examples', 'pose.rec'), 'rb') as f:
+        recordings = {'of six datagrams': f.read(), 'of 80 endpoints': many_endpoints()}
+    passed = failed = 0
+    with tempfile.TemporaryDirectory() as folder:
+        library = built(folder)
+        tried = []
+        for call in CALLS + WORDS:
+            answer = f'{call}: Memory, and then as if it were the first\n', [], 0
+            for name, text in recordings.items():
+                tried.append((f'{call}, {name}', [calls, call], text, answer, call in WORDS, MARK))
+        nothing = '', ['rtps-audit: out of memory'], 3
+        for words in (['show', '-'], ['list', '-'], ['audit', '-'], ['--help'], ['audit', '--help'], ['--version'], ['audit'], []):
+            tried.append((f"rtps-audit {' '.join(words)}", [program, *words], recordings['of six datagrams'], nothing, True))
+        for name, *one in tried:
+            told, went_on, others = sweep(library, *one)
+            passed += told
+            failed += others + (told == 0)
+            print(f'{name}: {told} requests refused' + (f', and {went_on} that changed nothing' if went_on else ''))
+    print(f'{passed} passed, {failed} failed')
+    return 0 if passed and not failed else 1
+
+
+if __name__ == '__main__':
+    sys.exit(main())
