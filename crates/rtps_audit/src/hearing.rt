@@ -5,9 +5,9 @@ ghost use Rattle.rtps_ids.specs.declared.identity.Guid.{Guid as GuidValue};
 use crate::answers::Answer;
 use crate::claims::Claims;
 use crate::listener::Listener;
-use rtps_coverage::MergedRanges;
 use crate::placed::Placed;
 use crate::verdict::Verdict;
+use rtps_coverage::BitRanges;
 use rtps_discovery::Pair;
 use rtps_ids::Memory;
 use std::alloc::Global;
@@ -63,7 +63,7 @@ impl Hearing {
         ensures { IfOk result (λ hearing. IsNonDecreasingBy (λ placed. placed.datagram) acts.now
             → Hears hearing pair.writer pair.reader (map placed_value acts.now)) }
     {
-        let mut listener = Listener::<MergedRanges>::new(alloc);
+        let mut listener = Listener::<BitRanges>::new(alloc);
         for placed in acts {
             listener.note(placed, pair)?;
         }

@@ -31,5 +31,5 @@ pub use index::Index;
 pub use judging::{judge, judge_by};
 pub use placed::Placed;
 pub use report::{Counts, Report, Row};
-pub use rtps_coverage::{Coverage, MergedRanges, PlainRanges};
+pub use rtps_coverage::{BitRanges, Coverage, MergedRanges, PlainRanges};
 pub use verdict::Verdict;

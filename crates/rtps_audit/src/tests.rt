@@ -1,4 +1,6 @@
-use crate::{Counts, Index, MergedRanges, PlainRanges, Report, Verdict, audit, judge, judge_by};
+use crate::{
+    BitRanges, Counts, Index, MergedRanges, PlainRanges, Report, Verdict, audit, judge, judge_by,
+};
 use rtps_discovery::Pair;
 use rtps_ids::{EntityId, Guid, GuidPrefix};
 use std::alloc::{AllocError, Global};
@@ -174,7 +176,7 @@ fn push_all(
 }
 
 /// The audit of a recording of the announcements of the pair and then these pieces. Each row is what the pair is judged
-/// by either kind of set, and by the index.
+/// by each kind of set, and by the index.
 fn audited(alloc: Global, pieces: &[Piece]) -> Result<Report, Fail> {
     let mut datagrams = Vec::new(alloc);
     push_all(alloc, &mut datagrams, &[HeaderA, WriterW, HeaderB, ReaderR])?;
@@ -188,8 +190,10 @@ fn audited(alloc: Global, pieces: &[Piece]) -> Result<Report, Fail> {
     for row in &report.rows {
         let plain = judge_by::<PlainRanges>(alloc, &slices, row.pair)?;
         let merged = judge_by::<MergedRanges>(alloc, &slices, row.pair)?;
+        let bits = judge_by::<BitRanges>(alloc, &slices, row.pair)?;
         let indexed = index.judge(row.pair)?;
-        if plain != row.verdict || merged != row.verdict || indexed != row.verdict {
+        let sets_differ = plain != row.verdict || merged != row.verdict || bits != row.verdict;
+        if sets_differ || indexed != row.verdict {
             return Err("one verdict by any way".into());
         }
     }

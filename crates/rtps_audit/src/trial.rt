@@ -2,7 +2,7 @@
 
 ghost use Rattle.std.specs.Prelude.{◌<◌};
 
-use crate::{MergedRanges, PlainRanges, Verdict, judge_by};
+use crate::{BitRanges, MergedRanges, PlainRanges, Verdict, judge_by};
 use rtps_discovery::Pair;
 use rtps_ids::{EntityId, Guid, GuidPrefix};
 use std::alloc::{AllocError, Global};
@@ -327,7 +327,9 @@ fn verdicts(
     }
     let judged = judge_by::<PlainRanges>(alloc, &lent, PAIR)?;
     let merged = judge_by::<MergedRanges>(alloc, &lent, PAIR)?;
+    let bits = judge_by::<BitRanges>(alloc, &lent, PAIR)?;
     assert_eq!(rt; judged, merged);
+    assert_eq!(rt; judged, bits);
     Ok((judged, verdict_by_trial(alloc, &datagrams)?))
 }
 

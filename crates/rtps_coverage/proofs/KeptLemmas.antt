@@ -19,7 +19,7 @@ use Rattle.std.proofs.lemmas.List.Folds.{list_any_none}
 use Rattle.std.proofs.lemmas.Map.Keys.{IsDistinct-from_sorted}
 use Rattle.std.proofs.lemmas.Map.Views.{All-values_from_lookup}
 use Rattle.rtps_coverage.specs.Spans.{has_number}
-use Rattle.rtps_coverage.specs.KeptSpans.{IsApart, HasRange, IsLastUpTo, IsFirstPast, IsFirstRange, IsRecent, IsClear, kept_has, recent_has}
+use Rattle.rtps_coverage.specs.KeptSpans.{IsApart, HasRange, IsLastUpTo, IsFirstPast, IsFirstRange, IsRecent, IsRangeWith, IsClear, kept_has, recent_has}
 use Rattle.rtps_coverage.specs.Coverage.{IsFront}
 use Rattle.std.proofs.lemmas.Int.{ints}
 use Rattle.std.proofs.Math.Nat.{le_refl, le_of_lt, le-max_left, le-max_right, max-eq_left, max-eq_right, min-le_left, min-le_right, min-eq_left, min-eq_right}
@@ -154,6 +154,15 @@ not_past n span a = without n span.lo span.hi (inr a)
 
 pub kept_once : (kept : BTreeMap ℕ Span) (key other : ℕ) (span that : Span) → HasRange kept key span → HasRange kept other that → key ≡ other → span ≡ that
 kept_once kept key other span that e f same = same_Some span that (sym e ∙ ap (λ k. tree.get nat_cmp kept k) same ∙ f)
+
+-- a range that is kept and has a number
+pub range_here : (kept : BTreeMap ℕ Span) (n key : ℕ) (span : Span) → IsApart kept → HasRange kept key span → span.lo ≤ n → n < span.hi → IsRangeWith kept n span
+range_here kept n key span h e from to = record {
+  from = from;
+  to = to;
+  bounded = h.bounded key span e;
+  members = λ m a b. some_has m key span kept.entries e (is_in m span a b);
+}
 
 -- ---- the ranges before a number and past it
 

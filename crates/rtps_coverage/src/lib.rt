@@ -1,12 +1,15 @@
 //! Growing sets of sequence numbers (DDSI-RTPS 2.5, 8.3.5.4 "SequenceNumber"), as ranges.
 #![tactic(auto)]
 
+mod bit_ranges;
 mod coverage;
 pub mod laws;
 mod merged_ranges;
 mod plain_ranges;
 mod span;
+mod words;
 
+pub use bit_ranges::BitRanges;
 pub use coverage::Coverage;
 pub use merged_ranges::MergedRanges;
 pub use plain_ranges::PlainRanges;

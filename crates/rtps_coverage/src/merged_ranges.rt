@@ -3,7 +3,7 @@ ghost use Rattle.std.specs.Option.{ForSome};
 ghost use Rattle.std.specs.BTreeMap.{btree_map_len};
 ghost use Rattle.std.proofs.Props.{props};
 ghost use Rattle.rtps_coverage.specs.Spans.{has_number};
-ghost use Rattle.rtps_coverage.specs.KeptSpans.{IsApart, HasRange, IsLastUpTo, IsFirstPast, IsFirstRange, IsRecent, HasNoneUpTo, HasNonePast, IsFirstTouching, IsClear, BeginsPast, kept_has, recent_has};
+ghost use Rattle.rtps_coverage.specs.KeptSpans.{IsApart, HasRange, IsLastUpTo, IsFirstPast, IsFirstRange, IsRecent, IsRangeWith, HasNoneUpTo, HasNonePast, IsFirstTouching, IsClear, BeginsPast, kept_has, recent_has};
 
 use crate::coverage::Coverage;
 use crate::span::Span;
@@ -108,18 +108,26 @@ fn is_in_recent(recent: Option<Recent>, n: u64) -> bool
     }
 }
 
+/// The range of the map that has a number.
+fn range_with(kept: &BTreeMap<u64, Span>, n: u64) -> Option<Span>
+    requires { IsApart kept.now }
+    ensures { MatchOption result (kept_has kept.now n ≡ false) (IsRangeWith kept.now n) }
+{
+    if let Some((_, span)) = last_up_to(kept, n) {
+        if n < span.hi {
+            return Some(span);
+        }
+    }
+    let (_, span) = first_past(kept, n)?;
+    if span.lo <= n { Some(span) } else { None }
+}
+
 /// Whether a number is in a range of the map.
 fn is_in_kept(kept: &BTreeMap<u64, Span>, n: u64) -> bool
     requires { IsApart kept.now }
     ensures { result ≡ kept_has kept.now n }
 {
-    match last_up_to(kept, n) {
-        Some((_, span)) if n < span.hi => true,
-        _ => match first_past(kept, n) {
-            Some((_, span)) => span.lo <= n,
-            None => false,
-        },
-    }
+    range_with(kept, n).is_some()
 }
 
 /// Removes the ranges of keys past `key` that begin up to `hi`, and answers the greater of `hi` and where the last of
@@ -275,7 +283,19 @@ fn join(
 }
 
 impl MergedRanges {
-    ghost use Rattle.rtps_coverage.specs.MergedRanges.{count_of};
+    ghost use Rattle.rtps_coverage.specs.MergedRanges.{count_of, covered_of, HasUpTo};
+
+    /// Where the range ends that has a number.
+    pub(crate) fn end_of(&self, n: u64) -> Option<u64>
+        ensures { MatchOption result (covered_of self.now n ≡ false) (HasUpTo (covered_of self.now) n) }
+    {
+        if let Some(recent) = self.recent {
+            if recent.span.lo <= n && n < recent.span.hi {
+                return Some(recent.span.hi);
+            }
+        }
+        Some(range_with(&self.kept, n)?.hi)
+    }
 
     /// How many ranges the set has.
     pub fn len(&self) -> usize

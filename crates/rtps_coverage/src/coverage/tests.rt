@@ -1,8 +1,8 @@
-//! What no clause says: that sets take ranges where there is memory. Both kinds of set are tried beside a row of flags, in
+//! What no clause says: that sets take ranges where there is memory. Each kind of set is tried beside a row of flags, in
 //! orders in which ranges could come.
 
 use super::Coverage;
-use crate::{MergedRanges, PlainRanges};
+use crate::{BitRanges, MergedRanges, PlainRanges};
 use rtps_ids::Memory;
 use std::alloc::Global;
 use std::test::Fail;
@@ -10,11 +10,12 @@ use std::test::Fail;
 /// The numbers that are looked at are below this one.
 const END: u8 = 100;
 
-/// One set, three times over.
+/// One set, four times over.
 #[derive(Drop)]
 struct Sets {
     plain: PlainRanges,
     merged: MergedRanges,
+    bits: BitRanges,
     flags: [bool; 100],
 }
 
@@ -23,6 +24,7 @@ impl Sets {
         Sets {
             plain: PlainRanges::empty(alloc),
             merged: MergedRanges::empty(alloc),
+            bits: BitRanges::empty(alloc),
             flags: [false; 100],
         }
     }
@@ -31,6 +33,7 @@ impl Sets {
         if 1 <= lo && lo <= hi {
             self.plain.add(i64::from(lo), i64::from(hi))?;
             self.merged.add(i64::from(lo), i64::from(hi))?;
+            self.bits.add(i64::from(lo), i64::from(hi))?;
         }
         for n in 1..END {
             if lo <= n && n < hi {
@@ -59,12 +62,16 @@ impl Sets {
     fn agree(&self) -> bool {
         for n in 0..END {
             let (number, has) = (i64::from(n), self.has(n));
-            if self.plain.covers(number) != has || self.merged.covers(number) != has {
+            if self.plain.covers(number) != has
+                || self.merged.covers(number) != has
+                || self.bits.covers(number) != has
+            {
                 return false;
             }
         }
         self.plain.front() == self.front()
             && self.merged.front() == self.front()
+            && self.bits.front() == self.front()
             && self.merged.len() == self.runs()
             && self.merged.is_empty() == (self.runs() == 0)
     }

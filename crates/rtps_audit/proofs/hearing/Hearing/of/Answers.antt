@@ -1,7 +1,7 @@
 use Rattle.std.proofs.Common.{◌≡◌, ◌+◌, ◌++◌, ◌∷◌, [], subst, sym, arith, map, take}
 use Rattle.std.proofs.lemmas.List.{take_all}
 use Rattle.rtps_audit.specs.Hearing.{Hears, IsListening}
-use Rattle.rtps_coverage.specs.MergedRanges.{covered_of}
+use Rattle.rtps_coverage.specs.BitRanges.{covered_of}
 use Rattle.rtps_audit.specs.Placed.{placed_value}
 use Rattle.rtps_audit.proofs.HearingLemmas.{placed_next, reached, reached_next, reached_so_far}
 use Rattle.rtps_audit.proofs.hearing.Hearing.of.Goals as goal

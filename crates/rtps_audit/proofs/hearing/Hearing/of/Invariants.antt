@@ -2,7 +2,7 @@ use Rattle.std.proofs.Common.{map, take}
 use Rattle.std.specs.List.Sorted.{IsNonDecreasingBy}
 use Rattle.rtps_audit.specs.declared.placed.Placed.{Placed}
 use Rattle.rtps_audit.specs.Hearing.{IsListening}
-use Rattle.rtps_coverage.specs.MergedRanges.{covered_of}
+use Rattle.rtps_coverage.specs.BitRanges.{covered_of}
 use Rattle.rtps_audit.specs.Placed.{placed_value}
 use Rattle.rtps_audit.proofs.HearingLemmas.{reached}
 use Rattle.rtps_audit.proofs.hearing.Hearing.of.Given as goal

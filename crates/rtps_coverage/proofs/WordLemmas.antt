@@ -1,0 +1,197 @@
+-- Sets of numbers as bits, 64 to a word.
+use Rattle.std.specs.BTreeMap as tree
+use Rattle.std.proofs.Common.{ℕ, zero, Bool, true, false, ◌≡◌, ◌≢◌, ◌≤◌, ◌<◌, ◌+◌, ◌-◌, ◌*◌, ◌/◌, ◌%◌, ◌^◌, ◌||◌, ◌&&◌, max, bit_or, nat_le, nat_lt, nat_eq, refl, ◌∙◌, sym, ap, subst, inl, inr, arith, w64}
+use Rattle.std.specs.Prelude.{if◌then◌else◌}
+use Rattle.std.specs.Option.{unwrap_or}
+use Rattle.std.specs.Int.{bit_at, trailing_ones}
+use Rattle.std.specs.Int.Count.{trailing_of_zero}
+use Rattle.std.specs.Ordering.{nat_cmp}
+use Rattle.std.proofs.Math.Nat.{div-add-mod', div-le_self, mod-lt}
+use Rattle.std.proofs.Math.Pow.{pow_pos, pow_mono}
+use Rattle.std.proofs.lemmas.Bool.{cases_lt}
+use Rattle.std.proofs.lemmas.Bool.Decides.{nat_tests}
+use Rattle.std.proofs.lemmas.Nat.{one_shl}
+use Rattle.std.proofs.lemmas.Nat.Bits.{bit_at-lt, bit_at_or, bit_at_ones, bit_at_above, bit_at_cat_high, bit_at_mask_inside, bit_at_mask_below, bit_at_mask_above, bit_at-trailing_ones, ones_shr}
+use Rattle.rtps_coverage.specs.Words.{word_at, has_bit}
+use Rattle.rtps_coverage.specs.declared.words.Words.{Words}
+
+-- ---- a run of ones
+
+-- what is computed for the ones from a bit on and below another
+pub record IsOnes (from to high low : ℕ) : Type 0 where
+  pub fits : low ≤ high
+  pub value : high - low ≡ 2 ^ to - 2 ^ from
+
+pub ones_between : (from to : ℕ) → from < to → to ≤ 64 → IsOnes from to ((2 ^ 64 - 1) / 2 ^ (64 - to)) (1 * 2 ^ from % 2 ^ 64 - 1)
+ones_between from to some few =
+    let low : 1 * 2 ^ from % 2 ^ 64 ≡ 2 ^ from = one_shl from 64 (omega arith) in
+    let high : (2 ^ 64 - 1) / 2 ^ (64 - to) ≡ 2 ^ (64 - (64 - to)) - 1 = ones_shr 64 (64 - to) (omega arith) in
+    let back : 64 - (64 - to) ≡ to = omega arith in
+    let whole : (2 ^ 64 - 1) / 2 ^ (64 - to) ≡ 2 ^ to - 1 = high ∙ ap (λ k. 2 ^ k - 1) back in
+    let more : 2 ^ from ≤ 2 ^ to = pow_mono {i = from} {j = to} (omega arith) in
+    let some_low : zero < 2 ^ from = pow_pos from in
+    record { fits = omega arith; value = omega arith }
+
+-- ---- the word of a number
+
+pub at_hand : (words : Words) (key : ℕ) → words.key ≡ key → word_at words key ≡ words.word
+at_hand words key same =
+    let test : nat_eq key words.key ≡ true = grind (arith, nat_tests) in
+    ap (λ b. if b then words.word else unwrap_or (tree.get nat_cmp words.kept key) 0) test
+
+-- another word does not change with the one at hand
+pub not_at_hand : (words : Words) (word key : ℕ) → key ≢ words.key → word_at (record words { word = word }) key ≡ word_at words key
+not_at_hand words word key other =
+    let test : nat_eq key words.key ≡ false = grind (arith, nat_tests) in
+    ap (λ b. if b then word else unwrap_or (tree.get nat_cmp words.kept key) 0) test
+    ∙ sym (ap (λ b. if b then words.word else unwrap_or (tree.get nat_cmp words.kept key) 0) test)
+
+with_max : (b x : ℕ) → b < 2 → x ≡ 0 → nat_eq (max b x) 1 ≡ (nat_eq b 1 || false)
+with_max b x h k = grind (arith, nat_tests)
+
+with_one : (b x : ℕ) → b < 2 → x ≡ 1 → nat_eq (max b x) 1 ≡ (nat_eq b 1 || true)
+with_one b x h k = grind (arith, nat_tests)
+
+pub none_within : (n lo hi : ℕ) → (lo ≤ n → n < hi → ⊥) → (nat_le lo n && nat_lt n hi) ≡ false
+none_within n lo hi f = elim (cases_lt n lo) [
+  | inl lt ↦ grind (arith, nat_tests)
+  | inr le ↦ elim (cases_lt n hi) [ inl lt ↦ absurd (f le lt) | inr ge ↦ grind (arith, nat_tests) ]
+]
+
+is_within : (n lo hi : ℕ) → lo ≤ n → n < hi → (nat_le lo n && nat_lt n hi) ≡ true
+is_within n lo hi h k = grind (arith, nat_tests)
+
+or_false : (b : Bool) → b ≡ (b || false)
+or_false true = refl
+or_false false = refl
+
+-- one bit of a word in which the bits of the numbers from lo on and below hi are set
+joined_bit : (word key lo hi n : ℕ) → 64 * key ≤ lo → lo < hi → hi ≤ 64 * key + 64 → n / 64 ≡ key
+    → nat_eq (bit_at (bit_or word (2 ^ (hi - 64 * key) - 2 ^ (lo - 64 * key))) (n % 64)) 1
+    ≡ (nat_eq (bit_at word (n % 64)) 1 || (nat_le lo n && nat_lt n hi))
+joined_bit word key lo hi n above some within same =
+    let mask = 2 ^ (hi - 64 * key) - 2 ^ (lo - 64 * key) in
+    let b = bit_at word (n % 64) in
+    let few : b < 2 = bit_at-lt word (n % 64) in
+    ap (λ k. nat_eq k 1) (bit_at_or word mask (n % 64))
+    ∙ elim (cases_lt n lo) [
+      | inl lt ↦
+          with_max b (bit_at mask (n % 64)) few (bit_at_mask_below (lo - 64 * key) (hi - 64 * key) (n % 64) (omega arith))
+          ∙ ap (λ t. nat_eq b 1 || t) (sym (none_within n lo hi (λ from to. omega arith)))
+      | inr le ↦ elim (cases_lt n hi) [
+        | inl lt ↦
+            with_one b (bit_at mask (n % 64)) few (bit_at_mask_inside (lo - 64 * key) (hi - 64 * key) (n % 64) (omega arith) (omega arith))
+            ∙ ap (λ t. nat_eq b 1 || t) (sym (is_within n lo hi le lt))
+        | inr ge ↦
+            with_max b (bit_at mask (n % 64)) few (bit_at_mask_above (lo - 64 * key) (hi - 64 * key) (n % 64) (omega arith))
+            ∙ ap (λ t. nat_eq b 1 || t) (sym (none_within n lo hi (λ from to. omega arith)))
+      ]
+    ]
+
+-- the set after one of its words has the bits of the numbers from lo on and below hi, where the others stay from a word on
+pub joins_bits : (old new : ℕ → ℕ) (key lo hi passed : ℕ) → 64 * key ≤ lo → lo < hi → hi ≤ 64 * key + 64
+    → new key ≡ bit_or (old key) (2 ^ (hi - 64 * key) - 2 ^ (lo - 64 * key))
+    → ((other : ℕ) → passed / 64 ≤ other → other ≢ key → new other ≡ old other)
+    → (n : ℕ) → passed ≤ n → has_bit new n ≡ (has_bit old n || (nat_le lo n && nat_lt n hi))
+joins_bits old new key lo hi passed above some within at others n past =
+    elim (cases_lt (n / 64) key) [
+      | inl lt ↦ elsewhere (λ same. omega arith)
+      | inr ge ↦ elim (cases_lt key (n / 64)) [
+        | inl lt ↦ elsewhere (λ same. omega arith)
+        | inr le ↦
+            let same : n / 64 ≡ key = omega arith in
+            ap (λ k. nat_eq (bit_at (new k) (n % 64)) 1) same
+            ∙ ap (λ w. nat_eq (bit_at w (n % 64)) 1) at
+            ∙ joined_bit (old key) key lo hi n above some within same
+            ∙ ap (λ k. nat_eq (bit_at (old k) (n % 64)) 1 || (nat_le lo n && nat_lt n hi)) (sym same)
+      ]
+    ]
+  where
+    elsewhere : n / 64 ≢ key → has_bit new n ≡ (has_bit old n || (nat_le lo n && nat_lt n hi))
+    elsewhere other =
+        ap (λ w. nat_eq (bit_at w (n % 64)) 1) (others (n / 64) (omega arith) other)
+        ∙ or_false (has_bit old n)
+        ∙ ap (λ t. has_bit old n || t) (sym (none_within n lo hi (λ from to. other (omega arith))))
+
+-- two ranges of which one begins where the other ends
+pub joins_both : (a : Bool) (lo middle hi n : ℕ) → lo ≤ middle → middle ≤ hi
+    → ((a || (nat_le lo n && nat_lt n middle)) || (nat_le middle n && nat_lt n hi)) ≡ (a || (nat_le lo n && nat_lt n hi))
+joins_both a lo middle hi n h k = grind (arith, nat_tests)
+
+-- ---- the run of ones from a bit on
+
+shifted_bit : (word i j : ℕ) → bit_at (word / 2 ^ i) j ≡ bit_at word (i + j)
+shifted_bit word i j =
+    let parts : word / 2 ^ i * 2 ^ i + word % 2 ^ i ≡ word = div-add-mod' word (2 ^ i) in
+    let place : i + j - i ≡ j = omega arith in
+    sym (ap (λ w. bit_at w (i + j)) (sym parts) ∙ bit_at_cat_high (word / 2 ^ i) i (word % 2 ^ i) (i + j) (mod-lt word (pow_pos i)) (omega arith) ∙ ap (λ k. bit_at (word / 2 ^ i) k) place)
+
+-- the ones of a word from a bit on, up to the first bit that is clear
+pub record AreOnesFrom (word i count : ℕ) : Type 0 where
+  pub within : i + count ≤ 64
+  pub members : (j : ℕ) → j < count → bit_at word (i + j) ≡ 1
+  pub stops : count ≡ 0 → bit_at word i ≡ 0
+
+some_clear : (word i count : ℕ) → trailing_ones w64 (word / 2 ^ i) ≡ count → i < 64 → bit_at word 64 ≡ 0
+    → (count < 64) × (bit_at (word / 2 ^ i) count ≡ 0) × ((j : ℕ) → j < count → bit_at (word / 2 ^ i) j ≡ 1) → AreOnesFrom word i count
+some_clear word i count is few top h =
+    record {
+      within = elim (cases_lt (64 - i) count) [
+        | inl lt ↦
+            let place : i + (64 - i) ≡ 64 = omega arith in
+            let one : bit_at word 64 ≡ 1 = ap (bit_at word) (sym place) ∙ sym (shifted_bit word i (64 - i)) ∙ h.2 (64 - i) lt in
+            absurd (omega arith)
+        | inr ge ↦ omega arith
+      ];
+      members = λ j lt. sym (shifted_bit word i j) ∙ h.2 j lt;
+      stops = λ none. let place : i ≡ i + count = omega arith in ap (bit_at word) place ∙ sym (shifted_bit word i count) ∙ h.1;
+    }
+
+none_clear : (word i : ℕ) → word < 2 ^ 64 → i < 64 → word / 2 ^ i ≡ 2 ^ 64 - 1 → AreOnesFrom word i 64
+none_clear word i fits few all =
+    let each : (j : ℕ) → j < 64 → bit_at word (i + j) ≡ 1 = λ j lt. sym (shifted_bit word i j) ∙ ap (λ w. bit_at w j) all ∙ bit_at_ones 64 j lt in
+    record {
+      within = elim (cases_lt 0 i) [
+        | inl lt ↦
+            let one = each 63 (omega arith) in
+            let none = bit_at_above word 64 (i + 63) fits (omega arith) in
+            absurd (omega arith)
+        | inr le ↦ omega arith
+      ];
+      members = each;
+      stops = λ none. absurd (omega arith);
+    }
+
+pub ones_from : (word i : ℕ) → word < 2 ^ 64 → i < 64 → AreOnesFrom word i (trailing_ones w64 (word / 2 ^ i))
+ones_from word i fits few =
+    elim (cases_lt (word / 2 ^ i + 1) (2 ^ 64)) [
+      | inl lt ↦ some_clear word i _ refl few (bit_at_above word 64 64 fits (omega arith)) (bit_at-trailing_ones w64 (word / 2 ^ i) lt)
+      | inr ge ↦
+          let least = div-le_self word (2 ^ i) in
+          let all : word / 2 ^ i ≡ 2 ^ 64 - 1 = omega arith in
+          let count : trailing_ones w64 (word / 2 ^ i) ≡ 64 = ap (trailing_ones w64) all ∙ trailing_of_zero 64 in
+          subst (AreOnesFrom word i) (sym count) (none_clear word i fits few all)
+    ]
+
+-- the numbers from n on that the word of n has
+pub record IsRunFrom (word : ℕ → ℕ) (n count : ℕ) : Type 0 where
+  pub within : n + count ≤ 64 * (n / 64) + 64
+  pub members : (m : ℕ) → n ≤ m → m < n + count → has_bit word m ≡ true
+  pub stops : count ≡ 0 → has_bit word n ≡ false
+
+pub run_from : (word : ℕ → ℕ) (n given count : ℕ) → given ≡ word (n / 64) → given < 2 ^ 64 → count ≡ trailing_ones w64 (given / 2 ^ (n % 64)) → IsRunFrom word n count
+run_from word n given count same fits is =
+    let run : AreOnesFrom given (n % 64) count = subst (AreOnesFrom given (n % 64)) (sym is) (ones_from given (n % 64) fits (omega arith)) in
+    record {
+      within = let few = run.within in omega arith;
+      members = λ m from to.
+          let few = run.within in
+          let key : n / 64 ≡ m / 64 = omega arith in
+          let place : n % 64 + (m - n) ≡ m % 64 = omega arith in
+          let one : bit_at (word (m / 64)) (m % 64) ≡ 1 =
+          ap (λ k. bit_at (word k) (m % 64)) (sym key) ∙ ap (λ w. bit_at w (m % 64)) (sym same) ∙ ap (bit_at given) (sym place) ∙ run.members (m - n) (omega arith) in
+          ap (λ b. nat_eq b 1) one;
+      stops = λ none.
+          let zero_bit : bit_at (word (n / 64)) (n % 64) ≡ 0 = ap (λ w. bit_at w (n % 64)) (sym same) ∙ run.stops none in
+          ap (λ b. nat_eq b 1) zero_bit;
+    }

@@ -1,0 +1,208 @@
+ghost use Rattle.std.specs.Prelude.{ℕ, Bool, ◌≡◌, ◌≤◌, ◌<◌, ◌-◌, ◌^◌, ◌||◌, ◌&&◌, nat_le, nat_lt, true, false};
+ghost use Rattle.rtps_coverage.specs.Beyond.{is_beyond};
+
+use crate::coverage::Coverage;
+use crate::merged_ranges::MergedRanges;
+use crate::words::Words;
+use rtps_ids::Memory;
+use std::alloc::Global;
+
+/// Ranges of at most so many numbers are kept as bits.
+const SHORT: u64 = 64;
+
+/// The least number that no set has.
+const LAST: u64 = i64::MAX as u64;
+
+/// A set of sequence numbers as its front, below which each positive number is in the set, the short ranges beyond it
+/// as bits, and the long ones as ranges.
+///
+/// A short range that lies close to the one before it takes a few operations on one word.
+#[derive(Drop)]
+pub struct BitRanges {
+    passed: u64,
+    words: Words,
+    ranges: MergedRanges,
+    ghost in_range: { (1 ≤ passed) × (passed < 2 ^ 63) },
+    ghost outside: { is_beyond words ranges passed ≡ false },
+}
+
+/// Where the numbers from `n` on end that one range, or one word, has.
+fn run_end(words: &Words, ranges: &MergedRanges, n: u64) -> u64
+    requires { n < 2 ^ 63 - 1 }
+    ensures onward { n ≤ result }
+    ensures in_range { result < 2 ^ 63 }
+    ensures members { (m : ℕ) → n ≤ m → m < result → is_beyond words.now ranges.now m ≡ true }
+    ensures stops { result ≡ n → is_beyond words.now ranges.now n ≡ false }
+{
+    match ranges.end_of(n) {
+        Some(end) => end,
+        None => words.run_end(n).min(LAST),
+    }
+}
+
+/// The least number from `hi` on that lies in none of the ranges and words. Those words are let go of whose numbers, from
+/// `from` on, lie below it.
+fn pass(words: &mut Words, ranges: &MergedRanges, from: u64, hi: u64) -> u64
+    requires { hi < 2 ^ 63 }
+    ensures onward { hi ≤ result }
+    ensures in_range { result < 2 ^ 63 }
+    ensures outside { is_beyond words.new ranges.now result ≡ false }
+    ensures between { (n : ℕ) → hi ≤ n → n < result → is_beyond words.old ranges.now n ≡ true }
+    ensures same { (n : ℕ) → result ≤ n → is_beyond words.new ranges.now n ≡ is_beyond words.old ranges.now n }
+{
+    words.forget(from, hi);
+    let mut reached = hi;
+    while reached < LAST {
+        let end = run_end(words, ranges, reached);
+        if end == reached {
+            return reached;
+        }
+        words.forget(reached, end);
+        reached = end;
+    }
+    reached
+}
+
+impl Coverage for BitRanges {
+    ghost use Rattle.std.specs.Prelude.{ℤ, ◌≤ℤ◌, pos, IsOk, OnOk, OnErr};
+    ghost use Rattle.rtps_coverage.specs.Coverage.{JoinsRange, IsSameSet, IsFront};
+    ghost use Rattle.rtps_coverage.specs.BitRanges.{covered_of, covered_in_range};
+
+    ghost covered = { covered_of };
+
+    ghost in_range = { covered_in_range };
+
+    fn empty(alloc: Global) -> Self {
+        BitRanges {
+            passed: 1,
+            words: Words::new(alloc),
+            ranges: MergedRanges::empty(alloc),
+        }
+    }
+
+    /// As of any set. A range that begins at the front or below needs no growth.
+    fn add(&mut self, lo: i64, hi: i64) -> Result<(), Memory>
+        requires positive { pos 1 ≤ℤ lo }
+        requires ordered { lo ≤ℤ hi }
+        ensures ok { OnOk result (JoinsRange (covered_of self.old) (covered_of self.new) lo hi) }
+        ensures err { OnErr result (IsSameSet (covered_of self.old) (covered_of self.new)) }
+        ensures in_order { (front : ℤ) → IsFront (covered_of self.old) front → lo ≤ℤ front
+            → IsOk result }
+        ensures nothing { hi ≤ℤ lo → IsOk result }
+    {
+        let from = lo.cast_unsigned();
+        let to = hi.cast_unsigned();
+        if to <= from || to <= self.passed {
+            return Ok(());
+        }
+        if from <= self.passed {
+            self.passed = pass(&mut self.words, &self.ranges, self.passed, to);
+            return Ok(());
+        }
+        if to - from <= SHORT {
+            return self.words.add(from, to, self.passed);
+        }
+        self.ranges.add(lo, hi)
+    }
+
+    fn front(&self) -> i64 {
+        self.passed.cast_signed()
+    }
+
+    fn covers(&self, n: i64) -> bool {
+        if n < 1 || n == i64::MAX {
+            return false;
+        }
+        let number = n.cast_unsigned();
+        number < self.passed || self.words.has(number) || self.ranges.covers(n)
+    }
+}
+
+#[cfg(test)]
+mod tests {
+    use super::*;
+    use std::test::Fail;
+
+    fn added<C: Coverage>(alloc: Global, ranges: &[(i64, i64)]) -> Result<C, Memory> {
+        let mut set = C::empty(alloc);
+        for (lo, hi) in ranges {
+            if 1 <= *lo && *lo <= *hi {
+                set.add(*lo, *hi)?;
+            }
+        }
+        Ok(set)
+    }
+
+    #[test]
+    fn ranges_join_in_any_order(rt: HostRuntime) -> Result<(), Fail> {
+        let set: BitRanges = added(
+            rt.alloc(),
+            &[
+                (120, 130),
+                (3, 5),
+                (300, 400),
+                (62, 66),
+                (8, 8),
+                (9, 11),
+                (5, 7),
+                (1, 3),
+            ],
+        )?;
+        assert_eq!(rt; set.front(), 7);
+        for (number, want) in [
+            (-1, false),
+            (0, false),
+            (1, true),
+            (6, true),
+            (7, false),
+            (9, true),
+            (11, false),
+            (61, false),
+            (62, true),
+            (65, true),
+            (66, false),
+            (119, false),
+            (129, true),
+            (130, false),
+            (300, true),
+            (400, false),
+        ] {
+            assert_eq!(rt; set.covers(number), want, "at {number}");
+        }
+        Ok(())
+    }
+
+    #[test]
+    fn the_front_goes_on_through_bits_and_ranges(rt: HostRuntime) -> Result<(), Fail> {
+        let set: BitRanges = added(
+            rt.alloc(),
+            &[
+                (1000, 2000),
+                (2000, 2010),
+                (30, 94),
+                (94, 158),
+                (158, 1000),
+                (1, 30),
+            ],
+        )?;
+        assert_eq!(rt; set.front(), 2010);
+        assert!(rt; !set.covers(2010));
+        Ok(())
+    }
+
+    #[test]
+    fn the_greatest_number_is_never_covered(rt: HostRuntime) -> Result<(), Fail> {
+        let set: BitRanges = added(
+            rt.alloc(),
+            &[
+                (i64::MAX - 1, i64::MAX),
+                (1, i64::MAX),
+                (i64::MAX, i64::MAX),
+            ],
+        )?;
+        assert_eq!(rt; set.front(), i64::MAX);
+        assert!(rt; set.covers(i64::MAX - 1));
+        assert!(rt; !set.covers(i64::MAX));
+        Ok(())
+    }
+}
