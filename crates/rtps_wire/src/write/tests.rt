@@ -2,6 +2,7 @@ use crate::{
     Body, DataBody, GapBody, Header, HeartbeatBody, Item, Items, Payload, WriteFault, write_message,
 };
 use rtps_ids::{EntityId, GuidPrefix, NumberSet, Order, SeqNum, Vendor, Version};
+use std::slice;
 use std::test::Fail;
 
 const HEADER: Header = Header {
@@ -39,10 +40,10 @@ fn every_submessage_is_written_as_it_was_read(rt: HostRuntime) -> Result<(), Fai
     };
     let mut read = Vec::new(rt.alloc());
     for outcome in items {
-        let Ok(item) = outcome else {
-            return Err("an item".into());
-        };
-        read.push(item)?;
+        match &outcome {
+            Ok(item) => read.extend_from_slice(slice::from_ref(item))?,
+            Err(_) => return Err("an item".into()),
+        }
     }
     assert_eq!(rt; read.len(), 8);
     let mut written = Vec::from_slice(rt.alloc(), b"before")?;
@@ -52,15 +53,10 @@ fn every_submessage_is_written_as_it_was_read(rt: HostRuntime) -> Result<(), Fai
     Ok(())
 }
 
-/// What is answered for one item, which is in big-endian, and how many octets are written.
-fn answer(rt: &HostRuntime, body: Body<'_>) -> (Result<(), WriteFault>, usize) {
-    let item = Item {
-        at: 0,
-        order: Order::Big,
-        body,
-    };
+/// What is answered, and how many octets are written.
+fn answer(rt: &HostRuntime, items: &[Item<'_>]) -> (Result<(), WriteFault>, usize) {
     let mut out = Vec::new(rt.alloc());
-    let answer = write_message(&HEADER, &[item], &mut out);
+    let answer = write_message(&HEADER, items, &mut out);
     (answer, out.len())
 }
 
@@ -79,7 +75,12 @@ fn what_is_not_writable(rt: HostRuntime) -> Result<(), Fail> {
         ..HEADER
     };
     assert_eq!(rt; write_message(&old, &[], &mut out), Err(WriteFault::NotWritable));
-    assert_eq!(rt; answer(&rt, Body::Skipped { id: 0x80 }), (Err(WriteFault::NotWritable), 0));
+    let skipped = [Item {
+        at: 0,
+        order: Order::Big,
+        body: Body::Skipped { id: 0x80 },
+    }];
+    assert_eq!(rt; answer(&rt, &skipped), (Err(WriteFault::NotWritable), 0));
     let range = HeartbeatBody {
         reader: READER,
         writer: WRITER,
@@ -89,17 +90,26 @@ fn what_is_not_writable(rt: HostRuntime) -> Result<(), Fail> {
         is_final: false,
         live: false,
     };
-    assert_eq!(rt; answer(&rt, Body::Heartbeat(range)), (Err(WriteFault::NotWritable), 0));
+    let heartbeat = [Item {
+        at: 0,
+        order: Order::Big,
+        body: Body::Heartbeat(range),
+    }];
+    assert_eq!(rt; answer(&rt, &heartbeat), (Err(WriteFault::NotWritable), 0));
     let Some(list) = NumberSet::new(0, 0, [0; 8]) else {
         return Err("a set".into());
     };
-    let gap = GapBody {
-        reader: READER,
-        writer: WRITER,
-        start: number(1)?,
-        list,
-    };
-    assert_eq!(rt; answer(&rt, Body::Gap(gap)), (Err(WriteFault::NotWritable), 0));
+    let gap = [Item {
+        at: 0,
+        order: Order::Big,
+        body: Body::Gap(GapBody {
+            reader: READER,
+            writer: WRITER,
+            start: number(1)?,
+            list,
+        }),
+    }];
+    assert_eq!(rt; answer(&rt, &gap), (Err(WriteFault::NotWritable), 0));
     Ok(())
 }
 
@@ -125,9 +135,7 @@ fn long(rt: &HostRuntime, octets: usize, is_last: bool) -> Result<(Result<(), Wr
             body: Body::InfoTs(None),
         },
     ];
-    let mut out = Vec::new(rt.alloc());
-    let answer = write_message(&HEADER, if is_last { &items[..1] } else { &items }, &mut out);
-    Ok((answer, out.len()))
+    Ok(answer(rt, if is_last { &items[..1] } else { &items }))
 }
 
 #[test]
