@@ -81,14 +81,16 @@ fn run_args(rt: &HostRuntime, args: &[String]) -> Result<u8, AllocError> {
     })
 }
 
-// Runs what was chosen on its FILE. Where that cannot be opened or read, it is named with the reason.
+// Runs what was chosen on its FILE, if it has one. Where that cannot be opened or read, it is named with the reason.
 fn run_on_file(rt: &HostRuntime, choice: &Choice) -> Result<Ending, RunFault> {
-    let file = choice.file();
+    let Some(file) = choice.file() else {
+        return run_choice(rt.alloc(), choice, &mut io::empty(), &mut rt.stdout());
+    };
     if file == "-" {
-        return run_on_input(rt, choice, rt.stdin());
+        return run_on_input(rt, choice, file, rt.stdin());
     }
     match File::open(rt, file) {
-        Ok(input) => run_on_input(rt, choice, input),
+        Ok(input) => run_on_input(rt, choice, file, input),
         Err(error) => {
             tell_reason(rt, file, &error);
             Err(RunFault::Input)
@@ -100,6 +102,7 @@ fn run_on_file(rt: &HostRuntime, choice: &Choice) -> Result<Ending, RunFault> {
 fn run_on_input<R: Read + Drop>(
     rt: &HostRuntime,
     choice: &Choice,
+    file: &str,
     input: R,
 ) -> Result<Ending, RunFault> {
     let mut input = Remembering {
@@ -108,7 +111,7 @@ fn run_on_input<R: Read + Drop>(
     };
     let outcome = run_choice(rt.alloc(), choice, &mut input, &mut rt.stdout());
     if let Some(failure) = &input.failure {
-        tell_reason(rt, choice.file(), failure);
+        tell_reason(rt, file, failure);
     }
     outcome
 }

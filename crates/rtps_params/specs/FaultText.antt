@@ -2,6 +2,8 @@
 use Rattle.std.specs.Prelude.{ℕ, List, codes}
 use Rattle.rtps_params.specs.declared.fault.ParamFault.{ParamFault}
 use Rattle.rtps_params.specs.declared.fault.ParamFault.TheVariants.{CutHeader, CutValue}
+use Rattle.rtps_params.specs.declared.list_fault.ListFault.{ListFault}
+use Rattle.rtps_params.specs.declared.list_fault.ListFault.TheVariants.{ValueTooLong, ValueUnaligned, PidReserved, Memory}
 
 unfoldable pub fault_name : ParamFault → List ℕ
 fault_name CutHeader = codes "CutHeader"
@@ -11,3 +13,16 @@ fault_name CutValue = codes "CutValue"
 abbrev pub fault_number : ParamFault → ℕ
 fault_number CutHeader = 1
 fault_number CutValue = 2
+
+unfoldable pub list_fault_name : ListFault → List ℕ
+list_fault_name ValueTooLong = codes "ValueTooLong"
+list_fault_name ValueUnaligned = codes "ValueUnaligned"
+list_fault_name PidReserved = codes "PidReserved"
+list_fault_name Memory = codes "Memory"
+
+-- behind those of reading, in the order in which they can be met
+abbrev pub list_fault_number : ListFault → ℕ
+list_fault_number ValueTooLong = 3
+list_fault_number ValueUnaligned = 4
+list_fault_number PidReserved = 5
+list_fault_number Memory = 6

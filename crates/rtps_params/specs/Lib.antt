@@ -5,3 +5,4 @@ pub mod Shown
 pub mod Item
 pub mod Values
 pub mod FaultText
+pub mod Writing

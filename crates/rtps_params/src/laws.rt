@@ -1,10 +1,11 @@
 //! Laws of the definitions that the contracts cite, each the contract of a function that does nothing.
 
-ghost use Rattle.std.specs.Prelude.{◌≡◌, ◌≤◌, ◌⊎◌, ◌↔◌, ◌++◌, ℕ, List, Some, Ok, Err, length, take};
+ghost use Rattle.std.specs.Prelude.{◌≡◌, ◌<◌, ◌≤◌, ◌⊎◌, ◌↔◌, ◌^◌, ◌++◌, ℕ, List, All, Some, None, Ok, Err, length, take};
 ghost use Rattle.rtps_ids.specs.declared.order.Order.{Order};
 ghost use Rattle.rtps_params.specs.Grammar.{BeginsWithList, HasFault, IsList, Pairs};
 ghost use Rattle.rtps_params.specs.Reading.{list_end, pairs_of};
 ghost use Rattle.rtps_params.specs.Values.{SpellsText, text_of};
+ghost use Rattle.rtps_params.specs.Writing.{list_fault, written_list};
 ghost use Rattle.rtps_params.specs.declared.fault.ParamFault.{ParamFault};
 
 /// No octets have two beginnings that are lists in one order, and a list has one list of pairs: so nothing that follows
@@ -40,4 +41,15 @@ pub fn ends()
 pub fn texts()
     ensures { (order : Order) (name : List ℕ) (value : List ℕ)
         → (text_of order value ≡ Some name) ↔ SpellsText order name value }
+{}
+
+/// What is written of parameters that have no fault is the list of them: it is read as the same parameters in the same
+/// order, whatever follows it, and takes all its octets. An id is a number of two octets.
+pub fn written_lists_are_read_as_they_are()
+    ensures list { (order : Order) (pairs : Pairs) → list_fault pairs ≡ None → All (λ pair. pair.0 < 2 ^ 16) pairs
+        → IsList order pairs (written_list order pairs) }
+    ensures pairs { (order : Order) (pairs : Pairs) (rest : List ℕ) → list_fault pairs ≡ None → All (λ pair. pair.0 < 2 ^ 16) pairs
+        → pairs_of order (written_list order pairs ++ rest) ≡ pairs }
+    ensures used { (order : Order) (pairs : Pairs) (rest : List ℕ) → list_fault pairs ≡ None → All (λ pair. pair.0 < 2 ^ 16) pairs
+        → list_end order (written_list order pairs ++ rest) ≡ Ok (length (written_list order pairs)) }
 {}

@@ -12,4 +12,8 @@ pub(crate) mod pid {
 pub(crate) mod parameter {
     /// The octets of its id and length, which stand before its value.
     pub(crate) const HEADER: usize = 4;
+    /// The octets of a value that is written are a multiple of this.
+    pub(crate) const ALIGNMENT: usize = 4;
+    /// The most octets of a value that is written: the greatest such multiple that a length can spell.
+    pub(crate) const LONGEST_VALUE: usize = 65_532;
 }

@@ -5,14 +5,18 @@ mod fault;
 pub mod laws;
 mod layout;
 mod list;
+mod list_fault;
 mod pairs;
 mod parameter;
 mod values;
+mod write;
 
 pub use fault::ParamFault;
 pub use list::ParamList;
+pub use list_fault::ListFault;
 pub use pairs::Params;
 pub use values::{read_guid, read_text, read_u32};
+pub use write::write_list;
 
 #[cfg(test)]
 mod tests;

@@ -126,3 +126,38 @@ fn reads_values(rt: HostRuntime) {
     );
     assert_eq!(rt; read_u32(b"\x01\x02\x03", Order::Big), None);
 }
+
+#[test]
+fn writes_lists(rt: HostRuntime) -> Result<(), Fail> {
+    let mut octets = Vec::from_slice(rt.alloc(), b"\xff")?;
+    let value = b"\0\0\0\x05pose\0\0\0\0";
+    write_list(&[(5, value.as_slice())], Order::Big, &mut octets)?;
+    assert_eq!(rt;
+        octets.as_slice(),
+        b"\xff\0\x05\0\x0c\0\0\0\x05pose\0\0\0\0\0\x01\0\0".as_slice()
+    );
+    octets.clear();
+    write_list(&[(5, b"abcd".as_slice())], Order::Little, &mut octets)?;
+    assert_eq!(rt; octets.as_slice(), b"\x05\0\x04\0abcd\x01\0\0\0".as_slice());
+    Ok(())
+}
+
+#[test]
+fn refuses_what_cannot_be_written(rt: HostRuntime) -> Result<(), Fail> {
+    let mut long = Vec::new(rt.alloc());
+    long.resize(65_533, 7)?;
+    let mut octets = Vec::new(rt.alloc());
+    let rows: [(u16, &[u8], ListFault); 3] = [
+        (0, long.as_slice(), ListFault::ValueTooLong),
+        (1, b"abc", ListFault::ValueUnaligned),
+        (1, b"abcd", ListFault::PidReserved),
+    ];
+    for (pid, value, fault) in rows {
+        let params: [(u16, &[u8]); 3] = [(5, b"abcd"), (pid, value), (0, b"a")];
+        assert_eq!(rt; write_list(&params, Order::Big, &mut octets), Err(fault));
+        assert!(rt; octets.is_empty());
+    }
+    write_list(&[(5, &long[..65_532])], Order::Big, &mut octets)?;
+    assert_eq!(rt; octets.len(), 65_540);
+    Ok(())
+}

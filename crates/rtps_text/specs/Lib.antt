@@ -2,4 +2,5 @@ pub mod AuditText
 pub mod ListText
 pub mod Places
 pub mod Room
+pub mod SampleText
 pub mod ShowText

@@ -10,4 +10,5 @@ pub use ending::Ending;
 pub use recording::{Datagrams, Recording};
 pub use text::audit::audit_text;
 pub use text::list::list_text;
+pub use text::sample::sample_text;
 pub use text::show::show_text;

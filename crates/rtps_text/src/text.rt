@@ -7,4 +7,5 @@ mod item_lines;
 pub(crate) mod list;
 mod list_lines;
 mod parts;
+pub(crate) mod sample;
 pub(crate) mod show;

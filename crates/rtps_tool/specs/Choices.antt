@@ -1,15 +1,19 @@
--- What a run answers by what the words chose.
+-- What a run does by what the words chose.
 -- own: each subcommand is one run.
-use Rattle.std.specs.Prelude.{ℕ, List}
+use Rattle.std.specs.Prelude.{ℕ, ◌≡◌, List, Option, Result}
 use Rattle.rtps_text.specs.AuditText.{IsAudited}
 use Rattle.rtps_text.specs.ListText.{IsListed}
+use Rattle.rtps_text.specs.SampleText.{sample}
 use Rattle.rtps_text.specs.ShowText.{IsShown}
-use Rattle.rtps_tool.specs.declared.command.Choice.{Choice}
-use Rattle.rtps_tool.specs.declared.command.Choice.TheVariants.{Show, List as ListChoice, Audit}
 use Rattle.rtps_text.specs.declared.ending.Ending.{Ending}
+use Rattle.rtps_tool.specs.Runs.{Runs, Writes}
+use Rattle.rtps_tool.specs.declared.command.Choice.{Choice}
+use Rattle.rtps_tool.specs.declared.command.Choice.TheVariants.{Show, List as ListChoice, Audit, Sample}
+use Rattle.rtps_tool.specs.declared.faults.RunFault.{RunFault}
 
--- of these datagrams, this text and this ending
-abbrev pub IsAnswer : Choice → List (List ℕ) → List ℕ → Ending → Type 0
-IsAnswer (Show file) = IsShown
-IsAnswer (ListChoice file) = IsListed
-IsAnswer (Audit file) = IsAudited
+-- the run of its subcommand; `sample` leaves the reader as it is
+abbrev pub RunsChoice : Choice → (unread left held holds : Option (List ℕ)) → Result Ending RunFault → Type 0
+RunsChoice (Show file) unread left held holds result = Runs IsShown unread left held holds result
+RunsChoice (ListChoice file) unread left held holds result = Runs IsListed unread left held holds result
+RunsChoice (Audit file) unread left held holds result = Runs IsAudited unread left held holds result
+RunsChoice Sample unread left held holds result = (left ≡ unread) × Writes sample held holds result

@@ -8,6 +8,7 @@ use Rattle.rtps_tool.specs.declared.faults.RecFault.TheVariants.{Memory as RecMe
 use Rattle.rtps_tool.specs.declared.faults.RunFault.{RunFault}
 use Rattle.rtps_tool.specs.declared.faults.RunFault.TheVariants.{Recording, Input, Output, Memory}
 use Rattle.rtps_text.specs.declared.ending.Ending.{Ending}
+use Rattle.rtps_text.specs.declared.ending.Ending.TheVariants.{Clean}
 
 -- these octets were read: all that the reader had, or more of it than a recording's text may have
 pub record Reads (old new : Option (List ℕ)) (text : List ℕ) : Type 0 where
@@ -53,3 +54,8 @@ Runs Answers unread left held holds (Err (Output written)) =
     (datagrams : List (List ℕ)) × (text : List ℕ) × (ending : Ending) × ReadsRecording unread left datagrams × Answers datagrams text ending
     × FailsWriting held holds text (Output written)
 Runs Answers unread left held holds (Err Memory) = Keeps held holds
+
+-- A run that reads nothing and writes this text: the writer before and after it, and what the run answers.
+abbrev pub Writes : List ℕ → (held holds : Option (List ℕ)) → Result Ending RunFault → Type 0
+Writes text held holds (Ok ending) = (ending ≡ Clean) × Appends held holds text
+Writes text held holds (Err fault) = FailsWriting held holds text fault

@@ -1,14 +1,14 @@
 -- The words of the command line, as `clap` reads them.
--- own: a subcommand and one FILE, so that no option changes what a text means.
-use Rattle.std.specs.Prelude.{◌≡◌, ◌≢◌, codes, true, List, [], ◌∷◌, Option, Some, unwrap_or}
+-- own: a subcommand and one FILE, so that no option changes what a text means; `sample` reads none.
+use Rattle.std.specs.Prelude.{◌≡◌, ◌≢◌, codes, true, List, [], ◌∷◌, IfSome, Option, None, Some, unwrap_or}
 use Rattle.clap.specs.Words.{App, IsAmong, Kinds, Row, Rule, Text, fault_of, first_of, kind_of, new_app, new_rule, with_rule, with_subcommand}
 use Rattle.clap.specs.declared.builder.action.ArgAction.TheVariants.{Set}
 use Rattle.clap.specs.declared.error.Error.{Error}
 use Rattle.clap.specs.declared.error.kind.ErrorKind.{ErrorKind}
-use Rattle.clap.specs.declared.error.kind.ErrorKind.TheVariants.{DisplayHelp, DisplayVersion, MissingRequiredArgument, MissingSubcommand, OutOfMemory}
+use Rattle.clap.specs.declared.error.kind.ErrorKind.TheVariants.{DisplayHelp, DisplayVersion, MissingRequiredArgument, MissingSubcommand, OutOfMemory, UnknownArgument}
 use Rattle.std.specs.String.{string_bytes}
 use Rattle.rtps_tool.specs.declared.command.Choice.{Choice}
-use Rattle.rtps_tool.specs.declared.command.Choice.TheVariants.{Show, List as ListChoice, Audit}
+use Rattle.rtps_tool.specs.declared.command.Choice.TheVariants.{Show, List as ListChoice, Audit, Sample}
 use Rattle.rtps_tool.specs.declared.command.WordFault.{WordFault}
 use Rattle.rtps_tool.specs.declared.command.WordFault.TheVariants.{Refused, Help, Version, Memory}
 
@@ -26,24 +26,31 @@ bare_program = record (new_app (codes "rtps-audit")) { top = record (new_app (co
 
 abbrev pub program : App
 program =
-    with_subcommand (with_subcommand (with_subcommand bare_program (reading_app (codes "show")).top) (reading_app (codes "list")).top) (reading_app (codes "audit")).top
+    with_subcommand
+    (with_subcommand (with_subcommand (with_subcommand bare_program (reading_app (codes "show")).top) (reading_app (codes "list")).top) (reading_app (codes "audit")).top)
+    (new_app (codes "sample")).top
 
 -- the subcommand that was chosen
 abbrev pub subcommand_name : Choice → Text
 subcommand_name (Show file) = codes "show"
 subcommand_name (ListChoice file) = codes "list"
 subcommand_name (Audit file) = codes "audit"
+subcommand_name Sample = codes "sample"
 
--- the file that was chosen
-abbrev pub file_name : Choice → Text
-file_name (Show file) = string_bytes file
-file_name (ListChoice file) = string_bytes file
-file_name (Audit file) = string_bytes file
+-- the file that was chosen; `sample` has none
+abbrev pub file_name : Choice → Option Text
+file_name (Show file) = Some (string_bytes file)
+file_name (ListChoice file) = Some (string_bytes file)
+file_name (Audit file) = Some (string_bytes file)
+file_name Sample = None
 
--- the choice has the name of the subcommand that was found, and its FILE, which is empty where none was given
+-- its FILE is the one that was given, and empty where none was
+abbrev pub HasItsFile : Choice → List Row → Type 0
+HasItsFile choice rows = IfSome (file_name choice) (λ name. name ≡ unwrap_or (first_of (codes "FILE") rows) [])
+
+-- the choice has the name of the subcommand that was found, and its FILE
 abbrev pub IsChoice : Option (Text × List Row) → Choice → Type 0
-IsChoice found choice =
-    (rows : List Row) × (found ≡ Some (subcommand_name choice, rows)) × (file_name choice ≡ unwrap_or (first_of (codes "FILE") rows) [])
+IsChoice found choice = (rows : List Row) × (found ≡ Some (subcommand_name choice, rows)) × HasItsFile choice rows
 
 -- help and the version are answers, want of memory has no text, and any other error of `clap` refuses the words
 abbrev pub word_fault_by : ErrorKind → Error → WordFault
@@ -73,7 +80,8 @@ IsOneOf kinds Memory = Unit {0}
 abbrev pub faults_of_words : List Text → Kinds
 faults_of_words words = fault_of program (codes "rtps-audit" ∷ words)
 
--- Without a subcommand, and without its FILE, words are refused; `--help` and `--version` are answered.
+-- Without a subcommand, and without its FILE, words are refused, and so is a FILE of `sample`; `--help` and `--version`
+-- are answered.
 pub record WordsAreWanted : Type 0 where
   pub no_subcommand : faults_of_words [] ≡ MissingSubcommand ∷ []
   pub no_file_to_show : faults_of_words (codes "show" ∷ []) ≡ MissingRequiredArgument ∷ []
@@ -82,3 +90,5 @@ pub record WordsAreWanted : Type 0 where
   pub help : faults_of_words (codes "--help" ∷ []) ≡ DisplayHelp ∷ []
   pub version : faults_of_words (codes "--version" ∷ []) ≡ DisplayVersion ∷ []
   pub whole : faults_of_words (codes "audit" ∷ codes "a.rec" ∷ []) ≡ []
+  pub sample : faults_of_words (codes "sample" ∷ []) ≡ []
+  pub no_file_of_sample : faults_of_words (codes "sample" ∷ codes "a.rec" ∷ []) ≡ UnknownArgument ∷ []

@@ -1,6 +1,6 @@
 ghost use Rattle.std.specs.Prelude.{◌≡◌, ◌⊎◌, true, false, codes, IfOk, IfErr, OnOk, List, [], MatchOption, map, unwrap_or};
 ghost use Rattle.std.specs.String.{string_bytes};
-ghost use Rattle.clap.specs.Words.{app_of, fault_of, first_of, found_of, rows_of, subcommand_of, subcommand_rows_of, takes};
+ghost use Rattle.clap.specs.Words.{app_of, fault_of, first_of, found_of, new_app, rows_of, subcommand_of, subcommand_rows_of, takes};
 ghost use Rattle.clap.specs.declared.builder.command.Command.TheViews.{out-Command};
 ghost use Rattle.rtps_tool.specs.Words.{program as program_app, reading_app, IsChoice, IsOneOf, HasItsKind};
 
@@ -17,6 +17,8 @@ pub enum Choice {
     List { file: String },
     /// Judge for each reliable writer and reader that match whether the reader got all data.
     Audit { file: String },
+    /// Write a recording to try.
+    Sample,
 }
 
 /// Why the words ask for nothing that can be run.
@@ -86,6 +88,14 @@ fn reading_subcommand<'a>(
         .arg(file)
 }
 
+// A subcommand that reads nothing.
+fn plain_subcommand<'a>(alloc: Global, name: &'a str, about: &'a str) -> Command<'a>
+    ensures app { app_of result ≡ new_app name.now }
+    ensures local { (out-Command result).has_globals ≡ false }
+{
+    Command::new(alloc, name).about(about).after_help(STATUSES)
+}
+
 // The program's command line.
 fn program<'a>(alloc: Global) -> Result<Command<'a>, AllocError>
     ensures { IfOk result (λ command. app_of command ≡ program_app) }
@@ -94,9 +104,11 @@ fn program<'a>(alloc: Global) -> Result<Command<'a>, AllocError>
     let lists = "Lists participants, endpoints and pairs of writers and readers that match";
     let audits =
         "Says for each reliable writer and reader that match whether the reader got all data";
+    let samples = "Writes a recording to try, which audit finds complete";
     let show = reading_subcommand(alloc, "show", shows)?;
     let list = reading_subcommand(alloc, "list", lists)?;
     let audit = reading_subcommand(alloc, "audit", audits)?;
+    let sample = plain_subcommand(alloc, "sample", samples);
     Command::new(alloc, "rtps-audit")
         .about("Audits recordings of RTPS datagrams: shows them, lists discovery, judges delivery")
         .after_help(STATUSES)
@@ -104,7 +116,8 @@ fn program<'a>(alloc: Global) -> Result<Command<'a>, AllocError>
         .subcommand_required(true)
         .subcommand(show)?
         .subcommand(list)?
-        .subcommand(audit)
+        .subcommand(audit)?
+        .subcommand(sample)
 }
 
 // The FILE of a subcommand; empty where it has none.
@@ -131,6 +144,9 @@ fn choice_of(alloc: Global, matches: &ArgMatches) -> Result<Option<Choice>, Allo
     if let Some(audit) = matches.subcommand_matches("audit") {
         let file = file_of(alloc, audit)?;
         return Ok(Some(Choice::Audit { file }));
+    }
+    if matches.subcommand_matches("sample").is_some() {
+        return Ok(Some(Choice::Sample));
     }
     Ok(None)
 }

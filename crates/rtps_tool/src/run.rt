@@ -2,14 +2,15 @@ ghost use Rattle.std.specs.Prelude.{IfOk};
 ghost use Rattle.std.specs.String.{string_bytes};
 ghost use Rattle.rtps_text.specs.AuditText.{IsAudited};
 ghost use Rattle.rtps_text.specs.ListText.{IsListed};
+ghost use Rattle.rtps_text.specs.SampleText.{sample};
 ghost use Rattle.rtps_text.specs.ShowText.{IsShown};
-ghost use Rattle.rtps_tool.specs.Runs.{Runs};
+ghost use Rattle.rtps_tool.specs.Runs.{Runs, Writes};
 ghost use Rattle.rtps_tool.specs.Subcommands.{IsTextOf};
 
 use crate::faults::RunFault;
 use crate::streams::{read_input, write_text};
 use rtps_ids::Memory;
-use rtps_text::{Ending, Recording, audit_text, list_text, show_text};
+use rtps_text::{Ending, Recording, audit_text, list_text, sample_text, show_text};
 use std::alloc::Global;
 use std::io::{Read, Write};
 
@@ -61,6 +62,15 @@ pub fn run_audit<R: Read, W: Write>(
         (R.remaining input.old) (R.remaining input.new) (W.contents output.old) (W.contents output.new) result }
 {
     run(alloc, Subcommand::Audit, input, output)
+}
+
+/// Writes a recording to try, of six datagrams; it ends [`Ending::Clean`]. It reads nothing, and fails with
+/// [`RunFault::Output`] alone, which says how much of it was written.
+pub fn run_sample<W: Write>(output: &mut W) -> Result<Ending, RunFault>
+    ensures { Writes sample (W.contents output.old) (W.contents output.new) result }
+{
+    write_text(sample_text().as_bytes(), output)?;
+    Ok(Ending::Clean)
 }
 
 // Reads a recording, to the end of the input, and writes what a subcommand prints of it.

@@ -14,7 +14,15 @@ fn chosen_of(alloc: Global, words: &[&str]) -> Result<(&'static str, String), Wo
         Choice::Show { file } => ("show", file),
         Choice::List { file } => ("list", file),
         Choice::Audit { file } => ("audit", file),
+        Choice::Sample => ("sample", String::new(alloc)),
     })
+}
+
+#[test]
+fn a_sample_is_chosen(rt: HostRuntime) {
+    let alloc = rt.alloc();
+    let (chosen, _) = chosen_of(alloc, &["rtps-audit", "sample"]).expect(&rt, "a choice");
+    assert_eq!(rt; chosen, "sample");
 }
 
 #[test]

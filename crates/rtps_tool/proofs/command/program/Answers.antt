@@ -14,5 +14,7 @@ returns c =
     let list_is = ap (λ (a : App). a.top) c.in_ok-list.ensures.app in
     let audit_is = ap (λ (a : App). a.top) c.in_ok-audit.ensures.app in
     let one_is = c.in_ok-subcommand.ensures.shape c.in_ok-show.ensures.local ∙ ap₂ with_subcommand bare_is show_is in
+    let sample_is = ap (λ (a : App). a.top) c.plain_subcommand-sample.ensures.app in
     let two_is = c.in_ok-subcommand-2.ensures.shape c.in_ok-list.ensures.local ∙ ap₂ with_subcommand one_is list_is in
-    IfOk-weaker c.subcommand-3.result _ _ (λ command added. added.shape c.in_ok-audit.ensures.local ∙ ap₂ with_subcommand two_is audit_is) c.subcommand-3.ensures
+    let three_is = c.in_ok-subcommand-3.ensures.shape c.in_ok-audit.ensures.local ∙ ap₂ with_subcommand two_is audit_is in
+    IfOk-weaker c.subcommand-4.result _ _ (λ command added. added.shape c.plain_subcommand-sample.ensures.local ∙ ap₂ with_subcommand three_is sample_is) c.subcommand-4.ensures

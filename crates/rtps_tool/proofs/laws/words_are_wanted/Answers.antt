@@ -4,4 +4,4 @@ use Rattle.rtps_tool.proofs.laws.words_are_wanted.Goals as goal
 
 pub returns : goal.returns
 unfolding clap_on_literals
-returns c = record { no_subcommand = refl; no_file_to_show = refl; no_file_to_list = refl; no_file_to_audit = refl; help = refl; version = refl; whole = refl }
+returns c = record { no_subcommand = refl; no_file_to_show = refl; no_file_to_list = refl; no_file_to_audit = refl; help = refl; version = refl; whole = refl; sample = refl; no_file_of_sample = refl }
