@@ -1,16 +1,16 @@
 -- A written ACKNACK has no fault and spells what was written.
-use Rattle.std.proofs.Common.{◌≡◌, ◌≤◌, ◌<◌, ◌+◌, ℕ, pos, List, ◌++◌, Bool, true, false, None, length, drop, refl, ap, sym, ◌∙◌, append_assoc, arith}
+use Rattle.std.proofs.Common.{◌≡◌, ◌+◌, ℕ, List, ◌++◌, Bool, true, false, None, length, drop, refl, ap, ◌∙◌, arith}
 use Rattle.std.specs.Prelude.{◌==◌, bit_and, bit_or, nat_lt, not}
 use Rattle.std.proofs.lemmas.Bool.Decides.{nat_tests}
 use Rattle.std.proofs.lemmas.List.{length-append}
 use Rattle.rtps_ids.proofs.Offered.{length-octets_of}
-use Rattle.rtps_ids.specs.NumberSet.{NumberSetValue, is_bad, octets_of_count, spelled_base, spelled_count}
+use Rattle.rtps_ids.specs.NumberSet.{NumberSetValue, octets_of_count}
 use Rattle.rtps_ids.specs.Octets.{octets_of}
 use Rattle.rtps_ids.specs.declared.identity.EntityId.{EntityId}
 use Rattle.rtps_ids.specs.declared.order.Order.{Order}
 use Rattle.rtps_ids.specs.declared.order.Order.TheVariants.{Big, Little}
 use Rattle.rtps_wire.proofs.WrittenFields.{entity_read, past, word_read_last}
-use Rattle.rtps_wire.proofs.WrittenSets.{SpellsSet, length-set_octets, set_good, set_spelled}
+use Rattle.rtps_wire.proofs.WrittenSets.{length-set_octets, set_good, set_spelled}
 use Rattle.rtps_wire.specs.AckNack.{ack_nack_fault, ack_nack_flags, ack_nack_octets, ack_nack_of}
 use Rattle.rtps_wire.specs.Flags.{flag_if, order_flag}
 use Rattle.rtps_wire.specs.Held.{IsHeldAckNack}

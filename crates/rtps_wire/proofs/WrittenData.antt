@@ -1,12 +1,12 @@
 -- A written DATA has no fault and spells what was written.
-use Rattle.std.proofs.Common.{◌≡◌, ◌≤◌, ◌<◌, ◌+◌, ℕ, pos, List, [], ◌∷◌, ◌++◌, Bool, true, false, Option, Some, None, Ok, length, take, drop, refl, ap, sym, ◌∙◌, arith}
-use Rattle.std.specs.Prelude.{◌==◌, ◌&&◌, ◌||◌, bit_or, int_le, is_err, is_some, nat_lt, not}
+use Rattle.std.proofs.Common.{◌≡◌, ◌<◌, ◌+◌, ℕ, pos, List, ◌++◌, Bool, true, false, Option, Some, None, Ok, length, drop, refl, ap, ◌∙◌, arith}
+use Rattle.std.specs.Prelude.{◌&&◌, ◌||◌, bit_or, int_le, is_err, is_some, nat_lt, not}
 use Rattle.std.specs.Int.RustNames.{unsigned_abs}
 use Rattle.std.proofs.lemmas.Bool.Decides.{nat_tests}
 use Rattle.std.proofs.lemmas.Int.{ints}
 use Rattle.std.proofs.lemmas.List.{drop_at, length-append, take_at}
 use Rattle.rtps_ids.proofs.Offered.{length-octets_of, length-sequence_number_octets, number-octets_of}
-use Rattle.rtps_ids.specs.Octets.{number_of, octets_of, sequence_number_octets}
+use Rattle.rtps_ids.specs.Octets.{octets_of, sequence_number_octets}
 use Rattle.rtps_ids.specs.declared.identity.EntityId.{EntityId}
 use Rattle.rtps_ids.specs.declared.order.Order.{Order}
 use Rattle.rtps_ids.specs.declared.order.Order.TheVariants.{Big, Little}

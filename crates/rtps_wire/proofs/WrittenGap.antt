@@ -1,12 +1,12 @@
 -- A written GAP has no fault and spells what was written.
-use Rattle.std.proofs.Common.{◌≡◌, ◌≤◌, ◌<◌, ◌+◌, ℕ, pos, List, [], ◌++◌, Bool, true, false, None, length, drop, refl, ap, sym, ◌∙◌, arith}
+use Rattle.std.proofs.Common.{◌≡◌, ◌<◌, ◌+◌, ℕ, pos, List, [], ◌++◌, false, None, length, drop, refl, ap, sym, ◌∙◌, arith}
 use Rattle.std.specs.Prelude.{◌==◌, int_le, nat_lt}
 use Rattle.std.specs.Int.RustNames.{unsigned_abs}
 use Rattle.std.proofs.lemmas.Bool.Decides.{nat_tests}
 use Rattle.std.proofs.lemmas.Int.{ints}
 use Rattle.std.proofs.lemmas.List.{append-nil, length-append}
 use Rattle.rtps_ids.proofs.Offered.{length-sequence_number_octets}
-use Rattle.rtps_ids.specs.NumberSet.{NumberSetValue, octets_of_count, spelled_base, spelled_count}
+use Rattle.rtps_ids.specs.NumberSet.{NumberSetValue, octets_of_count}
 use Rattle.rtps_ids.specs.Octets.{sequence_number_octets}
 use Rattle.rtps_ids.specs.declared.identity.EntityId.{EntityId}
 use Rattle.rtps_ids.specs.declared.order.Order.{Order}

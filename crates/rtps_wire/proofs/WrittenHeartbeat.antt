@@ -1,6 +1,6 @@
 -- A written HEARTBEAT has no fault and spells what was written.
-use Rattle.std.proofs.Common.{◌≡◌, ◌<◌, ◌+◌, ℕ, ℤ, pos, List, [], ◌∷◌, ◌++◌, Bool, true, false, Option, Some, None, length, take, drop, refl, ap, sym, ◌∙◌, arith}
-use Rattle.std.specs.Prelude.{bit_and, bit_or, not, ◌==◌, ◌-ℤ◌, ◌≤ℤ◌, ◌<ℤ◌, ◌||◌, int_le, int_lt, nat_lt}
+use Rattle.std.proofs.Common.{◌≡◌, ◌<◌, ◌+◌, ℕ, ℤ, pos, List, ◌++◌, Bool, true, false, None, length, drop, refl, ap, ◌∙◌, arith}
+use Rattle.std.specs.Prelude.{bit_and, bit_or, not, ◌==◌, ◌-ℤ◌, ◌≤ℤ◌, ◌||◌, int_le, int_lt, nat_lt}
 use Rattle.std.specs.Int.RustNames.{unsigned_abs}
 use Rattle.std.proofs.lemmas.Bool.Decides.{nat_tests}
 use Rattle.std.proofs.lemmas.Int.{ints}

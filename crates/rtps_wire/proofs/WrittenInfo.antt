@@ -1,6 +1,6 @@
 -- A written INFO_TS, INFO_DST or INFO_SRC has no fault and spells what was written.
-use Rattle.std.proofs.Common.{◌≡◌, ◌<◌, ◌+◌, ℕ, List, [], ◌∷◌, ◌++◌, Option, Some, None, true, false, length, take, drop, refl, ap, sym, ◌∙◌, arith}
-use Rattle.std.specs.Prelude.{bit_or, ◌==◌, bit_and}
+use Rattle.std.proofs.Common.{◌≡◌, ℕ, Option, Some, None, length, drop, refl, ap, arith}
+use Rattle.std.specs.Prelude.{bit_or}
 use Rattle.std.proofs.lemmas.Bool.Decides.{nat_tests}
 use Rattle.std.proofs.lemmas.List.{length-append}
 use Rattle.rtps_ids.specs.declared.identity.GuidPrefix.{GuidPrefix}

@@ -1,5 +1,5 @@
 -- A written message reads as its header and its items, each at its place, and has a clean end.
-use Rattle.std.proofs.Common.{◌≡◌, ◌<◌, ◌≤◌, ◌+◌, ◌^◌, ℕ, zero, suc, List, [], ◌∷◌, ◌++◌, Bool, true, false, Option, Some, None, length, take, drop, refl, ap, sym, subst, ◌∙◌, append_assoc, arith, if◌then◌else◌}
+use Rattle.std.proofs.Common.{◌≡◌, ◌<◌, ◌≤◌, ◌+◌, ◌^◌, ℕ, suc, List, [], ◌∷◌, ◌++◌, Bool, true, false, Option, Some, None, length, take, drop, refl, ap, sym, subst, ◌∙◌, append_assoc, arith, if◌then◌else◌}
 use Rattle.std.specs.Prelude.{◌==◌, All, nat_le, nat_lt, not}
 use Rattle.std.specs.List.{flat_map}
 use Rattle.std.proofs.lemmas.Bool.Decides.{nat_tests}
@@ -17,7 +17,7 @@ use Rattle.rtps_wire.proofs.WrittenBodies.{body_good, body_same, extent_same, or
 use Rattle.rtps_wire.proofs.WrittenFields.{past, vendor_read, taken}
 use Rattle.rtps_wire.specs.Header.{header_fault, header_octets, header_of}
 use Rattle.rtps_wire.specs.Held.{IsHeldBody, IsHeldHeader, IsHeldItem}
-use Rattle.rtps_wire.specs.Message.{ReadsFrom, ReadsWith, body_fault, body_length, body_octets, body_of, extent_of, fault_at, flags_of, id_of, item_at, next_rest, octets_to_next_header, order_of}
+use Rattle.rtps_wire.specs.Message.{ReadsFrom, ReadsWith, body_fault, body_length, body_octets, extent_of, fault_at, item_at, next_rest, octets_to_next_header, order_of}
 use Rattle.rtps_wire.specs.Reading.{reading_of}
 use Rattle.rtps_wire.specs.Values.{BodyValue, ItemValue}
 use Rattle.rtps_wire.specs.Writable.{first_of, is_none_left, is_not_writable, item_fault, items_fault, write_fault}

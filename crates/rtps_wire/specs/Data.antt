@@ -77,15 +77,17 @@ abbrev pub is_other_order : Order → Option ListValue → Bool
 is_other_order order None = false
 is_other_order order (Some list) = not (is_same_order order list.order)
 
--- the flags and the octets of a DATA that is written: what the inline QoS and the payload say and take
+-- the flag that tells that there is an inline QoS
 abbrev pub qos_flag : Option ListValue → ℕ
 qos_flag None = 0
 qos_flag (Some list) = Q.0
 
+-- the octets of the inline QoS
 abbrev pub qos_octets : Option ListValue → List ℕ
 qos_octets None = []
 qos_octets (Some list) = list.octets
 
+-- the flag that tells the kind of a payload, and its octets
 abbrev pub payload_flag : PayloadValue → ℕ
 payload_flag Absent = 0
 payload_flag (Whole octets) = D.0
@@ -96,10 +98,11 @@ payload_octets Absent = []
 payload_octets (Whole octets) = octets
 payload_octets (Key octets) = octets
 
+-- the flags and the octets of a DATA that is written
 abbrev pub data_flags : DataValue → ℕ
 data_flags body = bit_or (qos_flag body.qos) (payload_flag body.payload)
 
--- own: extraFlags are written as 0, and the inline QoS right behind the fields
+-- own: extraFlags are written as 0, and what octetsToInlineQos tells stands right behind the fields
 abbrev pub data_octets : Order → DataValue → List ℕ
 data_octets order body =
     0 ∷ 0 ∷ (octets_of order 2 (SIZE - QOS_FROM) ++ (body.reader.0 ++ (body.writer.0 ++ (sequence_number_octets order (pos body.number) ++ (qos_octets body.qos ++ payload_octets body.payload)))))

@@ -34,13 +34,14 @@ fault_number BadRange = 10
 fault_number BadSet = 11
 fault_number BadInlineQos = 12
 
+-- the same of what is not written
 unfoldable pub write_fault_name : WriteFault → List ℕ
 write_fault_name NotWritable = codes "NotWritable"
 write_fault_name TooLong = codes "TooLong"
 write_fault_name Unaligned = codes "Unaligned"
 write_fault_name Memory = codes "Memory"
 
--- behind those of a refusal
+-- from 13 on, behind those of a refusal
 abbrev pub write_fault_number : WriteFault → ℕ
 write_fault_number NotWritable = 13
 write_fault_number TooLong = 14

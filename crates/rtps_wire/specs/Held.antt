@@ -1,11 +1,9 @@
 -- What every item holds. own: the types of the code say it of all their values: numbers in the range of their types,
 -- arrays of their lengths, sets that are kept, and inline QoS that is a parameter list.
-use Rattle.std.specs.Prelude.{ℕ, ◌≡◌, ◌<◌, ◌≤ℤ◌, ◌<ℤ◌, ◌^◌, pos, List, length, All, Option, Some, None}
+use Rattle.std.specs.Prelude.{ℕ, ◌≡◌, ◌<◌, ◌<ℤ◌, ◌^◌, pos, length, All, Option, Some, None}
 use Rattle.rtps_ids.specs.NumberSet.{IsKeptSet, NumberSetValue}
 use Rattle.rtps_ids.specs.declared.identity.EntityId.{EntityId}
-use Rattle.rtps_ids.specs.declared.identity.GuidPrefix.{GuidPrefix}
 use Rattle.rtps_ids.specs.declared.identity.Stamp.{Stamp}
-use Rattle.rtps_ids.specs.declared.identity.Vendor.{Vendor}
 use Rattle.rtps_params.specs.Grammar.{IsList}
 use Rattle.rtps_params.specs.Reading.{pairs_of}
 use Rattle.rtps_params.specs.Shown.{ListValue}
@@ -16,31 +14,37 @@ use Rattle.rtps_wire.specs.declared.body.GapBody.{GapBody}
 use Rattle.rtps_wire.specs.declared.body.HeartbeatBody.{HeartbeatBody}
 use Rattle.rtps_wire.specs.declared.header.Header.{Header}
 
+-- a vendor id of two octets and a prefix of twelve
 pub record IsHeldHeader (header : Header) : Type 0 where
   pub vendor : length header.vendor.0 ≡ 2
   pub prefix : length header.prefix.0 ≡ 12
 
+-- an entity id of four octets
 abbrev pub IsHeldEntity : EntityId → Type 0
 IsHeldEntity entity = length entity.0 ≡ 4
 
--- a sequence number
+-- a sequence number, 1 to 2^63 - 1
 abbrev pub IsHeldNumber : ℕ → Type 0
 IsHeldNumber number = (0 < number) × (number < 2 ^ 63)
 
+-- a set that is kept, in words of 32 bits
 pub record IsHeldSet (set : NumberSetValue) : Type 0 where
   pub kept : IsKeptSet set
   pub words : All (λ word. word < 2 ^ 32) set.words
 
+-- an inline QoS that is a parameter list in its order
 abbrev pub IsHeldQos : Option ListValue → Type 0
 IsHeldQos None = Unit {0}
 IsHeldQos (Some list) = IsList list.order (pairs_of list.order list.octets) list.octets
 
+-- a DATA; any octets may be its payload
 pub record IsHeldData (body : DataValue) : Type 0 where
   pub reader : IsHeldEntity body.reader
   pub writer : IsHeldEntity body.writer
   pub number : IsHeldNumber body.number
   pub qos : IsHeldQos body.qos
 
+-- a HEARTBEAT, an ACKNACK and a GAP
 pub record IsHeldHeartbeat (body : HeartbeatBody) : Type 0 where
   pub reader : IsHeldEntity body.reader
   pub writer : IsHeldEntity body.writer
@@ -60,10 +64,12 @@ pub record IsHeldGap (body : GapBody) : Type 0 where
   pub start : IsHeldNumber body.start
   pub list : IsHeldSet body.list
 
+-- a time, or none
 abbrev pub IsHeldTime : Option Stamp → Type 0
 IsHeldTime None = Unit {0}
 IsHeldTime (Some stamp) = (stamp.seconds < 2 ^ 32) × (stamp.fraction < 2 ^ 32)
 
+-- a body, and an item of it
 abbrev pub IsHeldBody : BodyValue → Type 0
 IsHeldBody (Data body) = IsHeldData body
 IsHeldBody (Heartbeat body) = IsHeldHeartbeat body

@@ -45,18 +45,20 @@ info_src_of body =
       prefix = prefix_at header.PREFIX body;
     }
 
--- the flags and the octets of an INFO_TS that is written
+-- the flags of an INFO_TS that is written: I where there is no time
 abbrev pub info_ts_flags : Option Stamp → ℕ
 info_ts_flags None = INVALIDATE
 info_ts_flags (Some stamp) = 0
 
+-- its time, or nothing
 abbrev pub info_ts_octets : Order → Option Stamp → List ℕ
 info_ts_octets order None = []
 info_ts_octets order (Some stamp) = octets_of order 4 stamp.seconds ++ octets_of order 4 stamp.fraction
 
--- those of an INFO_DST and of an INFO_SRC, which have no flag of their own. own: the unused octets are written as 0
+-- the octets of an INFO_DST that is written; it has no flag of its own
 abbrev pub info_dst_octets : GuidPrefix → List ℕ
 info_dst_octets prefix = prefix.0
 
+-- the octets of an INFO_SRC that is written; it has no flag of its own. own: the unused octets are written as 0
 abbrev pub info_src_octets : Version → Vendor → GuidPrefix → List ℕ
 info_src_octets version vendor prefix = 0 ∷ 0 ∷ 0 ∷ 0 ∷ version.major ∷ version.minor ∷ (vendor.0 ++ prefix.0)

@@ -22,7 +22,7 @@ LacksSet order octets fault = first_fault (
     ∷ (ShortBody, nat_lt (length octets) (octets_of_count (spelled_count order octets)))
     ∷ []) ≡ Some fault
 
--- the octets of a set: its base, how many bits it has, and as many words as hold the bits
+-- the octets of a set that is written: its base, how many bits it has, and as many words as hold the bits
 abbrev pub set_octets : Order → NumberSetValue → List ℕ
 set_octets order set =
     sequence_number_octets order (pos set.base) ++ (octets_of order 4 set.count ++ flat_map (octets_of order 4) (take ((set.count + 31) / 32) set.words))

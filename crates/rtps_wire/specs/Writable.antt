@@ -1,11 +1,12 @@
 -- Which messages are written, and why others are not. DDSI-RTPS 2.5, 9.4.5.1 "Submessage Header", by which a submessage
--- begins at a multiple of 4 octets and octetsToNextHeader has two octets. own: the order of the conditions.
-use Rattle.std.specs.Prelude.{ℕ, ◌==◌, ◌%◌, ◌&&◌, ◌^◌, nat_le, not, Bool, true, false, List, [], ◌∷◌, length, Option, Some, None, if◌then◌else◌}
+-- begins at a multiple of 4 octets behind the header, and octetsToNextHeader has two octets. own: the order of the
+-- conditions.
+use Rattle.std.specs.Prelude.{◌==◌, ◌%◌, ◌&&◌, ◌^◌, nat_le, not, Bool, true, false, List, [], ◌∷◌, length, Option, Some, None, if◌then◌else◌}
 use Rattle.rtps_ids.specs.declared.order.Order.{Order}
 use Rattle.rtps_wire.specs.Data.{is_other_order}
 use Rattle.rtps_wire.specs.Heartbeat.{is_bad_range}
 use Rattle.rtps_wire.specs.Values.{BodyValue, ItemValue}
-use Rattle.rtps_wire.specs.Values.BodyValue.{Data, Heartbeat, AckNack, Gap, InfoTs, InfoDst, InfoSrc, Skipped}
+use Rattle.rtps_wire.specs.Values.BodyValue.{Data, Heartbeat, Gap, Skipped}
 use Rattle.rtps_wire.specs.Written.{written_body}
 use Rattle.rtps_wire.specs.declared.header.Header.{Header}
 use Rattle.rtps_wire.specs.declared.layout.header.TheConstants.{VERSION}
@@ -34,6 +35,7 @@ abbrev pub first_of : Option WriteFault → Option WriteFault → Option WriteFa
 first_of (Some fault) later = Some fault
 first_of None later = later
 
+-- whether no item is left
 abbrev pub is_none_left : List ItemValue → Bool
 is_none_left [] = true
 is_none_left (item ∷ items) = false

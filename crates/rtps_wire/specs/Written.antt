@@ -19,7 +19,7 @@ use Rattle.rtps_wire.specs.declared.header.Header.{Header}
 use Rattle.rtps_wire.specs.declared.layout.header.TheConstants.{SIZE}
 use Rattle.rtps_wire.specs.declared.layout.id.TheConstants.{ACKNACK, DATA, GAP, HEARTBEAT, INFO_DST, INFO_SRC, INFO_TS}
 
--- the id, the flags and the octets of a body; what was skipped has no written form, and then they say nothing
+-- the id of the submessage of a body. What was skipped has no written form: its id, flags and octets say nothing here
 abbrev pub written_id : BodyValue → ℕ
 written_id (Data body) = DATA
 written_id (Heartbeat body) = HEARTBEAT
@@ -30,6 +30,7 @@ written_id (InfoDst prefix) = INFO_DST
 written_id (InfoSrc version vendor prefix) = INFO_SRC
 written_id (Skipped id) = id
 
+-- the flags that a body has of its own, and all its flags
 abbrev pub own_flags : BodyValue → ℕ
 own_flags (Data body) = data_flags body
 own_flags (Heartbeat body) = heartbeat_flags body
@@ -40,6 +41,7 @@ own_flags _ = 0
 abbrev pub written_flags : Order → BodyValue → ℕ
 written_flags order body = bit_or (order_flag order) (own_flags body)
 
+-- the octets of a body
 abbrev pub written_body : Order → BodyValue → List ℕ
 written_body order (Data body) = data_octets order body
 written_body order (Heartbeat body) = heartbeat_octets order body

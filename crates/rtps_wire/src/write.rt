@@ -8,5 +8,7 @@ mod heartbeat;
 mod info;
 mod item;
 mod message;
+#[cfg(test)]
+mod tests;
 
 pub use message::write_message;

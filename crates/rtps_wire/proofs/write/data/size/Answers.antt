@@ -1,14 +1,10 @@
-use Rattle.std.proofs.Common.{◌≡◌, ◌<◌, ◌≤◌, ◌+◌, ◌++◌, ◌^◌, ℕ, ℤ, pos, List, Option, Some, None, Result, Ok, Err, length, min, ap, ◌∙◌, sym, arith, refl}
+use Rattle.std.proofs.Common.{◌≡◌, ◌<◌, ◌≤◌, ◌+◌, ℕ, Option, Result, Ok, Err, length, min, ap, ◌∙◌, sym, arith}
 use Rattle.std.specs.Prelude.{MatchOption}
 use Rattle.std.specs.Result.{OkIff, result_ok}
-use Rattle.std.proofs.lemmas.List.{length-append}
-use Rattle.rtps_ids.proofs.Offered.{length-octets_of, length-sequence_number_octets}
-use Rattle.rtps_ids.specs.Octets.{octets_of, sequence_number_octets}
-use Rattle.rtps_ids.specs.declared.order.Order.{Order}
 use Rattle.rtps_wire.proofs.WrittenData.{data_long}
 use Rattle.rtps_wire.specs.Data.{data_octets, payload_octets, qos_octets}
 use Rattle.rtps_wire.specs.Held.{IsHeldData, IsHeldQos}
-use Rattle.rtps_wire.specs.Values.{DataValue, data_value}
+use Rattle.rtps_wire.specs.Values.{data_value}
 use Rattle.rtps_wire.proofs.write.data.size.Goals as goal
 use Rattle.rtps_wire.proofs.write.data.size.Goals.{After-ok, in-Some, in-None}
 

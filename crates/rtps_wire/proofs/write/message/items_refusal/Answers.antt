@@ -1,8 +1,8 @@
-use Rattle.std.proofs.Common.{◌≡◌, ◌+◌, Some, None, length, map, drop, take, sym, ◌∙◌, ap, arith}
+use Rattle.std.proofs.Common.{◌+◌, map, drop, sym, ◌∙◌, ap, arith}
 use Rattle.std.proofs.lemmas.List.{take_all}
 use Rattle.rtps_wire.proofs.WrittenItems.{fault_step, held_more}
 use Rattle.rtps_wire.specs.Values.{item_value}
-use Rattle.rtps_wire.specs.Writable.{first_of, item_fault, items_fault}
+use Rattle.rtps_wire.specs.Writable.{first_of, items_fault}
 use Rattle.rtps_wire.proofs.write.message.items_refusal.Goals as goal
 
 pub returns-in-Some-clause-fault : goal.returns-in-Some-clause-fault
