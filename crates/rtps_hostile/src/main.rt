@@ -10,6 +10,7 @@
 //! or the input cannot be read.
 #![tactic(auto)]
 
+mod acknowledgements;
 mod cuts;
 mod fault;
 mod recordings;
@@ -60,6 +61,9 @@ fn try_all(rt: &HostRuntime, text: &str) -> Result<(), Fault> {
     println!(rt; "cuts: {cuts} of {datagrams} datagrams")?;
     let (octets, verdicts) = verdicts::count(alloc, &recordings)?;
     println!(rt; "changed octets: {octets}, each in 3 ways, with {verdicts} rows of audits")?;
+    let first = recordings.first().ok_or(Fault::Input)?;
+    let many = acknowledgements::count(alloc, first)?;
+    println!(rt; "ACKNACKs in one datagram: {many}")?;
     let first = texts.first().ok_or(Fault::Input)?;
     try_streams(rt, first.as_bytes())?;
     for call in refusals::CALLS {

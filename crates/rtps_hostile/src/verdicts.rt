@@ -67,8 +67,8 @@ fn judge_changed(
     judge_every_way(alloc, &with_it)
 }
 
-// Counts the rows of the audit. Each verdict is the same by every way to judge, and so is that of the pair.
-fn judge_every_way(alloc: Global, recording: &[&[u8]]) -> Result<usize, Fault> {
+/// Counts the rows of the audit. Each verdict is the same by every way to judge, and so is that of the pair.
+pub(crate) fn judge_every_way(alloc: Global, recording: &[&[u8]]) -> Result<usize, Fault> {
     let report = audit(alloc, recording)?;
     let index = Index::build(alloc, recording)?;
     for row in &report.rows {

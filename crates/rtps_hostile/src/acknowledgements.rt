@@ -1,0 +1,39 @@
+//! One datagram of more ACKNACKs than a recording can hold in one; a call of the library takes any slice.
+
+use crate::fault::Fault;
+use crate::recordings::ANNOUNCING;
+use crate::verdicts::judge_every_way;
+use rtps_tool::Recording;
+use std::alloc::Global;
+
+// The header of a message of the reader's participant, and an INFO_DST that names the writer's.
+const TO_WRITER: [u8; 36] = *b"\
+    \x52\x54\x50\x53\x02\x05\x00\x00\xbb\xbb\xbb\xbb\xbb\xbb\xbb\xbb\xbb\xbb\xbb\xbb\
+    \x0e\x00\x00\x0c\xaa\xaa\xaa\xaa\xaa\xaa\xaa\xaa\xaa\xaa\xaa\xaa";
+
+// An ACKNACK of the reader, with its base at places 18 and 19.
+const ACK_NACK: [u8; 28] = *b"\
+    \x06\x00\x00\x18\x00\x00\x01\x04\x00\x00\x01\x03\x00\x00\x00\x00\x00\x00\x00\x00\
+    \x00\x00\x00\x00\x00\x00\x00\x01";
+
+/// How many ACKNACKs there are, with bases from 0 on.
+const COUNT: u16 = 16_378;
+
+/// Counts the ACKNACKs of the datagram, which is judged behind the announcements of the pair.
+pub(crate) fn count(alloc: Global, first: &Recording) -> Result<usize, Fault> {
+    let mut datagram = Vec::from_slice(alloc, &TO_WRITER)?;
+    for base in 0..COUNT {
+        let mut piece = ACK_NACK;
+        piece[18..20].copy_from_slice(&base.to_be_bytes());
+        datagram.extend_from_slice(&piece)?;
+    }
+    let mut recording: Vec<&[u8]> = Vec::new(alloc);
+    for announced in first.datagrams().take(ANNOUNCING) {
+        recording.push(announced)?;
+    }
+    recording.push(datagram.as_slice())?;
+    if judge_every_way(alloc, &recording)? != 1 {
+        return Err(Fault::Differs("the pair has no row"));
+    }
+    Ok(usize::from(COUNT))
+}
