@@ -1,7 +1,7 @@
 use super::*;
 use rtps_ids::{EntityId, Guid, GuidPrefix, Memory, Order, SeqNum, Vendor, Version};
-use rtps_receiver::{Act, ActBody};
-use rtps_wire::{DataBody, Payload};
+use rtps_receiver::{Act, ActBody, Walk};
+use rtps_wire::{DataBody, Payload, Tally};
 use std::alloc::{AllocError, Global};
 use std::process::Abort;
 use std::test::Fail;
@@ -470,5 +470,44 @@ fn lists_in_order(rt: HostRuntime) -> Result<(), Fail> {
     );
     assert_eq!(rt; directory.endpoints()?.len(), 5);
     assert_eq!(rt; directory.unsettled(), 1);
+    Ok(())
+}
+
+/// What stands behind the header of a DATA that announces a participant, up to its payload.
+const OF_PARTICIPANTS: &[u8] =
+    b"\x00\x00\x00\x10\x00\x00\x00\x00\x00\x01\x00\xc2\x00\x00\x00\x00\x00\x00\x00\x01";
+
+/// A submessage of an unknown id, a participant, and an announcement without a GUID.
+#[test]
+fn a_datagram_is_walked_and_noted(rt: HostRuntime) -> Result<(), Fail> {
+    let parts = [
+        b"RTPS\x02\x05\x00\x00aaaaaaaaaaaa".as_slice(),
+        b"\x80\x00\x00\x04\x00\x00\x00\x00",
+        b"\x15\x04\x00\x30",
+        OF_PARTICIPANTS,
+        BIG,
+        PARTICIPANT_A,
+        END,
+        b"\x15\x04\x00\x1c",
+        OF_PARTICIPANTS,
+        BIG,
+        END,
+    ];
+    let datagram = joined(rt.alloc(), &parts)?;
+    let mut walk = Walk::new(rt.alloc());
+    let tally = Tally {
+        refused: false,
+        skipped: 1,
+        fragments: 0,
+    };
+    assert_eq!(rt; walk.read(&datagram)?, tally);
+    assert_eq!(rt; walk.acts().len(), 2);
+    assert!(rt; walk.acts()[0].at == 28 && walk.acts()[1].at == 80);
+    let mut directory = Directory::new(rt.alloc());
+    assert_eq!(rt; directory.note_all(walk.acts())?, 1);
+    assert_eq!(rt;
+        directory.participants()?.as_slice(),
+        [guid(b'a', [0, 0, 1, 0xc1])].as_slice()
+    );
     Ok(())
 }
