@@ -9,9 +9,10 @@ pub data Word : Type 0 where
   Told : (payload : PayloadValue) → Word
   Gone : Word
 
--- what one datagram says of the writer and the reader. For each DATA, GAP and HEARTBEAT that the reader hears from the
--- writer: the words that it has for numbers. For each ACKNACK by which the reader answers the writer: its base. For each
--- DATA and HEARTBEAT of the writer, whoever hears it: the number, or the last number, that it announces
+-- what one datagram says of the writer and the reader. For each act: the words that it has for numbers, none where it is
+-- no DATA, GAP or HEARTBEAT that the reader hears from the writer. For each ACKNACK by which the reader answers the
+-- writer: its base. For each DATA and HEARTBEAT of the writer, whoever hears it: the number, or the last number, that it
+-- announces
 pub record Datagram : Type 0 where
   pub acts : List (ℕ → Option Word)
   pub bases : List ℕ

@@ -31,7 +31,8 @@ pub struct Index<'a> {
 }
 
 impl<'a> Index<'a> {
-    /// The index of a recording, any datagrams in the order of sending. The octets of each are read once.
+    /// The index of a recording, any datagrams in the order of sending. The octets of each are read once. `Memory` is
+    /// answered where the index cannot grow.
     pub fn build(alloc: Global, recording: &[&'a [u8]]) -> Result<Index<'a>, Memory>
         ensures { IfOk result (IsIndexOf (map (λ datagram. datagram.now) recording.now)) }
     {
@@ -82,7 +83,8 @@ impl<'a> Index<'a> {
         self.origins.answers.of(pair)
     }
 
-    /// Judges what the recording says of a writer and a reader, any two GUIDs, by what the two said.
+    /// Judges what the recording says of a writer and a reader, any two GUIDs, by what the two said. `Memory` is answered
+    /// where what is kept of that cannot grow.
     pub fn judge(&self, pair: Pair) -> Result<Verdict, Memory>
         // Each verdict is answered exactly where all runs give it, with its numbers.
         ensures verdict { (recording : List (List ℕ)) → IsIndexOf recording self.now

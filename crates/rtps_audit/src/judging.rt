@@ -28,7 +28,8 @@ fn judged<C: Coverage>(alloc: Global, recording: &[&[u8]], pair: Pair) -> Result
 }
 
 /// Judges what a recording says of a writer and a reader, any two GUIDs, with the covered numbers in a set of this
-/// kind. The recording is the datagrams in the order of sending.
+/// kind. The recording is the datagrams in the order of sending. `Memory` is answered where the set, or what is kept of the
+/// recording, cannot grow.
 pub fn judge_by<C: Coverage>(
     alloc: Global,
     recording: &[&[u8]],
@@ -55,7 +56,7 @@ pub fn judge_by<C: Coverage>(
 }
 
 /// Judges what a recording says of a writer and a reader, any two GUIDs. The recording is the datagrams in the order
-/// of sending.
+/// of sending. `Memory` as of [`judge_by`].
 pub fn judge(alloc: Global, recording: &[&[u8]], pair: Pair) -> Result<Verdict, Memory>
     ensures verdict { IfOk result (IsVerdict
         (speech_of pair.writer pair.reader (map (λ datagram. datagram.now) recording.now))) }

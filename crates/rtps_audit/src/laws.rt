@@ -29,7 +29,8 @@ pub fn full_run_is_one()
 {}
 
 /// Where each claimed number has a word in an earlier datagram, no number has two different payloads and each
-/// announced number is claimed, every run of the reader ends with each announced number.
+/// announced number is claimed, the verdict is complete up to the last announced number: a run exists, and every run of
+/// the reader ends with each of them.
 pub fn plain_means_complete()
     ensures { PlainMeansComplete }
 {}

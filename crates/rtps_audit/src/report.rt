@@ -8,9 +8,10 @@ pub struct Row {
     pub verdict: Verdict,
 }
 
-/// What was counted of a recording.
+/// What was counted of a recording. own: what a verdict cannot speak of is counted, so that it is not overlooked.
 #[derive(Clone, Copy, PartialEq, Eq, Debug)]
 pub struct Counts {
+    /// All datagrams.
     pub datagrams: u64,
     /// Datagrams that are refused at any place.
     pub refused: u64,
@@ -24,7 +25,7 @@ pub struct Counts {
     pub unsettled: u64,
 }
 
-/// What an audit says of a recording.
+/// What an audit says of a recording. own: a row for each pair of which discovery says that it is reliable.
 #[derive(Drop)]
 pub struct Report {
     /// By writer and then by reader.

@@ -1,4 +1,4 @@
-/// What a recording says of one writer and one reader.
+/// What a recording says of one writer and one reader, by all runs of the reader (DDSI-RTPS 2.5, 8.4 "Behavior Module").
 #[derive(Clone, Copy, PartialEq, Eq, Debug)]
 pub enum Verdict {
     /// The recording is not that of a conforming reader: this datagram, counted from 1, is the first that
@@ -8,6 +8,6 @@ pub enum Verdict {
     Conflict { number: i64 },
     /// The reader may have missed the number, the least such from 1 to the last announced number.
     Open { number: i64 },
-    /// The reader was told of each number from 1 to `last`, the last announced number.
+    /// The reader was told of each number from 1 to `last`, the last announced number; 0 where none is announced.
     Complete { last: i64 },
 }

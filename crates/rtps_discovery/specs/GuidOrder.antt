@@ -1,5 +1,5 @@
--- The order of GUIDs: prefix first, then entity id, octet by octet (DDSI-RTPS 2.5, 8.2.4.1 "Identifying RTPS entities:
--- The GUID").
+-- The order of GUIDs: prefix first, then entity id (DDSI-RTPS 2.5, 8.2.4.1 "Identifying RTPS entities: The GUID"), octet
+-- by octet. own: the standard gives GUIDs no order, and lists have one.
 use Rattle.std.specs.Ordering.{nat_cmp, ordering_then}
 use Rattle.std.specs.declared.cmp.Ordering.{Ordering}
 use Rattle.std.specs.Cmp.Lexicographic.{slice_cmp}

@@ -12,3 +12,4 @@ pub mod Payload
 pub mod TopicIndex
 pub mod Told
 pub mod FaultText
+pub mod Layout

@@ -70,12 +70,12 @@ answer_of None = noted.Nothing
 answer_of (Some (Ok announced)) = noted.Kept
 answer_of (Some (Err fault)) = noted.Fault fault
 
--- how many acts are answered with a fault
 abbrev pub is_fault : Noted → Bool
 is_fault noted.Nothing = false
 is_fault noted.Kept = false
 is_fault (noted.Fault fault) = true
 
+-- how many acts are answered with a fault
 abbrev pub faults_in : List ActValue → ℕ
 faults_in acts = count_by (λ act. is_fault (answer_of (announcement_of act))) acts
 

@@ -4,6 +4,7 @@ ghost use Rattle.std.specs.Prelude.{◌≡◌, ◌↔◌, ◌++◌, ◌∷◌, [
 ghost use Rattle.std.specs.List.Sorted.{IsPermutation, IsStrictlySortedBy};
 ghost use Rattle.rtps_ids.specs.declared.identity.Guid.{Guid};
 ghost use Rattle.rtps_receiver.specs.Values.{ActValue};
+ghost use Rattle.rtps_discovery.specs.Layout.{entity_is, pid_is, representation_is};
 ghost use Rattle.rtps_discovery.specs.Announcement.{Fields, endpoint_in, participant_guid, participant_in};
 ghost use Rattle.rtps_discovery.specs.Directory.{DirectoryValue, IsMapOf, IsSettled, IsUnsettled, settled_in, unsettled_in};
 ghost use Rattle.rtps_discovery.specs.Endpoint.{EndpointValue};
@@ -91,4 +92,11 @@ pub fn in_order()
         → IsStrictlySortedBy pair_cmp (map (λ found. found.pair) (matches_among (settled_in directory.endpoints))) }
     ensures pairs { (acts : List ActValue) (directory : DirectoryValue) → IsMapOf acts directory
         → IsStrictlySortedBy pair_cmp (reliable_pairs (matches_among (settled_in directory.endpoints))) }
+{}
+
+/// The built-in writers, representations and parameters that are read are those of the standard.
+pub fn layout_is_that_of_the_standard()
+    ensures entity { entity_is }
+    ensures representation { representation_is }
+    ensures pid { pid_is }
 {}

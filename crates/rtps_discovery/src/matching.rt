@@ -6,7 +6,7 @@ use crate::endpoint::{Endpoint, Reliability, Side};
 use rtps_ids::{Guid, Memory};
 use std::alloc::Global;
 
-/// A writer and a reader.
+/// A writer and a reader, in the order of the writers' GUIDs and then of the readers'.
 #[derive(Clone, Copy, PartialEq, Eq, PartialOrd, Ord, Debug)]
 pub struct Pair {
     pub writer: Guid,

@@ -11,8 +11,7 @@ use rtps_receiver::Act;
 
 impl<'a> Directory<'a> {
     /// Notes acts in their order, as [`Directory::note`] does, and says how many are announcements with a fault. Only DATA
-    /// are announcements, so the DATA among acts are enough. After `Memory` the directory has kept those before the one
-    /// that was too many.
+    /// are announcements, so the DATA among acts are enough. After `Memory` the directory has kept some of them.
     pub fn note_all(&mut self, acts: &[Act<'a>]) -> Result<u64, Memory>
         ensures map { OnOk result ((before : List ActValue)
             → IsMapOf before self.old → IsMapOf (before ++ map act_value acts.now) self.new) }

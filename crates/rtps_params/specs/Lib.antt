@@ -6,3 +6,4 @@ pub mod Item
 pub mod Values
 pub mod FaultText
 pub mod Writing
+pub mod Layout

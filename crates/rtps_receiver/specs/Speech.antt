@@ -21,20 +21,20 @@ reader_named (Heartbeat value) = Some value.reader
 reader_named (Gap value) = Some value.reader
 reader_named (AckNack value) = None
 
--- an act is from the writer that it names, and an ACKNACK from the reader
 abbrev pub is_ack_nack : ActBodyValue → Bool
 is_ack_nack (AckNack value) = true
 is_ack_nack (Data value) = false
 is_ack_nack (Heartbeat value) = false
 is_ack_nack (Gap value) = false
 
+-- an act is from the writer that it names, and an ACKNACK from the reader
 abbrev pub entity_from : ActBodyValue → EntityId
 entity_from (AckNack value) = value.reader
 entity_from (Data value) = value.writer
 entity_from (Heartbeat value) = value.writer
 entity_from (Gap value) = value.writer
 
--- of its source
+-- the GUID that an act is from: that entity of its source
 abbrev pub origin_of : ActValue → Guid
 origin_of act = record { prefix = act.source; entity = entity_from act.body }
 

@@ -39,7 +39,7 @@ impl<'a> Walk<'a> {
     }
 
     /// Reads a datagram, of any length, up to its refusal if one ends it: its acts take the place of those of the last
-    /// one, and its tally is answered. After `Memory` the acts are some of its first ones.
+    /// one, and its tally is answered. After `Memory` the acts are of no use.
     pub fn read(&mut self, datagram: &'a [u8]) -> Result<Tally, Memory>
         ensures acts { OnOk result (self.new ≡ acts_of (reading_of datagram.now)) }
         ensures tally { IfOk result (λ tally. tally ≡ tally_of (reading_of datagram.now)) }
@@ -56,6 +56,7 @@ impl<'a> Walk<'a> {
     }
 
     /// Reads a datagram as [`Walk::read`] does, but keeps its DATA alone. It is faster for whom the rest says nothing.
+    /// After `Memory` the acts are of no use.
     pub fn read_data(&mut self, datagram: &'a [u8]) -> Result<(), Memory>
         ensures { OnOk result (self.new ≡ data_among (acts_of (reading_of datagram.now))) }
     {

@@ -25,7 +25,7 @@ heartbeat_fault order body = first_fault (
     ∷ (BadRange, int_lt (last_number order body) (first_number order body -ℤ pos 1))
     ∷ [])
 
--- the heartbeat that a body without a fault spells; flag F says that it is final, and flag L that it is for liveliness alone
+-- the heartbeat that a body without a fault spells; flag F says that it is final, and flag L that it tells liveliness
 abbrev pub heartbeat_of : Order → ℕ → List ℕ → HeartbeatBody
 heartbeat_of order flags body =
     record {

@@ -8,7 +8,7 @@ use Rattle.rtps_wire.specs.Values.BodyValue.{Skipped}
 use Rattle.rtps_wire.specs.declared.counts.Tally.{Tally}
 use Rattle.rtps_wire.specs.declared.layout.id.TheConstants.{DATA_FRAG, HEARTBEAT_FRAG, NACK_FRAG}
 
--- NACK_FRAG, HEARTBEAT_FRAG and DATA_FRAG (DDSI-RTPS 2.5, 9.4.5.1.1 "SubmessageIds")
+-- NACK_FRAG, HEARTBEAT_FRAG and DATA_FRAG (DDSI-RTPS 2.5, 9.4.5.1.1 "SubmessageId")
 abbrev pub is_fragment_id : ℕ → Bool
 is_fragment_id id = id == NACK_FRAG || id == HEARTBEAT_FRAG || id == DATA_FRAG
 

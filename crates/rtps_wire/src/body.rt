@@ -47,7 +47,7 @@ pub struct AckNackBody {
     pub is_final: bool,
 }
 
-/// Which numbers will not come: those from `start` up to the base of `list`, and the list (DDSI-RTPS 2.5, 8.3.8.4
+/// Which numbers will not come: those from `start` on and below the base of `list`, and the list (DDSI-RTPS 2.5, 8.3.8.4
 /// "Gap").
 #[derive(Clone, Copy, PartialEq, Eq, Debug)]
 pub struct GapBody {

@@ -19,7 +19,7 @@ impl<'a> Body<'a> {
     ghost use Rattle.rtps_wire.specs.Tally.{is_fragment as is_fragment_lem, is_skipped as is_skipped_lem};
 
     /// Whether it is a NACK_FRAG, HEARTBEAT_FRAG or DATA_FRAG, which are skipped and counted apart (DDSI-RTPS 2.5,
-    /// 9.4.5.1.1 "SubmessageIds").
+    /// 9.4.5.1.1 "SubmessageId").
     #[inline(always)]
     pub fn is_fragment(&self) -> bool
         ensures { result ≡ is_fragment_lem (body_value self.now) }

@@ -54,7 +54,8 @@ impl<'a> Items<'a> {
         }
     }
 
-    /// The place of the first octet that is unread, which is that of the next item, or of the refusal.
+    /// The place of the first octet that is unread, which is that of the next item, or of the refusal; of no use where
+    /// nothing is left.
     pub fn at(&self) -> usize
         ensures { result ≡ self.now.at }
     {
