@@ -41,6 +41,7 @@ pub(crate) fn number_size(number: SeqNum) -> usize
     ensures held { IsHeldNumber number }
     ensures size { result ≡ 8 }
 {
+    // Read for its range.
     let _value = number.get();
     8
 }

@@ -21,6 +21,7 @@ pub(crate) fn size(body: GapBody) -> u16
     ensures held { IsHeldGap body }
     ensures size { (order : Order) → length (gap_octets order body) ≡ result }
 {
+    // Read for its range.
     let _start = body.start.get();
     gap::LIST as u16 + set_size(body.list)
 }

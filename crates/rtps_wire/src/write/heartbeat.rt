@@ -28,6 +28,7 @@ pub(crate) fn size(body: HeartbeatBody) -> u16
     ensures held { IsHeldHeartbeat body }
     ensures size { (order : Order) → length (heartbeat_octets order body) ≡ result }
 {
+    // Read for its range.
     let _first = body.first.get();
     heartbeat::SIZE as u16
 }

@@ -45,7 +45,6 @@ pub(crate) fn info_dst_size(prefix: GuidPrefix) -> u16
     ensures held { length prefix.0 ≡ 12 }
     ensures size { length (info_dst_octets prefix) ≡ result }
 {
-    let _ = prefix;
     info_dst::SIZE as u16
 }
 
@@ -63,7 +62,6 @@ pub(crate) fn info_src_size(version: Version, vendor: Vendor, prefix: GuidPrefix
     ensures held { (length vendor.0 ≡ 2) × (length prefix.0 ≡ 12) }
     ensures size { length (info_src_octets version vendor prefix) ≡ result }
 {
-    let _ = (version, vendor, prefix);
     header::SIZE as u16
 }
 

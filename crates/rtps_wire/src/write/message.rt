@@ -10,7 +10,7 @@ ghost use Rattle.rtps_wire.specs.Written.{clean_reading, item_octets, message_oc
 use super::item;
 use crate::body::Item;
 use crate::header::Header;
-use crate::layout::header;
+use crate::layout::{header, submessage};
 use crate::write_fault::WriteFault;
 use rtps_ids::Memory;
 
@@ -96,7 +96,7 @@ fn room_for(items: &[Item<'_>]) -> usize {
     let mut room = header::SIZE;
     for item in items {
         let size = item::size(&item.body).unwrap_or(0);
-        room = room.saturating_add(4 + usize::from(size));
+        room = room.saturating_add(submessage::SIZE + usize::from(size));
     }
     room
 }
