@@ -175,16 +175,21 @@ fn push_all(
     Ok(())
 }
 
+fn slices_of(alloc: Global, datagrams: &Vec<Vec<u8>>) -> Result<Vec<&[u8]>, AllocError> {
+    let mut slices: Vec<&[u8]> = Vec::new(alloc);
+    for datagram in datagrams {
+        slices.push(datagram.as_slice())?;
+    }
+    Ok(slices)
+}
+
 /// The audit of a recording of the announcements of the pair and then these pieces. Each row is what the pair is judged
 /// by each kind of set, and by the index.
 fn audited(alloc: Global, pieces: &[Piece]) -> Result<Report, Fail> {
     let mut datagrams = Vec::new(alloc);
     push_all(alloc, &mut datagrams, &[HeaderA, WriterW, HeaderB, ReaderR])?;
     push_all(alloc, &mut datagrams, pieces)?;
-    let mut slices: Vec<&[u8]> = Vec::new(alloc);
-    for datagram in &datagrams {
-        slices.push(datagram.as_slice())?;
-    }
+    let slices = slices_of(alloc, &datagrams)?;
     let report = audit(alloc, &slices)?;
     let index = Index::build(alloc, &slices)?;
     for row in &report.rows {
@@ -388,6 +393,14 @@ fn what_is_counted(rt: HostRuntime) -> Result<(), Fail> {
 fn a_pair_of_any_two_guids_is_judged(rt: HostRuntime) -> Result<(), Fail> {
     let alloc = rt.alloc();
     assert_eq!(rt; judge(alloc, &[], pair())?, Verdict::Complete { last: 0 });
+    let pieces = [HeaderA, Data(1, 1), Data(2, 2), HeaderB, ToA, AckNack(2)];
+    let mut datagrams = Vec::new(alloc);
+    push_all(alloc, &mut datagrams, &pieces)?;
+    let slices = slices_of(alloc, &datagrams)?;
+    let open = Verdict::Open { number: 2 };
+    assert_eq!(rt; judge(alloc, &slices, pair())?, open);
+    assert_eq!(rt; judge_by::<PlainRanges>(alloc, &slices, pair())?, open);
+    assert_eq!(rt; judge_by::<MergedRanges>(alloc, &slices, pair())?, open);
     Ok(())
 }
 
@@ -406,10 +419,7 @@ fn acts_stand_with_their_origin(rt: HostRuntime) -> Result<(), Fail> {
     ];
     let mut datagrams = Vec::new(alloc);
     push_all(alloc, &mut datagrams, &pieces)?;
-    let mut slices: Vec<&[u8]> = Vec::new(alloc);
-    for datagram in &datagrams {
-        slices.push(datagram.as_slice())?;
-    }
+    let slices = slices_of(alloc, &datagrams)?;
     let index = Index::build(alloc, &slices)?;
     let of_writer = index.acts_of(pair().writer);
     assert_eq!(rt; of_writer.len(), 3);
