@@ -40,8 +40,8 @@ fn run_end(words: &Words, ranges: &MergedRanges, n: u64) -> u64
     }
 }
 
-/// The least number from `hi` on that lies in none of the ranges and words. Those words are let go of whose numbers, from
-/// `from` on, lie below it.
+/// The least number from `hi` on that lies in none of the ranges and words. On the way there from `from` it lets go of
+/// words that are passed.
 fn pass(words: &mut Words, ranges: &MergedRanges, from: u64, hi: u64) -> u64
     requires { hi < 2 ^ 63 }
     ensures onward { hi ≤ result }

@@ -1,4 +1,4 @@
-//! Growing sets of sequence numbers (DDSI-RTPS 2.5, 8.3.5.4 "SequenceNumber"), as ranges.
+//! Growing sets of sequence numbers (DDSI-RTPS 2.5, 8.3.5.4 "SequenceNumber"), as ranges and as bits.
 #![tactic(auto)]
 
 mod bit_ranges;
