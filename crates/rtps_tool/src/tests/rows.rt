@@ -1,4 +1,4 @@
-use crate::{Ending, RecFault, RunFault, run_audit, run_list, run_show};
+use crate::{Ending, RecFault, RunFault, run_audit, run_list, run_show, status, write_fault};
 use std::test::Fail;
 
 // A heartbeat, and a submessage header that is cut short.
@@ -81,4 +81,40 @@ fn a_fault_of_the_recording_writes_nothing(rt: HostRuntime) {
         Err(RunFault::Recording(RecFault::BadHex { line: 2 }))
     );
     assert!(rt; output.is_empty());
+}
+
+#[test]
+fn a_fault_is_told_with_its_line(rt: HostRuntime) {
+    let mut output = Vec::new(rt.alloc());
+    let text = "# test\n\n525\n";
+    let outcome = run_show(rt.alloc(), &mut text.as_bytes(), &mut output);
+    assert_eq!(rt; status(&outcome), 2);
+    assert!(rt; output.is_empty());
+    let Err(fault) = outcome else {
+        assert!(rt; false, "a fault");
+        return;
+    };
+    assert!(rt; write_fault(&fault, &mut output));
+    assert_eq!(rt;
+        output.as_slice(),
+        b"rtps-audit: line 3: bad hex\n".as_slice()
+    );
+}
+
+#[test]
+fn capital_digits_and_carriage_returns_change_nothing(rt: HostRuntime) -> Result<(), Fail> {
+    let mut text = Vec::new(rt.alloc());
+    for octet in OPEN.bytes() {
+        if octet == b'\n' {
+            text.push(b'\r')?;
+        }
+        text.push(octet.to_ascii_uppercase())?;
+    }
+    let mut output = Vec::new(rt.alloc());
+    let mut wanted = Vec::new(rt.alloc());
+    run_audit(rt.alloc(), &mut OPEN.as_bytes(), &mut wanted)?;
+    let ending = run_audit(rt.alloc(), &mut text.as_slice(), &mut output)?;
+    assert_eq!(rt; output.as_slice(), wanted.as_slice());
+    assert_eq!(rt; ending, Ending::Unclean);
+    Ok(())
 }
