@@ -105,6 +105,11 @@ fn what_is_not_writable(rt: HostRuntime) -> Result<(), Fail> {
         body: Body::Heartbeat(range),
     }];
     assert_eq!(rt; answer(&rt, &heartbeat), (Err(WriteFault::NotWritable), 0));
+    Ok(())
+}
+
+#[test]
+fn a_gap_whose_list_has_base_0(rt: HostRuntime) -> Result<(), Fail> {
     let Some(list) = NumberSet::new(0, 0, [0; 8]) else {
         return Err("a set".into());
     };
