@@ -12,6 +12,10 @@
                                                 table: seconds, MB, and the ratios. Recordings stay in the folder
                                                 RTPS_BENCH_DIR, where that is set
 
+    ratios.py writing REWRITE FILE..            writing messages beside reading the same ones, by the program of
+                                                crates/rtps_rewrite: each message of FILE many times, less what it takes
+                                                to read the recording and do neither
+
 Each figure is the best of some runs that take turns. Nothing here passes or fails.
 """
 import os
@@ -69,6 +73,14 @@ def orders(program, n, other):
             print(f'{order}: {", ".join(ratios)}', flush=True)
 
 
+def writing(rewrite, paths, rounds=50000):
+    for path in paths:
+        calls = [('read', 0), ('read', rounds), ('write', rounds)]
+        times, _ = best([['sh', '-c', '"$0" "$1" "$2" <"$3"', rewrite, call, str(count), path] for call, count in calls])
+        reading, written = times[1] - times[0], times[2] - times[0]
+        print(f'{os.path.basename(path)}: reading {rounds} times {reading:.3f} s, writing {written:.3f} s, {written / reading:.2f} of it')
+
+
 def beside(program, other, maker, names, folder):
     print('| Recording | Run | Time, peak memory | Times the other\'s time | Times its memory |')
     print('|---|---|---|---|---|')
@@ -94,6 +106,8 @@ def main():
     elif words[:1] == ['beside'] and len(words) > 3:
         with tempfile.TemporaryDirectory() as folder:
             beside(words[1], words[2], words[3], words[4:] or NAMES, os.environ.get('RTPS_BENCH_DIR', folder))
+    elif words[:1] == ['writing'] and len(words) > 2:
+        writing(words[1], words[2:])
     elif words[:1] == ['orders'] and len(words) in (2, 3):
         orders(words[1], int(words[2]) if len(words) == 3 else 50000, other)
     else:
