@@ -372,10 +372,11 @@ for_all_alike act reader for_all heard = by_dest act.dest for_all refl ∙ sym h
     either : (a b : Bool) → (a || a) ≡ true → (a || b) ≡ true
     either true b e = refl
     either false b e = cc
+
     by_dest : (dest : Option GuidPrefix) → is_some dest ≡ false → act.dest ≡ dest → is_heard_by act reader ≡ true
     by_dest (Some prefix) e is = cc
     by_dest None e is =
         let known : (names (reader_named act.body) unknown_entity || names (reader_named act.body) unknown_entity) ≡ true =
-            sym (ap (λ d. (is_for_all d || is_for d nobody.prefix) && (names (reader_named act.body) unknown_entity || names (reader_named act.body) unknown_entity)) is) ∙ heard in
+        sym (ap (λ d. (is_for_all d || is_for d nobody.prefix) && (names (reader_named act.body) unknown_entity || names (reader_named act.body) unknown_entity)) is) ∙ heard in
         ap (λ d. (is_for_all d || is_for d reader.prefix) && (names (reader_named act.body) unknown_entity || names (reader_named act.body) reader.entity)) is
         ∙ either (names (reader_named act.body) unknown_entity) (names (reader_named act.body) reader.entity) known

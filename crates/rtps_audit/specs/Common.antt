@@ -14,4 +14,4 @@ nobody = record { prefix = record { 0 = replicate 12 0 }; entity = record { 0 = 
 pub record IsCommon (recording : List (List ℕ)) (common : Common) : Type 0 where
   pub hearing : Hears common.hearing common.writer nobody (filter (is_from common.writer) (placed_in recording))
   pub for_all : common.for_all ≡ true
-    → (reader : Guid) → All (λ at. is_heard_by at.act reader ≡ is_heard_by at.act nobody) (filter (is_from common.writer) (placed_in recording))
+      → (reader : Guid) → All (λ at. is_heard_by at.act reader ≡ is_heard_by at.act nobody) (filter (is_from common.writer) (placed_in recording))

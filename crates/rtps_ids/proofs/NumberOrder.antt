@@ -43,15 +43,15 @@ spelled_order n (x ∷ xs) (y ∷ ys) same one other = elim (cases_lt x y) [
       less _ _ (below (n * 256 + x) (n * 256 + y) xs ys rest (later x xs one) (later y ys other) (omega (arith, lt)))
       ∙ ap (λ o. ordering_then o (slice_cmp nat_cmp xs ys)) (sym (less x y lt))
   | inr not ↦ elim (cases_lt y x) [
-      | inl gt ↦
-          greater _ _ (below (n * 256 + y) (n * 256 + x) ys xs (sym rest) (later y ys other) (later x xs one) (omega (arith, gt)))
-          ∙ ap (λ o. ordering_then o (slice_cmp nat_cmp xs ys)) (sym (greater x y gt))
-      | inr not' ↦
-          let equal : y ≡ x = omega (arith, not, not') in
-          ap (λ k. nat_cmp (spelled (n * 256 + x) xs) (spelled (n * 256 + k) ys)) equal
-          ∙ spelled_order (n * 256 + x) xs ys rest (later x xs one) (later y ys other)
-          ∙ ap (λ o. ordering_then o (slice_cmp nat_cmp xs ys)) (nat_cmp_is x y Equal (sym equal))
-    ]
+    | inl gt ↦
+        greater _ _ (below (n * 256 + y) (n * 256 + x) ys xs (sym rest) (later y ys other) (later x xs one) (omega (arith, gt)))
+        ∙ ap (λ o. ordering_then o (slice_cmp nat_cmp xs ys)) (sym (greater x y gt))
+    | inr not' ↦
+        let equal : y ≡ x = omega (arith, not, not') in
+        ap (λ k. nat_cmp (spelled (n * 256 + x) xs) (spelled (n * 256 + k) ys)) equal
+        ∙ spelled_order (n * 256 + x) xs ys rest (later x xs one) (later y ys other)
+        ∙ ap (λ o. ordering_then o (slice_cmp nat_cmp xs ys)) (nat_cmp_is x y Equal (sym equal))
+  ]
 ]
   where
     rest : length xs ≡ length ys

@@ -191,7 +191,6 @@ few_left state unread =
       items_and_refusal (outcomes_left unread),
     )
 
-
 -- ---- the DATA among acts
 
 abbrev pub is_data_item : BodyValue → Bool
@@ -213,6 +212,7 @@ data_behind-other state item items other = by_body item.body refl other
     act body said is what none =
         ap data_among (acts_behind-act state item items said (ap act_body is ∙ what)) ∙ rw none refl
         ∙ ap (λ s. data_among (acts_behind s [] items)) (sym (act_says_nothing state item body said is what))
+
     by_body : (body : BodyValue) → item.body ≡ body → is_data_item body ≡ false
         → data_among (acts_behind state [] (item ∷ items)) ≡ data_among (acts_behind (state_behind state (item ∷ [])) [] items)
     by_body (Data value) is not = cc

@@ -52,7 +52,7 @@ items-preserved-in-Continue-1 c =
     let data' = data_said c.in-Some-Ok.item.body c.in-Data.field-0 is.0 c.in-Data.is is.1 in
     let step = ap (λ (o : List Outcome). data_among (acts_behind state [] (items_among o))) (next_is read) ∙ data_behind-data state item (items_among later) is.0 is.1 data' in
     ap (λ l. l ++ data_among (acts_behind state [] (items_among later)))
-        (ap (map act_value) c.in_ok-extend_from_slice-in-Data.ensures.items ∙ map-append act_value c.items.acts.items _ ∙ ap (λ l. before ++ map act_value l) c.from_ref.ensures.value)
+    (ap (map act_value) c.in_ok-extend_from_slice-in-Data.ensures.items ∙ map-append act_value c.items.acts.items _ ∙ ap (λ l. before ++ map act_value l) c.from_ref.ensures.value)
     ∙ append_assoc before (act_value c.in-Some-act.act ∷ []) (data_among (acts_behind state [] (items_among later)))
     ∙ ap (λ a. before ++ a ∷ data_among (acts_behind state [] (items_among later))) is.2
     ∙ ap (λ l. before ++ l) (sym step) ∙ c.items.invariant
@@ -65,5 +65,5 @@ items-preserved-in_default-body c =
     let later = outcomes_left c.next.new.self in
     let before = map act_value c.items.acts.items in
     let step = ap (λ (o : List Outcome). data_among (acts_behind state [] (items_among o))) (next_is read)
-        ∙ data_behind-other state item (items_among later) (other_body c.in-Some-Ok.item.body c.in_default-body.not-Data) in
+    ∙ data_behind-other state item (items_among later) (other_body c.in-Some-Ok.item.body c.in_default-body.not-Data) in
     ap (λ s. before ++ data_among (acts_behind s [] (items_among later))) c.interpret.ensures ∙ ap (λ l. before ++ l) (sym step) ∙ c.items.invariant

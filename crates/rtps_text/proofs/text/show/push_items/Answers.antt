@@ -35,7 +35,7 @@ items-preserved-in-Some-Ok c =
     let later = outcomes_left c.next.new.self in
     let item = item_value c.in-Some-Ok.item in
     let step : outcomes_left c.items.items ≡ Ok item ∷ later =
-        ap outcomes_left (sym c.in_default.ensures.left) ∙ c.in-Some-Ok.ensures.steps ∙ ap (λ o. outcome_value o ∷ later) c.in-Some-Ok.field-0-is in
+    ap outcomes_left (sym c.in_default.ensures.left) ∙ c.in-Some-Ok.ensures.steps ∙ ap (λ o. outcome_value o ∷ later) c.in-Some-Ok.field-0-is in
     ap (λ s. string_bytes c.push_item.new.text ++ outcomes_text s later) c.interpret.ensures
     ∙ ap (λ bytes. bytes ++ outcomes_text (state_behind state (item ∷ [])) later) c.in_ok-push_item-in-Some-Ok.ensures
     ∙ append_assoc old (item_line state item) (outcomes_text (state_behind state (item ∷ [])) later)
@@ -49,7 +49,7 @@ items-preserved c =
     let later = outcomes_left c.next.new.self in
     let refusal = c.in-Some-Err.refusal in
     let step : outcomes_left left ≡ Err refusal ∷ later =
-        ap outcomes_left (sym c.in_default.ensures.left) ∙ c.in-Some-Err.ensures.steps ∙ ap (λ o. outcome_value o ∷ later) c.in-Some-Err.field-0-is in
+    ap outcomes_left (sym c.in_default.ensures.left) ∙ c.in-Some-Err.ensures.steps ∙ ap (λ o. outcome_value o ∷ later) c.in-Some-Err.field-0-is in
     let none : later ≡ [] = refusal_is_last left refusal later step in
     let last : outcomes_left left ≡ Err refusal ∷ [] = step ∙ ap (λ (more : List Outcome). Err refusal ∷ more) none in
     ap (λ (more : List Outcome). string_bytes c.write.new.self ++ outcomes_text c.items.state more) none
