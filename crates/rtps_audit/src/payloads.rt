@@ -32,18 +32,13 @@ fn is_in_order(payloads: &[KeptPayload<'_>]) -> bool
     payloads.is_sorted_by_key(|entry| entry.number)
 }
 
-/// Puts payloads in the order of their numbers. Those that came in order, as most do, are not sorted again. Others came
-/// in a few runs, which are merged; where there is no memory for that, they are sorted in their place.
+/// Puts payloads in the order of their numbers. Those that came in order, as most do, are not sorted again.
 pub(crate) fn put_in_order(payloads: &mut Vec<KeptPayload<'_>>)
     ensures permutation { IsPermutation payloads.old.items payloads.new.items }
     ensures sorted { IsNonDecreasingBy number_of payloads.new.items }
 {
-    if is_in_order(payloads) {
-        return;
-    }
-    match payloads.sort_by_key(|entry| entry.number) {
-        Ok(()) => {}
-        Err(_) => payloads.sort_unstable_by_key(|entry| entry.number),
+    if !is_in_order(payloads) {
+        payloads.sort_unstable_by_key(|entry| entry.number);
     }
 }
 
