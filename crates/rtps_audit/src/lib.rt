@@ -19,10 +19,6 @@ mod payloads;
 mod placed;
 mod report;
 mod said;
-#[cfg(test)]
-mod tests;
-#[cfg(test)]
-mod trial;
 mod verdict;
 mod words;
 

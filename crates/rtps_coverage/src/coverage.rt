@@ -35,6 +35,3 @@ pub trait Coverage: Sized + Drop {
     ghost in_range: { (set : Self) (n : ℕ) → covered set n ≡ true
         → (1 ≤ n) × (n < 2 ^ 63 - 1) };
 }
-
-#[cfg(test)]
-mod tests;

@@ -21,6 +21,3 @@ pub use endpoint::{Durability, Endpoint, Reliability, Side};
 pub use fault::NoticeFault;
 pub use matching::{Match, Pair, matches};
 pub use notice::Noted;
-
-#[cfg(test)]
-mod tests;

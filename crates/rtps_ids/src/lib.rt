@@ -10,8 +10,6 @@ mod octets;
 mod order;
 mod set;
 mod set_fault;
-#[cfg(test)]
-mod tests;
 
 pub use identity::{EntityId, Guid, GuidPrefix, Stamp, Vendor, Version};
 pub use memory::Memory;

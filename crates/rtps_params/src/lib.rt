@@ -17,6 +17,3 @@ pub use list_fault::ListFault;
 pub use pairs::Params;
 pub use values::{read_guid, read_text, read_u32};
 pub use write::write_list;
-
-#[cfg(test)]
-mod tests;

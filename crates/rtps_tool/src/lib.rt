@@ -10,8 +10,6 @@ pub mod laws;
 mod outcome;
 mod run;
 mod streams;
-#[cfg(test)]
-mod tests;
 
 pub use choices::run_choice;
 pub use command::{Choice, WordFault, read_words};

@@ -11,8 +11,6 @@ pub mod laws;
 mod layout;
 mod message;
 mod read;
-#[cfg(test)]
-mod tests;
 mod write;
 mod write_fault;
 

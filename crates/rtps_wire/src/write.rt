@@ -8,7 +8,5 @@ mod heartbeat;
 mod info;
 mod item;
 mod message;
-#[cfg(test)]
-mod tests;
 
 pub use message::write_message;

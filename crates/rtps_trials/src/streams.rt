@@ -1,5 +1,5 @@
-use super::pieces::in_pieces;
-use crate::{Ending, RunFault, run_show};
+use crate::pieces::in_pieces;
+use rtps_tool::{Ending, RunFault, run_show};
 use std::io;
 use std::io::{ErrorKind, Write};
 use std::test::Fail;

@@ -1,4 +1,4 @@
-use crate::{Ending, RecFault, RunFault, run_audit, run_list, run_show, status, write_fault};
+use rtps_tool::{Ending, RecFault, RunFault, run_audit, run_list, run_show, status, write_fault};
 use std::test::Fail;
 
 // A heartbeat, and a submessage header that is cut short.

@@ -1,8 +1,7 @@
 //! What no clause says: that sets take ranges where there is memory. Each kind of set is tried beside a row of flags, in
 //! orders in which ranges could come.
 
-use super::Coverage;
-use crate::{BitRanges, MergedRanges, PlainRanges};
+use rtps_coverage::{BitRanges, Coverage, MergedRanges, PlainRanges};
 use rtps_ids::Memory;
 use std::alloc::Global;
 use std::test::Fail;

@@ -1,4 +1,4 @@
-use crate::{
+use rtps_ids::{
     EntityId, Guid, GuidPrefix, NumberSet, Order, SeqNum, SetFault, Vendor, number_at, put_number,
     put_u16, put_u32, u16_at, u32_at,
 };

@@ -2,7 +2,7 @@
 
 ghost use Rattle.std.specs.Prelude.{◌<◌};
 
-use crate::{BitRanges, MergedRanges, PlainRanges, Verdict, judge_by};
+use rtps_audit::{BitRanges, MergedRanges, PlainRanges, Verdict, judge_by};
 use rtps_discovery::Pair;
 use rtps_ids::{EntityId, Guid, GuidPrefix};
 use std::alloc::{AllocError, Global};

@@ -1,4 +1,4 @@
-use crate::{Choice, RunFault, WordFault, read_words, write_fault};
+use rtps_tool::{Choice, RunFault, WordFault, read_words, write_fault};
 use std::alloc::Global;
 use std::test::Fail;
 

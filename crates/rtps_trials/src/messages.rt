@@ -1,5 +1,5 @@
-use crate::{Body, Header, Item, Items, Payload, Refusal, Tally, WireFault, tally};
 use rtps_ids::{GuidPrefix, Order, Stamp, Vendor, Version};
+use rtps_wire::{Body, Header, Item, Items, Payload, Refusal, Tally, WireFault, tally};
 use std::test::Fail;
 
 const HEADER: [u8; 20] = *b"RTPS\x02\x05\x00\x00\xaa\xaa\xaa\xaa\xaa\xaa\xaa\xaa\xaa\xaa\xaa\xaa";

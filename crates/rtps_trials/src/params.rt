@@ -1,5 +1,5 @@
-use super::*;
 use rtps_ids::Order;
+use rtps_params::{ListFault, ParamFault, ParamList, read_guid, read_text, read_u32, write_list};
 use std::process::Abort;
 use std::test::Fail;
 

@@ -1,7 +1,7 @@
-use crate::{
+use rtps_ids::{EntityId, GuidPrefix, NumberSet, Order, SeqNum, Vendor, Version};
+use rtps_wire::{
     Body, DataBody, GapBody, Header, HeartbeatBody, Item, Items, Payload, WriteFault, write_message,
 };
-use rtps_ids::{EntityId, GuidPrefix, NumberSet, Order, SeqNum, Vendor, Version};
 use std::slice;
 use std::test::Fail;
 

@@ -1,4 +1,4 @@
-use crate::{RecFault, read_recording};
+use rtps_tool::{RecFault, read_recording};
 use std::alloc::{AllocError, Global};
 use std::test::Fail;
 

@@ -1,7 +1,7 @@
 //! Texts that come in pieces, with a cut at each place that could matter, and readers that fail in mid-stream.
 
-use crate::streams::read_input;
-use crate::{RunFault, read_recording};
+use rtps_text::show_text;
+use rtps_tool::{RunFault, read_recording, run_show};
 use std::alloc::Global;
 use std::io::{self, Read};
 use std::test::Fail;
@@ -52,11 +52,19 @@ pub(super) fn in_pieces(text: &[u8], most: usize, cut: usize) -> Pieces<'_> {
     }
 }
 
+// What `show` prints of a text that comes in pieces.
+fn shown(alloc: Global, input: &mut Pieces<'_>) -> Result<Vec<u8>, RunFault> {
+    let mut output = Vec::new(alloc);
+    run_show(alloc, input, &mut output)?;
+    Ok(output)
+}
+
 // Whether what is read in pieces is what the text as a whole stands for.
 fn reads_as_whole(alloc: Global, mut input: Pieces<'_>) -> bool {
     let text = input.text;
-    match (read_input(alloc, &mut input), read_recording(alloc, text)) {
-        (Ok(one), Ok(other)) => one.datagrams().eq(other.datagrams()),
+    match (shown(alloc, &mut input), read_recording(alloc, text)) {
+        (Ok(one), Ok(other)) => show_text(alloc, &other).is_ok_and(|shown| one.as_slice()
+            == shown.0.as_bytes()),
         (Err(RunFault::Recording(one)), Err(other)) => one == other,
         _ => false,
     }
@@ -70,6 +78,7 @@ const SHORT: &[&[u8]] = &[
     b"#",
     b"# only\r\n#comments\n\n# \xff\x00",
     b"52ab\nff",
+    b"5254505302050000aaaaaaaaaaaaaaaaaaaaaaaa\n5254505302050000bbbbbbbbbbbbbbbbbbbbbbbb",
     b"52AB\r\nFF\r\n",
     b"# first\n\n52aB\r\n#\r\nFf\r",
     b"00\r\r\n",
@@ -104,7 +113,7 @@ fn a_failed_read_is_told_before_any_fault_of_the_text(rt: HostRuntime) {
             for most in [1, usize::MAX] {
                 let mut input = in_pieces(text, most, 0);
                 input.fails_at = place;
-                let outcome = read_input(rt.alloc(), &mut input);
+                let outcome = shown(rt.alloc(), &mut input);
                 assert!(rt;
                     matches!(&outcome, Err(RunFault::Input)),
                     "{text:?} at {place}"

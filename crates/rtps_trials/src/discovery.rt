@@ -1,4 +1,7 @@
-use super::*;
+use rtps_discovery::{
+    Directory, Durability, Endpoint, Match, Noted, NoticeFault, Pair, Reliability, Side, matches,
+    read_endpoint, read_participant,
+};
 use rtps_ids::{EntityId, Guid, GuidPrefix, Memory, Order, SeqNum, Vendor, Version};
 use rtps_receiver::{Act, ActBody, Walk};
 use rtps_wire::{DataBody, Payload, Tally};

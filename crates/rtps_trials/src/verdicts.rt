@@ -1,4 +1,4 @@
-use crate::{
+use rtps_audit::{
     BitRanges, Counts, Index, MergedRanges, PlainRanges, Report, Verdict, audit, judge, judge_by,
 };
 use rtps_discovery::Pair;
