@@ -1,9 +1,9 @@
--- The numbers of a GAP, run by run.
+-- The numbers of a GAP, range by range.
 use Rattle.std.proofs.Common.{◌≡◌, ℕ, ◌≤◌, Bool, true, false, ◌&&◌, ◌||◌, nat_le, nat_lt, pos, refl, arith, inl, inr}
 use Rattle.std.proofs.lemmas.Bool.Decides.{nat_tests}
 use Rattle.std.proofs.lemmas.Bool.{cases_lt}
 use Rattle.rtps_ids.specs.NumberSet.{IsMember, NumberSetValue, is_member}
-use Rattle.rtps_ids.specs.Runs.{IsRunFrom, HasNoneFrom}
+use Rattle.rtps_ids.specs.Ranges.{IsRangeFrom, HasNoneFrom}
 use Rattle.rtps_wire.specs.declared.body.GapBody.{GapBody}
 use Rattle.rtps_audit.specs.Speech.{is_in_gap, is_in_gap_below}
 use Rattle.rtps_ids.proofs.Offered.{member_decides, not_member}
@@ -11,18 +11,18 @@ use Rattle.rtps_ids.proofs.Offered.{member_decides, not_member}
 in_list : (set : NumberSetValue) (n : ℕ) → IsMember set (pos n) → is_member set n ≡ true
 in_list set n member = (member_decides set n).1 member
 
--- a row from the start of a GAP on, to the end of the run that begins at the base of its list
-pub row_to_run : (gap : GapBody) (past n : ℕ) → gap.start ≤ gap.list.base → IsRunFrom gap.list gap.list.base gap.list.base past
+-- a row from the start of a GAP on, to the end of the range that begins at the base of its list
+pub row_to_range : (gap : GapBody) (past n : ℕ) → gap.start ≤ gap.list.base → IsRangeFrom gap.list gap.list.base gap.list.base past
     → (nat_le gap.start n && nat_lt n past) ≡ is_in_gap_below gap past n
-row_to_run gap past n from run = elim (cases_lt n gap.list.base) [
+row_to_range gap past n from range = elim (cases_lt n gap.list.base) [
   | inl lt ↦
-      let some = run.some in
+      let some = range.some in
       let early : nat_le gap.list.base n ≡ false = grind (arith, nat_tests) in
       rw early (grind (arith, nat_tests))
   | inr le ↦ elim (cases_lt n past) [
-    | inl lt ↦ let there : is_member gap.list n ≡ true = in_list gap.list n (run.members n le lt) in rw there (grind (arith, nat_tests))
+    | inl lt ↦ let there : is_member gap.list n ≡ true = in_list gap.list n (range.members n le lt) in rw there (grind (arith, nat_tests))
     | inr ge ↦
-        let some = run.some in
+        let some = range.some in
         let late : nat_lt n past ≡ false = grind (arith, nat_tests) in
         let later : nat_lt n gap.list.base ≡ false = grind (arith, nat_tests) in
         rw (late, later) (or_and_false (nat_le gap.start n) (is_member gap.list n))
@@ -35,22 +35,22 @@ row_to_run gap past n from run = elim (cases_lt n gap.list.base) [
     or_and_false false true = refl
     or_and_false false false = refl
 
--- a run more
-pub gap_run : (gap : GapBody) (at first past : ℕ) → IsRunFrom gap.list at first past → (n : ℕ) → is_in_gap_below gap past n ≡ (is_in_gap_below gap at n || (nat_le first n && nat_lt n past))
-gap_run gap at first past run n = elim (cases_lt n first) [
+-- a range more
+pub gap_range : (gap : GapBody) (at first past : ℕ) → IsRangeFrom gap.list at first past → (n : ℕ) → is_in_gap_below gap past n ≡ (is_in_gap_below gap at n || (nat_le first n && nat_lt n past))
+gap_range gap at first past range n = elim (cases_lt n first) [
   | inl lt ↦ elim (cases_lt n at) [
-    | inl early ↦ let some = run.some in let onward = run.onward in grind (arith, nat_tests)
+    | inl early ↦ let some = range.some in let onward = range.onward in grind (arith, nat_tests)
     | inr le ↦
-        let none : is_member gap.list n ≡ false = not_member gap.list n (λ member. run.before n le lt member) in
+        let none : is_member gap.list n ≡ false = not_member gap.list n (λ member. range.before n le lt member) in
         rw none (grind (arith, nat_tests))
   ]
   | inr le ↦ elim (cases_lt n past) [
-    | inl lt ↦ let there : is_member gap.list n ≡ true = in_list gap.list n (run.members n le lt) in rw there (grind (arith, nat_tests))
-    | inr ge ↦ let some = run.some in let onward = run.onward in grind (arith, nat_tests)
+    | inl lt ↦ let there : is_member gap.list n ≡ true = in_list gap.list n (range.members n le lt) in rw there (grind (arith, nat_tests))
+    | inr ge ↦ let some = range.some in let onward = range.onward in grind (arith, nat_tests)
   ]
 ]
 
--- the last run
+-- the last range
 pub gap_end : (gap : GapBody) (at : ℕ) → HasNoneFrom gap.list at → (n : ℕ) → is_in_gap gap n ≡ is_in_gap_below gap at n
 gap_end gap at none n = elim (cases_lt n at) [
   | inl lt ↦ grind (arith, nat_tests)

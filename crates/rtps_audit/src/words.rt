@@ -90,19 +90,19 @@ fn row_end(gap: &GapBody) -> u64
 {
     let base = gap.list.base().cast_unsigned();
     let start = gap.start.get().cast_unsigned();
-    match gap.list.run_from(base) {
+    match gap.list.range_from(base) {
         Some(members) if start <= base && members.start == base => members.end,
         _ => base,
     }
 }
 
-/// Joins the numbers of a GAP: a row, and then the runs of its list that are apart from it.
+/// Joins the numbers of a GAP: a row, and then the ranges of its list that are apart from it.
 fn add_gap<C: Coverage>(told: &mut C, gap: &GapBody) -> Result<(), Memory>
     ensures { OnOk result (TellsMore (C.covered told.old) (C.covered told.new) (is_in_gap gap.now)) }
 {
     let mut at = row_end(gap);
     add_row(told, gap.start.get().cast_unsigned(), at)?;
-    'runs: while let Some(members) = gap.list.run_from(at) {
+    'ranges: while let Some(members) = gap.list.range_from(at) {
         add_row(told, members.start, members.end)?;
         at = members.end;
     }

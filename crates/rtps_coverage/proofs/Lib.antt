@@ -2,5 +2,5 @@ pub mod SpanLemmas
 pub mod KeptLemmas
 pub mod NowLemmas
 pub mod CoverageLemmas
-pub mod WordLemmas
+pub mod BlockLemmas
 pub mod BeyondLemmas

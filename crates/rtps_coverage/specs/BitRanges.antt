@@ -8,7 +8,7 @@ use Rattle.rtps_coverage.specs.declared.bit_ranges.BitRanges.{BitRanges}
 
 -- the positive numbers below the front, and those beyond it
 abbrev pub covered_of : BitRanges → ℕ → Bool
-covered_of set n = nat_le 1 n && (nat_lt n set.passed || is_beyond set.words set.ranges n)
+covered_of set n = nat_le 1 n && (nat_lt n set.passed || is_beyond set.blocks set.ranges n)
 
 -- ---- these numbers lie from 1 to 2^63 - 2
 
@@ -25,5 +25,5 @@ below_either n passed false b e bounded h = ltb-true n (2 ^ 63 - 1) (both (nat_l
 -- so the set has numbers from 1 to 2^63 - 2
 pub covered_in_range : (set : BitRanges) (n : ℕ) → covered_of set n ≡ true → (1 ≤ n) × (n < 2 ^ 63 - 1)
 covered_in_range set n h =
-    let there = both (nat_le 1 n) (nat_lt n set.passed || is_beyond set.words set.ranges n) h in
+    let there = both (nat_le 1 n) (nat_lt n set.passed || is_beyond set.blocks set.ranges n) h in
     (leb-true 1 n there.0, below_either n set.passed _ _ refl set.in_range.1 there.1)

@@ -3,7 +3,7 @@ pub mod Spans
 pub mod PlainRanges
 pub mod KeptSpans
 pub mod MergedRanges
-pub mod Words
+pub mod Blocks
 pub mod Beyond
 pub mod BitRanges
 pub mod Laws

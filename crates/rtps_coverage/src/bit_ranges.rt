@@ -3,7 +3,7 @@ ghost use Rattle.rtps_coverage.specs.Beyond.{is_beyond};
 
 use crate::coverage::Coverage;
 use crate::merged_ranges::MergedRanges;
-use crate::words::Words;
+use crate::blocks::Blocks;
 use rtps_ids::Memory;
 use std::alloc::Global;
 
@@ -16,48 +16,48 @@ const LAST: u64 = i64::MAX as u64;
 /// A set of sequence numbers as its front, below which each positive number is in the set, the short ranges beyond it
 /// as bits, and the long ones as ranges.
 ///
-/// A short range that lies close to the one before it takes a few operations on one word.
+/// A short range that lies close to the one before it takes a few operations on one block.
 #[derive(Drop)]
 pub struct BitRanges {
     passed: u64,
-    words: Words,
+    blocks: Blocks,
     ranges: MergedRanges,
     ghost in_range: { (1 ≤ passed) × (passed < 2 ^ 63) },
-    ghost outside: { is_beyond words ranges passed ≡ false },
+    ghost outside: { is_beyond blocks ranges passed ≡ false },
 }
 
-/// Where the numbers from `n` on end that one range, or one word, has.
-fn run_end(words: &Words, ranges: &MergedRanges, n: u64) -> u64
+/// Where the numbers from `n` on end that one range, or one block, has.
+fn run_end(blocks: &Blocks, ranges: &MergedRanges, n: u64) -> u64
     requires { n < 2 ^ 63 - 1 }
     ensures onward { n ≤ result }
     ensures in_range { result < 2 ^ 63 }
-    ensures members { (m : ℕ) → n ≤ m → m < result → is_beyond words.now ranges.now m ≡ true }
-    ensures stops { result ≡ n → is_beyond words.now ranges.now n ≡ false }
+    ensures members { (m : ℕ) → n ≤ m → m < result → is_beyond blocks.now ranges.now m ≡ true }
+    ensures stops { result ≡ n → is_beyond blocks.now ranges.now n ≡ false }
 {
     match ranges.end_of(n) {
         Some(end) => end,
-        None => words.run_end(n).min(LAST),
+        None => blocks.run_end(n).min(LAST),
     }
 }
 
-/// The least number from `hi` on that lies in none of the ranges and words. On the way there from `from` it lets go of
-/// words that are passed.
-fn pass(words: &mut Words, ranges: &MergedRanges, from: u64, hi: u64) -> u64
+/// The least number from `hi` on that lies in none of the ranges and blocks. On the way there from `from` it lets go of
+/// blocks that are passed.
+fn pass(blocks: &mut Blocks, ranges: &MergedRanges, from: u64, hi: u64) -> u64
     requires { hi < 2 ^ 63 }
     ensures onward { hi ≤ result }
     ensures in_range { result < 2 ^ 63 }
-    ensures outside { is_beyond words.new ranges.now result ≡ false }
-    ensures between { (n : ℕ) → hi ≤ n → n < result → is_beyond words.old ranges.now n ≡ true }
-    ensures same { (n : ℕ) → result ≤ n → is_beyond words.new ranges.now n ≡ is_beyond words.old ranges.now n }
+    ensures outside { is_beyond blocks.new ranges.now result ≡ false }
+    ensures between { (n : ℕ) → hi ≤ n → n < result → is_beyond blocks.old ranges.now n ≡ true }
+    ensures same { (n : ℕ) → result ≤ n → is_beyond blocks.new ranges.now n ≡ is_beyond blocks.old ranges.now n }
 {
-    words.forget(from, hi);
+    blocks.forget(from, hi);
     let mut reached = hi;
     while reached < LAST {
-        let end = run_end(words, ranges, reached);
+        let end = run_end(blocks, ranges, reached);
         if end == reached {
             return reached;
         }
-        words.forget(reached, end);
+        blocks.forget(reached, end);
         reached = end;
     }
     reached
@@ -75,7 +75,7 @@ impl Coverage for BitRanges {
     fn empty(alloc: Global) -> Self {
         BitRanges {
             passed: 1,
-            words: Words::new(alloc),
+            blocks: Blocks::new(alloc),
             ranges: MergedRanges::empty(alloc),
         }
     }
@@ -96,11 +96,11 @@ impl Coverage for BitRanges {
             return Ok(());
         }
         if from <= self.passed {
-            self.passed = pass(&mut self.words, &self.ranges, self.passed, to);
+            self.passed = pass(&mut self.blocks, &self.ranges, self.passed, to);
             return Ok(());
         }
         if to - from <= SHORT {
-            return self.words.add(from, to, self.passed);
+            return self.blocks.add(from, to, self.passed);
         }
         self.ranges.add(lo, hi)
     }
@@ -114,6 +114,6 @@ impl Coverage for BitRanges {
             return false;
         }
         let number = n.cast_unsigned();
-        number < self.passed || self.words.has(number) || self.ranges.covers(n)
+        number < self.passed || self.blocks.has(number) || self.ranges.covers(n)
     }
 }

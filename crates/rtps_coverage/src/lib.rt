@@ -7,7 +7,7 @@ pub mod laws;
 mod merged_ranges;
 mod plain_ranges;
 mod span;
-mod words;
+mod blocks;
 
 pub use bit_ranges::BitRanges;
 pub use coverage::Coverage;

@@ -3,7 +3,7 @@ use Rattle.std.proofs.Common.{◌≡◌, ◌≤◌, ◌-◌, ℕ, List, [], ◌+
 use Rattle.rtps_ids.specs.declared.order.Order.{Order}
 use Rattle.rtps_params.specs.Grammar.{IsList}
 use Rattle.rtps_params.specs.Reading.{list_end, pairs_of}
-use Rattle.rtps_params.specs.Shown.{list_octets, list_order}
+use Rattle.rtps_params.specs.Lists.{list_octets, list_order}
 use Rattle.rtps_params.specs.declared.list.ParamList.{ParamList}
 use Rattle.rtps_params.proofs.Offered.{pairs_of_list}
 use Rattle.rtps_discovery.specs.Announcement.{fields_of, order_of}

@@ -14,7 +14,7 @@ use Rattle.rtps_params.specs.declared.fault.ParamFault.{ParamFault}
 use Rattle.rtps_discovery.specs.Announcement.{Fields, endpoint_in, endpoint_of, fields_of, or_fault, order_of, order_of_id, participant_guid, participant_in, participant_of}
 use Rattle.rtps_discovery.specs.Endpoint.{EndpointValue}
 use Rattle.rtps_discovery.specs.Payload.{HoldsFields, LacksList, ListsNothing, NamesNone, NamesOrder, id_in}
-use Rattle.rtps_discovery.specs.Told.{IsToldBy}
+use Rattle.rtps_discovery.specs.Described.{IsDescribedBy}
 use Rattle.rtps_discovery.specs.declared.endpoint.Side.{Side}
 use Rattle.rtps_discovery.specs.declared.fault.NoticeFault.{NoticeFault}
 use Rattle.rtps_discovery.specs.declared.fault.NoticeFault.TheVariants as fault
@@ -198,7 +198,7 @@ participant_held ends payload guid = (
   λ h. ap (λ (read : Result Fields NoticeFault). or_fault read participant_in) (fields_where_held ends payload h.0 h.1) ∙ (participant_told h.0 guid).1 h.2,
 )
 
-pub endpoint_held : Ends → (side : Side) (payload : List ℕ) (endpoint : EndpointValue) → (endpoint_of side payload ≡ Ok endpoint) ↔ ((fields : Fields) × HoldsFields payload fields × IsToldBy side fields endpoint)
+pub endpoint_held : Ends → (side : Side) (payload : List ℕ) (endpoint : EndpointValue) → (endpoint_of side payload ≡ Ok endpoint) ↔ ((fields : Fields) × HoldsFields payload fields × IsDescribedBy side fields endpoint)
 endpoint_held ends side payload endpoint = (
   λ e. (let said = said_of (fields_of payload) (endpoint_in side) endpoint e in (said.0, (fields_held ends payload said.0).0 said.1, (endpoint_told side said.0 endpoint).0 said.2)),
   λ h. ap (λ (read : Result Fields NoticeFault). or_fault read (endpoint_in side)) (fields_where_held ends payload h.0 h.1) ∙ (endpoint_told side h.0 endpoint).1 h.2,

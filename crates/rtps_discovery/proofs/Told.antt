@@ -5,7 +5,7 @@ use Rattle.std.proofs.lemmas.Bool.{false≢true}
 use Rattle.rtps_ids.specs.declared.identity.Guid.{Guid}
 use Rattle.rtps_discovery.specs.Announcement.{Fields, durability_of, endpoint_guid, endpoint_in, field, participant_guid, participant_in, reliability_of, topic_of, type_name_of, unknown_guid}
 use Rattle.rtps_discovery.specs.Endpoint.{EndpointValue}
-use Rattle.rtps_discovery.specs.Told.{IsToldBy}
+use Rattle.rtps_discovery.specs.Described.{IsDescribedBy}
 use Rattle.rtps_discovery.specs.declared.endpoint.Durability.{Durability}
 use Rattle.rtps_discovery.specs.declared.endpoint.Durability.TheVariants.{Volatile}
 use Rattle.rtps_discovery.specs.declared.endpoint.Reliability.{Reliability}
@@ -88,16 +88,16 @@ unfolding read_of
 ok_read side guid topic type_name topic_text type_text reliability durability endpoint some_topic some_type h =
     rw (h.of_guid, some_topic, some_type, h.of_topic, h.of_type, h.of_reliability, h.of_durability, ← h.of_side) refl
 
-pub endpoint_told : (side : Side) (fields : Fields) (endpoint : EndpointValue) → (endpoint_in side fields ≡ Ok endpoint) ↔ IsToldBy side fields endpoint
+pub endpoint_told : (side : Side) (fields : Fields) (endpoint : EndpointValue) → (endpoint_in side fields ≡ Ok endpoint) ↔ IsDescribedBy side fields endpoint
 endpoint_told side fields endpoint = (there, back)
   where
-    there : endpoint_in side fields ≡ Ok endpoint → IsToldBy side fields endpoint
+    there : endpoint_in side fields ≡ Ok endpoint → IsDescribedBy side fields endpoint
     there e =
         let h = read_ok side (endpoint_guid fields) (field TOPIC_NAME fields) (field TYPE_NAME fields) (topic_of fields) (type_name_of fields) (reliability_of side fields) (durability_of fields) endpoint
         (sym (endpoint_in-read_of side fields) ∙ e) in
         record { of_guid = h.of_guid; of_side = h.of_side; of_topic = h.of_topic; of_type = h.of_type; of_reliability = h.of_reliability; of_durability = h.of_durability }
 
-    back : IsToldBy side fields endpoint → endpoint_in side fields ≡ Ok endpoint
+    back : IsDescribedBy side fields endpoint → endpoint_in side fields ≡ Ok endpoint
     back h =
         endpoint_in-read_of side fields ∙ ok_read side (endpoint_guid fields) (field TOPIC_NAME fields) (field TYPE_NAME fields) (topic_of fields) (type_name_of fields) (reliability_of side fields) (durability_of fields) endpoint
         (not_none _ (field TOPIC_NAME fields) endpoint.topic h.of_topic) (not_none _ (field TYPE_NAME fields) endpoint.type_name h.of_type)

@@ -1,5 +1,5 @@
 -- What a parameter list of the code says. own: its pairs and its order, so that two are equal where those are.
-use Rattle.rtps_params.specs.Shown.{list_order, list_pairs}
+use Rattle.rtps_params.specs.Lists.{list_order, list_pairs}
 use Rattle.rtps_params.specs.declared.list.ParamList.{ParamList}
 use Rattle.rtps_discovery.specs.Announcement.{Fields}
 

@@ -9,7 +9,7 @@ use Rattle.rtps_discovery.specs.Directory.{DirectoryValue, IsMapOf}
 use Rattle.rtps_discovery.specs.Endpoint.{EndpointValue}
 use Rattle.rtps_discovery.specs.Notice.{RepeatsOneOf}
 use Rattle.rtps_discovery.specs.Payload.{HoldsFields, LacksList}
-use Rattle.rtps_discovery.specs.Told.{IsToldBy}
+use Rattle.rtps_discovery.specs.Described.{IsDescribedBy}
 use Rattle.rtps_discovery.specs.declared.endpoint.Side.{Side}
 use Rattle.rtps_discovery.specs.declared.fault.NoticeFault.{NoticeFault}
 
@@ -35,7 +35,7 @@ ListsTellParticipants =
 abbrev pub ListsTellEndpoints : Type 0
 ListsTellEndpoints =
     (side : Side) (payload : List ℕ) (endpoint : EndpointValue)
-    → (endpoint_of side payload ≡ Ok endpoint) ↔ ((fields : Fields) × HoldsFields payload fields × IsToldBy side fields endpoint)
+    → (endpoint_of side payload ≡ Ok endpoint) ↔ ((fields : Fields) × HoldsFields payload fields × IsDescribedBy side fields endpoint)
 
 -- where a payload holds no list, nothing else is answered of it
 abbrev pub NoListIsTheFault : Type 0

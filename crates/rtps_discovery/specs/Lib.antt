@@ -10,6 +10,6 @@ pub mod Matching
 pub mod Notice
 pub mod Payload
 pub mod TopicIndex
-pub mod Told
+pub mod Described
 pub mod FaultText
 pub mod Layout

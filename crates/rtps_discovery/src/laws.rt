@@ -13,7 +13,7 @@ ghost use Rattle.rtps_discovery.specs.Laws.{FaultsAreOfNoList, FieldsAreOfTheLis
 ghost use Rattle.rtps_discovery.specs.Listings.{IsMatchAmong, IsReliablePair, pair_cmp};
 ghost use Rattle.rtps_discovery.specs.Matching.{matches_among, reliable_pairs};
 ghost use Rattle.rtps_discovery.specs.Notice.{endpoints_among};
-ghost use Rattle.rtps_discovery.specs.Told.{IsToldBy};
+ghost use Rattle.rtps_discovery.specs.Described.{IsDescribedBy};
 ghost use Rattle.rtps_discovery.specs.declared.endpoint.Side.{Side};
 ghost use Rattle.rtps_discovery.specs.declared.matching.Match.{Match};
 ghost use Rattle.rtps_discovery.specs.declared.matching.Pair.{Pair};
@@ -25,7 +25,7 @@ pub fn told()
     ensures participant { (fields : Fields) (guid : Guid)
         → (participant_in fields ≡ Ok guid) ↔ (participant_guid fields ≡ Some guid) }
     ensures endpoint { (side : Side) (fields : Fields) (endpoint : EndpointValue)
-        → (endpoint_in side fields ≡ Ok endpoint) ↔ IsToldBy side fields endpoint }
+        → (endpoint_in side fields ≡ Ok endpoint) ↔ IsDescribedBy side fields endpoint }
 {}
 
 /// What is read of a payload is read of the list that stands behind the four octets of its representation, whatever

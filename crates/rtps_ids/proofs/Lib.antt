@@ -1,4 +1,4 @@
 pub mod Offered
 pub mod SetBits
-pub mod RunBits
+pub mod RangeBits
 pub mod NumberOrder

@@ -1,4 +1,4 @@
 pub mod NumberSet
 pub mod Octets
-pub mod Runs
+pub mod Ranges
 pub mod SetFaultText

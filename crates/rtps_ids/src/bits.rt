@@ -1,7 +1,7 @@
 ghost use Rattle.std.specs.Prelude.{ℕ, ◌≡◌, ◌≤◌, ◌<◌, ◌-◌, length};
 ghost use Rattle.std.specs.Int.{bit_at};
 ghost use Rattle.rtps_ids.specs.NumberSet.{bit_of};
-ghost use Rattle.rtps_ids.specs.Runs.{wanted_bit};
+ghost use Rattle.rtps_ids.specs.Ranges.{wanted_bit};
 
 /// The first bit from `from` on that is set, counted from the highest, or 32.
 fn first_one(word: u32, from: u32) -> u32

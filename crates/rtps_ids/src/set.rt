@@ -1,6 +1,6 @@
 ghost use Rattle.std.specs.Prelude.{◌≡◌, ◌<◌, ◌≤◌, ◌^◌, ◌/◌, length, ◌↔◌, ◌<ℤ◌, ℤ, pos, true, false, None, Some, All, IsTrue, IsSome, IfSome, MatchOption, MatchResult, slice_index};
 ghost use Rattle.rtps_ids.specs.NumberSet.{IsKeptSet, IsMember, cleared_words, bit_of, is_bad as is_bad_lem, octets_of_count, set_fault, spelled_set, spelled_word, cleared as cleared_lem};
-ghost use Rattle.rtps_ids.specs.Runs.{IsRunFrom, HasNoneFrom};
+ghost use Rattle.rtps_ids.specs.Ranges.{IsRangeFrom, HasNoneFrom};
 
 use crate::bits::first_bit;
 use crate::octets::{number_at, u32_at};
@@ -110,11 +110,11 @@ impl NumberSet {
         is_set(&self.words, (n - self.base) as usize)
     }
 
-    /// The first run of numbers of the set from `from` on: from its first number up to the one past its last, which may be
-    /// 2^63. None where no number from `from` on is in the set. Asked again from the end of each run, it gives all of them.
-    pub fn run_from(&self, from: u64) -> Option<Range<u64>>
-        ensures run { MatchOption result (HasNoneFrom self.now from) (λ run. IsRunFrom self.now from run.start run.end) }
-        ensures in_range { IfSome result (λ run. (1 ≤ run.start) × (run.end ≤ 2 ^ 63)) }
+    /// The first range of numbers of the set from `from` on: from its first number up to the one past its last, which may be
+    /// 2^63. None where no number from `from` on is in the set. Asked again from the end of each range, it gives all of them.
+    pub fn range_from(&self, from: u64) -> Option<Range<u64>>
+        ensures range { MatchOption result (HasNoneFrom self.now from) (λ range. IsRangeFrom self.now from range.start range.end) }
+        ensures in_range { IfSome result (λ range. (1 ≤ range.start) × (range.end ≤ 2 ^ 63)) }
     {
         let start = from.saturating_sub(self.base);
         if start >= u64::from(self.count) {

@@ -1,7 +1,7 @@
 pub mod Grammar
 pub mod Reading
 pub mod Parameter
-pub mod Shown
+pub mod Lists
 pub mod Item
 pub mod Values
 pub mod FaultText

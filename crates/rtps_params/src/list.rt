@@ -19,7 +19,7 @@ impl<'a> PartialEq for ParamList<'a> {
     ghost use Rattle.std.specs.Prelude.{◌↔◌, IsTrue};
     ghost use Rattle.std.specs.Cmp.Rules.{comparing};
     ghost use Rattle.std.proofs.Common.{rules};
-    ghost use Rattle.rtps_params.specs.Shown.{is_same_list, list_value};
+    ghost use Rattle.rtps_params.specs.Lists.{is_same_list, list_value};
 
     ghost eq = { is_same_list };
 
@@ -38,7 +38,7 @@ impl<'a> ParamList<'a> {
     ghost use Rattle.std.specs.Prelude.{Ok, Err, IfOk, IfErr, OnErr, IsNone, option_copied};
     ghost use Rattle.rtps_params.specs.Grammar.{HasFault};
     ghost use Rattle.rtps_params.specs.Reading.{first_value, list_end, pairs_of};
-    ghost use Rattle.rtps_params.specs.Shown.{list_octets, list_order, list_pairs};
+    ghost use Rattle.rtps_params.specs.Lists.{list_octets, list_order, list_pairs};
 
     /// Reads the list at the beginning of the octets, and says how many octets it takes, sentinel included. What
     /// follows them is not looked at. A length that is no multiple of 4 is taken as it stands, and the sentinel's says

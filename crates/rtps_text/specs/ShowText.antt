@@ -13,7 +13,7 @@ use Rattle.rtps_ids.specs.declared.identity.Vendor.{Vendor}
 use Rattle.rtps_ids.specs.declared.identity.Version.{Version}
 use Rattle.rtps_ids.specs.declared.order.Order.{Order}
 use Rattle.rtps_ids.specs.declared.order.Order.TheVariants.{Big, Little}
-use Rattle.rtps_params.specs.Shown.{ListValue}
+use Rattle.rtps_params.specs.Lists.{ListValue}
 use Rattle.rtps_receiver.specs.Acts.{gathered, state_at_start}
 use Rattle.rtps_receiver.specs.declared.state.State.{State}
 use Rattle.rtps_wire.specs.Message.{Reading}

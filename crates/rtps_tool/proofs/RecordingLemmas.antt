@@ -5,7 +5,7 @@ use Rattle.rtps_digits.specs.Pairs.{octets_of}
 use Rattle.rtps_tool.specs.RecordingText.{recording_of_lines, is_datagram_line, line_fault, unless_faulty}
 use Rattle.rtps_tool.specs.declared.faults.RecFault.{RecFault}
 use Rattle.rtps_tool.specs.declared.faults.RecFault.TheVariants.{BadHex, TooLong, TooMany, Memory}
-use Rattle.rtps_tool.specs.Answers.{IsFaultOf}
+use Rattle.rtps_tool.specs.Outcomes.{IsFaultOf}
 use Rattle.rtps_tool.specs.Lines.{lines_of}
 use Rattle.rtps_tool.specs.Unfinished.{with_front}
 

@@ -5,7 +5,7 @@ use Rattle.std.specs.List.{position}
 use Rattle.std.specs.Str.Lines.{strip_carriage_return}
 use Rattle.std.proofs.lemmas.List.{append-nil, length-append, length-take, get_or-take, drop-drop}
 use Rattle.std.proofs.lemmas.Bool.Decides.{nat_tests}
-use Rattle.rtps_tool.specs.Answers.{IsFaultOf}
+use Rattle.rtps_tool.specs.Outcomes.{IsFaultOf}
 use Rattle.rtps_tool.specs.Lines.{lines_of, is_line_feed, parts_of}
 use Rattle.rtps_tool.specs.RecordingText.{recording_of, recording_of_lines, is_datagram_line, line_fault}
 use Rattle.rtps_tool.specs.Unfinished.{with_front, recording_behind}

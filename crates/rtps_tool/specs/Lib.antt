@@ -1,4 +1,4 @@
-pub mod Answers
+pub mod Outcomes
 pub mod Choices
 pub mod FaultText
 pub mod Laws

@@ -3,7 +3,7 @@
 use Rattle.std.specs.Prelude.{◌≡◌, ℕ, ◌+◌, ◌≤◌, ◌^◌, List, ◌++◌, length, Option, None, Result, Ok, Err}
 use Rattle.std.specs.List.{position}
 use Rattle.std.specs.Io.KnownBytes.{Consumes, IsAtEnd}
-use Rattle.rtps_tool.specs.Answers.{IsFaultOf}
+use Rattle.rtps_tool.specs.Outcomes.{IsFaultOf}
 use Rattle.rtps_tool.specs.Lines.{is_line_feed, lines_of}
 use Rattle.rtps_tool.specs.RecordingText.{recording_of_lines}
 use Rattle.rtps_tool.specs.declared.faults.RecFault.{RecFault}

@@ -121,16 +121,16 @@ fn identities_print_their_digits(rt: HostRuntime) -> Result<(), Fail> {
 fn runs_cross_words(rt: HostRuntime) -> Result<(), Fail> {
     let words = [0xc000_0003, 0xf000_0000, 0, 0, 0, 0, 0, 1];
     let set = NumberSet::new(10, 256, words).ok_or("a set")?;
-    for (from, run) in [
+    for (from, range) in [
         (0, Some(10..12)),
         (11, Some(11..12)),
         (12, Some(40..46)),
         (46, Some(265..266)),
         (266, None),
     ] {
-        assert_eq!(rt; set.run_from(from), run, "from {from}");
+        assert_eq!(rt; set.range_from(from), range, "from {from}");
     }
     let last = NumberSet::new(i64::MAX, 1, [u32::MAX; 8]).ok_or("the last")?;
-    assert_eq!(rt; last.run_from(0), Some((1 << 63) - 1..1 << 63));
+    assert_eq!(rt; last.range_from(0), Some((1 << 63) - 1..1 << 63));
     Ok(())
 }

@@ -7,7 +7,7 @@ use Rattle.rtps_ids.proofs.Offered.{length-octets_of}
 use Rattle.rtps_ids.specs.declared.identity.Stamp.{Stamp}
 use Rattle.rtps_ids.specs.declared.order.Order.{Order}
 use Rattle.rtps_ids.specs.declared.order.Order.TheVariants.{Big, Little}
-use Rattle.rtps_params.specs.Shown.{ListValue}
+use Rattle.rtps_params.specs.Lists.{ListValue}
 use Rattle.rtps_wire.proofs.WrittenAckNack.{ack_nack_good, ack_nack_same}
 use Rattle.rtps_wire.proofs.WrittenData.{data_good, data_same}
 use Rattle.rtps_wire.proofs.WrittenGap.{gap_good, gap_same}

@@ -12,7 +12,7 @@ use Rattle.rtps_ids.specs.declared.order.Order.{Order}
 use Rattle.rtps_ids.specs.declared.order.Order.TheVariants.{Big, Little}
 use Rattle.rtps_params.proofs.Offered.{end_of_list}
 use Rattle.rtps_params.specs.Reading.{list_end, pairs_of}
-use Rattle.rtps_params.specs.Shown.{ListValue, is_same_order}
+use Rattle.rtps_params.specs.Lists.{ListValue, is_same_order}
 use Rattle.rtps_wire.proofs.WrittenFields.{entity_read, past, sequence_number_read}
 use Rattle.rtps_wire.specs.Data.{behind_fields, behind_qos, data_fault, data_flags, data_number, data_octets, data_of, has_data, has_key, has_qos, is_other_order, octets_to_inline_qos, payload_flag, payload_octets, payload_of, qos_flag, qos_octets, qos_of}
 use Rattle.rtps_wire.specs.Flags.{order_flag}

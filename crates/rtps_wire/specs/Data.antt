@@ -5,7 +5,7 @@ use Rattle.std.specs.Result.{result_unwrap_or}
 use Rattle.rtps_ids.specs.Octets.{number_of, octets_of, sequence_number_octets, sequence_number_of}
 use Rattle.rtps_ids.specs.declared.order.Order.{Order}
 use Rattle.rtps_params.specs.Reading.{list_end}
-use Rattle.rtps_params.specs.Shown.{ListValue, is_same_order}
+use Rattle.rtps_params.specs.Lists.{ListValue, is_same_order}
 use Rattle.rtps_wire.specs.Fault.{first_fault}
 use Rattle.rtps_wire.specs.Fields.{entity_at}
 use Rattle.rtps_wire.specs.Values.{DataValue, PayloadValue}

@@ -6,7 +6,7 @@ use Rattle.rtps_ids.specs.declared.identity.EntityId.{EntityId}
 use Rattle.rtps_ids.specs.declared.identity.Stamp.{Stamp}
 use Rattle.rtps_params.specs.Grammar.{IsList}
 use Rattle.rtps_params.specs.Reading.{pairs_of}
-use Rattle.rtps_params.specs.Shown.{ListValue}
+use Rattle.rtps_params.specs.Lists.{ListValue}
 use Rattle.rtps_wire.specs.Values.{BodyValue, DataValue, ItemValue}
 use Rattle.rtps_wire.specs.Values.BodyValue.{Data, Heartbeat, AckNack, Gap, InfoTs, InfoDst, InfoSrc, Skipped}
 use Rattle.rtps_wire.specs.declared.body.AckNackBody.{AckNackBody}

@@ -4,7 +4,7 @@ use Rattle.std.specs.Borrow.{Bor}
 use Rattle.std.specs.Option.{option_map}
 use Rattle.rtps_ids.specs.declared.order.Order.{Order}
 use Rattle.rtps_params.specs.Reading.{list_end}
-use Rattle.rtps_params.specs.Shown.{list_value}
+use Rattle.rtps_params.specs.Lists.{list_value}
 use Rattle.rtps_params.specs.declared.list.ParamList.{ParamList}
 use Rattle.rtps_wire.specs.Data.{behind_qos, has_qos, qos_of}
 use Rattle.rtps_wire.specs.declared.fault.WireFault.{WireFault}

@@ -8,7 +8,7 @@ use Rattle.rtps_ids.specs.declared.identity.Stamp.{Stamp}
 use Rattle.rtps_ids.specs.declared.identity.Vendor.{Vendor}
 use Rattle.rtps_ids.specs.declared.identity.Version.{Version}
 use Rattle.rtps_ids.specs.declared.order.Order.{Order}
-use Rattle.rtps_params.specs.Shown.{ListValue, list_value}
+use Rattle.rtps_params.specs.Lists.{ListValue, list_value}
 use Rattle.rtps_wire.specs.declared.body.AckNackBody.{AckNackBody}
 use Rattle.rtps_wire.specs.declared.body.Body.{Body}
 use Rattle.rtps_wire.specs.declared.body.Body.TheVariants as body

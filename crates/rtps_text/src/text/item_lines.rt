@@ -3,7 +3,7 @@ ghost use Rattle.std.specs.Fmt.{decimal, signed_decimal};
 ghost use Rattle.std.specs.Option.{option_map};
 ghost use Rattle.std.specs.String.{string_bytes};
 ghost use Rattle.hex.specs.Hex.{encode_lower};
-ghost use Rattle.rtps_params.specs.Shown.{list_value};
+ghost use Rattle.rtps_params.specs.Lists.{list_value};
 ghost use Rattle.rtps_wire.specs.Values.{data_value, item_value};
 ghost use Rattle.rtps_text.specs.ShowText.{ack_nack_line, data_line, gap_line, heartbeat_line, info_dst_line, info_src_line, info_ts_line, item_line, bitmap_text, order_text, qos_octets as qos_octets_lem, skipped_line, version_text};
 

@@ -1,6 +1,6 @@
 ghost use Rattle.std.specs.Prelude.{◌≡◌, ◌+◌, ◌^◌, ◌<◌, ◌≤◌, [], None, Ok, length, take, drop, IfOk, MatchResult};
 ghost use Rattle.std.specs.List.{position};
-ghost use Rattle.rtps_tool.specs.Answers.{IsFaultOf};
+ghost use Rattle.rtps_tool.specs.Outcomes.{IsFaultOf};
 ghost use Rattle.rtps_tool.specs.Lines.{is_line_feed};
 ghost use Rattle.rtps_tool.specs.Unfinished.{IsFaultWithin, IsReadUpTo, recording_behind};
 

@@ -3,9 +3,9 @@ use Rattle.rtps_coverage.specs.Coverage.{TellsMore}
 use Rattle.rtps_audit.specs.Speech.{is_in_gap_below}
 use Rattle.rtps_audit.proofs.words.add_gap.Given as goal
 
--- the numbers of the row and of the runs so far
-abbrev pub invariant-runs : goal.invariant-runs
-invariant-runs g l = TellsMore (g.C.Coverage.covered l.fn.told) (g.C.Coverage.covered l.told) (is_in_gap_below l.gap l.at)
+-- the numbers of the row and of the ranges so far
+abbrev pub invariant-ranges : goal.invariant-ranges
+invariant-ranges g l = TellsMore (g.C.Coverage.covered l.fn.told) (g.C.Coverage.covered l.told) (is_in_gap_below l.gap l.at)
 
-abbrev pub decreases-runs : goal.decreases-runs
-decreases-runs g l = 2 ^ 64 - l.at
+abbrev pub decreases-ranges : goal.decreases-ranges
+decreases-ranges g l = 2 ^ 64 - l.at

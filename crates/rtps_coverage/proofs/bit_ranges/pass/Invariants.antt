@@ -7,8 +7,8 @@ abbrev pub invariant-loop-reached : goal.invariant-loop-reached
 invariant-loop-reached l = record {
   onward : l.hi ≤ l.reached;
   in_range : l.reached < 2 ^ 63;
-  between : (n : ℕ) → l.hi ≤ n → n < l.reached → is_beyond l.fn.words l.ranges n ≡ true;
-  same : (n : ℕ) → l.reached ≤ n → is_beyond l.words l.ranges n ≡ is_beyond l.fn.words l.ranges n;
+  between : (n : ℕ) → l.hi ≤ n → n < l.reached → is_beyond l.fn.blocks l.ranges n ≡ true;
+  same : (n : ℕ) → l.reached ≤ n → is_beyond l.blocks l.ranges n ≡ is_beyond l.fn.blocks l.ranges n;
 }
 
 abbrev pub decreases-loop-reached : goal.decreases-loop-reached

@@ -1,6 +1,6 @@
 use Rattle.std.proofs.Common.{ℕ, ◌≡◌, ◌≤◌, ◌<◌, ◌-◌}
 use Rattle.rtps_ids.specs.NumberSet.{bit_of}
-use Rattle.rtps_ids.specs.Runs.{wanted_bit}
+use Rattle.rtps_ids.specs.Ranges.{wanted_bit}
 use Rattle.rtps_ids.proofs.bits.first_bit.Given as goal
 
 -- no bit that was passed is wanted

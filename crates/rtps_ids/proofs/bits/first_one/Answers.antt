@@ -1,7 +1,7 @@
 use Rattle.std.proofs.Common.{ℕ, ◌≡◌, ◌<◌, ◌-◌, ◌*◌, ◌%◌, ◌^◌, sym, subst, arith}
 use Rattle.std.specs.Int.Count.{count_leading_zeros}
 use Rattle.std.proofs.lemmas.Nat.{one_shl}
-use Rattle.rtps_ids.proofs.RunBits.{IsFirstOne, first_one_at}
+use Rattle.rtps_ids.proofs.RangeBits.{IsFirstOne, first_one_at}
 use Rattle.rtps_ids.proofs.bits.first_one.Goals as goal
 
 told : (word given from : ℕ) → given ≡ word → word < 2 ^ 32 → from < 32 → IsFirstOne word from (count_leading_zeros 64 (given % (1 * 2 ^ (32 - from) % 2 ^ 64)))

@@ -4,10 +4,10 @@ use Rattle.rtps_coverage.specs.Beyond.{is_beyond}
 use Rattle.rtps_coverage.specs.BitRanges.{covered_of}
 use Rattle.rtps_coverage.specs.Coverage.{is_within}
 use Rattle.rtps_coverage.specs.MergedRanges.{covered_of as ranges_have}
-use Rattle.rtps_coverage.specs.Words.{words_have}
+use Rattle.rtps_coverage.specs.Blocks.{blocks_have}
 use Rattle.rtps_coverage.proofs.BeyondLemmas.{front_moves, more_beyond, same_beyond, or_swap, or_assoc, front_at_most, not_in, on_ok, on_err, not_added}
 use Rattle.rtps_coverage.proofs.CoverageLemmas.{is_within-pos}
-use Rattle.rtps_coverage.proofs.WordLemmas.{none_within}
+use Rattle.rtps_coverage.proofs.BlockLemmas.{none_within}
 use Rattle.rtps_coverage.proofs.bit_ranges.BitRangesCoverage.add.Goals as goal
 
 pub returns-then-from-self-clause-ok : goal.returns-then-from-self-clause-ok
@@ -18,7 +18,7 @@ returns-then-from-self-clause-ok c =
     let low : pos lo ≡ c.args.lo = omega (arith, ints) in
     let high : pos hi ≡ c.args.hi = omega (arith, ints) in
     λ n.
-    front_moves set.passed lo hi c.pass-self.result n (is_beyond set.words set.ranges n) (is_beyond c.pass-self.new.words set.ranges n)
+    front_moves set.passed lo hi c.pass-self.result n (is_beyond set.blocks set.ranges n) (is_beyond c.pass-self.new.blocks set.ranges n)
     (omega (arith, ints)) c.if-from-self.true c.if-to-self.false c.pass-self.ensures.onward (c.pass-self.ensures.between n) (c.pass-self.ensures.same n)
     ∙ ap (λ b. covered_of set n || b) (sym (is_within-pos c.args.lo c.args.hi lo hi low high n))
 
@@ -31,9 +31,9 @@ returns-then-to-from-le-SHORT-clause-ok c =
     let high : pos hi ≡ c.args.hi = omega (arith, ints) in
     on_ok c.add.result c.add.ensures.ok
     (λ joined n.
-    more_beyond set.passed lo hi (2 ^ 63 - 1) n (words_have set.words n || ranges_have set.ranges n) (words_have c.add.new.self n || ranges_have set.ranges n)
+    more_beyond set.passed lo hi (2 ^ 63 - 1) n (blocks_have set.blocks n || ranges_have set.ranges n) (blocks_have c.add.new.self n || ranges_have set.ranges n)
     (omega (arith, ints)) c.if-from-self.false (omega (arith, ints))
-    (λ past. ap (λ b. b || ranges_have set.ranges n) (joined n past) ∙ or_swap (words_have set.words n) (ranges_have set.ranges n) (nat_le lo n && nat_lt n hi))
+    (λ past. ap (λ b. b || ranges_have set.ranges n) (joined n past) ∙ or_swap (blocks_have set.blocks n) (ranges_have set.ranges n) (nat_le lo n && nat_lt n hi))
     ∙ ap (λ b. covered_of set n || b) (sym (is_within-pos c.args.lo c.args.hi lo hi low high n)))
 
 pub returns-then-to-from-le-SHORT-clause-in_order : goal.returns-then-to-from-le-SHORT-clause-in_order
@@ -59,7 +59,7 @@ invariant_of-self-2 c =
     (is_within-pos from to lo hi low high set.passed ∙ none_within set.passed lo hi (λ a b. omega arith)) in
     record {
       in_range = set.in_range;
-      outside = ap (λ r. nat_lt set.passed (2 ^ 63 - 1) && (words_have set.words set.passed || r)) same ∙ set.outside;
+      outside = ap (λ r. nat_lt set.passed (2 ^ 63 - 1) && (blocks_have set.blocks set.passed || r)) same ∙ set.outside;
     }
 
 pub returns-clause-ok : goal.returns-clause-ok
@@ -73,12 +73,12 @@ returns-clause-ok c =
     let to = to_z w64 (of_z w64 c.args.hi) in
     on_ok c.add-2.result c.add-2.ensures.ok
     (λ joined n.
-    more_beyond set.passed lo hi (2 ^ 63 - 1) n (words_have set.words n || ranges_have set.ranges n) (words_have set.words n || ranges_have c.add-2.new.self n)
+    more_beyond set.passed lo hi (2 ^ 63 - 1) n (blocks_have set.blocks n || ranges_have set.ranges n) (blocks_have set.blocks n || ranges_have c.add-2.new.self n)
     (omega (arith, ints)) c.if-from-self.false (omega (arith, ints))
     (λ past.
-    ap (λ b. words_have set.words n || b) (joined n)
-    ∙ or_assoc (words_have set.words n) (ranges_have set.ranges n) (is_within from to n)
-    ∙ ap (λ b. (words_have set.words n || ranges_have set.ranges n) || b) (is_within-pos from to lo hi (omega (arith, ints)) (omega (arith, ints)) n))
+    ap (λ b. blocks_have set.blocks n || b) (joined n)
+    ∙ or_assoc (blocks_have set.blocks n) (ranges_have set.ranges n) (is_within from to n)
+    ∙ ap (λ b. (blocks_have set.blocks n || ranges_have set.ranges n) || b) (is_within-pos from to lo hi (omega (arith, ints)) (omega (arith, ints)) n))
     ∙ ap (λ b. covered_of set n || b) (sym (is_within-pos c.args.lo c.args.hi lo hi low high n)))
 
 pub returns-clause-err : goal.returns-clause-err
@@ -86,8 +86,8 @@ returns-clause-err c =
     let set = c.args.self.now in
     on_err c.add-2.result c.add-2.ensures.err
     (λ same n.
-    same_beyond set.passed (2 ^ 63 - 1) n (words_have set.words n || ranges_have set.ranges n) (words_have set.words n || ranges_have c.add-2.new.self n)
-    (λ past. ap (λ b. words_have set.words n || b) (same.0 n)))
+    same_beyond set.passed (2 ^ 63 - 1) n (blocks_have set.blocks n || ranges_have set.ranges n) (blocks_have set.blocks n || ranges_have c.add-2.new.self n)
+    (λ past. ap (λ b. blocks_have set.blocks n || b) (same.0 n)))
 
 pub returns-clause-in_order : goal.returns-clause-in_order
 returns-clause-in_order c = λ front is le.

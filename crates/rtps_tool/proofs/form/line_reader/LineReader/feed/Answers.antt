@@ -1,7 +1,7 @@
 use Rattle.std.proofs.Common.{◌++◌, ◌∙◌, ℕ, List, Result, ap, subst}
 use Rattle.std.proofs.lemmas.List.{take_rest}
 use Rattle.std.proofs.lemmas.Result.{err_from_is_err_and}
-use Rattle.rtps_tool.specs.Answers.{IsFaultOf}
+use Rattle.rtps_tool.specs.Outcomes.{IsFaultOf}
 use Rattle.rtps_tool.specs.Unfinished.{recording_behind}
 use Rattle.rtps_tool.specs.declared.faults.RecFault.{RecFault}
 use Rattle.rtps_tool.proofs.form.line_reader.LineReader.feed.Goals as goal

@@ -1,4 +1,4 @@
--- The runs of numbers in a set. own: numbers are taken run by run, so that a set of many numbers in few runs costs few
+-- The ranges of numbers in a set. own: numbers are taken range by range, so that a set of many numbers in few ranges costs few
 -- ranges.
 use Rattle.std.specs.Prelude.{ℕ, Bool, true, false, ◌≤◌, ◌<◌, pos}
 use Rattle.rtps_ids.specs.NumberSet.{NumberSetValue, IsMember}
@@ -8,9 +8,9 @@ abbrev pub wanted_bit : Bool → ℕ
 wanted_bit true = 1
 wanted_bit false = 0
 
--- The first run of members from a number on: each number from lo on and below hi is a member, hi is none, and none
+-- The first range of members from a number on: each number from lo on and below hi is a member, hi is none, and none
 -- is one from `from` on and below lo.
-pub record IsRunFrom (set : NumberSetValue) (from lo hi : ℕ) : Type 0 where
+pub record IsRangeFrom (set : NumberSetValue) (from lo hi : ℕ) : Type 0 where
   pub onward : from ≤ lo
   pub some : lo < hi
   pub before : (n : ℕ) → from ≤ n → n < lo → IsMember set (pos n) → ⊥

@@ -1,4 +1,4 @@
--- The first bit of a word, and the runs of a set.
+-- The first bit of a word, and the ranges of a set.
 use Rattle.std.proofs.Common.{◌≡◌, ◌<◌, ◌≤◌, ◌+◌, ◌-◌, ◌*◌, ◌/◌, ◌%◌, ◌^◌, ℕ, suc, min, pos, inl, inr, ap, subst, sym, ◌∙◌, arith}
 use Rattle.std.specs.Int.{bit_at}
 use Rattle.std.specs.Int.Count.{count_leading_zeros, leading_of_zero}
@@ -9,7 +9,7 @@ use Rattle.std.proofs.lemmas.Nat.{leading_top}
 use Rattle.std.proofs.lemmas.Nat.Bits.{bit_at-zero, bit_at_above, bit_at_cat_high, bit_at_cat_low}
 use Rattle.std.proofs.lemmas.Int.{ints}
 use Rattle.rtps_ids.specs.NumberSet.{NumberSetValue, bit_of}
-use Rattle.rtps_ids.specs.Runs.{IsRunFrom}
+use Rattle.rtps_ids.specs.Ranges.{IsRangeFrom}
 
 -- the low bits are those of the word
 low_bit : (word p i : ℕ) → i < p → bit_at word i ≡ bit_at (word % 2 ^ p) i
@@ -71,17 +71,17 @@ first_one_at word from fits few =
           subst (λ z. IsFirstOne word from z) (sym zeros) (of_zero word from few none)
     ]
 
--- ---- the runs of a set
+-- ---- the ranges of a set
 
 unlike : (a b : ℕ) → a ≡ 1 → a ≡ 0 → ⊥
 unlike a b one none = absurd (omega arith)
 
 -- where the numbers from `from` on stand for the bits from start on
-pub run_at : (set : NumberSetValue) (from start first next past : ℕ) → set.count < 257 → start ≡ from - set.base
+pub range_at : (set : NumberSetValue) (from start first next past : ℕ) → set.count < 257 → start ≡ from - set.base
     → start ≤ first → first < set.count → bit_of set.words first ≡ 1 → ((i : ℕ) → start ≤ i → i < first → bit_of set.words i ≡ 0)
     → first ≤ next → (next < 256 → bit_of set.words next ≡ 0) → ((i : ℕ) → first ≤ i → i < next → bit_of set.words i ≡ 1)
-    → past ≡ min next set.count → IsRunFrom set from (set.base + first) (set.base + past)
-run_at set from start first next past few starts onward kept one before after none between ends =
+    → past ≡ min next set.count → IsRangeFrom set from (set.base + first) (set.base + past)
+range_at set from start first next past few starts onward kept one before after none between ends =
     record {
       onward = omega arith;
       some = elim (cases_lt first next) [

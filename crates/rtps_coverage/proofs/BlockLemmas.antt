@@ -1,4 +1,4 @@
--- Sets of numbers as bits, 64 to a word.
+-- Sets of numbers as bits, 64 to a block.
 use Rattle.std.specs.BTreeMap as tree
 use Rattle.std.proofs.Common.{ℕ, zero, Bool, true, false, ◌≡◌, ◌≢◌, ◌≤◌, ◌<◌, ◌+◌, ◌-◌, ◌*◌, ◌/◌, ◌%◌, ◌^◌, ◌||◌, ◌&&◌, max, bit_or, nat_le, nat_lt, nat_eq, refl, ◌∙◌, sym, ap, subst, inl, inr, arith, w64}
 use Rattle.std.specs.Prelude.{if◌then◌else◌}
@@ -12,8 +12,8 @@ use Rattle.std.proofs.lemmas.Bool.{cases_lt}
 use Rattle.std.proofs.lemmas.Bool.Decides.{nat_tests}
 use Rattle.std.proofs.lemmas.Nat.{one_shl}
 use Rattle.std.proofs.lemmas.Nat.Bits.{bit_at-lt, bit_at_or, bit_at_ones, bit_at_above, bit_at_cat_high, bit_at_mask_inside, bit_at_mask_below, bit_at_mask_above, bit_at-trailing_ones, ones_shr}
-use Rattle.rtps_coverage.specs.Words.{word_at, has_bit}
-use Rattle.rtps_coverage.specs.declared.words.Words.{Words}
+use Rattle.rtps_coverage.specs.Blocks.{block_at, has_bit}
+use Rattle.rtps_coverage.specs.declared.blocks.Blocks.{Blocks}
 
 -- ---- a run of ones
 
@@ -32,19 +32,19 @@ ones_between from to some few =
     let some_low : zero < 2 ^ from = pow_pos from in
     record { fits = omega arith; value = omega arith }
 
--- ---- the word of a number
+-- ---- the block of a number
 
-pub at_hand : (words : Words) (key : ℕ) → words.key ≡ key → word_at words key ≡ words.word
-at_hand words key same =
-    let test : nat_eq key words.key ≡ true = grind (arith, nat_tests) in
-    ap (λ b. if b then words.word else unwrap_or (tree.get nat_cmp words.kept key) 0) test
+pub at_hand : (blocks : Blocks) (key : ℕ) → blocks.key ≡ key → block_at blocks key ≡ blocks.block
+at_hand blocks key same =
+    let test : nat_eq key blocks.key ≡ true = grind (arith, nat_tests) in
+    ap (λ b. if b then blocks.block else unwrap_or (tree.get nat_cmp blocks.kept key) 0) test
 
--- another word does not change with the one at hand
-pub not_at_hand : (words : Words) (word key : ℕ) → key ≢ words.key → word_at (record words { word = word }) key ≡ word_at words key
-not_at_hand words word key other =
-    let test : nat_eq key words.key ≡ false = grind (arith, nat_tests) in
-    ap (λ b. if b then word else unwrap_or (tree.get nat_cmp words.kept key) 0) test
-    ∙ sym (ap (λ b. if b then words.word else unwrap_or (tree.get nat_cmp words.kept key) 0) test)
+-- another block does not change with the one at hand
+pub not_at_hand : (blocks : Blocks) (block key : ℕ) → key ≢ blocks.key → block_at (record blocks { block = block }) key ≡ block_at blocks key
+not_at_hand blocks block key other =
+    let test : nat_eq key blocks.key ≡ false = grind (arith, nat_tests) in
+    ap (λ b. if b then block else unwrap_or (tree.get nat_cmp blocks.kept key) 0) test
+    ∙ sym (ap (λ b. if b then blocks.block else unwrap_or (tree.get nat_cmp blocks.kept key) 0) test)
 
 with_max : (b x : ℕ) → b < 2 → x ≡ 0 → nat_eq (max b x) 1 ≡ (nat_eq b 1 || false)
 with_max b x h k = grind (arith, nat_tests)
@@ -65,15 +65,15 @@ or_false : (b : Bool) → b ≡ (b || false)
 or_false true = refl
 or_false false = refl
 
--- one bit of a word in which the bits of the numbers from lo on and below hi are set
-joined_bit : (word key lo hi n : ℕ) → 64 * key ≤ lo → lo < hi → hi ≤ 64 * key + 64 → n / 64 ≡ key
-    → nat_eq (bit_at (bit_or word (2 ^ (hi - 64 * key) - 2 ^ (lo - 64 * key))) (n % 64)) 1
-    ≡ (nat_eq (bit_at word (n % 64)) 1 || (nat_le lo n && nat_lt n hi))
-joined_bit word key lo hi n above some within same =
+-- one bit of a block in which the bits of the numbers from lo on and below hi are set
+joined_bit : (block key lo hi n : ℕ) → 64 * key ≤ lo → lo < hi → hi ≤ 64 * key + 64 → n / 64 ≡ key
+    → nat_eq (bit_at (bit_or block (2 ^ (hi - 64 * key) - 2 ^ (lo - 64 * key))) (n % 64)) 1
+    ≡ (nat_eq (bit_at block (n % 64)) 1 || (nat_le lo n && nat_lt n hi))
+joined_bit block key lo hi n above some within same =
     let mask = 2 ^ (hi - 64 * key) - 2 ^ (lo - 64 * key) in
-    let b = bit_at word (n % 64) in
-    let few : b < 2 = bit_at-lt word (n % 64) in
-    ap (λ k. nat_eq k 1) (bit_at_or word mask (n % 64))
+    let b = bit_at block (n % 64) in
+    let few : b < 2 = bit_at-lt block (n % 64) in
+    ap (λ k. nat_eq k 1) (bit_at_or block mask (n % 64))
     ∙ elim (cases_lt n lo) [
       | inl lt ↦
           with_max b (bit_at mask (n % 64)) few (bit_at_mask_below (lo - 64 * key) (hi - 64 * key) (n % 64) (omega arith))
@@ -88,7 +88,7 @@ joined_bit word key lo hi n above some within same =
       ]
     ]
 
--- the set after one of its words has the bits of the numbers from lo on and below hi, where the others stay from a word on
+-- the set after one of its blocks has the bits of the numbers from lo on and below hi, where the others stay from a block on
 pub joins_bits : (old new : ℕ → ℕ) (key lo hi passed : ℕ) → 64 * key ≤ lo → lo < hi → hi ≤ 64 * key + 64
     → new key ≡ bit_or (old key) (2 ^ (hi - 64 * key) - 2 ^ (lo - 64 * key))
     → ((other : ℕ) → passed / 64 ≤ other → other ≢ key → new other ≡ old other)
@@ -120,41 +120,41 @@ joins_both a lo middle hi n h k = grind (arith, nat_tests)
 
 -- ---- the run of ones from a bit on
 
-shifted_bit : (word i j : ℕ) → bit_at (word / 2 ^ i) j ≡ bit_at word (i + j)
-shifted_bit word i j =
-    let parts : word / 2 ^ i * 2 ^ i + word % 2 ^ i ≡ word = div-add-mod' word (2 ^ i) in
+shifted_bit : (block i j : ℕ) → bit_at (block / 2 ^ i) j ≡ bit_at block (i + j)
+shifted_bit block i j =
+    let parts : block / 2 ^ i * 2 ^ i + block % 2 ^ i ≡ block = div-add-mod' block (2 ^ i) in
     let place : i + j - i ≡ j = omega arith in
-    sym (ap (λ w. bit_at w (i + j)) (sym parts) ∙ bit_at_cat_high (word / 2 ^ i) i (word % 2 ^ i) (i + j) (mod-lt word (pow_pos i)) (omega arith) ∙ ap (λ k. bit_at (word / 2 ^ i) k) place)
+    sym (ap (λ w. bit_at w (i + j)) (sym parts) ∙ bit_at_cat_high (block / 2 ^ i) i (block % 2 ^ i) (i + j) (mod-lt block (pow_pos i)) (omega arith) ∙ ap (λ k. bit_at (block / 2 ^ i) k) place)
 
--- the ones of a word from a bit on, up to the first bit that is clear
-pub record AreOnesFrom (word i count : ℕ) : Type 0 where
+-- the ones of a block from a bit on, up to the first bit that is clear
+pub record AreOnesFrom (block i count : ℕ) : Type 0 where
   pub within : i + count ≤ 64
-  pub members : (j : ℕ) → j < count → bit_at word (i + j) ≡ 1
-  pub stops : count ≡ 0 → bit_at word i ≡ 0
+  pub members : (j : ℕ) → j < count → bit_at block (i + j) ≡ 1
+  pub stops : count ≡ 0 → bit_at block i ≡ 0
 
-some_clear : (word i count : ℕ) → trailing_ones w64 (word / 2 ^ i) ≡ count → i < 64 → bit_at word 64 ≡ 0
-    → (count < 64) × (bit_at (word / 2 ^ i) count ≡ 0) × ((j : ℕ) → j < count → bit_at (word / 2 ^ i) j ≡ 1) → AreOnesFrom word i count
-some_clear word i count is few top h =
+some_clear : (block i count : ℕ) → trailing_ones w64 (block / 2 ^ i) ≡ count → i < 64 → bit_at block 64 ≡ 0
+    → (count < 64) × (bit_at (block / 2 ^ i) count ≡ 0) × ((j : ℕ) → j < count → bit_at (block / 2 ^ i) j ≡ 1) → AreOnesFrom block i count
+some_clear block i count is few top h =
     record {
       within = elim (cases_lt (64 - i) count) [
         | inl lt ↦
             let place : i + (64 - i) ≡ 64 = omega arith in
-            let one : bit_at word 64 ≡ 1 = ap (bit_at word) (sym place) ∙ sym (shifted_bit word i (64 - i)) ∙ h.2 (64 - i) lt in
+            let one : bit_at block 64 ≡ 1 = ap (bit_at block) (sym place) ∙ sym (shifted_bit block i (64 - i)) ∙ h.2 (64 - i) lt in
             absurd (omega arith)
         | inr ge ↦ omega arith
       ];
-      members = λ j lt. sym (shifted_bit word i j) ∙ h.2 j lt;
-      stops = λ none. let place : i ≡ i + count = omega arith in ap (bit_at word) place ∙ sym (shifted_bit word i count) ∙ h.1;
+      members = λ j lt. sym (shifted_bit block i j) ∙ h.2 j lt;
+      stops = λ none. let place : i ≡ i + count = omega arith in ap (bit_at block) place ∙ sym (shifted_bit block i count) ∙ h.1;
     }
 
-none_clear : (word i : ℕ) → word < 2 ^ 64 → i < 64 → word / 2 ^ i ≡ 2 ^ 64 - 1 → AreOnesFrom word i 64
-none_clear word i fits few all =
-    let each : (j : ℕ) → j < 64 → bit_at word (i + j) ≡ 1 = λ j lt. sym (shifted_bit word i j) ∙ ap (λ w. bit_at w j) all ∙ bit_at_ones 64 j lt in
+none_clear : (block i : ℕ) → block < 2 ^ 64 → i < 64 → block / 2 ^ i ≡ 2 ^ 64 - 1 → AreOnesFrom block i 64
+none_clear block i fits few all =
+    let each : (j : ℕ) → j < 64 → bit_at block (i + j) ≡ 1 = λ j lt. sym (shifted_bit block i j) ∙ ap (λ w. bit_at w j) all ∙ bit_at_ones 64 j lt in
     record {
       within = elim (cases_lt 0 i) [
         | inl lt ↦
             let one = each 63 (omega arith) in
-            let none = bit_at_above word 64 (i + 63) fits (omega arith) in
+            let none = bit_at_above block 64 (i + 63) fits (omega arith) in
             absurd (omega arith)
         | inr le ↦ omega arith
       ];
@@ -162,25 +162,25 @@ none_clear word i fits few all =
       stops = λ none. absurd (omega arith);
     }
 
-pub ones_from : (word i : ℕ) → word < 2 ^ 64 → i < 64 → AreOnesFrom word i (trailing_ones w64 (word / 2 ^ i))
-ones_from word i fits few =
-    elim (cases_lt (word / 2 ^ i + 1) (2 ^ 64)) [
-      | inl lt ↦ some_clear word i _ refl few (bit_at_above word 64 64 fits (omega arith)) (bit_at-trailing_ones w64 (word / 2 ^ i) lt)
+pub ones_from : (block i : ℕ) → block < 2 ^ 64 → i < 64 → AreOnesFrom block i (trailing_ones w64 (block / 2 ^ i))
+ones_from block i fits few =
+    elim (cases_lt (block / 2 ^ i + 1) (2 ^ 64)) [
+      | inl lt ↦ some_clear block i _ refl few (bit_at_above block 64 64 fits (omega arith)) (bit_at-trailing_ones w64 (block / 2 ^ i) lt)
       | inr ge ↦
-          let least = div-le_self word (2 ^ i) in
-          let all : word / 2 ^ i ≡ 2 ^ 64 - 1 = omega arith in
-          let count : trailing_ones w64 (word / 2 ^ i) ≡ 64 = ap (trailing_ones w64) all ∙ trailing_of_zero 64 in
-          subst (AreOnesFrom word i) (sym count) (none_clear word i fits few all)
+          let least = div-le_self block (2 ^ i) in
+          let all : block / 2 ^ i ≡ 2 ^ 64 - 1 = omega arith in
+          let count : trailing_ones w64 (block / 2 ^ i) ≡ 64 = ap (trailing_ones w64) all ∙ trailing_of_zero 64 in
+          subst (AreOnesFrom block i) (sym count) (none_clear block i fits few all)
     ]
 
--- the numbers from n on that the word of n has
-pub record IsRunFrom (word : ℕ → ℕ) (n count : ℕ) : Type 0 where
+-- the numbers from n on that the block of n has
+pub record IsRunFrom (block : ℕ → ℕ) (n count : ℕ) : Type 0 where
   pub within : n + count ≤ 64 * (n / 64) + 64
-  pub members : (m : ℕ) → n ≤ m → m < n + count → has_bit word m ≡ true
-  pub stops : count ≡ 0 → has_bit word n ≡ false
+  pub members : (m : ℕ) → n ≤ m → m < n + count → has_bit block m ≡ true
+  pub stops : count ≡ 0 → has_bit block n ≡ false
 
-pub run_from : (word : ℕ → ℕ) (n given count : ℕ) → given ≡ word (n / 64) → given < 2 ^ 64 → count ≡ trailing_ones w64 (given / 2 ^ (n % 64)) → IsRunFrom word n count
-run_from word n given count same fits is =
+pub run_from : (block : ℕ → ℕ) (n given count : ℕ) → given ≡ block (n / 64) → given < 2 ^ 64 → count ≡ trailing_ones w64 (given / 2 ^ (n % 64)) → IsRunFrom block n count
+run_from block n given count same fits is =
     let run : AreOnesFrom given (n % 64) count = subst (AreOnesFrom given (n % 64)) (sym is) (ones_from given (n % 64) fits (omega arith)) in
     record {
       within = let few = run.within in omega arith;
@@ -188,10 +188,10 @@ run_from word n given count same fits is =
           let few = run.within in
           let key : n / 64 ≡ m / 64 = omega arith in
           let place : n % 64 + (m - n) ≡ m % 64 = omega arith in
-          let one : bit_at (word (m / 64)) (m % 64) ≡ 1 =
-          ap (λ k. bit_at (word k) (m % 64)) (sym key) ∙ ap (λ w. bit_at w (m % 64)) (sym same) ∙ ap (bit_at given) (sym place) ∙ run.members (m - n) (omega arith) in
+          let one : bit_at (block (m / 64)) (m % 64) ≡ 1 =
+          ap (λ k. bit_at (block k) (m % 64)) (sym key) ∙ ap (λ w. bit_at w (m % 64)) (sym same) ∙ ap (bit_at given) (sym place) ∙ run.members (m - n) (omega arith) in
           ap (λ b. nat_eq b 1) one;
       stops = λ none.
-          let zero_bit : bit_at (word (n / 64)) (n % 64) ≡ 0 = ap (λ w. bit_at w (n % 64)) (sym same) ∙ run.stops none in
+          let zero_bit : bit_at (block (n / 64)) (n % 64) ≡ 0 = ap (λ w. bit_at w (n % 64)) (sym same) ∙ run.stops none in
           ap (λ b. nat_eq b 1) zero_bit;
     }

@@ -6,17 +6,17 @@ use rtps_ids::Memory;
 use std::alloc::Global;
 use std::collections::BTreeMap;
 
-/// A set of numbers as bits, 64 to a word. The word of a number is that of its number divided by 64.
+/// A set of numbers as bits, 64 to a block. The block of a number is that of its number divided by 64.
 ///
-/// One word is at hand, and what the map has at its key is out of date. So numbers that lie close together cost no look-up.
+/// One block is at hand, and what the map has at its key is out of date. So numbers that lie close together cost no look-up.
 #[derive(Drop)]
-pub(crate) struct Words {
+pub(crate) struct Blocks {
     key: u64,
-    word: u64,
+    block: u64,
     kept: BTreeMap<u64, u64>,
 }
 
-/// The word with the bits from `from` on and below `to`.
+/// The block with the bits from `from` on and below `to`.
 fn ones(from: u64, to: u64) -> u64
     requires some { from < to }
     requires few { to ≤ 64 }
@@ -25,94 +25,94 @@ fn ones(from: u64, to: u64) -> u64
     (u64::MAX >> (64 - to)) - ((1 << from) - 1)
 }
 
-impl Words {
-    ghost use Rattle.rtps_coverage.specs.Words.{word_at, words_have, IsSameAs};
+impl Blocks {
+    ghost use Rattle.rtps_coverage.specs.Blocks.{block_at, blocks_have, IsSameAs};
 
     /// No number. It takes no memory.
-    pub(crate) fn new(alloc: Global) -> Words
-        ensures { (key : ℕ) → word_at result key ≡ 0 }
+    pub(crate) fn new(alloc: Global) -> Blocks
+        ensures { (key : ℕ) → block_at result key ≡ 0 }
     {
-        Words {
+        Blocks {
             key: 0,
-            word: 0,
+            block: 0,
             kept: BTreeMap::new(alloc),
         }
     }
 
-    /// The word of a key.
-    fn word(&self, key: u64) -> u64
-        ensures { result ≡ word_at self.now key }
+    /// The block of a key.
+    fn block(&self, key: u64) -> u64
+        ensures { result ≡ block_at self.now key }
     {
         if key == self.key {
-            return self.word;
+            return self.block;
         }
         match self.kept.get(&key) {
-            Some(word) => *word,
+            Some(block) => *block,
             None => 0,
         }
     }
 
     /// Whether the set has the number.
     pub(crate) fn has(&self, n: u64) -> bool
-        ensures { result ≡ words_have self.now n }
+        ensures { result ≡ blocks_have self.now n }
     {
-        (self.word(n / 64) >> (n % 64)) & 1 == 1
+        (self.block(n / 64) >> (n % 64)) & 1 == 1
     }
 
-    /// Where the numbers from `n` on end that the word of `n` has.
+    /// Where the numbers from `n` on end that the block of `n` has.
     pub(crate) fn run_end(&self, n: u64) -> u64
         requires { n < 2 ^ 63 }
         ensures onward { n ≤ result }
         ensures within { result ≤ 64 * (n / 64) + 64 }
-        ensures members { (m : ℕ) → n ≤ m → m < result → words_have self.now m ≡ true }
-        ensures stops { result ≡ n → words_have self.now n ≡ false }
+        ensures members { (m : ℕ) → n ≤ m → m < result → blocks_have self.now m ≡ true }
+        ensures stops { result ≡ n → blocks_have self.now n ≡ false }
     {
-        let rest = self.word(n / 64) >> (n % 64);
+        let rest = self.block(n / 64) >> (n % 64);
         n + u64::from(rest.trailing_ones())
     }
 
-    /// Lets go of the word of `from`, where each of its numbers is below `to`.
+    /// Lets go of the block of `from`, where each of its numbers is below `to`.
     pub(crate) fn forget(&mut self, from: u64, to: u64)
-        ensures { (n : ℕ) → to ≤ n → words_have self.new n ≡ words_have self.old n }
+        ensures { (n : ℕ) → to ≤ n → blocks_have self.new n ≡ blocks_have self.old n }
     {
         if from / 64 < to / 64 {
             self.kept.remove(&(from / 64));
         }
     }
 
-    /// Takes the word of a key to hand, and keeps the one that was at hand unless each of its numbers is below `passed`.
+    /// Takes the block of a key to hand, and keeps the one that was at hand unless each of its numbers is below `passed`.
     /// All is the same after `Memory`.
     fn turn(&mut self, key: u64, passed: u64) -> Result<(), Memory>
         ensures ok { OnOk result (self.new.key ≡ key) }
-        ensures same { (other : ℕ) → passed / 64 ≤ other → word_at self.new other ≡ word_at self.old other }
+        ensures same { (other : ℕ) → passed / 64 ≤ other → block_at self.new other ≡ block_at self.old other }
         ensures err { OnErr result (IsSameAs self.old self.new) }
     {
         if key == self.key {
             return Ok(());
         }
-        let word = self.word(key);
+        let block = self.block(key);
         if passed / 64 <= self.key {
-            self.kept.insert(self.key, self.word)?;
+            self.kept.insert(self.key, self.block)?;
         }
         self.key = key;
-        self.word = word;
+        self.block = block;
         Ok(())
     }
 
-    /// Joins the numbers of one word from `lo` on and below `hi`; those below `passed` are of no account.
+    /// Joins the numbers of one block from `lo` on and below `hi`; those below `passed` are of no account.
     fn put(&mut self, lo: u64, hi: u64, passed: u64) -> Result<(), Memory>
         requires passed { passed ≤ lo }
         requires some { lo < hi }
         requires one { hi ≤ 64 * (lo / 64) + 64 }
         requires bounded { hi < 2 ^ 63 }
         ensures key { OnOk result (self.new.key ≡ lo / 64) }
-        ensures others { (other : ℕ) → passed / 64 ≤ other → other ≢ lo / 64 → word_at self.new other ≡ word_at self.old other }
-        ensures ok { OnOk result ((n : ℕ) → passed ≤ n → words_have self.new n ≡ (words_have self.old n || (nat_le lo n && nat_lt n hi))) }
+        ensures others { (other : ℕ) → passed / 64 ≤ other → other ≢ lo / 64 → block_at self.new other ≡ block_at self.old other }
+        ensures ok { OnOk result ((n : ℕ) → passed ≤ n → blocks_have self.new n ≡ (blocks_have self.old n || (nat_le lo n && nat_lt n hi))) }
         ensures err { OnErr result (IsSameAs self.old self.new) }
     {
         let key = lo / 64;
         self.turn(key, passed)?;
-        self.word |= ones(lo - 64 * key, hi - 64 * key);
+        self.block |= ones(lo - 64 * key, hi - 64 * key);
         Ok(())
     }
 
@@ -123,19 +123,19 @@ impl Words {
         requires some { lo < hi }
         requires few { hi ≤ lo + 64 }
         requires bounded { hi < 2 ^ 63 }
-        ensures ok { OnOk result ((n : ℕ) → passed ≤ n → words_have self.new n ≡ (words_have self.old n || (nat_le lo n && nat_lt n hi))) }
-        ensures err { OnErr result ((n : ℕ) → passed ≤ n → words_have self.new n ≡ words_have self.old n) }
+        ensures ok { OnOk result ((n : ℕ) → passed ≤ n → blocks_have self.new n ≡ (blocks_have self.old n || (nat_le lo n && nat_lt n hi))) }
+        ensures err { OnErr result ((n : ℕ) → passed ≤ n → blocks_have self.new n ≡ blocks_have self.old n) }
     {
         let key = lo / 64;
         let middle = 64 * key + 64;
         if hi <= middle {
             return self.put(lo, hi, passed);
         }
-        let before = self.word(key);
+        let before = self.block(key);
         self.put(lo, middle, passed)?;
         let second = self.put(middle, hi, passed);
         if second.is_err() {
-            self.word = before;
+            self.block = before;
         }
         second
     }

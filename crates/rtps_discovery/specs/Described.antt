@@ -5,7 +5,7 @@ use Rattle.rtps_discovery.specs.Announcement.{Fields, durability_of, endpoint_gu
 use Rattle.rtps_discovery.specs.Endpoint.{EndpointValue}
 use Rattle.rtps_discovery.specs.declared.endpoint.Side.{Side}
 
-pub record IsToldBy (side : Side) (fields : Fields) (endpoint : EndpointValue) : Type 0 where
+pub record IsDescribedBy (side : Side) (fields : Fields) (endpoint : EndpointValue) : Type 0 where
   pub of_guid : endpoint_guid fields ≡ Some endpoint.guid
   pub of_side : endpoint.side ≡ side
   pub of_topic : topic_of fields ≡ Some endpoint.topic
