@@ -1,9 +1,9 @@
 ghost use Rattle.std.specs.Prelude.{ℕ, Bool, ◌≡◌, ◌≤◌, ◌<◌, ◌-◌, ◌^◌, ◌||◌, ◌&&◌, nat_le, nat_lt, true, false};
 ghost use Rattle.rtps_coverage.specs.Beyond.{is_beyond};
 
+use crate::blocks::Blocks;
 use crate::coverage::Coverage;
 use crate::merged_ranges::MergedRanges;
-use crate::blocks::Blocks;
 use rtps_ids::Memory;
 use std::alloc::Global;
 

@@ -2,12 +2,12 @@
 #![tactic(auto)]
 
 mod bit_ranges;
+mod blocks;
 mod coverage;
 pub mod laws;
 mod merged_ranges;
 mod plain_ranges;
 mod span;
-mod blocks;
 
 pub use bit_ranges::BitRanges;
 pub use coverage::Coverage;
