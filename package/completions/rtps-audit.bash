@@ -1,0 +1,23 @@
+# Completions of rtps-audit for bash.
+_rtps_audit() {
+    local word=${COMP_WORDS[COMP_CWORD]} command=${COMP_WORDS[1]-}
+    COMPREPLY=()
+    if [ "$COMP_CWORD" -eq 1 ]; then
+        mapfile -t COMPREPLY < <(compgen -W 'show list audit sample help -h --help -V --version' -- "$word")
+        return
+    fi
+    case $command in
+    show | list | audit)
+        case $word in
+        -*) mapfile -t COMPREPLY < <(compgen -W '-h --help' -- "$word") ;;
+        *)
+            mapfile -t COMPREPLY < <(compgen -f -- "$word")
+            compopt -o filenames 2>/dev/null
+            ;;
+        esac
+        ;;
+    sample) mapfile -t COMPREPLY < <(compgen -W '-h --help' -- "$word") ;;
+    help) [ "$COMP_CWORD" -eq 2 ] && mapfile -t COMPREPLY < <(compgen -W 'show list audit sample help' -- "$word") ;;
+    esac
+}
+complete -F _rtps_audit rtps-audit
