@@ -1,67 +1,50 @@
 -- Facts on pieces of a row of octets.
-use Rattle.std.proofs.Common.{◌≡◌, ℕ, zero, suc, ◌-◌, ◌<◌, ◌≤◌, List, [], ◌∷◌, ◌++◌, length, drop, get_or, refl, sym, ap, arith, Some, add-one, sub-one}
-use Rattle.std.proofs.lemmas.List.{take-append-le, drop-append-le, length-drop, take_all, drop_at, length-append}
-use Rattle.std.specs.List.{slice_get}
+use Rattle.std.proofs.Common.{◌≡◌, ℕ, ◌+◌, ◌-◌, ◌≤◌, List, [], ◌∷◌, ◌++◌, length, drop, map, refl, sym, ap, ap₂, ◌∙◌, arith}
+use Rattle.std.proofs.lemmas.List.{take-append-le, drop-append-le, length-drop, length-append, length-map, map-append, take_all, drop_at}
+use Rattle.std.proofs.lemmas.List.Elements.{All-head, All-tail, All-push, All-weaker}
 use Rattle.std.specs.Prelude.{slice_range}
-use Rattle.rtps_text.specs.Places.{pieces, ArePlaces}
+use Rattle.rtps_text.specs.Places.{ArePlaces, StandsWithin, piece, pieces}
+use Rattle.rtps_text.specs.declared.places.Place.{Place}
 
--- there is one piece less than there are places
-pub length-pieces : (octets places : List ℕ) → length (pieces octets places) ≡ length places - 1
-length-pieces octets [] = refl
-length-pieces octets (a ∷ []) = refl
-length-pieces octets (a ∷ b ∷ places) = let e = length-pieces octets (b ∷ places) in omega arith
-
--- a piece stands between its place and the next
-pub slice_get-pieces : (octets places : List ℕ) (i : ℕ) → suc i < length places
-    → slice_get (pieces octets places) i ≡ Some (slice_range octets (get_or places i 0) (get_or places (suc i) 0))
-slice_get-pieces octets [] i h = absurd (omega arith)
-slice_get-pieces octets (a ∷ []) i h = absurd (omega arith)
-slice_get-pieces octets (a ∷ b ∷ places) zero h = refl
-slice_get-pieces octets (a ∷ b ∷ places) (suc i) h = slice_get-pieces octets (b ∷ places) i (omega arith)
+-- there are as many pieces as places
+pub length-pieces : (octets : List ℕ) (places : List Place) → length (pieces octets places) ≡ length places
+length-pieces octets places = length-map places (piece octets)
 
 -- a piece within the front stays
-slice_range-append : (xs ys : List ℕ) (a b : ℕ) → a ≤ b → b ≤ length xs → slice_range (xs ++ ys) a b ≡ slice_range xs a b
-slice_range-append xs ys a b ordered within =
-    let first : a ≤ length xs = omega arith in
-    let rest : b - a ≤ length (drop a xs) = omega (arith, length-drop a xs) in
+piece-append : (xs ys : List ℕ) (place : Place) → StandsWithin (length xs) place → piece (xs ++ ys) place ≡ piece xs place
+piece-append xs ys place within =
+    let first : place.from ≤ length xs = omega (arith, within.0, within.1) in
+    let rest : place.to - place.from ≤ length (drop place.from xs) = omega (arith, length-drop place.from xs, within.0, within.1) in
     rw (drop-append-le, take-append-le) refl
 
--- places that stay in order from a first one on, up to the end of so many octets
-abbrev AreOrdered : ℕ → List ℕ → ℕ → Type 0
-AreOrdered from [] end = from ≡ end
-AreOrdered from (to ∷ places) end = (from ≤ to) × AreOrdered to places end
+pieces-append : (xs ys : List ℕ) (places : List Place) → ArePlaces xs places → pieces (xs ++ ys) places ≡ pieces xs places
+pieces-append xs ys [] within = refl
+pieces-append xs ys (place ∷ places) within =
+    ap₂ (λ (first : List ℕ) (rest : List (List ℕ)). first ∷ rest) (piece-append xs ys place (All-head (StandsWithin (length xs)) place places within))
+    (pieces-append xs ys places (All-tail (StandsWithin (length xs)) place places within))
 
--- none of them is past the end
-from_le_end : (from : ℕ) (places : List ℕ) (end : ℕ) → AreOrdered from places end → from ≤ end
-from_le_end from [] end h = omega arith
-from_le_end from (to ∷ places) end h = let e = from_le_end to places end h.1 in omega (arith, h.0)
+-- the octets that were appended are a piece
+piece-last : (xs ys : List ℕ) (place : Place) → place.from ≡ length xs → place.to ≡ length xs + length ys → piece (xs ++ ys) place ≡ ys
+piece-last xs ys place from to =
+    let whole : drop place.from (xs ++ ys) ≡ ys = drop_at xs ys place.from (sym from) in
+    let size : length ys ≤ place.to - place.from = omega arith in
+    rw whole (take_all (place.to - place.from) ys size)
 
--- the invariant of a recording, place by place
-AreOrdered-from_places : (octets : List ℕ) (from : ℕ) (places : List ℕ) → ArePlaces octets (from ∷ places) → AreOrdered from places (length octets)
-AreOrdered-from_places octets from [] h = h.last
-AreOrdered-from_places octets from (to ∷ places) h = (
-  h.ordered 0 (omega arith),
-  AreOrdered-from_places octets to places record {
-    some = omega arith;
-    ordered = λ k within. rw add-one (rw add-one at (h.ordered (suc k) (omega arith)));
-    within = λ k within. h.within (suc k) (omega arith);
-    last = rw sub-one (rw sub-one at h.last);
-  },
-)
+pub pieces-push : (xs ys : List ℕ) (places : List Place) (place : Place) → ArePlaces xs places → place.from ≡ length xs → place.to ≡ length xs + length ys
+    → pieces (xs ++ ys) (places ++ place ∷ []) ≡ pieces xs places ++ ys ∷ []
+pieces-push xs ys places place within from to =
+    map-append (piece (xs ++ ys)) places (place ∷ [])
+    ∙ ap₂ (λ (front : List (List ℕ)) (last : List ℕ). front ++ last ∷ []) (pieces-append xs ys places within) (piece-last xs ys place from to)
 
--- octets behind the last place are one piece more
-pieces_push : (xs ys : List ℕ) (from : ℕ) (places : List ℕ) → AreOrdered from places (length xs)
-    → pieces (xs ++ ys) (from ∷ places ++ length (xs ++ ys) ∷ []) ≡ pieces xs (from ∷ places) ++ ys ∷ []
-pieces_push xs ys from [] h =
-    let whole : drop from (xs ++ ys) ≡ ys = drop_at xs ys from (sym h) in
-    let size : length ys ≤ length (xs ++ ys) - from = omega (arith, length-append xs ys) in
-    ap (λ (piece : List ℕ). piece ∷ []) (rw whole (take_all (length (xs ++ ys) - from) ys size))
-pieces_push xs ys from (to ∷ places) h =
-    let within : to ≤ length xs = from_le_end to places (length xs) h.1 in
-    rw (slice_range-append xs ys from to h.0 within, pieces_push xs ys to places h.1) refl
+pub ArePlaces-push : (xs ys : List ℕ) (places : List Place) (place : Place) → ArePlaces xs places → place.from ≡ length xs → place.to ≡ length xs + length ys
+    → ArePlaces (xs ++ ys) (places ++ place ∷ [])
+ArePlaces-push xs ys places place within from to =
+    let size = length-append xs ys in
+    All-push (StandsWithin (length (xs ++ ys))) places place
+    (All-weaker (StandsWithin (length xs)) (StandsWithin (length (xs ++ ys))) (λ place stands. (stands.0, omega (arith, size, stands.1))) places within)
+    (omega (arith, size), omega (arith, size))
 
--- the same of a recording's places
-pub pieces-push : (xs ys places : List ℕ) → ArePlaces xs places
-    → pieces (xs ++ ys) (places ++ length (xs ++ ys) ∷ []) ≡ pieces xs places ++ ys ∷ []
-pieces-push xs ys [] h = absurd (omega (arith, h.some))
-pieces-push xs ys (from ∷ places) h = pieces_push xs ys from places (AreOrdered-from_places xs from places h)
+pub ArePlaces-append : (xs ys : List ℕ) (places : List Place) → ArePlaces xs places → ArePlaces (xs ++ ys) places
+ArePlaces-append xs ys places within =
+    let size = length-append xs ys in
+    All-weaker (StandsWithin (length xs)) (StandsWithin (length (xs ++ ys))) (λ place stands. (stands.0, omega (arith, size, stands.1))) places within

@@ -1,7 +1,7 @@
 -- What `audit` prints of a recording, and how it ends.
 -- own: a line of how many pairs there are, one line for each with its verdict, and a line of what was counted, of fields
 -- with one space between them. A run is clean where each pair is complete.
-use Rattle.std.specs.Prelude.{ℕ, ◌≡◌, ◌++◌, Bool, true, false, if◌then◌else◌, List, [], ◌∷◌, codes, length}
+use Rattle.std.specs.Prelude.{ℕ, ◌≡◌, ◌++◌, Bool, true, false, if◌then◌else◌, List, [], ◌∷◌, codes, length, Option, Some, None}
 use Rattle.std.specs.Fmt.{decimal, signed_decimal}
 use Rattle.std.specs.List.{flat_map, list_all}
 use Rattle.rtps_audit.specs.Report.{IsReport}
@@ -11,6 +11,7 @@ use Rattle.rtps_audit.specs.declared.report.Row.{Row}
 use Rattle.rtps_audit.specs.declared.verdict.Verdict.{Verdict}
 use Rattle.rtps_audit.specs.declared.verdict.Verdict.TheVariants.{Unfounded, Conflict, Open, Complete}
 use Rattle.rtps_text.specs.ListText.{guid_text}
+use Rattle.rtps_text.specs.Recording.{RecordingValue}
 use Rattle.rtps_text.specs.ShowText.{line_of}
 use Rattle.rtps_text.specs.declared.ending.Ending.{Ending}
 use Rattle.rtps_text.specs.declared.ending.Ending.TheVariants.{Clean, Unclean}
@@ -28,18 +29,23 @@ pairs_line pairs = line_of (codes "pairs" ∷ decimal pairs ∷ [])
 abbrev pub row_line : Row → List ℕ
 row_line row = line_of (guid_text row.pair.writer ∷ guid_text row.pair.reader ∷ verdict_text row.verdict ∷ [])
 
--- what is not counted as data of a pair
-abbrev pub further_counts_text : Counts → List ℕ
-further_counts_text counts =
-    codes "fragments " ++ (decimal counts.fragments ++ (codes " undirected " ++ (decimal counts.undirected ++ (codes " unsettled " ++ decimal counts.unsettled))))
+-- how many frames of a capture gave no datagram; a text has none
+unfoldable pub ignored_text : Option ℕ → List ℕ
+ignored_text None = []
+ignored_text (Some ignored) = codes " ignored " ++ decimal ignored
 
-abbrev pub report_counts_line : Counts → List ℕ
-report_counts_line counts = line_of (codes "datagrams" ∷ decimal counts.datagrams ∷ codes "refused" ∷ decimal counts.refused
-    ∷ codes "skipped" ∷ decimal counts.skipped ∷ further_counts_text counts ∷ [])
+-- what is not counted as data of a pair
+abbrev pub further_counts_text : Counts → Option ℕ → List ℕ
+further_counts_text counts ignored =
+    codes "fragments " ++ (decimal counts.fragments ++ (codes " undirected " ++ (decimal counts.undirected ++ (codes " unsettled " ++ (decimal counts.unsettled ++ ignored_text ignored)))))
+
+abbrev pub report_counts_line : Counts → Option ℕ → List ℕ
+report_counts_line counts ignored = line_of (codes "datagrams" ∷ decimal counts.datagrams ∷ codes "refused" ∷ decimal counts.refused
+    ∷ codes "skipped" ∷ decimal counts.skipped ∷ further_counts_text counts ignored ∷ [])
 
 -- the lines of these rows and counts
-abbrev pub report_text : List Row → Counts → List ℕ
-report_text rows counts = pairs_line (length rows) ++ (flat_map row_line rows ++ report_counts_line counts)
+abbrev pub report_text : List Row → Counts → Option ℕ → List ℕ
+report_text rows counts ignored = pairs_line (length rows) ++ (flat_map row_line rows ++ report_counts_line counts ignored)
 
 abbrev pub is_complete : Verdict → Bool
 is_complete (Complete last) = true
@@ -51,8 +57,8 @@ abbrev pub ending_of : List Row → Ending
 ending_of rows = if list_all (λ row. is_complete row.verdict) rows then Clean else Unclean
 
 -- what `audit` answers: the text of a report on the recording, clean where each row is complete
-pub record IsAudited (datagrams : List (List ℕ)) (text : List ℕ) (ending : Ending) : Type 0 where
+pub record IsAudited (recording : RecordingValue) (text : List ℕ) (ending : Ending) : Type 0 where
   pub report : Report
-  pub reports : IsReport datagrams report
-  pub is_text : text ≡ report_text report.rows.items report.counts
+  pub reports : IsReport recording.datagrams report
+  pub is_text : text ≡ report_text report.rows.items report.counts recording.ignored
   pub ends : ending ≡ ending_of report.rows.items

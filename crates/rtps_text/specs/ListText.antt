@@ -17,6 +17,7 @@ use Rattle.rtps_discovery.specs.declared.endpoint.Reliability.TheVariants.{BestE
 use Rattle.rtps_discovery.specs.declared.endpoint.Side.{Side}
 use Rattle.rtps_discovery.specs.declared.endpoint.Side.TheVariants.{Writer, Reader}
 use Rattle.rtps_discovery.specs.declared.matching.Match.{Match}
+use Rattle.rtps_text.specs.Recording.{RecordingValue}
 use Rattle.rtps_text.specs.ShowText.{line_of}
 use Rattle.rtps_text.specs.declared.ending.Ending.{Ending}
 use Rattle.rtps_text.specs.declared.ending.Ending.TheVariants.{Clean}
@@ -85,5 +86,5 @@ IsListOf datagrams text =
     (directory : DirectoryValue) × IsMapOf (acts_in datagrams) directory × (text ≡ directory_text directory (faults_in (acts_in datagrams)))
 
 -- what `list` answers: that text, and it is clean
-abbrev pub IsListed : List (List ℕ) → List ℕ → Ending → Type 0
-IsListed datagrams text ending = IsListOf datagrams text × (ending ≡ Clean)
+abbrev pub IsListed : RecordingValue → List ℕ → Ending → Type 0
+IsListed recording text ending = IsListOf recording.datagrams text × (ending ≡ Clean)

@@ -1,16 +1,19 @@
--- Pieces of one row of octets, kept by the places between them.
--- own: one allocation for all octets of a recording, and one for the places.
-use Rattle.std.specs.Prelude.{ℕ, ◌+◌, ◌-◌, ◌≡◌, ◌<◌, ◌≤◌, List, [], ◌∷◌, length, slice_index, slice_range}
+-- Pieces of one row of octets, kept by their places.
+-- own: one allocation for all octets of a recording, and one for the places; what stands between pieces is left there.
+use Rattle.std.specs.Prelude.{ℕ, ◌≤◌, List, length, map, slice_range}
+use Rattle.std.specs.List.{All}
+use Rattle.rtps_text.specs.declared.places.Place.{Place}
 
--- the pieces between each place and the next
-abbrev pub pieces : List ℕ → List ℕ → List (List ℕ)
-pieces octets [] = []
-pieces octets (from ∷ []) = []
-pieces octets (from ∷ to ∷ places) = slice_range octets from to ∷ pieces octets (to ∷ places)
+abbrev pub piece : List ℕ → Place → List ℕ
+piece octets place = slice_range octets place.from place.to
 
--- there is a first place, none is before the one in front of it, and the last is the end of the octets
-pub record ArePlaces (octets places : List ℕ) : Type 0 where
-  pub some : 0 < length places
-  pub ordered : (k : ℕ) → k + 1 < length places → slice_index places k ≤ slice_index places (k + 1)
-  pub within : (k : ℕ) → k < length places → slice_index places k ≤ length octets
-  pub last : slice_index places (length places - 1) ≡ length octets
+-- the pieces at these places
+abbrev pub pieces : List ℕ → List Place → List (List ℕ)
+pieces octets places = map (piece octets) places
+
+-- a place among so many octets
+abbrev pub StandsWithin : ℕ → Place → Type 0
+StandsWithin size place = (place.from ≤ place.to) × (place.to ≤ size)
+
+abbrev pub ArePlaces : List ℕ → List Place → Type 0
+ArePlaces octets places = All (StandsWithin (length octets)) places

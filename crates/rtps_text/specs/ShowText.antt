@@ -27,6 +27,7 @@ use Rattle.rtps_wire.specs.declared.body.HeartbeatBody.{HeartbeatBody}
 use Rattle.rtps_wire.specs.declared.fault.Refusal.{Refusal}
 use Rattle.rtps_wire.specs.FaultText.{fault_name}
 use Rattle.rtps_wire.specs.declared.header.Header.{Header}
+use Rattle.rtps_text.specs.Recording.{RecordingValue}
 use Rattle.rtps_text.specs.declared.ending.Ending.{Ending}
 use Rattle.rtps_text.specs.declared.ending.Ending.TheVariants.{Clean}
 
@@ -166,5 +167,5 @@ abbrev pub show_text : List (List ℕ) → List ℕ
 show_text datagrams = text_from 1 datagrams
 
 -- what `show` answers: its text, and it is clean
-abbrev pub IsShown : List (List ℕ) → List ℕ → Ending → Type 0
-IsShown datagrams text ending = (text ≡ show_text datagrams) × (ending ≡ Clean)
+abbrev pub IsShown : RecordingValue → List ℕ → Ending → Type 0
+IsShown recording text ending = (text ≡ show_text recording.datagrams) × (ending ≡ Clean)

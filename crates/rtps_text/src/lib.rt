@@ -2,13 +2,17 @@
 //! discovery announced, and whether readers got all data.
 #![tactic(auto)]
 
+mod datagram_list;
 mod ending;
 pub mod laws;
+mod places;
 mod recording;
 mod text;
 
+pub use datagram_list::{DatagramList, Datagrams};
 pub use ending::Ending;
-pub use recording::{Datagrams, Recording};
+pub use places::{Place, push_octets, push_place};
+pub use recording::Recording;
 pub use text::audit::audit_text;
 pub use text::list::list_text;
 pub use text::sample::sample_text;

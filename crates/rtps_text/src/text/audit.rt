@@ -16,13 +16,13 @@ pub fn audit_text(alloc: Global, recording: &Recording) -> Result<(String, Endin
     ensures { IfOk result (λ audited. IsAudited recording.now (string_bytes audited.0) audited.1) }
 {
     let report = report_of(alloc, recording)?;
-    let text = report_text(alloc, &report)?;
+    let text = report_text(alloc, &report, recording.ignored())?;
     Ok((text, ending_of(&report.rows)))
 }
 
 // The audit of a recording.
 fn report_of(alloc: Global, recording: &Recording) -> Result<Report, Memory>
-    ensures { IfOk result (IsReport recording.now) }
+    ensures { IfOk result (IsReport recording.now.datagrams) }
 {
     let datagrams = datagrams_of(alloc, recording)?;
     rtps_audit::audit(alloc, &datagrams)
@@ -30,7 +30,7 @@ fn report_of(alloc: Global, recording: &Recording) -> Result<Report, Memory>
 
 // The datagrams of a recording.
 fn datagrams_of(alloc: Global, recording: &Recording) -> Result<Vec<&[u8]>, AllocError>
-    ensures { IfOk result (λ datagrams. map (λ datagram. datagram.now) datagrams.items ≡ recording.now) }
+    ensures { IfOk result (λ datagrams. map (λ datagram. datagram.now) datagrams.items ≡ recording.now.datagrams) }
 {
     let mut datagrams = Vec::with_capacity(alloc, recording.len())?;
     for octets in recording.datagrams() {
@@ -39,14 +39,14 @@ fn datagrams_of(alloc: Global, recording: &Recording) -> Result<Vec<&[u8]>, Allo
     Ok(datagrams)
 }
 
-// The lines of a report.
-fn report_text(alloc: Global, report: &Report) -> Result<String, AllocError>
-    ensures { IfOk result (λ text. string_bytes text ≡ text_of_report report.now.rows.items report.now.counts) }
+// The lines of a report on a recording of which so many frames were ignored, if it has any.
+fn report_text(alloc: Global, report: &Report, ignored: Option<u64>) -> Result<String, AllocError>
+    ensures { IfOk result (λ text. string_bytes text ≡ text_of_report report.now.rows.items report.now.counts ignored) }
 {
     let mut text = String::new(alloc);
     write!(text, "{}", PairsLine(report.rows.len()))?;
     push_rows(&mut text, &report.rows)?;
-    write!(text, "{}", ReportCountsLine(report.counts))?;
+    write!(text, "{}", ReportCountsLine(report.counts, ignored))?;
     Ok(text)
 }
 

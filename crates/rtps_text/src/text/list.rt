@@ -32,8 +32,8 @@ fn note_datagrams<'a>(
     recording: &'a Recording,
 ) -> Result<u128, Memory>
     requires { IsMapOf [] directory.old }
-    ensures map { OnOk result (IsMapOf (acts_in recording.now) directory.new) }
-    ensures faults { IfOk result (λ faults. faults ≡ faults_in (acts_in recording.now)) }
+    ensures map { OnOk result (IsMapOf (acts_in recording.now.datagrams) directory.new) }
+    ensures faults { IfOk result (λ faults. faults ≡ faults_in (acts_in recording.now.datagrams)) }
 {
     let mut walk = Walk::new(alloc);
     let mut faults = 0u128;

@@ -24,7 +24,7 @@ pub fn show_text(alloc: Global, recording: &Recording) -> Result<(String, Ending
 
 // Appends the lines of all datagrams.
 fn push_datagrams(text: &mut String, recording: &Recording) -> Result<(), AllocError>
-    ensures { OnOk result (string_bytes text.new ≡ string_bytes text.old ++ text_from 1 recording.now) }
+    ensures { OnOk result (string_bytes text.new ≡ string_bytes text.old ++ text_from 1 recording.now.datagrams) }
 {
     let mut number = 0;
     for octets in recording.datagrams() {

@@ -9,16 +9,16 @@ use Rattle.rtps_text.specs.ListText.{directory_text}
 use Rattle.rtps_text.proofs.laws.one_text.Goals as goal
 
 pub returns-clause-shown : goal.returns-clause-shown
-returns-clause-shown c = λ datagrams one other ending last (is, ends) (also, too). (is ∙ sym also, ends ∙ sym too)
+returns-clause-shown c = λ recording one other ending last (is, ends) (also, too). (is ∙ sym also, ends ∙ sym too)
 
 pub returns-clause-listed : goal.returns-clause-listed
-returns-clause-listed c = λ datagrams one other ending last ((directory, map, is), ends) ((found, of, also), too).
-    let same : directory ≡ found = c.one_map.ensures.unique (acts_in datagrams) directory found map of in
-    (is ∙ ap (λ (d : DirectoryValue). directory_text d (faults_in (acts_in datagrams))) same ∙ sym also, ends ∙ sym too)
+returns-clause-listed c = λ recording one other ending last ((directory, map, is), ends) ((found, of, also), too).
+    let same : directory ≡ found = c.one_map.ensures.unique (acts_in recording.datagrams) directory found map of in
+    (is ∙ ap (λ (d : DirectoryValue). directory_text d (faults_in (acts_in recording.datagrams))) same ∙ sym also, ends ∙ sym too)
 
 pub returns-clause-audited : goal.returns-clause-audited
-returns-clause-audited c = λ datagrams one other ending last is also.
-    let same = c.one_report.ensures datagrams is.report also.report is.reports also.reports in (
-      is.is_text ∙ ap (λ (rows : List Row). report_text rows is.report.counts) same.0 ∙ ap (λ (counts : Counts). report_text also.report.rows.items counts) same.1 ∙ sym also.is_text,
+returns-clause-audited c = λ recording one other ending last is also.
+    let same = c.one_report.ensures recording.datagrams is.report also.report is.reports also.reports in (
+      is.is_text ∙ ap (λ (rows : List Row). report_text rows is.report.counts recording.ignored) same.0 ∙ ap (λ (counts : Counts). report_text also.report.rows.items counts recording.ignored) same.1 ∙ sym also.is_text,
       is.ends ∙ ap ending_of same.0 ∙ sym also.ends,
     )

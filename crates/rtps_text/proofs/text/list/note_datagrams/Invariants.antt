@@ -9,5 +9,5 @@ abbrev pub invariant-loop-octets : goal.invariant-loop-octets
 invariant-loop-octets l =
     (goal.iterator-loop-octets).can_next l.octets-iterator
     × (goal.iterator-loop-octets).is_finite l.octets-iterator
-    × (done : List (List ℕ)) × (done ++ l.octets-iterator ≡ l.recording)
+    × (done : List (List ℕ)) × (done ++ l.octets-iterator ≡ l.recording.datagrams)
     × IsMapOf (acts_in done) l.directory × (l.faults ≡ faults_in (acts_in done)) × (l.faults ≤ length done * 2 ^ 64)

@@ -8,5 +8,5 @@ abbrev pub invariant-loop-octets : goal.invariant-loop-octets
 invariant-loop-octets l =
     (goal.iterator-loop-octets).can_next l.octets-iterator
     × (goal.iterator-loop-octets).is_finite l.octets-iterator
-    × (l.number + length l.octets-iterator ≡ length l.recording)
-    × (string_bytes l.text ++ text_from (l.number + 1) l.octets-iterator ≡ string_bytes l.initial.text ++ text_from 1 l.recording)
+    × (l.number + length l.octets-iterator ≡ length l.recording.datagrams)
+    × (string_bytes l.text ++ text_from (l.number + 1) l.octets-iterator ≡ string_bytes l.initial.text ++ text_from 1 l.recording.datagrams)

@@ -1,6 +1,6 @@
 use Rattle.std.proofs.Common.{ap, arith, length}
 use Rattle.rtps_text.proofs.PiecesLemmas.{length-pieces}
-use Rattle.rtps_text.proofs.recording.Recording.datagrams.Goals as goal
+use Rattle.rtps_text.proofs.datagram_list.DatagramList.datagrams.Goals as goal
 
 pub returns-clause-few : goal.returns-clause-few
 returns-clause-few c =

@@ -1,0 +1,4 @@
+pub mod Datagrams
+pub mod Frames
+pub mod Laws
+pub mod Opening

@@ -1,0 +1,35 @@
+-- How a capture begins. PCAP Capture File Format (IETF draft), 4 "File Header".
+-- own: every minor version is taken, since later ones only add, and a capture is taken on one interface whose frames are
+-- Ethernet frames or IP packets.
+use Rattle.std.specs.Prelude.{ℕ, ◌==◌, ◌||◌, ◌%◌, nat_lt, Bool, if◌then◌else◌, List, length, drop, Option, Some, None}
+use Rattle.rtps_ids.specs.Octets.{number_of}
+use Rattle.rtps_ids.specs.declared.order.Order.{Order}
+use Rattle.rtps_ids.specs.declared.order.Order.TheVariants.{Big, Little}
+use Rattle.rtps_capture.specs.declared.layout.file.TheConstants.{ETHERNET, LINK, LINKS, MAJOR, MICROSECONDS, NANOSECONDS, RAW_IP, SIZE, VERSION}
+use Rattle.rtps_capture.specs.declared.link.Link.{Link}
+use Rattle.rtps_capture.specs.declared.link.Link.TheVariants.{Ethernet, RawIp}
+
+-- the two numbers that captures begin with
+abbrev pub is_magic : ℕ → Bool
+is_magic number = number == MICROSECONDS || number == NANOSECONDS
+
+-- In which order the numbers of a capture's headers lie: that in which its first four octets are one of the two. Other
+-- octets begin no capture.
+unfoldable pub order_of : List ℕ → Option Order
+order_of octets =
+    if nat_lt (length octets) 4 then None
+    else if is_magic (number_of Big 4 octets) then Some Big
+    else if is_magic (number_of Little 4 octets) then Some Little
+    else None
+
+-- the link types that are read
+abbrev pub link_by : ℕ → Option Link
+link_by number = if number == ETHERNET then Some Ethernet else if number == RAW_IP then Some RawIp else None
+
+-- what the frames are, where the header is whole, its major version is the one that is read and its link type, the low
+-- 16 bits of a field, is one that is read
+unfoldable pub link_of : Order → List ℕ → Option Link
+link_of order file =
+    if nat_lt (length file) SIZE then None
+    else if number_of order 2 (drop MAJOR file) == VERSION then link_by (number_of order 4 (drop LINK file) % LINKS)
+    else None

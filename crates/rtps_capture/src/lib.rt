@@ -1,0 +1,15 @@
+//! Captures, as `tcpdump` writes them: their frames, and where the UDP datagrams of these stand.
+#![tactic(auto)]
+
+mod datagram;
+mod frames;
+pub mod laws;
+mod layout;
+mod link;
+mod opening;
+mod place;
+
+pub use frames::{Frame, Frames};
+pub use link::Link;
+pub use opening::capture_order;
+pub use place::Place;

@@ -1,0 +1,49 @@
+ghost use Rattle.std.specs.Prelude.{◌≡◌, ◌≤◌, length};
+ghost use Rattle.rtps_ids.specs.Octets.{number_of};
+ghost use Rattle.rtps_capture.specs.Opening.{is_magic as is_magic_lem, link_by, link_of as link_of_lem, order_of};
+ghost use Rattle.rtps_capture.specs.declared.layout.file.TheConstants.{SIZE};
+
+use crate::layout::file;
+use crate::link::Link;
+use rtps_ids::{Order, u16_at, u32_at};
+
+/// The order of the numbers in the headers of a capture, by its first four octets; None where they begin no capture
+/// (PCAP Capture File Format, 4 "File Header").
+#[tactic(auto, unfolding(crate::specs::Opening::order_of))]
+pub fn capture_order(octets: &[u8]) -> Option<Order>
+    ensures { result ≡ order_of octets.now }
+{
+    if is_magic(u32_at(Order::Big, octets, 0)?) {
+        return Some(Order::Big);
+    }
+    if is_magic(u32_at(Order::Little, octets, 0)?) {
+        return Some(Order::Little);
+    }
+    None
+}
+
+// Whether a capture begins with this number.
+fn is_magic(number: u32) -> bool
+    ensures { result ≡ is_magic_lem number }
+{
+    number == file::MICROSECONDS || number == file::NANOSECONDS
+}
+
+/// What the frames of a file are whose numbers lie in this order. None where its header is cut, of another major
+/// version, or of another link type.
+#[tactic(auto, unfolding(crate::specs::Opening::link_of))]
+pub(crate) fn link_of(order: Order, octets: &[u8]) -> Option<Link>
+    ensures { result ≡ link_of_lem order octets.now }
+{
+    if octets.len() < file::SIZE {
+        return None;
+    }
+    if u16_at(order, octets, file::MAJOR)? != file::VERSION {
+        return None;
+    }
+    match u32_at(order, octets, file::LINK)? % file::LINKS {
+        file::ETHERNET => Some(Link::Ethernet),
+        file::RAW_IP => Some(Link::RawIp),
+        _ => None,
+    }
+}

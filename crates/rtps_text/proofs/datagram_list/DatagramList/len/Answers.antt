@@ -1,0 +1,6 @@
+use Rattle.std.proofs.Common.{sym, ◌∙◌, arith}
+use Rattle.rtps_text.proofs.PiecesLemmas.{length-pieces}
+use Rattle.rtps_text.proofs.datagram_list.DatagramList.len.Goals as goal
+
+pub returns : goal.returns
+returns c = rw (← c.self.view_is, length-pieces) (omega (arith, c.len.ensures))
