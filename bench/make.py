@@ -2,6 +2,7 @@
 """Writes recordings to measure with.
 
     make.py heartbeats|packed|large|hostile|one_data|pairs FILE [MEGABYTES]
+    make.py answers|readers|writers FILE [MEGABYTES]    of ACKNACKs of one reader; each of another; HEARTBEATs, each of another writer
     make.py in_order|odd_then_even|random|descending|inside_out FILE [THOUSANDS]    of numbers, each in a sample
 """
 import random
@@ -88,7 +89,27 @@ def datagrams(kind, octets):
         for i in range(20):
             sent += samples(range(1, 10001), 10000, (0x103 + 256 * i).to_bytes(4, 'big'), (0x104 + 256 * i).to_bytes(4, 'big'))
         return (*announcements(20), *sent)
+    if kind in ONE_EACH:
+        return one_each(ONE_EACH[kind], octets)
     raise SystemExit(__doc__)
+
+
+ONE_EACH = {
+    'answers': lambda entity: ack_nack(READER, WRITER, 1),
+    'readers': lambda entity: ack_nack(entity, WRITER, 1),
+    'writers': lambda entity: heartbeat(entity, 1, 3),
+}
+
+
+def one_each(submessage, octets):
+    """Datagrams full of submessages, each made with another entity id, in no order."""
+    place = 0
+    for _ in range(octets // 130112):
+        sent = header(B) + to(A)
+        for _ in range(2032):
+            place += 1
+            sent += submessage((place * 0x9e3779b1 % (1 << 32)).to_bytes(4, 'big'))
+        yield sent
 
 
 def write(path, sent):

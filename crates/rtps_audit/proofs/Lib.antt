@@ -11,6 +11,7 @@ pub mod Sound
 pub mod Verdicts
 pub mod OneVerdict
 pub mod SameSaid
+pub mod GroupLemmas
 pub mod PlacedLemmas
 pub mod HearingLemmas
 pub mod AnswerLemmas

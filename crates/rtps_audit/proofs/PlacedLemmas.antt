@@ -1,15 +1,16 @@
 -- The acts and answers of one datagram more, by origin and by pair.
-use Rattle.std.proofs.Common.{◌≡◌, ℕ, ℤ, pos, Bool, true, false, cond, ◌&&◌, List, [], ◌∷◌, ◌++◌, length, take, get_or, ◌+◌, ◌<◌, append_assoc, map, filter, Option, Some, None, refl, sym, ap, ◌∙◌}
-use Rattle.std.specs.Cmp.{both_ways}
+use Rattle.std.proofs.Common.{◌≡◌, ℕ, zero, suc, ℤ, pos, Bool, true, false, cond, ◌&&◌, List, [], ◌∷◌, ◌++◌, length, take, drop, get_or, ◌+◌, ◌-◌, ◌<◌, append_assoc, arith, subst, map, filter, Option, Some, None, refl, sym, ap, ◌∙◌}
+use Rattle.std.specs.Cmp.{IsTotalOrder, both_ways}
 use Rattle.std.specs.Prelude.{if◌then◌else◌}
-use Rattle.std.specs.List.{cons_option}
+use Rattle.std.specs.List.{All, AllWithin, cons_option, slice_range}
 use Rattle.std.specs.Option.{option_map}
 use Rattle.std.specs.Ordering.{is_eq, ordering_then}
 use Rattle.std.specs.Str.{bytes_eq}
 use Rattle.std.specs.declared.cmp.Ordering.{Ordering}
 use Rattle.std.specs.declared.cmp.Ordering.TheVariants.{Less, Equal, Greater}
-use Rattle.std.proofs.lemmas.List.{map-append, take_more}
-use Rattle.std.proofs.lemmas.List.Elements.{filter-append, filter_map-append}
+use Rattle.std.proofs.lemmas.Cmp.{nat_list_cmp_total, on_total, then_total}
+use Rattle.std.proofs.lemmas.List.{get_or_default, get_or-drop, get_or-take, length-take, map-append, take_more}
+use Rattle.std.proofs.lemmas.List.Elements.{All-head, All-tail, filter-append, filter_map-append}
 use Rattle.std.proofs.lemmas.Map.Text.{is_eq-slice_cmp}
 use Rattle.std.proofs.lemmas.Slice.Eq.{bytes_eq-Decides}
 use Rattle.rtps_ids.specs.declared.identity.Guid.{Guid}
@@ -22,10 +23,10 @@ use Rattle.rtps_wire.specs.declared.body.AckNackBody.{AckNackBody}
 use Rattle.rtps_receiver.specs.declared.act.Act.{Act}
 use Rattle.rtps_discovery.specs.GuidOrder.{guid_cmp}
 use Rattle.rtps_discovery.specs.declared.matching.Pair.{Pair}
-use Rattle.rtps_audit.specs.Placed.{PlacedValue, answer_at, answer_of, answers_among, is_from, is_guid, pair_cmp, placed_at, placed_value}
+use Rattle.rtps_audit.specs.Placed.{PlacedValue, answer_at, answer_of, answers_among, is_from, is_guid, placed_at, reader_first, reader_first_cmp}
 use Rattle.rtps_audit.specs.Speech.{base_for, base_of_body}
 use Rattle.rtps_audit.specs.declared.answers.Answer.{Answer}
-use Rattle.rtps_audit.specs.declared.placed.Placed.{Placed}
+use Rattle.rtps_audit.specs.declared.answers.ReaderFirst.{ReaderFirst}
 
 is_eq-then : (a b : Ordering) → is_eq (ordering_then a b) ≡ is_eq a && is_eq b
 is_eq-then Less b = refl
@@ -35,38 +36,34 @@ is_eq-then Greater b = refl
 pub both : {a b c d : Bool} → a ≡ c → b ≡ d → a && b ≡ c && d
 both e f = rw (e, f) refl
 
+pub guids_total : IsTotalOrder guid_cmp
+guids_total = then_total (on_total (λ guid. guid.prefix.0) nat_list_cmp_total) (on_total (λ guid. guid.entity.0) nat_list_cmp_total)
+
 -- GUIDs that compare alike are those that the test holds of
 pub is_eq-guid_cmp : (one other : Guid) → is_eq (guid_cmp one other) ≡ is_guid one other
 is_eq-guid_cmp one other = is_eq-then _ _ ∙ both (is_eq-slice_cmp one.prefix.0 other.prefix.0) (is_eq-slice_cmp one.entity.0 other.entity.0)
 
-pub is_eq-pair_cmp : (one other : Pair) → is_eq (pair_cmp one other) ≡ is_guid one.writer other.writer && is_guid one.reader other.reader
-is_eq-pair_cmp one other = is_eq-then _ _ ∙ both (is_eq-guid_cmp one.writer other.writer) (is_eq-guid_cmp one.reader other.reader)
+pub is_eq-reader_first_cmp : (one other : ReaderFirst) → is_eq (reader_first_cmp one other) ≡ is_guid one.reader other.reader && is_guid one.writer other.writer
+is_eq-reader_first_cmp one other = is_eq-then _ _ ∙ both (is_eq-guid_cmp one.reader other.reader) (is_eq-guid_cmp one.writer other.writer)
 
 pub bytes_eq-sym : (xs ys : List ℕ) → bytes_eq xs ys ≡ bytes_eq ys xs
 bytes_eq-sym xs ys =
     both_ways _ _ (λ e. (bytes_eq-Decides ys xs).1 (sym ((bytes_eq-Decides xs ys).0 e))) (λ e. (bytes_eq-Decides xs ys).1 (sym ((bytes_eq-Decides ys xs).0 e)))
 
-shuffled : (a b c d : Bool) → (a && b) && (c && d) ≡ c && (a && (d && b))
-shuffled true true true d = by_last d
-  where
-    by_last : (d : Bool) → d ≡ d && true
-    by_last true = refl
-    by_last false = refl
-shuffled true true false d = refl
-shuffled true false true true = refl
-shuffled true false true false = refl
+shuffled : (a b c d : Bool) → (a && b) && (c && d) ≡ a && (c && (b && d))
+shuffled true true c d = refl
+shuffled true false true d = refl
 shuffled true false false d = refl
-shuffled false b true d = refl
-shuffled false b false d = refl
+shuffled false b c d = refl
 
 -- the test of a pair is that of an answer, part by part
 pub same_pair : (pair : Pair) (source dest : GuidPrefix) (reader writer : EntityId)
-    → is_eq (pair_cmp pair (record { writer = record { prefix = dest; entity = writer }; reader = record { prefix = source; entity = reader } }))
+    → is_eq (reader_first_cmp (reader_first pair) (record { reader = record { prefix = source; entity = reader }; writer = record { prefix = dest; entity = writer } }))
     ≡ is_prefix source pair.reader.prefix && (is_prefix dest pair.writer.prefix && (is_entity reader pair.reader.entity && is_entity writer pair.writer.entity))
 same_pair pair source dest reader writer =
-    is_eq-pair_cmp pair _
-    ∙ both (both (bytes_eq-sym pair.writer.prefix.0 dest.0) (bytes_eq-sym pair.writer.entity.0 writer.0)) (both (bytes_eq-sym pair.reader.prefix.0 source.0) (bytes_eq-sym pair.reader.entity.0 reader.0))
-    ∙ shuffled (is_prefix dest pair.writer.prefix) (is_entity writer pair.writer.entity) (is_prefix source pair.reader.prefix) (is_entity reader pair.reader.entity)
+    is_eq-reader_first_cmp (reader_first pair) _
+    ∙ both (both (bytes_eq-sym pair.reader.prefix.0 source.0) (bytes_eq-sym pair.reader.entity.0 reader.0)) (both (bytes_eq-sym pair.writer.prefix.0 dest.0) (bytes_eq-sym pair.writer.entity.0 writer.0))
+    ∙ shuffled (is_prefix source pair.reader.prefix) (is_entity reader pair.reader.entity) (is_prefix dest pair.writer.prefix) (is_entity writer pair.writer.entity)
 
 base_by : GuidPrefix → Option GuidPrefix → ActBodyValue → Pair → Option ℕ
 base_by source dest body pair =
@@ -74,46 +71,69 @@ base_by source dest body pair =
 
 -- the base of an ACKNACK that names its destination is that of one pair
 pub answer_read : (act : ActValue) (ack_nack : AckNackBody) (dest : GuidPrefix) (pair : Pair) (reader : Guid) (number : ℤ) → act.body ≡ AckNack ack_nack → act.dest ≡ Some dest → reader ≡ origin_of act → number ≡ pos ack_nack.set.base
-    → option_map pos (base_for pair.writer pair.reader act) ≡ cond (is_eq (pair_cmp pair (record { writer = record { prefix = dest; entity = ack_nack.writer }; reader = reader }))) (Some number) None
+    → option_map pos (base_for pair.writer pair.reader act) ≡ cond (is_eq (reader_first_cmp (reader_first pair) (record { reader = reader; writer = record { prefix = dest; entity = ack_nack.writer } }))) (Some number) None
 unfolding base_by
 answer_read act ack_nack dest pair reader number body to from is =
     ap (λ d. option_map pos (base_by act.source d act.body pair)) to
     ∙ ap (λ b. option_map pos (base_by act.source (Some dest) b pair)) body
     ∙ by_test (is_prefix act.source pair.reader.prefix && (is_prefix dest pair.writer.prefix && (is_entity ack_nack.reader pair.reader.entity && is_entity ack_nack.writer pair.writer.entity)))
     ∙ ap (λ b. cond b (Some number) None) (sym (same_pair pair act.source dest ack_nack.reader ack_nack.writer))
-    ∙ ap (λ r. cond (is_eq (pair_cmp pair (record { writer = record { prefix = dest; entity = ack_nack.writer }; reader = r }))) (Some number) None) (sym (from ∙ ap (λ b. let made : Guid = record { prefix = act.source; entity = entity_from b } in made) body))
+    ∙ ap (λ r. cond (is_eq (reader_first_cmp (reader_first pair) (record { reader = r; writer = record { prefix = dest; entity = ack_nack.writer } }))) (Some number) None) (sym (from ∙ ap (λ b. let made : Guid = record { prefix = act.source; entity = entity_from b } in made) body))
   where
     by_test : (b : Bool) → option_map pos (if b then Some ack_nack.set.base else None) ≡ cond b (Some number) None
     by_test true = ap Some (sym is)
     by_test false = refl
 
-mapped_cond : (b : Bool) (placed : Placed) → map placed_value (cond b (placed ∷ []) []) ≡ cond b (placed_value placed ∷ []) []
-mapped_cond true placed = refl
-mapped_cond false placed = refl
-
--- the acts of an origin, with one more
-pub act_added : (old new one : List Placed) (placed : Placed) (datagram : ℕ) (act : ActValue) (origin key : Guid) → one ≡ placed ∷ [] → placed.datagram ≡ datagram → act_value placed.act ≡ act → key ≡ origin_of act
-    → new ≡ old ++ cond (is_eq (guid_cmp origin key)) one [] → map placed_value new ≡ map placed_value old ++ filter (is_from origin) (record { datagram = datagram; act = act } ∷ [])
-act_added old new one placed datagram act origin key only at is from added =
-    ap (map placed_value) (added ∙ ap (λ l. old ++ cond (is_eq (guid_cmp origin key)) l []) only)
-    ∙ map-append placed_value old _
-    ∙ ap (λ l. map placed_value old ++ l) (mapped_cond (is_eq (guid_cmp origin key)) placed ∙ ap (λ p. cond (is_eq (guid_cmp origin key)) (p ∷ []) []) same ∙ ap (λ b. cond b (value ∷ []) []) (is_eq-guid_cmp origin key ∙ ap (is_guid origin) from))
+-- what holds from one place to another holds of all that stands between
+pub all_between : {X : Type 0} (P : X → Type 0) (xs : List X) (start end : ℕ) → AllWithin P xs start end → All P (slice_range xs start end)
+all_between P xs start end h k d lt =
+    subst P (sym (get_or-take (end - start) (drop start xs) k d below ∙ get_or-drop start xs k d)) (h (start + k) d (omega arith) (omega (arith, below)))
   where
-    value : PlacedValue
-    value = record { datagram = datagram; act = act }
+    below : k < end - start
+    below = omega (arith, lt, length-take (end - start) (drop start xs))
 
-    same : placed_value placed ≡ value
-    same = ap (λ d. let made : PlacedValue = record { datagram = d; act = act_value placed.act } in made) at ∙ ap (λ a. let made : PlacedValue = record { datagram = datagram; act = a } in made) is
-
--- the answers of a pair, with one more
-pub answer_added : (old new one : List Answer) (datagram : ℕ) (number : ℤ) (pair key : Pair) → one ≡ record { datagram = datagram; base = number } ∷ []
-    → new ≡ old ++ cond (is_eq (pair_cmp pair key)) one []
-    → (base : Option ℕ) → option_map pos base ≡ cond (is_eq (pair_cmp pair key)) (Some number) None → new ≡ old ++ cons_option (answer_at datagram base) []
-answer_added old new one datagram number pair key only added base says = added ∙ ap (λ l. old ++ l) (by_test (is_eq (pair_cmp pair key)) base says)
+pub all_with_first : {X : Type 0} (P : X → Type 0) (xs : List X) (start end : ℕ) (x : X) → x ≡ get_or xs start x → start < length xs → P x → AllWithin P xs (start + 1) end → AllWithin P xs start end
+all_with_first P xs start end x at within first others k d le lt = by_gap (k - start) (omega arith)
   where
-    by_test : (b : Bool) (base : Option ℕ) → option_map pos base ≡ cond b (Some number) None → cond b one [] ≡ cons_option (answer_at datagram base) []
+    by_gap : (n : ℕ) → k ≡ start + n → P (get_or xs k d)
+    by_gap zero e = subst P (at ∙ get_or_default xs start x d within ∙ ap (λ i. get_or xs i d) (omega (arith, e))) first
+    by_gap (suc n) e = others k d (omega (arith, e)) lt
+
+-- acts of one GUID in a datagram are all of its acts or none
+pub run_filtered : (datagram : ℕ) (origin other : Guid) (acts : List Act) → All (λ act. origin_of (act_value act) ≡ origin) acts
+    → filter (is_from other) (placed_at datagram (map act_value acts)) ≡ cond (is_eq (guid_cmp other origin)) (placed_at datagram (map act_value acts)) []
+run_filtered datagram origin other [] from = none (is_eq (guid_cmp other origin))
+  where
+    none : (b : Bool) → [] ≡ cond b (placed_at datagram []) []
+    none true = refl
+    none false = refl
+run_filtered datagram origin other (act ∷ acts) from =
+    ap (λ b. cond b (first ∷ filter (is_from other) later) (filter (is_from other) later)) (ap (is_guid other) (All-head (λ (a : Act). origin_of (act_value a) ≡ origin) act acts from) ∙ sym (is_eq-guid_cmp other origin))
+    ∙ ap (λ l. cond (is_eq (guid_cmp other origin)) (first ∷ l) l) (run_filtered datagram origin other acts (All-tail (λ (a : Act). origin_of (act_value a) ≡ origin) act acts from))
+    ∙ by_test (is_eq (guid_cmp other origin))
+  where
+    first : PlacedValue
+    first = record { datagram = datagram; act = act_value act }
+
+    later : List PlacedValue
+    later = placed_at datagram (map act_value acts)
+
+    by_test : (b : Bool) → cond b (first ∷ cond b later []) (cond b later []) ≡ cond b (first ∷ later) []
+    by_test true = refl
+    by_test false = refl
+
+pub placed_both : (datagram : ℕ) (xs ys : List Act) → placed_at datagram (map act_value (xs ++ ys)) ≡ placed_at datagram (map act_value xs) ++ placed_at datagram (map act_value ys)
+placed_both datagram xs ys = ap (placed_at datagram) (map-append act_value xs ys) ∙ map-append _ (map act_value xs) _
+
+-- the answers of a pair, with that of one act more
+pub answer_added : (old new : List Answer) (value : Answer) (datagram : ℕ) (number : ℤ) (pair key : ReaderFirst) → value ≡ record { datagram = datagram; base = number }
+    → new ≡ old ++ cond (is_eq (reader_first_cmp pair key)) (value ∷ []) []
+    → (base : Option ℕ) → option_map pos base ≡ cond (is_eq (reader_first_cmp pair key)) (Some number) None → new ≡ old ++ cons_option (answer_at datagram base) []
+answer_added old new value datagram number pair key is added base says = added ∙ ap (λ l. old ++ l) (by_test (is_eq (reader_first_cmp pair key)) base says)
+  where
+    by_test : (b : Bool) (base : Option ℕ) → option_map pos base ≡ cond b (Some number) None → cond b (value ∷ []) [] ≡ cons_option (answer_at datagram base) []
     by_test true None e = cc
-    by_test true (Some n) e = let same : pos n ≡ number = (let h = e in cc) in only ∙ ap (λ z. let made : Answer = record { datagram = datagram; base = z } in made ∷ []) (sym same)
+    by_test true (Some n) e = let same : pos n ≡ number = (let h = e in cc) in ap (λ a. a ∷ []) is ∙ ap (λ z. let made : Answer = record { datagram = datagram; base = z } in made ∷ []) (sym same)
     by_test false None e = refl
     by_test false (Some n) e = cc
 

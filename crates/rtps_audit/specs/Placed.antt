@@ -16,6 +16,7 @@ use Rattle.rtps_discovery.specs.declared.matching.Pair.{Pair}
 use Rattle.rtps_audit.specs.Groups.{values_at}
 use Rattle.rtps_audit.specs.Speech.{base_for}
 use Rattle.rtps_audit.specs.declared.answers.Answer.{Answer}
+use Rattle.rtps_audit.specs.declared.answers.ReaderFirst.{ReaderFirst}
 use Rattle.rtps_audit.specs.declared.origins.Origins.{Origins}
 use Rattle.rtps_audit.specs.declared.placed.Placed.{Placed}
 
@@ -47,9 +48,12 @@ is_guid one other = is_prefix one.prefix other.prefix && is_entity one.entity ot
 abbrev pub is_from : Guid → PlacedValue → Bool
 is_from origin placed = is_guid origin (origin_of placed.act)
 
--- pairs by writer, and then by reader
-abbrev pub pair_cmp : Pair → Pair → Ordering
-pair_cmp one other = ordering_then (guid_cmp one.writer other.writer) (guid_cmp one.reader other.reader)
+abbrev pub reader_first : Pair → ReaderFirst
+reader_first pair = record { reader = pair.reader; writer = pair.writer }
+
+-- by reader, and then by writer
+abbrev pub reader_first_cmp : ReaderFirst → ReaderFirst → Ordering
+reader_first_cmp one other = ordering_then (guid_cmp one.reader other.reader) (guid_cmp one.writer other.writer)
 
 -- the answer that an act is of a pair's reader to its writer
 abbrev pub answer_at : ℕ → Option ℕ → Option Answer
@@ -66,10 +70,10 @@ answers_among pair placed = filter_map (answer_of pair) placed
 abbrev pub AddsActs : BTreeMap Guid (Vec Placed) → BTreeMap Guid (Vec Placed) → List PlacedValue → Type 0
 AddsActs old new placed = (origin : Guid) → map placed_value (values_at guid_cmp new origin) ≡ map placed_value (values_at guid_cmp old origin) ++ filter (is_from origin) placed
 
-abbrev pub AddsAnswers : BTreeMap Pair (Vec Answer) → BTreeMap Pair (Vec Answer) → List PlacedValue → Type 0
-AddsAnswers old new placed = (pair : Pair) → values_at pair_cmp new pair ≡ values_at pair_cmp old pair ++ answers_among pair placed
+abbrev pub AddsAnswers : BTreeMap ReaderFirst (Vec Answer) → BTreeMap ReaderFirst (Vec Answer) → List PlacedValue → Type 0
+AddsAnswers old new placed = (pair : Pair) → values_at reader_first_cmp new (reader_first pair) ≡ values_at reader_first_cmp old (reader_first pair) ++ answers_among pair placed
 
 -- the lists are of these acts, by origin, and of their answers, by pair
 pub record AreOf (origins : Origins) (placed : List PlacedValue) : Type 0 where
   pub acts : (origin : Guid) → map placed_value (values_at guid_cmp origins.acts.map origin) ≡ filter (is_from origin) placed
-  pub answers : (pair : Pair) → values_at pair_cmp origins.answers.map pair ≡ answers_among pair placed
+  pub answers : (pair : Pair) → values_at reader_first_cmp origins.answers.map (reader_first pair) ≡ answers_among pair placed

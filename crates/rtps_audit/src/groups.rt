@@ -8,8 +8,8 @@ use std::collections::BTreeMap;
 /// Lists of values, one for each key, in the order of the keys.
 #[derive(Drop)]
 pub(crate) struct Groups<K: Ord, V> {
-    map: BTreeMap<K, Vec<V>>,
-    alloc: Global,
+    pub(crate) map: BTreeMap<K, Vec<V>>,
+    pub(crate) alloc: Global,
 }
 
 impl<K: Ord + Copy + Drop, V: Copy + Drop> Groups<K, V> {
@@ -25,18 +25,13 @@ impl<K: Ord + Copy + Drop, V: Copy + Drop> Groups<K, V> {
         }
     }
 
-    /// Appends values to those of their key. After `Memory` the lists are of no use.
-    pub(crate) fn push(&mut self, key: K, values: &[V]) -> Result<(), Memory>
+    /// Appends a value to those of its key. After `Memory` the lists are of no use.
+    pub(crate) fn push(&mut self, key: K, value: V) -> Result<(), Memory>
         ensures { OnOk result ((other : K) → values_at K.cmp self.new.map other
-            ≡ values_at K.cmp self.old.map other ++ cond (is_eq (K.cmp other key)) values.now []) }
+            ≡ values_at K.cmp self.old.map other ++ cond (is_eq (K.cmp other key)) (value ∷ []) []) }
     {
-        if let Some(found) = self.map.get_mut(&key) {
-            found.extend_from_slice(values)?;
-            return Ok(());
-        }
-        let mut found = Vec::new(self.alloc);
-        found.extend_from_slice(values)?;
-        self.map.insert(key, found)?;
+        let found = self.map.entry(key)?.or_insert(Vec::new(self.alloc));
+        append(found, value)?;
         Ok(())
     }
 
@@ -49,4 +44,15 @@ impl<K: Ord + Copy + Drop, V: Copy + Drop> Groups<K, V> {
             None => &[],
         }
     }
+}
+
+/// Appends a value to a list. Many lists stay at their first value, so that one takes no room for others.
+fn append<V: Drop>(list: &mut Vec<V>, value: V) -> Result<(), Memory>
+    ensures { OnOk result (list.new.items ≡ list.old.items ++ value ∷ []) }
+{
+    if list.is_empty() {
+        list.reserve_exact(1)?;
+    }
+    list.push(value)?;
+    Ok(())
 }

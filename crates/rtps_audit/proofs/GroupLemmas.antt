@@ -1,0 +1,51 @@
+-- Lists in a map, one of which is written back under its key.
+use Rattle.std.proofs.Common.{◌≡◌, Bool, true, false, cond, List, [], ◌∷◌, ◌++◌, append-nil, Option, Some, None, refl, sym, ap, ◌∙◌}
+use Rattle.std.specs.BTreeMap.{BTreeMap, Updates, get, is_at}
+use Rattle.std.specs.Cmp.{IsTotalOrder}
+use Rattle.std.specs.Global.{Vec}
+use Rattle.std.specs.Map.{lookup}
+use Rattle.std.specs.Option.{unwrap_or}
+use Rattle.std.specs.Ordering.{is_eq, ordering_reverse}
+use Rattle.std.specs.declared.cmp.Ordering.{Ordering}
+use Rattle.std.specs.declared.cmp.Ordering.TheVariants.{Less, Equal, Greater}
+use Rattle.rtps_audit.specs.Groups.{items_or_none, values_at}
+
+equal_of : (order : Ordering) → is_eq order ≡ true → order ≡ Equal
+equal_of Less e = cc
+equal_of Equal e = refl
+equal_of Greater e = cc
+
+is_eq-reversed : (order : Ordering) → is_eq (ordering_reverse order) ≡ is_eq order
+is_eq-reversed Less = refl
+is_eq-reversed Equal = refl
+is_eq-reversed Greater = refl
+
+module _ {K V : Type 0} {cmp : K → K → Ordering} (total : IsTotalOrder cmp) where
+  found_alike : (x y : K) → cmp x y ≡ Equal → (entries : List (K × Vec V)) → lookup (is_at (cmp x)) entries ≡ lookup (is_at (cmp y)) entries
+  found_alike x y e [] = refl
+  found_alike x y e (entry ∷ entries) =
+      ap (λ order. cond (is_eq order) (Some entry.1) (lookup (is_at (cmp x)) entries)) (total.congr x y entry.0 e)
+      ∙ ap (λ found. cond (is_eq (cmp y entry.0)) (Some entry.1) found) (found_alike x y e entries)
+
+  -- what is seen of the list of a key grows where the key is that of the list that grew
+  pub list_grown : {X : Type 0} (seen : List V → List X) (old new : BTreeMap K (Vec V)) (key other : K) (list : Vec V) (added : List X) → Updates cmp old new key (Some list)
+      → seen list.items ≡ seen (values_at cmp old key) ++ added → seen (values_at cmp new other) ≡ seen (values_at cmp old other) ++ cond (is_eq (cmp other key)) added []
+  list_grown seen old new key other list added updates grown = by_test (is_eq (cmp other key)) refl
+    where
+      at : is_eq (cmp key other) ≡ is_eq (cmp other key)
+      at = ap is_eq (total.antisymm key other) ∙ is_eq-reversed (cmp other key)
+
+      now : values_at cmp new other ≡ items_or_none (cond (is_eq (cmp other key)) (Some list) (get cmp old other))
+      now = ap items_or_none (updates.0 other) ∙ ap (λ b. items_or_none (cond b (Some list) (get cmp old other))) at
+
+      by_test : (b : Bool) → is_eq (cmp other key) ≡ b → seen (values_at cmp new other) ≡ seen (values_at cmp old other) ++ cond b added []
+      by_test true e =
+          ap seen (now ∙ ap (λ b. items_or_none (cond b (Some list) (get cmp old other))) e) ∙ grown
+          ∙ ap (λ found. seen (items_or_none found) ++ added) (sym (found_alike other key (equal_of (cmp other key) e) old.entries))
+      by_test false e =
+          ap seen (now ∙ ap (λ b. items_or_none (cond b (Some list) (get cmp old other))) e) ∙ sym (append-nil _)
+
+-- the list that an entry lends
+pub lent_items : {V : Type 0} (found value : Option (Vec V)) (empty list : Vec V) → empty.items ≡ [] → value ≡ found → list ≡ unwrap_or value empty → list.items ≡ items_or_none found
+lent_items found None empty list none same is = ap (λ (l : Vec _). l.items) is ∙ none ∙ ap items_or_none same
+lent_items found (Some held) empty list none same is = ap (λ (l : Vec _). l.items) is ∙ ap items_or_none same
