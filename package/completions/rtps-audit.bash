@@ -8,8 +8,10 @@ _rtps_audit() {
     fi
     case $command in
     show | list | audit)
+        local options='-h --help'
+        if [ "$command" = audit ]; then options="--from $options"; fi
         case $word in
-        -*) mapfile -t COMPREPLY < <(compgen -W '-h --help' -- "$word") ;;
+        -*) mapfile -t COMPREPLY < <(compgen -W "$options" -- "$word") ;;
         *)
             mapfile -t COMPREPLY < <(compgen -f -- "$word")
             compopt -o filenames 2>/dev/null

@@ -8,4 +8,5 @@ complete -c rtps-audit -n __fish_use_subcommand -a help -d 'Print this message o
 complete -c rtps-audit -n __fish_use_subcommand -s V -l version -d 'Print version'
 complete -c rtps-audit -s h -l help -d 'Print help'
 complete -c rtps-audit -n '__fish_seen_subcommand_from show list audit' -F
+complete -c rtps-audit -n '__fish_seen_subcommand_from audit' -x -l from -d 'The first number that the readers are owed'
 complete -c rtps-audit -n '__fish_seen_subcommand_from help' -a 'show list audit sample help'
