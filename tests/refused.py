@@ -23,8 +23,8 @@ sys.dont_write_bytecode = True
 sys.path.insert(0, os.path.join(ROOT, 'bench'))
 import make
 
-CALLS = ['note', 'participants', 'endpoints', 'matched', 'pairs', 'walk', 'add_plain', 'add_merged', 'judge', 'judge_by_plain',
-         'build', 'index_judge', 'audit', 'read_recording', 'show', 'list', 'audit_run']
+CALLS = ['note', 'participants', 'endpoints', 'matched', 'pairs', 'walk', 'add_plain', 'add_merged', 'add_bits', 'judge',
+         'judge_by_plain', 'build', 'index_judge', 'audit', 'write_list', 'write_message', 'read_recording', 'show', 'list', 'audit_run']
 WORDS = ['read_words', 'read_help', 'read_refused_words']
 
 # The size of the requests between which CALLS has its requests counted, as in its source.

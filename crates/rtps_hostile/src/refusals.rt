@@ -3,6 +3,7 @@
 
 mod library;
 mod tool;
+mod writers;
 
 use crate::fault::Fault;
 use crate::recordings::datagrams;
@@ -10,7 +11,7 @@ use rtps_tool::read_recording;
 use std::alloc::{AllocError, Global};
 
 /// All calls that can be tried.
-pub(crate) const CALLS: [&str; 20] = [
+pub(crate) const CALLS: [&str; 23] = [
     "note",
     "participants",
     "endpoints",
@@ -19,11 +20,14 @@ pub(crate) const CALLS: [&str; 20] = [
     "walk",
     "add_plain",
     "add_merged",
+    "add_bits",
     "judge",
     "judge_by_plain",
     "build",
     "index_judge",
     "audit",
+    "write_list",
+    "write_message",
     "read_recording",
     "read_words",
     "read_help",
@@ -50,5 +54,8 @@ pub(crate) fn try_call(alloc: Global, call: &str, text: &str) -> Result<bool, Fa
     }
     let recording = read_recording(alloc, text.as_bytes())?;
     let recording = datagrams(alloc, &recording)?;
+    if let Some(refused) = writers::try_call(alloc, call, &recording)? {
+        return Ok(refused);
+    }
     library::try_call(alloc, call, &recording)?.ok_or(Fault::Call)
 }

@@ -14,3 +14,9 @@ pub mod WrittenData
 pub mod WrittenBodies
 pub mod WrittenMessage
 pub mod WrittenItems
+pub mod SpelledFields
+pub mod SpelledFlags
+pub mod SpelledSets
+pub mod SpelledBodies
+pub mod SpelledMessages
+pub mod SpelledWritten

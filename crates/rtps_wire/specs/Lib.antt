@@ -15,6 +15,7 @@ pub mod Message
 pub mod Reading
 pub mod SetField
 pub mod Skipped
+pub mod Spelling
 pub mod Tally
 pub mod Values
 pub mod Writable

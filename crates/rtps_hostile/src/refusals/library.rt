@@ -3,9 +3,11 @@
 use super::mark;
 use crate::fault::Fault;
 use crate::verdicts::PAIR;
-use rtps_audit::{Coverage, Index, MergedRanges, PlainRanges, audit, judge, judge_by};
-use rtps_discovery::{Directory, Noted};
-use rtps_ids::Memory;
+use rtps_audit::{
+    BitRanges, Coverage, Index, MergedRanges, PlainRanges, Verdict, audit, judge, judge_by,
+};
+use rtps_discovery::{Directory, Endpoint, Match, Noted, Pair};
+use rtps_ids::{Guid, Memory};
 use rtps_receiver::{Act, Walk};
 use std::alloc::Global;
 
@@ -41,6 +43,7 @@ pub(super) fn try_call(
         "walk" => is_walk_refused(alloc, recording)?,
         "add_plain" => is_add_refused::<PlainRanges>(alloc)?,
         "add_merged" => is_add_refused::<MergedRanges>(alloc)?,
+        "add_bits" => is_add_refused::<BitRanges>(alloc)?,
         "judge" => is_refused!(alloc, judge(alloc, recording, PAIR)),
         "judge_by_plain" => is_refused!(alloc, judge_by::<PlainRanges>(alloc, recording, PAIR)),
         "build" => is_build_refused(alloc, recording)?,
@@ -98,13 +101,12 @@ fn is_one_note_refused<'a>(
 
 // Whether two directories list the same.
 fn are_same(one: &Directory<'_>, other: &Directory<'_>) -> Result<bool, Fault> {
-    Ok(
-        one.participants()? == other.participants()?
-            && one.endpoints()? == other.endpoints()?
-            && one.matched()? == other.matched()?
-            && one.pairs()? == other.pairs()?
-            && one.unsettled() == other.unsettled(),
-    )
+    for call in LISTINGS {
+        if listed(one, call)? != listed(other, call)? {
+            return Ok(false);
+        }
+    }
+    Ok(one.unsettled() == other.unsettled())
 }
 
 fn is_listing_refused(alloc: Global, call: &str, recording: &[&[u8]]) -> Result<bool, Fault> {
@@ -114,12 +116,45 @@ fn is_listing_refused(alloc: Global, call: &str, recording: &[&[u8]]) -> Result<
         let _ = walk.read(datagram)?;
         let _ = directory.note_all(walk.acts())?;
     }
-    Ok(match call {
-        "participants" => is_refused!(alloc, directory.participants()),
-        "endpoints" => is_refused!(alloc, directory.endpoints()),
-        "matched" => is_refused!(alloc, directory.matched()),
-        _ => is_refused!(alloc, directory.pairs()),
-    })
+    Ok(is_refused!(alloc, listed(&directory, call)))
+}
+
+// The calls that list what a directory has.
+const LISTINGS: [&str; 4] = ["participants", "endpoints", "matched", "pairs"];
+
+// What a directory lists.
+#[derive(PartialEq, Drop)]
+enum Listing<'a> {
+    Participants(Vec<Guid>),
+    Endpoints(Vec<Endpoint<'a>>),
+    Matches(Vec<Match>),
+    Pairs(Vec<Pair>),
+}
+
+// What a directory lists at a call; pairs where it is none of the others.
+fn listed<'a>(directory: &Directory<'a>, call: &str) -> Result<Listing<'a>, Memory> {
+    match call {
+        "participants" => participants(directory),
+        "endpoints" => endpoints(directory),
+        "matched" => matched(directory),
+        _ => pairs(directory),
+    }
+}
+
+fn participants<'a>(directory: &Directory<'a>) -> Result<Listing<'a>, Memory> {
+    Ok(Listing::Participants(directory.participants()?))
+}
+
+fn endpoints<'a>(directory: &Directory<'a>) -> Result<Listing<'a>, Memory> {
+    Ok(Listing::Endpoints(directory.endpoints()?))
+}
+
+fn matched<'a>(directory: &Directory<'a>) -> Result<Listing<'a>, Memory> {
+    Ok(Listing::Matches(directory.matched()?))
+}
+
+fn pairs<'a>(directory: &Directory<'a>) -> Result<Listing<'a>, Memory> {
+    Ok(Listing::Pairs(directory.pairs()?))
 }
 
 fn is_walk_refused(alloc: Global, recording: &[&[u8]]) -> Result<bool, Fault> {
@@ -144,23 +179,25 @@ fn is_walk_refused(alloc: Global, recording: &[&[u8]]) -> Result<bool, Fault> {
     Ok(refused)
 }
 
+// Short ranges and long ones in turn, all apart, the greatest first. Some of the short ones lie in two words.
 fn is_add_refused<C: Coverage>(alloc: Global) -> Result<bool, Fault> {
     let mut wanted = C::empty(alloc);
     let mut tried = C::empty(alloc);
     let mut refused = false;
     for n in 0..40u8 {
-        let lo = i64::from(100 - 2 * n);
+        let lo = 8000 - 200 * i64::from(n);
+        let hi = if n % 2 == 0 { lo + 40 } else { lo + 100 };
         mark(alloc)?;
-        let first = tried.add(lo, lo + 1);
+        let first = tried.add(lo, hi);
         mark(alloc)?;
         if first.is_err() {
             refused = true;
             if !are_same_numbers(&wanted, &tried) {
                 return Err(Fault::Differs("a refusal changes the set"));
             }
-            tried.add(lo, lo + 1)?;
+            tried.add(lo, hi)?;
         }
-        wanted.add(lo, lo + 1)?;
+        wanted.add(lo, hi)?;
     }
     if !are_same_numbers(&wanted, &tried) {
         return Err(Fault::Differs("the set is another after a refusal"));
@@ -168,13 +205,13 @@ fn is_add_refused<C: Coverage>(alloc: Global) -> Result<bool, Fault> {
     Ok(refused)
 }
 
-// Whether two sets have the same of the numbers below 200.
+// Whether two sets have the same of the numbers below 8200.
 fn are_same_numbers<C: Coverage>(one: &C, other: &C) -> bool {
-    one.front() == other.front() && (0..200).all(|n| one.covers(n) == other.covers(n))
+    one.front() == other.front() && (0..8200).all(|n| one.covers(n) == other.covers(n))
 }
 
 fn is_build_refused(alloc: Global, recording: &[&[u8]]) -> Result<bool, Fault> {
-    let wanted = Index::build(alloc, recording)?;
+    let wanted = said(&Index::build(alloc, recording)?)?;
     mark(alloc)?;
     let first = Index::build(alloc, recording);
     mark(alloc)?;
@@ -182,13 +219,18 @@ fn is_build_refused(alloc: Global, recording: &[&[u8]]) -> Result<bool, Fault> {
         Ok(index) => (index, false),
         Err(Memory) => (Index::build(alloc, recording)?, true),
     };
-    if index.acts_of(PAIR.writer).len() != wanted.acts_of(PAIR.writer).len()
-        || index.acts_of(PAIR.reader).len() != wanted.acts_of(PAIR.reader).len()
-        || index.judge(PAIR)? != wanted.judge(PAIR)?
-    {
+    if said(&index)? != wanted {
         return Err(Fault::Differs("the index is another after a refusal"));
     }
     Ok(refused)
+}
+
+// How many acts each of the pair has in an index, and the verdict.
+fn said(index: &Index<'_>) -> Result<(usize, usize, Verdict), Memory> {
+    let written = index.acts_of(PAIR.writer).len();
+    let read = index.acts_of(PAIR.reader).len();
+    let verdict = index.judge(PAIR)?;
+    Ok((written, read, verdict))
 }
 
 fn is_audit_refused(alloc: Global, recording: &[&[u8]]) -> Result<bool, Fault> {

@@ -1,0 +1,209 @@
+-- A body that is read is spelled by the octets from which it was read.
+use Rattle.std.proofs.Common.{◌≡◌, ◌<◌, ◌≤◌, ◌+◌, ◌-◌, ◌^◌, ℕ, ℤ, pos, List, [], ◌∷◌, ◌++◌, Bool, true, false, Option, None, Some, length, take, drop, slice_index, refl, ap, sym, ◌∙◌, arith}
+use Rattle.std.specs.Prelude.{◌==◌, ◌&&◌, ◌||◌, bit_and, int_le, int_lt, is_err, nat_lt, if◌then◌else◌}
+use Rattle.std.specs.Int.RustNames.{unsigned_abs}
+use Rattle.std.proofs.lemmas.Bool.Decides.{nat_tests}
+use Rattle.std.proofs.lemmas.Int.{ints}
+use Rattle.std.proofs.lemmas.List.{drop-drop, length-drop, length-take-le, take-append-drop}
+use Rattle.rtps_ids.specs.NumberSet.{is_bad, octets_of_count, spelled_base, spelled_count, spelled_set}
+use Rattle.rtps_ids.specs.Octets.{number_of, octets_of, sequence_number_octets}
+use Rattle.rtps_ids.specs.declared.order.Order.{Order}
+use Rattle.rtps_ids.specs.declared.order.Order.TheVariants.{Big, Little}
+use Rattle.rtps_params.specs.Reading.{list_end}
+use Rattle.rtps_params.specs.Shown.{is_same_order}
+use Rattle.rtps_wire.proofs.SpelledFields.{AreOctets, field_stands, half_below, half_stands, number_stands, octet_stands, octets-drop, pos-unsigned_abs, word_stands}
+use Rattle.rtps_wire.proofs.SpelledSets.{set_stands}
+use Rattle.rtps_wire.specs.AckNack.{ack_nack_fault, ack_nack_of, count_place}
+use Rattle.rtps_wire.specs.Data.{behind_fields, behind_qos, data_fault, data_number, data_of, has_data, has_key, has_qos, is_other_order, octets_to_inline_qos, payload_of, qos_octets, qos_of}
+use Rattle.rtps_wire.specs.Gap.{gap_fault, gap_of, start_number}
+use Rattle.rtps_wire.specs.Heartbeat.{first_number, heartbeat_fault, heartbeat_of, last_number}
+use Rattle.rtps_wire.specs.Info.{info_dst_fault, info_dst_of, info_src_fault, info_src_of, info_ts_fault, info_ts_of}
+use Rattle.rtps_wire.specs.Spelling.{SpellsAckNack, SpellsData, SpellsDestination, SpellsGap, SpellsHeartbeat, SpellsPayload, SpellsSource, SpellsTime}
+use Rattle.rtps_wire.specs.declared.fault.WireFault.{WireFault}
+
+-- where there is no fault, no row of the table holds
+pub no_row : (fault : WireFault) (bad : Bool) (later : Option WireFault) → (if bad then Some fault else later) ≡ None → (bad ≡ false) × (later ≡ None)
+no_row fault true later none = cc
+no_row fault false later none = (refl, none)
+
+neither : (a b : Bool) → (a || b) ≡ false → (a ≡ false) × (b ≡ false)
+neither false b none = (refl, none)
+neither true b none = cc
+
+pub at_least : (a b : ℕ) → nat_lt a b ≡ false → b ≤ a
+at_least a b not_below = grind (arith, nat_tests)
+
+not_low : (value : ℤ) → int_le value (pos 0) ≡ false → int_le (pos 0) value ≡ true
+not_low value above = grind (arith, ints, nat_tests)
+
+not_negative : (value : ℤ) → int_lt value (pos 0) ≡ false → int_le (pos 0) value ≡ true
+not_negative value above = grind (arith, ints, nat_tests)
+
+-- ---- HEARTBEAT
+
+pub heartbeat_spelled : (order : Order) (flags : ℕ) (octets : List ℕ) → AreOctets octets → heartbeat_fault order octets ≡ None
+    → SpellsHeartbeat order (heartbeat_of order flags octets) octets
+heartbeat_spelled order flags octets small good =
+    let sized = no_row _ _ _ good in
+    let numbers = no_row _ _ _ sized.1 in
+    let signs = neither _ _ numbers.0 in
+    let long = at_least (length octets) 28 sized.0 in
+    let first_low = not_low (first_number order octets) signs.0 in
+    let first_is = pos-unsigned_abs (first_number order octets) first_low in
+    let r = take 4 octets in
+    let w = take 4 (drop 4 octets) in
+    let f = sequence_number_octets order (pos (unsigned_abs (first_number order octets))) in
+    let l = sequence_number_octets order (last_number order octets) in
+    record {
+      ignored = drop 28 octets;
+      parts = field_stands octets 0 4 4 refl
+          ∙ ap (λ xs. r ++ xs) (field_stands octets 4 4 8 refl
+          ∙ ap (λ xs. w ++ xs) (number_stands order octets 8 16 _ refl (omega arith) small (sym first_is) (ap (int_le (pos 0)) first_is ∙ first_low)
+          ∙ ap (λ xs. f ++ xs) (number_stands order octets 16 24 _ refl (omega arith) small refl (not_negative (last_number order octets) signs.1)
+          ∙ ap (λ xs. l ++ xs) (word_stands order octets 24 28 refl (omega arith) small))));
+    }
+
+-- ---- ACKNACK
+
+pub ack_nack_spelled : (order : Order) (flags : ℕ) (octets : List ℕ) → AreOctets octets → ack_nack_fault order octets ≡ None
+    → SpellsAckNack order (ack_nack_of order flags octets) octets
+ack_nack_spelled order flags octets small good =
+    let sized = no_row _ _ _ good in
+    let set_good = no_row _ _ _ sized.1 in
+    let whole = no_row _ _ _ set_good.1 in
+    let long = at_least (length octets) 24 sized.0 in
+    let enough = at_least (length octets) (count_place order octets + 4) whole.0 in
+    let size = octets_of_count (spelled_count order (drop 8 octets)) in
+    let set = set_stands order (drop 8 octets) set_good.0 (omega (arith, length-drop 8 octets)) (octets-drop octets 8 small) in
+    record {
+      set = set.set;
+      ignored = drop (8 + size + 4) octets;
+      parts = field_stands octets 0 4 4 refl
+          ∙ ap (λ xs. take 4 octets ++ xs) (field_stands octets 4 4 8 refl
+          ∙ ap (λ xs. take 4 (drop 4 octets) ++ xs) (set.stands
+          ∙ ap (λ xs. set.set ++ xs) (drop-drop size 8 octets ∙ word_stands order octets (8 + size) (8 + size + 4) refl (omega arith) small)));
+      spelled = set.spelled;
+    }
+
+-- ---- GAP
+
+pub gap_spelled : (order : Order) (octets : List ℕ) → AreOctets octets → gap_fault order octets ≡ None → SpellsGap order (gap_of order octets) octets
+gap_spelled order octets small good =
+    let sized = no_row _ _ _ good in
+    let started = no_row _ _ _ sized.1 in
+    let list_good = no_row _ _ _ started.1 in
+    let whole = no_row _ _ _ list_good.1 in
+    let long = at_least (length octets) 28 sized.0 in
+    let size = octets_of_count (spelled_count order (drop 16 octets)) in
+    let enough = at_least (length octets) (16 + size) whole.0 in
+    let start_low = not_low (start_number order octets) started.0 in
+    let start_is = pos-unsigned_abs (start_number order octets) start_low in
+    let s = sequence_number_octets order (pos (unsigned_abs (start_number order octets))) in
+    let list = set_stands order (drop 16 octets) (neither _ _ list_good.0).0 (omega (arith, length-drop 16 octets)) (octets-drop octets 16 small) in
+    record {
+      list = list.set;
+      ignored = drop size (drop 16 octets);
+      parts = field_stands octets 0 4 4 refl
+          ∙ ap (λ xs. take 4 octets ++ xs) (field_stands octets 4 4 8 refl
+          ∙ ap (λ xs. take 4 (drop 4 octets) ++ xs) (number_stands order octets 8 16 _ refl (omega arith) small (sym start_is) (ap (int_le (pos 0)) start_is ∙ start_low)
+          ∙ ap (λ xs. s ++ xs) list.stands));
+      spelled = list.spelled;
+    }
+
+-- ---- INFO_TS, INFO_DST and INFO_SRC
+
+pub time_spelled : (order : Order) (flags : ℕ) (octets : List ℕ) → AreOctets octets → info_ts_fault flags octets ≡ None → SpellsTime order (info_ts_of order flags octets) octets
+time_spelled order flags octets small good = by (bit_and flags 2 == 0) refl
+  where
+    by : (b : Bool) → (bit_and flags 2 == 0) ≡ b → SpellsTime order (info_ts_of order flags octets) octets
+    by false is = rw is tt
+    by true is =
+        let row : nat_lt (length octets) 8 ≡ false = (no_row _ _ _ (rw is at good)).0 in
+        let long = at_least (length octets) 8 row in
+        rw is (drop 8 octets, word_stands order octets 0 4 refl (omega arith) small ∙ ap (λ xs. octets_of order 4 (number_of order 4 octets) ++ xs) (word_stands order octets 4 8 refl (omega arith) small))
+
+pub destination_spelled : (octets : List ℕ) → info_dst_fault octets ≡ None → SpellsDestination (info_dst_of octets) octets
+destination_spelled octets good = (drop 12 octets, field_stands octets 0 12 12 refl)
+
+pub source_spelled : (octets : List ℕ) → info_src_fault octets ≡ None → SpellsSource (info_src_of octets).version (info_src_of octets).vendor (info_src_of octets).prefix octets
+source_spelled octets good =
+    let sized = no_row _ _ _ good in
+    let long = at_least (length octets) 20 sized.0 in
+    record {
+      unused = take 4 octets;
+      ignored = drop 20 octets;
+      four = length-take-le 4 octets (omega arith);
+      parts = field_stands octets 0 4 4 refl
+          ∙ ap (λ xs. take 4 octets ++ xs) (octet_stands octets 4 5 refl (omega arith)
+          ∙ ap (λ xs. slice_index octets 4 ∷ xs) (octet_stands octets 5 6 refl (omega arith)
+          ∙ ap (λ xs. slice_index octets 5 ∷ xs) (field_stands octets 6 2 8 refl
+          ∙ ap (λ xs. take 2 (drop 6 octets) ++ xs) (field_stands octets 8 12 20 refl))));
+    }
+
+-- ---- DATA
+
+own_order : (order : Order) → is_same_order order order ≡ true
+own_order Big = refl
+own_order Little = refl
+
+qos_order : (order : Order) (flags : ℕ) (octets : List ℕ) → is_other_order order (qos_of order flags octets) ≡ false
+qos_order order flags octets = by (has_qos flags) refl
+  where
+    by : (b : Bool) → has_qos flags ≡ b → is_other_order order (qos_of order flags octets) ≡ false
+    by true is = rw (is, own_order order) refl
+    by false is = rw is refl
+
+qos_stands : (order : Order) (flags : ℕ) (octets : List ℕ) → octets ≡ qos_octets (qos_of order flags octets) ++ behind_qos order flags octets
+qos_stands order flags octets = by (has_qos flags) refl
+  where
+    by : (b : Bool) → has_qos flags ≡ b → octets ≡ qos_octets (qos_of order flags octets) ++ behind_qos order flags octets
+    by true is = rw is (sym (take-append-drop _ octets))
+    by false is = rw is refl
+
+payload_spelled : (flags : ℕ) (octets : List ℕ) → SpellsPayload (payload_of flags octets) octets
+payload_spelled flags octets = by (has_data flags) (has_key flags) refl refl
+  where
+    by : (d k : Bool) → has_data flags ≡ d → has_key flags ≡ k → SpellsPayload (payload_of flags octets) octets
+    by true k p q = rw p refl
+    by false true p q = rw (p, q) refl
+    by false false p q = rw (p, q) tt
+
+pub data_spelled : (order : Order) (flags : ℕ) (octets : List ℕ) → AreOctets octets → data_fault order flags octets ≡ None
+    → SpellsData order (data_of order flags octets) octets
+data_spelled order flags octets small good =
+    let sized = no_row _ _ _ good in
+    let kinds = no_row _ _ _ sized.1 in
+    let near = no_row _ _ _ kinds.1 in
+    let numbered = no_row _ _ _ near.1 in
+    let bounds = neither _ _ near.0 in
+    let long = at_least (length octets) 20 sized.0 in
+    let offset = octets_to_inline_qos order octets in
+    let above = at_least (4 + offset) 20 bounds.0 in
+    let within = at_least (length octets) (4 + offset) bounds.1 in
+    let skipped = take (offset - 16) (drop 20 octets) in
+    let skipped_long : length skipped ≡ offset - 16 = length-take-le (offset - 16) (drop 20 octets) (omega (arith, length-drop 20 octets)) in
+    let offset_is : 16 + length skipped ≡ offset = omega arith in
+    let number_low = not_low (data_number order octets) numbered.0 in
+    let number_is = pos-unsigned_abs (data_number order octets) number_low in
+    let n = sequence_number_octets order (pos (unsigned_abs (data_number order octets))) in
+    let behind = behind_fields order octets in
+    record {
+      extra_flags = take 2 octets;
+      skipped = skipped;
+      payload = behind_qos order flags behind;
+      two = length-take-le 2 octets (omega arith);
+      near = rw offset_is (half_below order (drop 2 octets) (omega (arith, length-drop 2 octets)) (octets-drop octets 2 small));
+      parts = field_stands octets 0 2 2 refl
+          ∙ ap (λ xs. take 2 octets ++ xs) (half_stands order octets 2 4 refl (omega arith) small
+          ∙ (ap (λ k. octets_of order 2 k ++ drop 4 octets) (sym offset_is)
+          ∙ ap (λ xs. octets_of order 2 (16 + length skipped) ++ xs) (field_stands octets 4 4 8 refl
+          ∙ ap (λ xs. take 4 (drop 4 octets) ++ xs) (field_stands octets 8 4 12 refl
+          ∙ ap (λ xs. take 4 (drop 8 octets) ++ xs) (number_stands order octets 12 20 _ refl (omega arith) small (sym number_is) (ap (int_le (pos 0)) number_is ∙ number_low)
+          ∙ ap (λ xs. n ++ xs) (field_stands octets 20 (offset - 16) (4 + offset) (omega arith)
+          ∙ ap (λ xs. skipped ++ xs) (qos_stands order flags behind)))))));
+      same_order = qos_order order flags behind;
+      spelled = payload_spelled flags (behind_qos order flags behind);
+    }
+
+pub one_kind : (order : Order) (flags : ℕ) (octets : List ℕ) → data_fault order flags octets ≡ None → (has_data flags && has_key flags) ≡ false
+one_kind order flags octets good = (no_row _ _ _ (no_row _ _ _ good).1).0

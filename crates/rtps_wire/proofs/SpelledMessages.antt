@@ -1,0 +1,209 @@
+-- A message that is read is spelled by its octets.
+use Rattle.std.proofs.Common.{◌≡◌, ◌<◌, ◌≤◌, ◌+◌, ◌^◌, ℕ, zero, suc, List, [], ◌∷◌, ◌++◌, append_assoc, Bool, true, false, Option, None, Some, length, take, drop, slice_index, refl, ap, sym, subst, ◌∙◌, arith, inl, inr}
+use Rattle.std.specs.Prelude.{◌==◌, ◌||◌, bit_and, nat_lt, not}
+use Rattle.std.proofs.lemmas.Bool.Decides.{nat_tests}
+use Rattle.std.proofs.lemmas.List.{drop-drop, get_or-take, length-drop, length-take, length-take-le, take-append-drop}
+use Rattle.rtps_ids.specs.Octets.{number_of, octets_of}
+use Rattle.rtps_wire.proofs.OneReading.{has_reading}
+use Rattle.rtps_wire.proofs.Readings.{fault_at-body}
+use Rattle.rtps_wire.proofs.SpelledBodies.{ack_nack_spelled, data_spelled, destination_spelled, gap_spelled, heartbeat_spelled, no_row, at_least, one_kind, source_spelled, time_spelled}
+use Rattle.rtps_wire.proofs.SpelledFields.{AreOctets, field_stands, half_below, half_octets, octet_stands, octets-drop}
+use Rattle.rtps_wire.proofs.SpelledFlags.{ack_nack_flags_read, data_flags_read, heartbeat_flags_read, plain_flags, time_flags_read}
+use Rattle.rtps_wire.specs.Header.{header_fault, header_octets, header_of}
+use Rattle.rtps_wire.specs.Message.{Reading, Reads, ReadsFrom, ReadsWith, body_fault, body_length, body_octets, body_of, extent_of, fault_at, flags_of, id_of, item_at, next_rest, octets_to_next_header, order_of}
+use Rattle.rtps_wire.specs.Reading.{reading_of}
+use Rattle.rtps_wire.specs.Skipped.{is_read}
+use Rattle.rtps_wire.specs.Spelling.{Declares, Spells, SpellsBody, SpellsItem, SpellsItems, named_flags}
+use Rattle.rtps_wire.specs.Values.{BodyValue, ItemValue}
+use Rattle.rtps_wire.specs.Values.BodyValue.{Data, Heartbeat, AckNack, Gap, InfoTs, InfoDst, InfoSrc, Skipped}
+use Rattle.rtps_wire.specs.Written.{written_flags, written_id}
+use Rattle.rtps_wire.specs.declared.fault.WireFault.{WireFault}
+use Rattle.rtps_wire.specs.declared.fault.WireFault.TheVariants.{CutHeader, Overrun}
+use Rattle.rtps_wire.specs.declared.header.Header.{Header}
+
+-- ---- a body, by its kind
+
+record Spelled (id flags : ℕ) (octets : List ℕ) (value : BodyValue) : Type 0 where
+  id_is : written_id value ≡ id
+  named : bit_and flags (named_flags value) ≡ written_flags (order_of flags) value
+  spelled : SpellsBody (order_of flags) value octets
+
+same_id : (id other : ℕ) → (id == other) ≡ true → other ≡ id
+same_id id other same = grind (arith, nat_tests)
+
+not_read : (id : ℕ) → (id == 6) ≡ false → (id == 7) ≡ false → (id == 8) ≡ false → (id == 9) ≡ false → (id == 12) ≡ false → (id == 14) ≡ false → (id == 21) ≡ false → is_read id ≡ false
+not_read id a b c d e f g = rw (a, b, c, d, e, f, g) refl
+
+body_spelled : (id flags : ℕ) (octets : List ℕ) → AreOctets octets → body_fault id flags octets ≡ None → Spelled id flags octets (body_of id flags octets)
+body_spelled id flags octets small good = ack_nack (id == 6) refl
+  where
+    rest : (id == 6) ≡ false → (id == 7) ≡ false → (id == 8) ≡ false → (id == 9) ≡ false → (id == 12) ≡ false → (id == 14) ≡ false → (b : Bool) → (id == 21) ≡ b
+        → Spelled id flags octets (body_of id flags octets)
+    rest p6 p7 p8 p9 p12 p14 true is =
+        let fine = rw (p6, p7, p8, p9, p12, p14, is) at good in
+        rw (p6, p7, p8, p9, p12, p14, is) (record { id_is = same_id id 21 is; named = data_flags_read (order_of flags) flags _ _ (one_kind (order_of flags) flags octets fine); spelled = data_spelled (order_of flags) flags octets small fine })
+    rest p6 p7 p8 p9 p12 p14 false is =
+        rw (p6, p7, p8, p9, p12, p14, is) (record { id_is = refl; named = plain_flags flags; spelled = not_read id p6 p7 p8 p9 p12 p14 is })
+
+    info_dst : (id == 6) ≡ false → (id == 7) ≡ false → (id == 8) ≡ false → (id == 9) ≡ false → (id == 12) ≡ false → (b : Bool) → (id == 14) ≡ b
+        → Spelled id flags octets (body_of id flags octets)
+    info_dst p6 p7 p8 p9 p12 true is =
+        let fine = rw (p6, p7, p8, p9, p12, is) at good in
+        rw (p6, p7, p8, p9, p12, is) (record { id_is = same_id id 14 is; named = plain_flags flags; spelled = destination_spelled octets fine })
+    info_dst p6 p7 p8 p9 p12 false is = rest p6 p7 p8 p9 p12 is (id == 21) refl
+
+    info_src : (id == 6) ≡ false → (id == 7) ≡ false → (id == 8) ≡ false → (id == 9) ≡ false → (b : Bool) → (id == 12) ≡ b → Spelled id flags octets (body_of id flags octets)
+    info_src p6 p7 p8 p9 true is =
+        let fine = rw (p6, p7, p8, p9, is) at good in
+        rw (p6, p7, p8, p9, is) (record { id_is = same_id id 12 is; named = plain_flags flags; spelled = source_spelled octets fine })
+    info_src p6 p7 p8 p9 false is = info_dst p6 p7 p8 p9 is (id == 14) refl
+
+    info_ts : (id == 6) ≡ false → (id == 7) ≡ false → (id == 8) ≡ false → (b : Bool) → (id == 9) ≡ b → Spelled id flags octets (body_of id flags octets)
+    info_ts p6 p7 p8 true is =
+        let fine = rw (p6, p7, p8, is) at good in
+        rw (p6, p7, p8, is) (record { id_is = same_id id 9 is; named = time_flags_read flags _; spelled = time_spelled (order_of flags) flags octets small fine })
+    info_ts p6 p7 p8 false is = info_src p6 p7 p8 is (id == 12) refl
+
+    gap : (id == 6) ≡ false → (id == 7) ≡ false → (b : Bool) → (id == 8) ≡ b → Spelled id flags octets (body_of id flags octets)
+    gap p6 p7 true is =
+        let fine = rw (p6, p7, is) at good in
+        rw (p6, p7, is) (record { id_is = same_id id 8 is; named = plain_flags flags; spelled = gap_spelled (order_of flags) octets small fine })
+    gap p6 p7 false is = info_ts p6 p7 is (id == 9) refl
+
+    heartbeat : (id == 6) ≡ false → (b : Bool) → (id == 7) ≡ b → Spelled id flags octets (body_of id flags octets)
+    heartbeat p6 true is =
+        let fine = rw (p6, is) at good in
+        rw (p6, is) (record { id_is = same_id id 7 is; named = heartbeat_flags_read flags; spelled = heartbeat_spelled (order_of flags) flags octets small fine })
+    heartbeat p6 false is = gap p6 is (id == 8) refl
+
+    ack_nack : (b : Bool) → (id == 6) ≡ b → Spelled id flags octets (body_of id flags octets)
+    ack_nack true is =
+        let fine = rw is at good in
+        rw is (record { id_is = same_id id 6 is; named = ack_nack_flags_read flags; spelled = ack_nack_spelled (order_of flags) flags octets small fine })
+    ack_nack false is = heartbeat is (id == 7) refl
+
+-- ---- a submessage
+
+-- what is known of a submessage without a fault
+record IsWhole (rest : List ℕ) : Type 0 where
+  long : 4 ≤ length rest
+  within : octets_to_next_header rest ≤ length (drop 4 rest)
+  body : body_fault (id_of rest) (flags_of rest) (body_octets rest) ≡ None
+
+is_whole : (rest : List ℕ) → fault_at rest ≡ None → IsWhole rest
+unfolding fault_at
+is_whole rest good = by (nat_lt (length rest) 4) (nat_lt (length (drop 4 rest)) (octets_to_next_header rest)) refl refl
+  where
+    by : (cut over : Bool) → nat_lt (length rest) 4 ≡ cut → nat_lt (length (drop 4 rest)) (octets_to_next_header rest) ≡ over → IsWhole rest
+    by true over p q = let fault : Some CutHeader ≡ None = rw p at good in cc
+    by false true p q = let fault : Some Overrun ≡ None = rw (p, q) at good in cc
+    by false false p q = record { long = at_least (length rest) 4 p; within = at_least (length (drop 4 rest)) (octets_to_next_header rest) q; body = rw (p, q) at good }
+
+-- a body's length is what octetsToNextHeader says
+declares : (id declared left : ℕ) (rest : List ℕ) → declared ≤ left → length rest ≡ left
+    → (extent_of id declared left ≤ left) × Declares id declared (extent_of id declared left) (drop (extent_of id declared left) rest)
+declares id declared left rest within is = by (declared == 0) (id == 1 || id == 9) refl refl
+  where
+    none : (n : ℕ) → (n == 0) ≡ true → n ≡ 0
+    none n e = grind (arith, nat_tests)
+
+    all_gone : (n : ℕ) (xs : List ℕ) → length xs ≡ n → drop n xs ≡ []
+    all_gone zero [] e = refl
+    all_gone (suc n) (x ∷ xs) e = all_gone n xs (omega arith)
+    all_gone zero (x ∷ xs) e = absurd (omega arith)
+    all_gone (suc n) [] e = absurd (omega arith)
+
+    by : (zero_is empty : Bool) → (declared == 0) ≡ zero_is → (id == 1 || id == 9) ≡ empty
+        → (extent_of id declared left ≤ left) × Declares id declared (extent_of id declared left) (drop (extent_of id declared left) rest)
+    by true true p q = rw (p, q) (omega arith, inl (none declared p))
+    by true false p q = rw (p, q) (omega arith, inr (none declared p, refl, all_gone left rest is))
+    by false empty p q = rw p (within, inl refl)
+
+-- the header of a submessage and its body stand one behind the other
+submessage_stands : (rest : List ℕ) (size : ℕ) → 4 ≤ length rest → AreOctets rest
+    → take (4 + size) rest ≡ id_of rest ∷ flags_of rest ∷ (octets_of (order_of (flags_of rest)) 2 (octets_to_next_header rest) ++ take size (drop 4 rest))
+submessage_stands (a ∷ b ∷ c ∷ d ∷ xs) size long small =
+    let there = half_octets (order_of b) (c ∷ d ∷ xs) (omega arith) (octets-drop (a ∷ b ∷ c ∷ d ∷ xs) 2 small) in
+    let longer : 4 + size ≡ suc (suc (suc (suc size))) = omega arith in
+    ap (λ n. take n (a ∷ b ∷ c ∷ d ∷ xs)) longer ∙ ap (λ ys. a ∷ b ∷ (ys ++ take size xs)) (sym there)
+submessage_stands [] size long small = absurd (omega arith)
+submessage_stands (a ∷ []) size long small = absurd (omega arith)
+submessage_stands (a ∷ b ∷ []) size long small = absurd (omega arith)
+submessage_stands (a ∷ b ∷ c ∷ []) size long small = absurd (omega arith)
+
+octets-take : (octets : List ℕ) (n : ℕ) → AreOctets octets → AreOctets (take n octets)
+octets-take octets n small k d inside =
+    let shorter = length-take n octets in
+    rw (get_or-take n octets k d (omega arith)) (small k d (omega arith))
+
+item_spelled : (rest : List ℕ) (at : ℕ) → AreOctets rest → fault_at rest ≡ None → SpellsItem (item_at rest at) (take (4 + body_length rest) rest) (next_rest rest)
+unfolding item_at
+item_spelled rest at small good =
+    let whole = is_whole rest good in
+    let size = declares (id_of rest) (octets_to_next_header rest) (length (drop 4 rest)) (drop 4 rest) whole.within refl in
+    let octets = body_octets rest in
+    let body = body_spelled (id_of rest) (flags_of rest) octets (octets-take (drop 4 rest) (body_length rest) (octets-drop rest 4 small)) whole.body in
+    let long : length octets ≡ body_length rest = length-take-le (body_length rest) (drop 4 rest) size.0 in
+    let behind : drop (body_length rest) (drop 4 rest) ≡ next_rest rest = drop-drop (body_length rest) 4 rest in
+    record {
+      flags = flags_of rest;
+      declared = octets_to_next_header rest;
+      body = octets;
+      short = half_below (order_of (flags_of rest)) (drop 2 rest) (omega (arith, length-drop 2 rest, whole.long)) (octets-drop rest 2 small);
+      parts = submessage_stands rest (body_length rest) whole.long small ∙ ap (λ id. id ∷ flags_of rest ∷ (octets_of (order_of (flags_of rest)) 2 (octets_to_next_header rest) ++ octets)) (sym body.id_is);
+      named = body.named;
+      size = rw (body.id_is, long, ← behind) size.1;
+      spelled = body.spelled;
+    }
+
+items_spelled : (items : List ItemValue) (rest : List ℕ) (at : ℕ) → AreOctets rest → ReadsFrom rest at items None → SpellsItems items rest
+items_spelled [] rest at small done = done
+items_spelled (item ∷ items) rest at small (some, good, is, behind) =
+    let first = take (4 + body_length rest) rest in (
+      first,
+      next_rest rest,
+      sym (take-append-drop (4 + body_length rest) rest),
+      rw is (item_spelled rest at small good),
+      items_spelled items (next_rest rest) (at + 4 + body_length rest) (octets-drop rest (4 + body_length rest) small) behind,
+    )
+
+-- ---- the header
+
+begins : (a b c d : ℕ) → (not (a == 82) || not (b == 84) || not (c == 80) || not (d == 83)) ≡ false → (a ≡ 82) × (b ≡ 84) × (c ≡ 80) × (d ≡ 83)
+begins a b c d none = (grind (arith, nat_tests), grind (arith, nat_tests), grind (arith, nat_tests), grind (arith, nat_tests))
+
+first_four : (a b c d : ℕ) (rest : List ℕ) → (a ≡ 82) × (b ≡ 84) × (c ≡ 80) × (d ≡ 83) → ◌≡◌ {A = List ℕ} (a ∷ b ∷ c ∷ d ∷ rest) (82 ∷ 84 ∷ 80 ∷ 83 ∷ rest)
+first_four a b c d rest (p, q, r, s) = cc
+
+header_stands : (octets : List ℕ) → header_fault octets ≡ None → octets ≡ header_octets (header_of octets) ++ drop 20 octets
+unfolding header_fault header_of
+header_stands octets good =
+    let sized = no_row _ _ _ good in
+    let named = no_row _ _ _ sized.1 in
+    let long = at_least (length octets) 20 sized.0 in
+    let vendor = take 2 (drop 6 octets) in
+    let prefix = take 12 (drop 8 octets) in
+    octet_stands octets 0 1 refl (omega arith)
+    ∙ (ap (λ xs. slice_index octets 0 ∷ xs) (octet_stands octets 1 2 refl (omega arith)
+    ∙ ap (λ xs. slice_index octets 1 ∷ xs) (octet_stands octets 2 3 refl (omega arith)
+    ∙ ap (λ xs. slice_index octets 2 ∷ xs) (octet_stands octets 3 4 refl (omega arith)
+    ∙ ap (λ xs. slice_index octets 3 ∷ xs) (octet_stands octets 4 5 refl (omega arith)
+    ∙ ap (λ xs. slice_index octets 4 ∷ xs) (octet_stands octets 5 6 refl (omega arith)
+    ∙ ap (λ xs. slice_index octets 5 ∷ xs) (field_stands octets 6 2 8 refl
+    ∙ (ap (λ xs. vendor ++ xs) (field_stands octets 8 12 20 refl) ∙ sym (append_assoc vendor prefix (drop 20 octets)))))))))
+    ∙ first_four _ _ _ _ _ (begins _ _ _ _ named.0))
+
+-- ---- a message
+
+pub read_spelled : (header : Header) (items : List ItemValue) (message : List ℕ) → AreOctets message
+    → reading_of message ≡ record { header = Some header; items = items; ending = None } → Spells header items message
+read_spelled header items message small read = by (header_fault message) refl (subst (Reads message) read (has_reading message))
+  where
+    by : (fault : Option WireFault) → header_fault message ≡ fault → ReadsWith (header_fault message) message (record { header = Some header; items = items; ending = None })
+        → Spells header items message
+    by (Some fault) is reads = let bad = rw is at reads in let none : Some header ≡ None = bad.0 in cc
+    by None is reads =
+        let fine = rw is at reads in
+        let header_is : Some header ≡ Some (header_of message) = fine.0 in
+        let same : header ≡ header_of message = cc in
+        (drop 20 message, rw same (header_stands message is), items_spelled items (drop 20 message) 20 (octets-drop message 20 small) fine.1)

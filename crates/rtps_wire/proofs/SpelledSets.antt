@@ -1,0 +1,117 @@
+-- A set that is read is spelled by the octets from which it was read.
+use Rattle.std.proofs.Common.{◌≡◌, ◌<◌, ◌≤◌, ◌+◌, ◌-◌, ◌*◌, ◌/◌, ◌%◌, ◌^◌, ℕ, ℤ, zero, suc, pos, List, [], ◌∷◌, ◌++◌, true, false, length, drop, get_or, refl, ap, sym, ◌∙◌, append_assoc, arith}
+use Rattle.std.specs.Prelude.{int_le, nat_lt, slice_index}
+use Rattle.std.specs.Int.{bit_at}
+use Rattle.std.specs.Int.RustNames.{unsigned_abs}
+use Rattle.std.specs.List.{flat_map}
+use Rattle.std.proofs.Math.Nat.{div-add-mod', mod-lt}
+use Rattle.std.proofs.lemmas.Bool.Decides.{nat_tests}
+use Rattle.std.proofs.lemmas.Int.{ints}
+use Rattle.std.proofs.lemmas.List.{drop-drop, length-drop}
+use Rattle.std.proofs.lemmas.List.FromFn.{get_or-map-range_with_len}
+use Rattle.std.proofs.lemmas.Nat.{pow_pos}
+use Rattle.std.proofs.lemmas.Nat.Bits.{bit_at_cat_high}
+use Rattle.rtps_ids.proofs.Offered.{at_most_256}
+use Rattle.rtps_ids.specs.NumberSet.{bit_of, cleared, cleared_words, is_bad, kept_bits, octets_of_count, spelled_base, spelled_count, spelled_set, spelled_word}
+use Rattle.rtps_ids.specs.Octets.{number_of, octets_of, sequence_number_octets}
+use Rattle.rtps_ids.specs.declared.order.Order.{Order}
+use Rattle.rtps_wire.proofs.SpelledFields.{AreOctets, number_stands, octets-drop, pos-unsigned_abs, word_stands}
+use Rattle.rtps_wire.specs.Spelling.{SpellsSet}
+
+-- ---- words that stand one behind another
+
+words_at : Order → ℕ → List ℕ → List ℕ
+words_at order zero octets = []
+words_at order (suc n) octets = number_of order 4 octets ∷ words_at order n (drop 4 octets)
+
+length-words_at : (order : Order) (n : ℕ) (octets : List ℕ) → length (words_at order n octets) ≡ n
+unfolding words_at
+length-words_at order zero octets = refl
+length-words_at order (suc n) octets = omega (arith, length-words_at order n (drop 4 octets))
+
+word-words_at : (order : Order) (n i : ℕ) (octets : List ℕ) → i < n → get_or (words_at order n octets) i 0 ≡ number_of order 4 (drop (4 * i) octets)
+unfolding words_at
+word-words_at order zero i octets inside = absurd (omega arith)
+word-words_at order (suc n) zero octets inside = refl
+word-words_at order (suc n) (suc i) octets inside =
+    let place : 4 + 4 * i ≡ 4 * suc i = omega arith in
+    word-words_at order n i (drop 4 octets) (omega arith) ∙ ap (number_of order 4) (drop-drop (4 * i) 4 octets ∙ ap (λ at. drop at octets) place)
+
+words_stand : (order : Order) (n : ℕ) (octets : List ℕ) → 4 * n ≤ length octets → AreOctets octets
+    → octets ≡ flat_map (octets_of order 4) (words_at order n octets) ++ drop (4 * n) octets
+unfolding words_at
+words_stand order zero octets inside small = refl
+words_stand order (suc n) octets inside small =
+    let first = octets_of order 4 (number_of order 4 octets) in
+    let more = flat_map (octets_of order 4) (words_at order n (drop 4 octets)) in
+    let place : 4 + 4 * n ≡ 4 * suc n = omega arith in
+    word_stands order octets 0 4 refl (omega arith) small
+    ∙ (ap (λ xs. first ++ xs) (words_stand order n (drop 4 octets) (omega (arith, length-drop 4 octets)) (octets-drop octets 4 small))
+    ∙ (sym (append_assoc first more _) ∙ ap (λ xs. (first ++ more) ++ xs) (drop-drop (4 * n) 4 octets ∙ ap (λ at. drop at octets) place)))
+
+-- ---- a bit that stands for a number is kept
+
+bit_at-high : (word m i : ℕ) → m ≤ i → bit_at (word / 2 ^ m * 2 ^ m) i ≡ bit_at word i
+bit_at-high word m i above =
+    let room : zero < 2 ^ m = pow_pos m in
+    let parts : word / 2 ^ m * 2 ^ m + word % 2 ^ m ≡ word = div-add-mod' word (2 ^ m) in
+    let whole : bit_at (word / 2 ^ m * 2 ^ m + word % 2 ^ m) i ≡ bit_at (word / 2 ^ m) (i - m) = bit_at_cat_high (word / 2 ^ m) m (word % 2 ^ m) i (mod-lt word room) above in
+    let bare : bit_at (word / 2 ^ m * 2 ^ m + 0) i ≡ bit_at (word / 2 ^ m) (i - m) = bit_at_cat_high (word / 2 ^ m) m 0 i room above in
+    let none : word / 2 ^ m * 2 ^ m + 0 ≡ word / 2 ^ m * 2 ^ m = omega arith in
+    ap (λ n. bit_at n i) (sym none) ∙ (bare ∙ (sym whole ∙ ap (λ n. bit_at n i) parts))
+
+bit_at-cleared : (count word j r : ℕ) → r < 32 → 32 * j + r < count → bit_at (cleared count word j) (31 - r) ≡ bit_at word (31 - r)
+bit_at-cleared count word j r few kept =
+    let begun : nat_lt (32 * j) count ≡ true = grind (arith, nat_tests) in
+    rw begun (bit_at-high word (32 - kept_bits count j) (31 - r) (omega arith))
+
+kept_bit : (count i : ℕ) (word : ℕ → ℕ) → i < count → i < 256 → bit_of (cleared_words count word) i ≡ bit_at (word (i / 32)) (31 - i % 32)
+unfolding cleared_words
+kept_bit count i word kept few =
+    ap (λ w. bit_at w (31 - i % 32)) (get_or-map-range_with_len (λ j. cleared count (word j) j) 0 8 (i / 32) (i / 32) 0 (omega arith) (omega arith))
+    ∙ bit_at-cleared count (word (i / 32)) (i / 32) (i % 32) (omega arith) (omega arith)
+
+-- ---- the set
+
+good_base : (base : ℤ) (count : ℕ) → is_bad base count ≡ false → int_le (pos 0) base ≡ true
+unfolding is_bad
+good_base base count good = grind (arith, ints, nat_tests)
+
+-- octets begin with a set, and it is spelled so
+pub record SetStands (order : Order) (octets : List ℕ) : Type 0 where
+  pub set : List ℕ
+  pub stands : octets ≡ set ++ drop (octets_of_count (spelled_count order octets)) octets
+  pub spelled : SpellsSet order (spelled_set order octets) set
+
+pub set_stands : (order : Order) (octets : List ℕ) → is_bad (spelled_base order octets) (spelled_count order octets) ≡ false
+    → octets_of_count (spelled_count order octets) ≤ length octets → AreOctets octets → SetStands order octets
+set_stands order octets good whole small =
+    let count = spelled_count order octets in
+    let many = (count + 31) / 32 in
+    let base_good = good_base (spelled_base order octets) count good in
+    let base_is = pos-unsigned_abs (spelled_base order octets) base_good in
+    let few = at_most_256 (spelled_base order octets) count good in
+    let words = words_at order many (drop 12 octets) in
+    let b = sequence_number_octets order (pos (unsigned_abs (spelled_base order octets))) in
+    let c = octets_of order 4 count in
+    let ws = flat_map (octets_of order 4) words in
+    let rest = drop (octets_of_count count) octets in
+    let base_low = ap (int_le (pos 0)) base_is ∙ base_good in
+    let words_there = words_stand order many (drop 12 octets) (omega (arith, length-drop 12 octets)) (octets-drop octets 12 small)
+    ∙ ap (λ xs. ws ++ xs) (drop-drop (4 * many) 12 octets) in
+    let there = number_stands order octets 0 8 (pos (unsigned_abs (spelled_base order octets))) refl (omega arith) small (sym base_is) base_low
+    ∙ ap (λ xs. b ++ xs) (word_stands order octets 8 12 refl (omega arith) small ∙ ap (λ xs. c ++ xs) words_there) in
+    let grouped = append_assoc b (c ++ ws) rest ∙ ap (λ xs. b ++ xs) (append_assoc c ws rest) in
+    let word_is : (j : ℕ) → j < many → slice_index words j ≡ spelled_word order octets j = λ j inside.
+    word-words_at order many j (drop 12 octets) inside ∙ ap (number_of order 4) (drop-drop (4 * j) 12 octets) in
+    record {
+      set = b ++ (c ++ ws);
+      stands = there ∙ sym grouped;
+      spelled = record {
+        words = words;
+        many = length-words_at order many (drop 12 octets);
+        parts = refl;
+        bits = λ i below. ap (λ w. bit_at w (31 - i % 32)) (word_is (i / 32) (omega arith))
+            ∙ sym (kept_bit count i (spelled_word order octets) below (omega arith));
+      };
+    }

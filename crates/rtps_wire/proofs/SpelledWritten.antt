@@ -1,0 +1,173 @@
+-- A message that is written is spelled by its octets.
+use Rattle.std.proofs.Common.{◌≡◌, ◌<◌, ◌≤◌, ◌+◌, ◌*◌, ◌/◌, ◌-◌, ◌%◌, ◌^◌, ℕ, suc, pos, List, [], ◌∷◌, ◌++◌, Bool, true, false, Option, None, Some, All, length, take, get_or, refl, ap, sym, ◌∙◌, arith, inl}
+use Rattle.std.specs.Prelude.{◌==◌, bit_and, bit_or, slice_index}
+use Rattle.std.specs.Int.{bit_at}
+use Rattle.std.specs.List.{flat_map}
+use Rattle.std.proofs.lemmas.List.{append-nil, get_or-take, length-take-le}
+use Rattle.rtps_ids.specs.NumberSet.{NumberSetValue}
+use Rattle.rtps_ids.specs.Octets.{octets_of, sequence_number_octets}
+use Rattle.rtps_ids.specs.declared.identity.Stamp.{Stamp}
+use Rattle.rtps_ids.specs.declared.order.Order.{Order}
+use Rattle.rtps_ids.specs.declared.order.Order.TheVariants.{Big, Little}
+use Rattle.rtps_params.specs.Shown.{ListValue}
+use Rattle.rtps_wire.proofs.WrittenMessage.{no_fault, no_first}
+use Rattle.rtps_wire.specs.AckNack.{ack_nack_octets}
+use Rattle.rtps_wire.specs.Data.{data_octets, payload_flag, payload_octets, qos_flag}
+use Rattle.rtps_wire.specs.Flags.{flag_if, order_flag}
+use Rattle.rtps_wire.specs.Gap.{gap_octets}
+use Rattle.rtps_wire.specs.Heartbeat.{heartbeat_octets}
+use Rattle.rtps_wire.specs.Held.{IsHeldBody, IsHeldItem, IsHeldSet}
+use Rattle.rtps_wire.specs.Info.{info_ts_flags}
+use Rattle.rtps_wire.specs.SetField.{set_octets}
+use Rattle.rtps_wire.specs.Spelling.{Spells, SpellsBody, SpellsItem, SpellsItems, SpellsPayload, SpellsSet, named_flags}
+use Rattle.rtps_wire.specs.Values.{BodyValue, ItemValue, PayloadValue}
+use Rattle.rtps_wire.specs.Values.BodyValue.{Data, Heartbeat, AckNack, Gap, InfoTs, InfoDst, InfoSrc, Skipped}
+use Rattle.rtps_wire.specs.Values.PayloadValue.{Absent, Whole, Key}
+use Rattle.rtps_wire.specs.Writable.{is_none_left, is_not_writable, item_fault, items_fault, write_fault}
+use Rattle.rtps_wire.specs.Written.{item_octets, message_octets, own_flags, submessage_octets, written_body, written_flags}
+use Rattle.rtps_wire.specs.declared.header.Header.{Header}
+use Rattle.rtps_wire.specs.declared.write_fault.WriteFault.{WriteFault}
+use Rattle.rtps_wire.specs.declared.write_fault.WriteFault.TheVariants.{NotWritable}
+
+-- ---- flags
+
+data_named : (order : Order) (qos : Option ListValue) (payload : PayloadValue)
+    → bit_and (bit_or (order_flag order) (bit_or (qos_flag qos) (payload_flag payload))) 15 ≡ bit_or (order_flag order) (bit_or (qos_flag qos) (payload_flag payload))
+data_named Big None Absent = refl
+data_named Big None (Whole octets) = refl
+data_named Big None (Key octets) = refl
+data_named Big (Some list) Absent = refl
+data_named Big (Some list) (Whole octets) = refl
+data_named Big (Some list) (Key octets) = refl
+data_named Little None Absent = refl
+data_named Little None (Whole octets) = refl
+data_named Little None (Key octets) = refl
+data_named Little (Some list) Absent = refl
+data_named Little (Some list) (Whole octets) = refl
+data_named Little (Some list) (Key octets) = refl
+
+heartbeat_named : (order : Order) (is_final live : Bool)
+    → bit_and (bit_or (order_flag order) (bit_or (flag_if is_final 2) (flag_if live 4))) 7 ≡ bit_or (order_flag order) (bit_or (flag_if is_final 2) (flag_if live 4))
+heartbeat_named Big true true = refl
+heartbeat_named Big true false = refl
+heartbeat_named Big false true = refl
+heartbeat_named Big false false = refl
+heartbeat_named Little true true = refl
+heartbeat_named Little true false = refl
+heartbeat_named Little false true = refl
+heartbeat_named Little false false = refl
+
+ack_nack_named : (order : Order) (is_final : Bool) → bit_and (bit_or (order_flag order) (flag_if is_final 2)) 3 ≡ bit_or (order_flag order) (flag_if is_final 2)
+ack_nack_named Big true = refl
+ack_nack_named Big false = refl
+ack_nack_named Little true = refl
+ack_nack_named Little false = refl
+
+time_named : (order : Order) (time : Option Stamp) → bit_and (bit_or (order_flag order) (info_ts_flags time)) 3 ≡ bit_or (order_flag order) (info_ts_flags time)
+time_named Big None = refl
+time_named Big (Some stamp) = refl
+time_named Little None = refl
+time_named Little (Some stamp) = refl
+
+plain_named : (order : Order) → bit_and (bit_or (order_flag order) 0) 1 ≡ bit_or (order_flag order) 0
+plain_named Big = refl
+plain_named Little = refl
+
+named : (order : Order) (body : BodyValue) → bit_and (written_flags order body) (named_flags body) ≡ written_flags order body
+named order (Data body) = data_named order body.qos body.payload
+named order (Heartbeat body) = heartbeat_named order body.is_final body.live
+named order (AckNack body) = ack_nack_named order body.is_final
+named order (Gap body) = plain_named order
+named order (InfoTs time) = time_named order time
+named order (InfoDst prefix) = plain_named order
+named order (InfoSrc version vendor prefix) = plain_named order
+named order (Skipped id) = plain_named order
+
+-- ---- bodies
+
+set_written : (order : Order) (set : NumberSetValue) → IsHeldSet set → SpellsSet order set (set_octets order set)
+set_written order set held =
+    let few = held.kept.few in
+    let eight = held.kept.eight in
+    record {
+      words = take ((set.count + 31) / 32) set.words;
+      many = length-take-le ((set.count + 31) / 32) set.words (omega arith);
+      parts = refl;
+      bits = λ i below. ap (λ w. bit_at w (31 - i % 32)) (get_or-take ((set.count + 31) / 32) set.words (i / 32) 0 (omega arith));
+    }
+
+last : (octets : List ℕ) → octets ≡ octets ++ []
+last octets = sym (append-nil octets)
+
+payload_written : (payload : PayloadValue) → SpellsPayload payload (payload_octets payload)
+payload_written Absent = tt
+payload_written (Whole octets) = refl
+payload_written (Key octets) = refl
+
+body_written : (order : Order) (body : BodyValue) → IsHeldBody body → is_not_writable order body ≡ false → SpellsBody order body (written_body order body)
+body_written order (Data body) held good =
+    record {
+      extra_flags = 0 ∷ 0 ∷ [];
+      skipped = [];
+      payload = payload_octets body.payload;
+      two = refl;
+      near = omega arith;
+      parts = refl;
+      same_order = good;
+      spelled = payload_written body.payload;
+    }
+body_written order (Heartbeat body) held good =
+    let front = λ (xs : List ℕ). body.reader.0 ++ (body.writer.0 ++ (sequence_number_octets order (pos body.first) ++ (sequence_number_octets order body.last ++ xs))) in
+    record { ignored = []; parts = ap front (last (octets_of order 4 body.count)) }
+body_written order (AckNack body) held good =
+    let front = λ (xs : List ℕ). body.reader.0 ++ (body.writer.0 ++ (set_octets order body.set ++ xs)) in
+    record { set = set_octets order body.set; ignored = []; parts = ap front (last (octets_of order 4 body.count)); spelled = set_written order body.set held.set }
+body_written order (Gap body) held good =
+    let front = λ (xs : List ℕ). body.reader.0 ++ (body.writer.0 ++ (sequence_number_octets order (pos body.start) ++ xs)) in
+    record { list = set_octets order body.list; ignored = []; parts = ap front (last (set_octets order body.list)); spelled = set_written order body.list held.list }
+body_written order (InfoTs None) held good = tt
+body_written order (InfoTs (Some stamp)) held good = ([], ap (λ xs. octets_of order 4 stamp.seconds ++ xs) (last (octets_of order 4 stamp.fraction)))
+body_written order (InfoDst prefix) held good = ([], last prefix.0)
+body_written order (InfoSrc version vendor prefix) held good =
+    record {
+      unused = 0 ∷ 0 ∷ 0 ∷ 0 ∷ [];
+      ignored = [];
+      four = refl;
+      parts = ap (λ xs. 0 ∷ 0 ∷ 0 ∷ 0 ∷ version.major ∷ version.minor ∷ (vendor.0 ++ xs)) (last prefix.0);
+    }
+body_written order (Skipped id) held good = cc
+
+-- ---- a message
+
+item_written : (item : ItemValue) (later : List ℕ) → IsHeldItem item → is_not_writable item.order item.body ≡ false → length (written_body item.order item.body) < 2 ^ 16
+    → SpellsItem item (item_octets item) later
+item_written item later held good small =
+    record {
+      flags = written_flags item.order item.body;
+      declared = length (written_body item.order item.body);
+      body = written_body item.order item.body;
+      short = small;
+      parts = refl;
+      named = named item.order item.body;
+      size = inl refl;
+      spelled = body_written item.order item.body held good;
+    }
+
+items_written : (items : List ItemValue) → All IsHeldItem items → items_fault items ≡ None → SpellsItems items (flat_map item_octets items)
+items_written [] held good = refl
+items_written (item ∷ items) held good =
+    let parts = no_first (item_fault (is_none_left items) item) (items_fault items) good in
+    let fine = no_fault (is_none_left items) item parts.0 in (
+      item_octets item,
+      flat_map item_octets items,
+      refl,
+      item_written item (flat_map item_octets items) (held 0 item (omega arith)) fine.0 fine.1,
+      items_written items (λ k d inside. held (suc k) d (omega arith)) parts.1,
+    )
+
+pub written_spelled : (header : Header) (items : List ItemValue) → All IsHeldItem items → write_fault header items ≡ None → Spells header items (message_octets header items)
+written_spelled header items held good = by (header.version.major == 2) refl
+  where
+    by : (b : Bool) → (header.version.major == 2) ≡ b → Spells header items (message_octets header items)
+    by true is = (flat_map item_octets items, refl, items_written items held (rw is at good))
+    by false is = let fault : Some NotWritable ≡ None = rw is at good in cc
