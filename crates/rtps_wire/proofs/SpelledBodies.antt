@@ -10,7 +10,7 @@ use Rattle.rtps_ids.specs.Octets.{number_of, octets_of, sequence_number_octets}
 use Rattle.rtps_ids.specs.declared.order.Order.{Order}
 use Rattle.rtps_ids.specs.declared.order.Order.TheVariants.{Big, Little}
 use Rattle.rtps_params.specs.Reading.{list_end}
-use Rattle.rtps_params.specs.Shown.{is_same_order}
+use Rattle.rtps_params.specs.Lists.{is_same_order}
 use Rattle.rtps_wire.proofs.SpelledFields.{AreOctets, field_stands, half_below, half_stands, number_stands, octet_stands, octets-drop, pos-unsigned_abs, word_stands}
 use Rattle.rtps_wire.proofs.SpelledSets.{set_stands}
 use Rattle.rtps_wire.specs.AckNack.{ack_nack_fault, ack_nack_of, count_place}

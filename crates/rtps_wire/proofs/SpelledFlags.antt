@@ -7,7 +7,7 @@ use Rattle.std.proofs.lemmas.Nat.Bits.{and_pow}
 use Rattle.rtps_ids.specs.declared.identity.Stamp.{Stamp}
 use Rattle.rtps_ids.specs.declared.order.Order.{Order}
 use Rattle.rtps_ids.specs.declared.order.Order.TheVariants.{Big, Little}
-use Rattle.rtps_params.specs.Shown.{ListValue}
+use Rattle.rtps_params.specs.Lists.{ListValue}
 use Rattle.rtps_wire.specs.Data.{has_data, has_key, payload_flag, payload_of, qos_flag, qos_of}
 use Rattle.rtps_wire.specs.Flags.{flag_if, order_flag}
 use Rattle.rtps_wire.specs.Info.{info_ts_flags}

@@ -9,7 +9,7 @@ use Rattle.rtps_ids.specs.Octets.{octets_of, sequence_number_octets}
 use Rattle.rtps_ids.specs.declared.identity.Stamp.{Stamp}
 use Rattle.rtps_ids.specs.declared.order.Order.{Order}
 use Rattle.rtps_ids.specs.declared.order.Order.TheVariants.{Big, Little}
-use Rattle.rtps_params.specs.Shown.{ListValue}
+use Rattle.rtps_params.specs.Lists.{ListValue}
 use Rattle.rtps_wire.proofs.WrittenMessage.{no_fault, no_first}
 use Rattle.rtps_wire.specs.AckNack.{ack_nack_octets}
 use Rattle.rtps_wire.specs.Data.{data_octets, payload_flag, payload_octets, qos_flag}
