@@ -1,16 +1,11 @@
 -- KeptPayloads in the order of their numbers.
 use Rattle.std.proofs.Common.{ℕ, zero, suc, ◌≡◌, ◌≤◌, ◌<◌, ◌+◌, List, length, get_or, refl, sym, ◌∙◌, ap, subst, inl, inr, arith}
-use Rattle.std.specs.Prelude.{◌≢◌, Bool, true, false, IsTrue, ◌↔◌, Option, Some, None, MatchOption}
-use Rattle.std.specs.List.{AllAdjacentBelow, IsAllAdjacentAnswer}
-use Rattle.std.specs.declared.cmp.Ordering.TheVariants.{Less, Equal}
-use Rattle.std.specs.Ordering.{nat_cmp, is_le}
-use Rattle.std.specs.Cmp.{nat_cmp_is}
+use Rattle.std.specs.Prelude.{◌≢◌, Option, Some, None, MatchOption}
+use Rattle.std.specs.List.{AllAdjacentBelow}
 use Rattle.std.specs.List.Sorted.{IsNonDecreasingBy, IsPermutation}
-use Rattle.std.proofs.lemmas.List.Sorted.{Contains-permutation, IsNonDecreasingBy-from_all_adjacent, IsPermutation-sym}
+use Rattle.std.proofs.lemmas.List.Sorted.{Contains-permutation, IsPermutation-sym}
 use Rattle.std.proofs.lemmas.List.{get_or_default}
-use Rattle.std.proofs.lemmas.Bool.{cases_lt, false≢true}
-use Rattle.std.proofs.lemmas.Map.Keys.{le_from_is_le}
-use Rattle.rtps_wire.specs.declared.body.Payload.TheVariants.{Absent}
+use Rattle.std.proofs.lemmas.Bool.{cases_lt}
 use Rattle.rtps_wire.specs.Values.{PayloadValue, payload_value}
 use Rattle.rtps_audit.specs.RunVerdict.{IsLeast}
 use Rattle.rtps_audit.specs.KeptPayloads.{IsKept, KeepsTwo, Agrees, number_of}
@@ -113,21 +108,3 @@ conflict_of_sorted xs ys zs (Some n) moved same least = record {
   holds = two_after ys xs (IsPermutation-sym xs ys moved) n (subst (λ l. KeepsTwo l n) same least.holds);
   least = λ m two. least.least m (subst (λ l. KeepsTwo l m) (sym same) (two_after xs ys moved m two));
 }
-
--- each number is at most the next, or one is not
-pub in_order_from_answer : (xs : List KeptPayload) (r : Bool) → IsAllAdjacentAnswer (λ x y b. b ≡ is_le (nat_cmp (number_of x) (number_of y))) xs r
-    → IsTrue r ↔ IsNonDecreasingBy number_of xs
-in_order_from_answer xs true h = (λ _. IsNonDecreasingBy-from_all_adjacent number_of xs (λ k d lt. le_from_is_le _ _ (sym (h k d lt))), λ _. refl)
-in_order_from_answer xs false h = (
-  λ no. absurd (false≢true no),
-  λ sorted.
-      let d : KeptPayload = record { number = 0; payload = Absent } in
-      let up = sorted h.0 (h.0 + 1) d (omega arith) (omega (arith, h.1)) in
-      absurd (false≢true (h.2 d ∙ le_is _ _ up)),
-)
-  where
-    le_is : (a b : ℕ) → a ≤ b → is_le (nat_cmp a b) ≡ true
-    le_is a b le = elim (cases_lt a b) [
-      | inl lt ↦ ap is_le (sym (nat_cmp_is a b Less lt))
-      | inr ge ↦ let same : a ≡ b = omega arith in ap is_le (sym (nat_cmp_is a b Equal same))
-    ]

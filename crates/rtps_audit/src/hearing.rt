@@ -67,7 +67,8 @@ impl Hearing {
         for placed in acts {
             listener.note(placed, pair)?;
         }
-        Ok(listener.end())
+        let hearing = listener.end()?;
+        Ok(hearing)
     }
 
     /// The verdict, where these are the answers of the reader to the writer.

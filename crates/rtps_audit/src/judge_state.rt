@@ -1,4 +1,4 @@
-ghost use Rattle.std.specs.Prelude.{◌≡◌, ◌+◌, ◌<◌, ◌≤◌, ◌^◌, ◌∷◌, ◌++◌, [], is_some, map, unwrap_or, IfSome, List, OnOk};
+ghost use Rattle.std.specs.Prelude.{◌≡◌, ◌+◌, ◌<◌, ◌≤◌, ◌^◌, ◌∷◌, ◌++◌, [], is_some, map, unwrap_or, IfOk, IfSome, List, OnOk};
 ghost use Rattle.rtps_receiver.specs.Values.{ActValue, act_body_value, act_value};
 ghost use Rattle.rtps_coverage.specs.Coverage.{TellsMore};
 ghost use Rattle.rtps_audit.specs.Delivery.{Datagram, Speech};
@@ -95,11 +95,11 @@ impl<'a, C: Coverage> Judge<'a, C> {
         Ok(())
     }
 
-    /// The verdict on the datagrams that were told.
-    pub(crate) fn verdict(mut self) -> Verdict
-        ensures { (speech : Speech) → Knows C.covered self.entry speech → IsVerdict speech result }
+    /// The verdict on the datagrams that were told. `Memory` is answered where there is none to put the payloads in order.
+    pub(crate) fn verdict(mut self) -> Result<Verdict, Memory>
+        ensures { IfOk result (λ verdict. (speech : Speech) → Knows C.covered self.entry speech → IsVerdict speech verdict) }
     {
-        let conflict = self.words.least_conflict();
-        self.claims.verdict(conflict)
+        let conflict = self.words.least_conflict()?;
+        Ok(self.claims.verdict(conflict))
     }
 }

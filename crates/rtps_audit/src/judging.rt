@@ -24,7 +24,8 @@ fn judged<C: Coverage>(alloc: Global, recording: &[&[u8]], pair: Pair) -> Result
         let _ = walk.read(datagram)?;
         judge.note_all(walk.acts(), pair)?;
     }
-    Ok(judge.verdict())
+    let verdict = judge.verdict()?;
+    Ok(verdict)
 }
 
 /// Judges what a recording says of a writer and a reader, any two GUIDs, with the covered numbers in a set of this

@@ -1,4 +1,4 @@
-ghost use Rattle.std.specs.Prelude.{◌≡◌, ◌<◌, ◌≤◌, ◌^◌, ◌++◌, ◌∷◌, [], ℕ, List, OnOk};
+ghost use Rattle.std.specs.Prelude.{◌≡◌, ◌<◌, ◌≤◌, ◌^◌, ◌++◌, ◌∷◌, [], ℕ, List, IfOk, OnOk};
 ghost use Rattle.rtps_ids.specs.declared.identity.Guid.{Guid as GuidValue};
 
 use crate::hearing::{Front, Hearing};
@@ -68,16 +68,16 @@ impl<'a, C: Coverage> Listener<'a, C> {
         Ok(())
     }
 
-    /// What it has heard.
-    pub(crate) fn end(mut self) -> Hearing
-        ensures { (writer reader : GuidValue) (placed : List PlacedValue) (datagram : ℕ)
-            → IsListening C.covered self.entry writer reader placed datagram → Hears result writer reader placed }
+    /// What it has heard. `Memory` is answered where there is none to put the payloads in order.
+    pub(crate) fn end(mut self) -> Result<Hearing, Memory>
+        ensures { IfOk result (λ hearing. (writer reader : GuidValue) (placed : List PlacedValue) (datagram : ℕ)
+            → IsListening C.covered self.entry writer reader placed datagram → Hears hearing writer reader placed) }
     {
-        let conflict = self.words.least_conflict();
-        Hearing {
+        let conflict = self.words.least_conflict()?;
+        Ok(Hearing {
             fronts: self.fronts,
             conflict,
             last: self.last,
-        }
+        })
     }
 }

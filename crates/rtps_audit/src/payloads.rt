@@ -1,9 +1,10 @@
-ghost use Rattle.std.specs.Prelude.{ℕ, MatchOption, IsTrue, ◌≡◌, ◌↔◌};
+ghost use Rattle.std.specs.Prelude.{ℕ, MatchOption, IsTrue, OnOk, ◌≡◌, ◌↔◌};
 ghost use Rattle.std.specs.List.Sorted.{IsNonDecreasingBy, IsPermutation};
 ghost use Rattle.rtps_wire.specs.Values.{payload_value};
 ghost use Rattle.rtps_audit.specs.RunVerdict.{IsLeast};
 ghost use Rattle.rtps_audit.specs.KeptPayloads.{KeepsTwo, number_of};
 
+use rtps_ids::Memory;
 use rtps_wire::Payload;
 
 /// A number and a payload that was spoken for it.
@@ -25,21 +26,15 @@ fn is_same_payload(one: Payload<'_>, other: Payload<'_>) -> bool
     }
 }
 
-/// Whether payloads stand in the order of their numbers.
-fn is_in_order(payloads: &[KeptPayload<'_>]) -> bool
-    ensures { IsTrue result ↔ IsNonDecreasingBy number_of payloads.now }
-{
-    payloads.is_sorted_by_key(|entry| entry.number)
-}
-
-/// Puts payloads in the order of their numbers. Those that came in order, as most do, are not sorted again.
-pub(crate) fn put_in_order(payloads: &mut Vec<KeptPayload<'_>>)
+/// Puts payloads in the order of their numbers. It takes their time where they came in order, as most do, or in the
+/// opposite order; else it merges the runs that they came in, and asks for as much memory as they take. After `Memory`
+/// they are as they were.
+pub(crate) fn put_in_order(payloads: &mut Vec<KeptPayload<'_>>) -> Result<(), Memory>
     ensures permutation { IsPermutation payloads.old.items payloads.new.items }
-    ensures sorted { IsNonDecreasingBy number_of payloads.new.items }
+    ensures sorted { OnOk result (IsNonDecreasingBy number_of payloads.new.items) }
 {
-    if !is_in_order(payloads) {
-        payloads.sort_unstable_by_key(|entry| entry.number);
-    }
+    payloads.sort_by_key(|entry| entry.number)?;
+    Ok(())
 }
 
 /// The least number for which two different payloads are kept.

@@ -1,4 +1,4 @@
-ghost use Rattle.std.specs.Prelude.{ℕ, ◌≡◌, ◌<◌, ◌≤◌, ◌^◌, ◌&&◌, [], nat_le, nat_lt, is_some, false, OnOk, All, IfSome, MatchOption};
+ghost use Rattle.std.specs.Prelude.{ℕ, ◌≡◌, ◌<◌, ◌≤◌, ◌^◌, ◌&&◌, [], nat_le, nat_lt, is_some, false, OnOk, All, IfOk, IfSome, MatchOption};
 ghost use Rattle.rtps_receiver.specs.Values.{act_body_value};
 ghost use Rattle.rtps_coverage.specs.Coverage.{TellsMore};
 ghost use Rattle.rtps_audit.specs.RunVerdict.{IsLeast};
@@ -56,15 +56,16 @@ impl<'a, C: Coverage> Words<'a, C> {
         }
     }
 
-    /// The least number for which two different payloads are kept.
-    pub(crate) fn least_conflict(&mut self) -> Option<u64>
-        ensures conflict { MatchOption result
+    /// The least number for which two different payloads are kept. `Memory` is answered where there is none to put them
+    /// in order.
+    pub(crate) fn least_conflict(&mut self) -> Result<Option<u64>, Memory>
+        ensures conflict { IfOk result (λ conflict. MatchOption conflict
             ((n : ℕ) → ¬ KeepsTwo self.old.payloads.items n)
-            (IsLeast (KeepsTwo self.old.payloads.items)) }
-        ensures in_range { IfSome result (λ n. (1 ≤ n) × (n < 2 ^ 63)) }
+            (IsLeast (KeepsTwo self.old.payloads.items))) }
+        ensures in_range { IfOk result (λ conflict. IfSome conflict (λ n. (1 ≤ n) × (n < 2 ^ 63))) }
     {
-        put_in_order(&mut self.payloads);
-        least_conflict(&self.payloads)
+        put_in_order(&mut self.payloads)?;
+        Ok(least_conflict(&self.payloads))
     }
 }
 

@@ -3,6 +3,6 @@ use Rattle.std.proofs.lemmas.List.Sorted.{IsNonDecreasingBy-from_sort_by_key}
 use Rattle.rtps_audit.specs.KeptPayloads.{number_of}
 use Rattle.rtps_audit.proofs.payloads.put_in_order.Goals as goal
 
-pub returns-then-not-is_in_order-clause-sorted : goal.returns-then-not-is_in_order-clause-sorted
-returns-then-not-is_in_order-clause-sorted c =
-    IsNonDecreasingBy-from_sort_by_key number_of _ c.sort_unstable_by_key.ensures.sorted (λ a r q k. search rules)
+pub returns-clause-sorted : goal.returns-clause-sorted
+returns-clause-sorted c =
+    IsNonDecreasingBy-from_sort_by_key number_of _ c.in_ok-sort_by_key.ensures.sorted (λ a r q k. search rules)

@@ -24,5 +24,5 @@ loop-placed-preserved c = λ rising.
 pub returns : goal.returns
 returns c = λ rising.
     let all : take c.loop-placed.placed-index c.args.acts.now ≡ c.args.acts.now = take_all c.loop-placed.placed-index c.args.acts.now (omega (arith, c.loop-placed-test.false)) in
-    let heard = c.end.ensures c.args.pair.writer c.args.pair.reader _ _ (c.loop-placed.invariant rising) in
-    subst (λ l. Hears c.end.result c.args.pair.writer c.args.pair.reader (map placed_value l)) all heard
+    let heard = c.in_ok-hearing.ensures c.args.pair.writer c.args.pair.reader _ _ (c.loop-placed.invariant rising) in
+    subst (λ l. Hears c.in_ok-hearing.hearing c.args.pair.writer c.args.pair.reader (map placed_value l)) all heard

@@ -4,4 +4,4 @@ use Rattle.rtps_audit.proofs.listener.Listener.end.Goals as goal
 
 pub returns : goal.returns
 returns g c = λ writer reader placed datagram known.
-    hears g.C.Coverage.covered c.args.self _ writer reader placed datagram refl refl c.least_conflict-conflict.ensures.in_range c.least_conflict-conflict.ensures.conflict known
+    hears g.C.Coverage.covered c.args.self _ writer reader placed datagram refl refl c.in_ok-conflict.ensures.in_range c.in_ok-conflict.ensures.conflict known
