@@ -19,4 +19,4 @@ pub mod SpelledFlags
 pub mod SpelledSets
 pub mod SpelledBodies
 pub mod SpelledMessages
-pub mod SpelledWritten
+pub mod SpelledAgain

@@ -1,6 +1,6 @@
 -- A body that is read is spelled by the octets from which it was read.
-use Rattle.std.proofs.Common.{◌≡◌, ◌<◌, ◌≤◌, ◌+◌, ◌-◌, ◌^◌, ℕ, ℤ, pos, List, [], ◌∷◌, ◌++◌, Bool, true, false, Option, None, Some, length, take, drop, slice_index, refl, ap, sym, ◌∙◌, arith}
-use Rattle.std.specs.Prelude.{◌==◌, ◌&&◌, ◌||◌, bit_and, int_le, int_lt, is_err, nat_lt, if◌then◌else◌}
+use Rattle.std.proofs.Common.{◌≡◌, ◌<◌, ◌≤◌, ◌+◌, ◌-◌, ◌^◌, ℕ, zero, suc, ℤ, pos, negsuc, List, [], ◌∷◌, ◌++◌, Bool, true, false, Option, None, Some, length, take, drop, slice_index, refl, ap, sym, ◌∙◌, arith}
+use Rattle.std.specs.Prelude.{◌==◌, ◌&&◌, ◌||◌, ◌-ℤ◌, bit_and, int_le, int_lt, is_err, nat_lt, if◌then◌else◌}
 use Rattle.std.specs.Int.RustNames.{unsigned_abs}
 use Rattle.std.proofs.lemmas.Bool.Decides.{nat_tests}
 use Rattle.std.proofs.lemmas.Int.{ints}
@@ -41,6 +41,13 @@ not_negative value above = grind (arith, ints, nat_tests)
 
 -- ---- HEARTBEAT
 
+range_again : (first last : ℤ) (n : ℕ) → pos n ≡ first → int_lt last (pos 0) ≡ false → int_lt last (first -ℤ pos 1) ≡ false
+    → (int_lt last (pos 0) || int_lt last (pos n -ℤ pos 1)) ≡ false
+range_again first last n same low range = both _ _ low (ap (λ v. int_lt last (v -ℤ pos 1)) same ∙ range)
+  where
+    both : (a b : Bool) → a ≡ false → b ≡ false → (a || b) ≡ false
+    both a b p q = rw (p, q) refl
+
 pub heartbeat_spelled : (order : Order) (flags : ℕ) (octets : List ℕ) → AreOctets octets → heartbeat_fault order octets ≡ None
     → SpellsHeartbeat order (heartbeat_of order flags octets) octets
 heartbeat_spelled order flags octets small good =
@@ -61,6 +68,7 @@ heartbeat_spelled order flags octets small good =
           ∙ ap (λ xs. w ++ xs) (number_stands order octets 8 16 _ refl (omega arith) small (sym first_is) (ap (int_le (pos 0)) first_is ∙ first_low)
           ∙ ap (λ xs. f ++ xs) (number_stands order octets 16 24 _ refl (omega arith) small refl (not_negative (last_number order octets) signs.1)
           ∙ ap (λ xs. l ++ xs) (word_stands order octets 24 28 refl (omega arith) small))));
+      range = range_again (first_number order octets) (last_number order octets) _ first_is signs.1 (no_row _ _ _ numbers.1).0;
     }
 
 -- ---- ACKNACK
@@ -87,6 +95,11 @@ ack_nack_spelled order flags octets small good =
 
 -- ---- GAP
 
+above_zero : (base : ℤ) → int_le base (pos 0) ≡ false → (unsigned_abs base == 0) ≡ false
+above_zero (pos zero) above = absurd (grind (arith, nat_tests))
+above_zero (pos (suc n)) above = grind (arith, nat_tests)
+above_zero (negsuc n) above = absurd (grind (arith, nat_tests))
+
 pub gap_spelled : (order : Order) (octets : List ℕ) → AreOctets octets → gap_fault order octets ≡ None → SpellsGap order (gap_of order octets) octets
 gap_spelled order octets small good =
     let sized = no_row _ _ _ good in
@@ -108,6 +121,7 @@ gap_spelled order octets small good =
           ∙ ap (λ xs. take 4 (drop 4 octets) ++ xs) (number_stands order octets 8 16 _ refl (omega arith) small (sym start_is) (ap (int_le (pos 0)) start_is ∙ start_low)
           ∙ ap (λ xs. s ++ xs) list.stands));
       spelled = list.spelled;
+      positive = above_zero (spelled_base order (drop 16 octets)) (neither _ _ list_good.0).1;
     }
 
 -- ---- INFO_TS, INFO_DST and INFO_SRC

@@ -1,24 +1,24 @@
 -- A message that is read is spelled by its octets.
-use Rattle.std.proofs.Common.{◌≡◌, ◌<◌, ◌≤◌, ◌+◌, ◌^◌, ℕ, zero, suc, List, [], ◌∷◌, ◌++◌, append_assoc, Bool, true, false, Option, None, Some, length, take, drop, slice_index, refl, ap, sym, subst, ◌∙◌, arith, inl, inr}
-use Rattle.std.specs.Prelude.{◌==◌, ◌||◌, bit_and, nat_lt, not}
+use Rattle.std.proofs.Common.{◌≡◌, ◌<◌, ◌≤◌, ◌+◌, ◌^◌, ℕ, zero, suc, List, [], ◌∷◌, ◌++◌, append_assoc, Bool, true, false, Option, None, Some, length, map, take, drop, slice_index, refl, ap, sym, subst, ◌∙◌, arith, inl, inr}
+use Rattle.std.specs.Prelude.{◌==◌, ◌||◌, bit_and, nat_lt, not, if◌then◌else◌}
 use Rattle.std.proofs.lemmas.Bool.Decides.{nat_tests}
 use Rattle.std.proofs.lemmas.List.{drop-drop, get_or-take, length-drop, length-take, length-take-le, take-append-drop}
 use Rattle.rtps_ids.specs.Octets.{number_of, octets_of}
 use Rattle.rtps_wire.proofs.OneReading.{has_reading}
 use Rattle.rtps_wire.proofs.Readings.{fault_at-body}
-use Rattle.rtps_wire.proofs.SpelledBodies.{ack_nack_spelled, data_spelled, destination_spelled, gap_spelled, heartbeat_spelled, no_row, at_least, one_kind, source_spelled, time_spelled}
+use Rattle.rtps_wire.proofs.SpelledBodies.{ack_nack_spelled, data_spelled, destination_spelled, gap_spelled, heartbeat_spelled, at_least, one_kind, source_spelled, time_spelled}
 use Rattle.rtps_wire.proofs.SpelledFields.{AreOctets, field_stands, half_below, half_octets, octet_stands, octets-drop}
 use Rattle.rtps_wire.proofs.SpelledFlags.{ack_nack_flags_read, data_flags_read, heartbeat_flags_read, plain_flags, time_flags_read}
 use Rattle.rtps_wire.specs.Header.{header_fault, header_octets, header_of}
 use Rattle.rtps_wire.specs.Message.{Reading, Reads, ReadsFrom, ReadsWith, body_fault, body_length, body_octets, body_of, extent_of, fault_at, flags_of, id_of, item_at, next_rest, octets_to_next_header, order_of}
 use Rattle.rtps_wire.specs.Reading.{reading_of}
 use Rattle.rtps_wire.specs.Skipped.{is_read}
-use Rattle.rtps_wire.specs.Spelling.{Declares, Spells, SpellsBody, SpellsItem, SpellsItems, named_flags}
+use Rattle.rtps_wire.specs.Spelling.{IsReadAs, Spells, SpellsBody, SpellsItems, SpellsSubmessage, named_flags, unplaced}
 use Rattle.rtps_wire.specs.Values.{BodyValue, ItemValue}
 use Rattle.rtps_wire.specs.Values.BodyValue.{Data, Heartbeat, AckNack, Gap, InfoTs, InfoDst, InfoSrc, Skipped}
 use Rattle.rtps_wire.specs.Written.{written_flags, written_id}
 use Rattle.rtps_wire.specs.declared.fault.WireFault.{WireFault}
-use Rattle.rtps_wire.specs.declared.fault.WireFault.TheVariants.{CutHeader, Overrun}
+use Rattle.rtps_wire.specs.declared.fault.WireFault.TheVariants.{BadVersion, CutHeader, NotRtps, Overrun, Short}
 use Rattle.rtps_wire.specs.declared.header.Header.{Header}
 
 -- ---- a body, by its kind
@@ -99,25 +99,14 @@ is_whole rest good = by (nat_lt (length rest) 4) (nat_lt (length (drop 4 rest)) 
     by false true p q = let fault : Some Overrun ≡ None = rw (p, q) at good in cc
     by false false p q = record { long = at_least (length rest) 4 p; within = at_least (length (drop 4 rest)) (octets_to_next_header rest) q; body = rw (p, q) at good }
 
--- a body's length is what octetsToNextHeader says
-declares : (id declared left : ℕ) (rest : List ℕ) → declared ≤ left → length rest ≡ left
-    → (extent_of id declared left ≤ left) × Declares id declared (extent_of id declared left) (drop (extent_of id declared left) rest)
-declares id declared left rest within is = by (declared == 0) (id == 1 || id == 9) refl refl
+-- what octetsToNextHeader says is no more than what is left
+within_left : (id declared left : ℕ) → declared ≤ left → extent_of id declared left ≤ left
+within_left id declared left within = by (declared == 0) (id == 1 || id == 9) refl refl
   where
-    none : (n : ℕ) → (n == 0) ≡ true → n ≡ 0
-    none n e = grind (arith, nat_tests)
-
-    all_gone : (n : ℕ) (xs : List ℕ) → length xs ≡ n → drop n xs ≡ []
-    all_gone zero [] e = refl
-    all_gone (suc n) (x ∷ xs) e = all_gone n xs (omega arith)
-    all_gone zero (x ∷ xs) e = absurd (omega arith)
-    all_gone (suc n) [] e = absurd (omega arith)
-
-    by : (zero_is empty : Bool) → (declared == 0) ≡ zero_is → (id == 1 || id == 9) ≡ empty
-        → (extent_of id declared left ≤ left) × Declares id declared (extent_of id declared left) (drop (extent_of id declared left) rest)
-    by true true p q = rw (p, q) (omega arith, inl (none declared p))
-    by true false p q = rw (p, q) (omega arith, inr (none declared p, refl, all_gone left rest is))
-    by false empty p q = rw p (within, inl refl)
+    by : (none empty : Bool) → (declared == 0) ≡ none → (id == 1 || id == 9) ≡ empty → extent_of id declared left ≤ left
+    by true true p q = rw (p, q) (omega arith)
+    by true false p q = rw (p, q) (omega arith)
+    by false empty p q = rw p within
 
 -- the header of a submessage and its body stand one behind the other
 submessage_stands : (rest : List ℕ) (size : ℕ) → 4 ≤ length rest → AreOctets rest
@@ -136,15 +125,17 @@ octets-take octets n small k d inside =
     let shorter = length-take n octets in
     rw (get_or-take n octets k d (omega arith)) (small k d (omega arith))
 
-item_spelled : (rest : List ℕ) (at : ℕ) → AreOctets rest → fault_at rest ≡ None → SpellsItem (item_at rest at) (take (4 + body_length rest) rest) (next_rest rest)
+item_spelled : (rest : List ℕ) (at : ℕ) → AreOctets rest → fault_at rest ≡ None
+    → SpellsSubmessage (item_at rest at).order (item_at rest at).body (take (4 + body_length rest) rest) (next_rest rest)
 unfolding item_at
 item_spelled rest at small good =
     let whole = is_whole rest good in
-    let size = declares (id_of rest) (octets_to_next_header rest) (length (drop 4 rest)) (drop 4 rest) whole.within refl in
+    let left = length (drop 4 rest) in
+    let fits : body_length rest ≤ left = within_left (id_of rest) (octets_to_next_header rest) left whole.within in
     let octets = body_octets rest in
     let body = body_spelled (id_of rest) (flags_of rest) octets (octets-take (drop 4 rest) (body_length rest) (octets-drop rest 4 small)) whole.body in
-    let long : length octets ≡ body_length rest = length-take-le (body_length rest) (drop 4 rest) size.0 in
-    let behind : drop (body_length rest) (drop 4 rest) ≡ next_rest rest = drop-drop (body_length rest) 4 rest in
+    let long : length octets ≡ body_length rest = length-take-le (body_length rest) (drop 4 rest) fits in
+    let all : length octets + length (next_rest rest) ≡ left = omega (arith, long, fits, length-drop 4 rest, length-drop (4 + body_length rest) rest) in
     record {
       flags = flags_of rest;
       declared = octets_to_next_header rest;
@@ -152,19 +143,34 @@ item_spelled rest at small good =
       short = half_below (order_of (flags_of rest)) (drop 2 rest) (omega (arith, length-drop 2 rest, whole.long)) (octets-drop rest 2 small);
       parts = submessage_stands rest (body_length rest) whole.long small ∙ ap (λ id. id ∷ flags_of rest ∷ (octets_of (order_of (flags_of rest)) 2 (octets_to_next_header rest) ++ octets)) (sym body.id_is);
       named = body.named;
-      size = rw (body.id_is, long, ← behind) size.1;
+      extent = rw (body.id_is, all) long;
       spelled = body.spelled;
     }
 
-items_spelled : (items : List ItemValue) (rest : List ℕ) (at : ℕ) → AreOctets rest → ReadsFrom rest at items None → SpellsItems items rest
-items_spelled [] rest at small done = done
-items_spelled (item ∷ items) rest at small (some, good, is, behind) =
-    let first = take (4 + body_length rest) rest in (
+-- of the same order and body as one that is spelled
+same_spelled : (item other : ItemValue) (octets later : List ℕ) → unplaced item ≡ unplaced other → SpellsSubmessage item.order item.body octets later
+    → SpellsSubmessage other.order other.body octets later
+same_spelled item other octets later same spelled =
+    let order : item.order ≡ other.order = ap (λ (i : ItemValue). i.order) same in
+    let body : item.body ≡ other.body = ap (λ (i : ItemValue). i.body) same in
+    subst (λ b. SpellsSubmessage other.order b octets later) body (subst (λ o. SpellsSubmessage o item.body octets later) order spelled)
+
+items_spelled : (items others : List ItemValue) (rest : List ℕ) (at : ℕ) → AreOctets rest → ReadsFrom rest at items None → map unplaced items ≡ map unplaced others
+    → SpellsItems others rest
+items_spelled [] [] rest at small done same = done
+items_spelled [] (other ∷ others) rest at small done same = cc
+items_spelled (item ∷ items) [] rest at small done same = cc
+items_spelled (item ∷ items) (other ∷ others) rest at small (some, good, is, behind) same =
+    let first = take (4 + body_length rest) rest in
+    let heads : unplaced item ≡ unplaced other = cc in
+    let tails : map unplaced items ≡ map unplaced others = cc in
+    let here : SpellsSubmessage item.order item.body first (next_rest rest) = rw is (item_spelled rest at small good) in
+    (
       first,
       next_rest rest,
       sym (take-append-drop (4 + body_length rest) rest),
-      rw is (item_spelled rest at small good),
-      items_spelled items (next_rest rest) (at + 4 + body_length rest) (octets-drop rest (4 + body_length rest) small) behind,
+      same_spelled item other first (next_rest rest) heads here,
+      items_spelled items others (next_rest rest) (at + 4 + body_length rest) (octets-drop rest (4 + body_length rest) small) behind tails,
     )
 
 -- ---- the header
@@ -175,12 +181,32 @@ begins a b c d none = (grind (arith, nat_tests), grind (arith, nat_tests), grind
 first_four : (a b c d : ℕ) (rest : List ℕ) → (a ≡ 82) × (b ≡ 84) × (c ≡ 80) × (d ≡ 83) → ◌≡◌ {A = List ℕ} (a ∷ b ∷ c ∷ d ∷ rest) (82 ∷ 84 ∷ 80 ∷ 83 ∷ rest)
 first_four a b c d rest (p, q, r, s) = cc
 
+rows : (a b c : Bool) (f g h : WireFault) → (if a then Some f else if b then Some g else if c then Some h else None) ≡ None → (a ≡ false) × (b ≡ false) × (c ≡ false)
+rows true b c f g h none = cc
+rows false true c f g h none = cc
+rows false false true f g h none = cc
+rows false false false f g h none = (refl, refl, refl)
+
+-- what a header without a fault has
+record IsHeader (octets : List ℕ) : Type 0 where
+  long : 20 ≤ length octets
+  name : (slice_index octets 0 ≡ 82) × (slice_index octets 1 ≡ 84) × (slice_index octets 2 ≡ 80) × (slice_index octets 3 ≡ 83)
+  major : slice_index octets 4 ≡ 2
+
+is_header : (octets : List ℕ) → header_fault octets ≡ None → IsHeader octets
+unfolding header_fault
+is_header octets good =
+    let are = rows (nat_lt (length octets) 20) (not (slice_index octets 0 == 82) || not (slice_index octets 1 == 84) || not (slice_index octets 2 == 80) || not (slice_index octets 3 == 83)) (not (slice_index octets 4 == 2)) Short NotRtps BadVersion good in
+    record { long = at_least (length octets) 20 are.0; name = begins _ _ _ _ are.1; major = two (slice_index octets 4) are.2 }
+  where
+    two : (n : ℕ) → not (n == 2) ≡ false → n ≡ 2
+    two n same = grind (arith, nat_tests)
+
 header_stands : (octets : List ℕ) → header_fault octets ≡ None → octets ≡ header_octets (header_of octets) ++ drop 20 octets
-unfolding header_fault header_of
+unfolding header_of
 header_stands octets good =
-    let sized = no_row _ _ _ good in
-    let named = no_row _ _ _ sized.1 in
-    let long = at_least (length octets) 20 sized.0 in
+    let is = is_header octets good in
+    let long = is.long in
     let vendor = take 2 (drop 6 octets) in
     let prefix = take 12 (drop 8 octets) in
     octet_stands octets 0 1 refl (omega arith)
@@ -191,19 +217,33 @@ header_stands octets good =
     ∙ ap (λ xs. slice_index octets 4 ∷ xs) (octet_stands octets 5 6 refl (omega arith)
     ∙ ap (λ xs. slice_index octets 5 ∷ xs) (field_stands octets 6 2 8 refl
     ∙ (ap (λ xs. vendor ++ xs) (field_stands octets 8 12 20 refl) ∙ sym (append_assoc vendor prefix (drop 20 octets)))))))))
-    ∙ first_four _ _ _ _ _ (begins _ _ _ _ named.0))
+    ∙ first_four _ _ _ _ _ is.name)
+
+major_is : (octets : List ℕ) → header_fault octets ≡ None → (header_of octets).version.major ≡ 2
+unfolding header_of
+major_is octets good = (is_header octets good).major
 
 -- ---- a message
 
-pub read_spelled : (header : Header) (items : List ItemValue) (message : List ℕ) → AreOctets message
-    → reading_of message ≡ record { header = Some header; items = items; ending = None } → Spells header items message
-read_spelled header items message small read = by (header_fault message) refl (subst (Reads message) read (has_reading message))
+pub read_spelled : (header : Header) (items : List ItemValue) (message : List ℕ) → AreOctets message → IsReadAs header items (reading_of message) → Spells header items message
+read_spelled header items message small read = by (header_fault message) refl (has_reading message)
   where
-    by : (fault : Option WireFault) → header_fault message ≡ fault → ReadsWith (header_fault message) message (record { header = Some header; items = items; ending = None })
-        → Spells header items message
-    by (Some fault) is reads = let bad = rw is at reads in let none : Some header ≡ None = bad.0 in cc
+    found : Reading
+    found = reading_of message
+
+    by : (fault : Option WireFault) → header_fault message ≡ fault → ReadsWith (header_fault message) message found → Spells header items message
+    by (Some fault) is reads =
+        let bad = rw is at reads in
+        let none : Some header ≡ None = sym read.header_is ∙ bad.0 in
+        cc
     by None is reads =
         let fine = rw is at reads in
-        let header_is : Some header ≡ Some (header_of message) = fine.0 in
+        let header_is : Some header ≡ Some (header_of message) = sym read.header_is ∙ fine.0 in
         let same : header ≡ header_of message = cc in
-        (drop 20 message, rw same (header_stands message is), items_spelled items (drop 20 message) 20 (octets-drop message 20 small) fine.1)
+        let behind : ReadsFrom (drop 20 message) 20 found.items None = subst (λ e. ReadsFrom (drop 20 message) 20 found.items e) read.clean fine.1 in
+        record {
+          rest = drop 20 message;
+          version = ap (λ (h : Header). h.version.major) same ∙ major_is message is;
+          parts = rw same (header_stands message is);
+          spelled = items_spelled found.items items (drop 20 message) 20 (octets-drop message 20 small) behind read.items_are;
+        }

@@ -1,5 +1,5 @@
 -- A set that is read is spelled by the octets from which it was read.
-use Rattle.std.proofs.Common.{◌≡◌, ◌<◌, ◌≤◌, ◌+◌, ◌-◌, ◌*◌, ◌/◌, ◌%◌, ◌^◌, ℕ, ℤ, zero, suc, pos, List, [], ◌∷◌, ◌++◌, true, false, length, drop, get_or, refl, ap, sym, ◌∙◌, append_assoc, arith}
+use Rattle.std.proofs.Common.{◌≡◌, ◌<◌, ◌≤◌, ◌+◌, ◌-◌, ◌*◌, ◌/◌, ◌%◌, ◌^◌, ℕ, ℤ, zero, suc, pos, List, [], ◌∷◌, ◌++◌, true, false, length, drop, get_or, refl, ap, sym, ◌∙◌, append_assoc, arith, All}
 use Rattle.std.specs.Prelude.{int_le, nat_lt, slice_index}
 use Rattle.std.specs.Int.{bit_at}
 use Rattle.std.specs.Int.RustNames.{unsigned_abs}
@@ -15,7 +15,8 @@ use Rattle.rtps_ids.proofs.Offered.{at_most_256}
 use Rattle.rtps_ids.specs.NumberSet.{bit_of, cleared, cleared_words, is_bad, kept_bits, octets_of_count, spelled_base, spelled_count, spelled_set, spelled_word}
 use Rattle.rtps_ids.specs.Octets.{number_of, octets_of, sequence_number_octets}
 use Rattle.rtps_ids.specs.declared.order.Order.{Order}
-use Rattle.rtps_wire.proofs.SpelledFields.{AreOctets, number_stands, octets-drop, pos-unsigned_abs, word_stands}
+use Rattle.rtps_wire.proofs.SpelledFields.{AreOctets, number_stands, octets-drop, pos-unsigned_abs, word_below, word_stands}
+use Rattle.rtps_wire.proofs.WrittenSets.{cleared_words_same}
 use Rattle.rtps_wire.specs.Spelling.{SpellsSet}
 
 -- ---- words that stand one behind another
@@ -49,33 +50,21 @@ words_stand order (suc n) octets inside small =
     ∙ (ap (λ xs. first ++ xs) (words_stand order n (drop 4 octets) (omega (arith, length-drop 4 octets)) (octets-drop octets 4 small))
     ∙ (sym (append_assoc first more _) ∙ ap (λ xs. (first ++ more) ++ xs) (drop-drop (4 * n) 4 octets ∙ ap (λ at. drop at octets) place)))
 
--- ---- a bit that stands for a number is kept
-
-bit_at-high : (word m i : ℕ) → m ≤ i → bit_at (word / 2 ^ m * 2 ^ m) i ≡ bit_at word i
-bit_at-high word m i above =
-    let room : zero < 2 ^ m = pow_pos m in
-    let parts : word / 2 ^ m * 2 ^ m + word % 2 ^ m ≡ word = div-add-mod' word (2 ^ m) in
-    let whole : bit_at (word / 2 ^ m * 2 ^ m + word % 2 ^ m) i ≡ bit_at (word / 2 ^ m) (i - m) = bit_at_cat_high (word / 2 ^ m) m (word % 2 ^ m) i (mod-lt word room) above in
-    let bare : bit_at (word / 2 ^ m * 2 ^ m + 0) i ≡ bit_at (word / 2 ^ m) (i - m) = bit_at_cat_high (word / 2 ^ m) m 0 i room above in
-    let none : word / 2 ^ m * 2 ^ m + 0 ≡ word / 2 ^ m * 2 ^ m = omega arith in
-    ap (λ n. bit_at n i) (sym none) ∙ (bare ∙ (sym whole ∙ ap (λ n. bit_at n i) parts))
-
-bit_at-cleared : (count word j r : ℕ) → r < 32 → 32 * j + r < count → bit_at (cleared count word j) (31 - r) ≡ bit_at word (31 - r)
-bit_at-cleared count word j r few kept =
-    let begun : nat_lt (32 * j) count ≡ true = grind (arith, nat_tests) in
-    rw begun (bit_at-high word (32 - kept_bits count j) (31 - r) (omega arith))
-
-kept_bit : (count i : ℕ) (word : ℕ → ℕ) → i < count → i < 256 → bit_of (cleared_words count word) i ≡ bit_at (word (i / 32)) (31 - i % 32)
-unfolding cleared_words
-kept_bit count i word kept few =
-    ap (λ w. bit_at w (31 - i % 32)) (get_or-map-range_with_len (λ j. cleared count (word j) j) 0 8 (i / 32) (i / 32) 0 (omega arith) (omega arith))
-    ∙ bit_at-cleared count (word (i / 32)) (i / 32) (i % 32) (omega arith) (omega arith)
+words_small : (order : Order) (n : ℕ) (octets : List ℕ) → 4 * n ≤ length octets → AreOctets octets → All (λ word. word < 2 ^ 32) (words_at order n octets)
+unfolding words_at
+words_small order zero octets inside small k d among = absurd (omega arith)
+words_small order (suc n) octets inside small zero d among = word_below order octets (omega arith) small
+words_small order (suc n) octets inside small (suc k) d among =
+    words_small order n (drop 4 octets) (omega (arith, length-drop 4 octets)) (octets-drop octets 4 small) k d (omega arith)
 
 -- ---- the set
 
 good_base : (base : ℤ) (count : ℕ) → is_bad base count ≡ false → int_le (pos 0) base ≡ true
 unfolding is_bad
 good_base base count good = grind (arith, ints, nat_tests)
+
+good_again : (base : ℤ) (n count : ℕ) → pos n ≡ base → is_bad base count ≡ false → is_bad (pos n) count ≡ false
+good_again base n count same good = ap (λ b. is_bad b count) same ∙ good
 
 -- octets begin with a set, and it is spelled so
 pub record SetStands (order : Order) (octets : List ℕ) : Type 0 where
@@ -111,7 +100,8 @@ set_stands order octets good whole small =
         words = words;
         many = length-words_at order many (drop 12 octets);
         parts = refl;
-        bits = λ i below. ap (λ w. bit_at w (31 - i % 32)) (word_is (i / 32) (omega arith))
-            ∙ sym (kept_bit count i (spelled_word order octets) below (omega arith));
+        small = words_small order many (drop 12 octets) (omega (arith, length-drop 12 octets)) (octets-drop octets 12 small);
+        kept = cleared_words_same count (spelled_word order octets) (λ i. slice_index words i) (λ j before. sym (word_is j (omega arith)));
+        good = good_again (spelled_base order octets) _ count base_is good;
       };
     }

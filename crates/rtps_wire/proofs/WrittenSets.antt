@@ -77,7 +77,7 @@ map_same : (f g : ℕ → ℕ) (xs : List ℕ) → ((i : ℕ) → f i ≡ g i) �
 map_same f g [] same = refl
 map_same f g (x ∷ xs) same = let one = same x in let more = map_same f g xs same in cc
 
-cleared_words_same : (count : ℕ) (word other : ℕ → ℕ) → ((i : ℕ) → 32 * i < count → word i ≡ other i) → cleared_words count word ≡ cleared_words count other
+pub cleared_words_same : (count : ℕ) (word other : ℕ → ℕ) → ((i : ℕ) → 32 * i < count → word i ≡ other i) → cleared_words count word ≡ cleared_words count other
 unfolding cleared_words
 cleared_words_same count word other same = map_same _ _ (range_with_len 0 8) (λ i. cleared_same count i (word i) (other i) (same i))
 

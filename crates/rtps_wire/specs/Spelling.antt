@@ -1,10 +1,11 @@
 -- How a message is spelled: its parts, one behind another, and between them the octets at which no reader looks.
 -- DDSI-RTPS 2.5, 8.3.3 "The Overall Structure of an RTPS Message" and 9.4.5 "Mapping of the RTPS Submessages". own: a
--- relation of its own beside reading and writing, so that both are held against it. What is ignored may be anything:
--- flags that have no name here, and what is called `ignored`, `unused`, `extra_flags` and `skipped` below.
-use Rattle.std.specs.Prelude.{ℕ, pos, ◌+◌, ◌-◌, ◌/◌, ◌^◌, ◌≡◌, ◌<◌, ◌==◌, ◌||◌, ◌⊎◌, bit_and, bit_or, false, List, [], ◌∷◌, ◌++◌, length, Option, Some, None, ⊤}
+-- relation beside reading and writing, against which both are held; a law says that a message is read as what it spells,
+-- and as nothing else. What is ignored may be anything: flags that have no name here, bits of a set past its count, and
+-- what is called `ignored`, `unused`, `extra_flags` and `skipped` below.
+use Rattle.std.specs.Prelude.{ℕ, pos, ◌+◌, ◌-◌, ◌/◌, ◌^◌, ◌≡◌, ◌<◌, ◌==◌, bit_and, bit_or, false, List, [], ◌∷◌, ◌++◌, All, length, map, slice_index, Option, Some, None, ⊤}
 use Rattle.std.specs.List.{flat_map}
-use Rattle.rtps_ids.specs.NumberSet.{NumberSetValue, bit_of}
+use Rattle.rtps_ids.specs.NumberSet.{NumberSetValue, cleared_words, is_bad}
 use Rattle.rtps_ids.specs.Octets.{octets_of, sequence_number_octets}
 use Rattle.rtps_ids.specs.declared.identity.GuidPrefix.{GuidPrefix}
 use Rattle.rtps_ids.specs.declared.identity.Stamp.{Stamp}
@@ -13,6 +14,8 @@ use Rattle.rtps_ids.specs.declared.identity.Version.{Version}
 use Rattle.rtps_ids.specs.declared.order.Order.{Order}
 use Rattle.rtps_wire.specs.Data.{is_other_order, qos_octets}
 use Rattle.rtps_wire.specs.Header.{header_octets}
+use Rattle.rtps_wire.specs.Heartbeat.{is_bad_range}
+use Rattle.rtps_wire.specs.Message.{Reading, extent_of}
 use Rattle.rtps_wire.specs.Skipped.{is_read}
 use Rattle.rtps_wire.specs.Values.{BodyValue, DataValue, ItemValue, PayloadValue}
 use Rattle.rtps_wire.specs.Values.BodyValue.{Data, Heartbeat, AckNack, Gap, InfoTs, InfoDst, InfoSrc, Skipped}
@@ -26,22 +29,26 @@ use Rattle.rtps_wire.specs.declared.header.Header.{Header}
 use Rattle.rtps_wire.specs.declared.layout.ack_nack.TheConstants as ack_nack
 use Rattle.rtps_wire.specs.declared.layout.data.TheConstants.{QOS_FROM, SIZE}
 use Rattle.rtps_wire.specs.declared.layout.heartbeat.TheConstants as heartbeat
-use Rattle.rtps_wire.specs.declared.layout.id.TheConstants.{INFO_TS, PAD}
+use Rattle.rtps_wire.specs.declared.layout.header.TheConstants.{VERSION}
 use Rattle.rtps_wire.specs.declared.layout.info_ts.TheConstants.{INVALIDATE}
 use Rattle.rtps_wire.specs.declared.layout.submessage.TheConstants.{E}
 
--- a set: its base, how many bits it has, and as many words as hold them (9.4.2.6 "SequenceNumberSet"). Bits past those
--- are ignored
+-- a good set: its base, how many bits it has, and as many words as hold them (9.4.2.6 "SequenceNumberSet"). Bits past
+-- those are ignored: the words of the set have them cleared
 pub record SpellsSet (order : Order) (set : NumberSetValue) (octets : List ℕ) : Type 0 where
   pub words : List ℕ
   pub many : length words ≡ (set.count + 31) / 32
+  pub small : All (λ word. word < 2 ^ 32) words
   pub parts : octets ≡ sequence_number_octets order (pos set.base) ++ (octets_of order 4 set.count ++ flat_map (octets_of order 4) words)
-  pub bits : (i : ℕ) → i < set.count → bit_of words i ≡ bit_of set.words i
+  pub kept : set.words ≡ cleared_words set.count (λ i. slice_index words i)
+  pub good : is_bad (pos set.base) set.count ≡ false
 
--- 9.4.5.7 "Heartbeat Submessage": readerId, writerId, firstSN, lastSN, count
+-- 9.4.5.7 "Heartbeat Submessage": readerId, writerId, firstSN, lastSN, count; the last is 0 or above, and no less than
+-- the first less one
 pub record SpellsHeartbeat (order : Order) (body : HeartbeatBody) (octets : List ℕ) : Type 0 where
   pub ignored : List ℕ
   pub parts : octets ≡ body.reader.0 ++ (body.writer.0 ++ (sequence_number_octets order (pos body.first) ++ (sequence_number_octets order body.last ++ (octets_of order 4 body.count ++ ignored))))
+  pub range : is_bad_range body ≡ false
 
 -- 9.4.5.3 "AckNack Submessage": readerId, writerId, readerSNState, count
 pub record SpellsAckNack (order : Order) (body : AckNackBody) (octets : List ℕ) : Type 0 where
@@ -50,12 +57,13 @@ pub record SpellsAckNack (order : Order) (body : AckNackBody) (octets : List ℕ
   pub parts : octets ≡ body.reader.0 ++ (body.writer.0 ++ (set ++ (octets_of order 4 body.count ++ ignored)))
   pub spelled : SpellsSet order body.set set
 
--- 9.4.5.6 "Gap Submessage": readerId, writerId, gapStart, gapList
+-- 9.4.5.6 "Gap Submessage": readerId, writerId, gapStart, gapList; the base of the list is not 0
 pub record SpellsGap (order : Order) (body : GapBody) (octets : List ℕ) : Type 0 where
   pub list : List ℕ
   pub ignored : List ℕ
   pub parts : octets ≡ body.reader.0 ++ (body.writer.0 ++ (sequence_number_octets order (pos body.start) ++ (list ++ ignored)))
   pub spelled : SpellsSet order body.list list
+  pub positive : (body.list.base == 0) ≡ false
 
 -- a payload is all that is left; where there is none, what is left is ignored
 abbrev pub SpellsPayload : PayloadValue → List ℕ → Type 0
@@ -110,27 +118,44 @@ named_flags (AckNack body) = bit_or E ack_nack.FINAL
 named_flags (InfoTs time) = bit_or E INVALIDATE
 named_flags _ = E
 
--- octetsToNextHeader is the length of the body. It may be 0 where nothing stands behind the body, unless it is that of a
--- PAD or an INFO_TS, which 0 makes empty (8.3.3.2.3 "submessageLength")
-abbrev pub Declares : ℕ → ℕ → ℕ → List ℕ → Type 0
-Declares id declared size later = (declared ≡ size) ⊎ ((declared ≡ 0) × ((id == PAD || id == INFO_TS) ≡ false) × (later ≡ []))
-
--- a submessage, behind which these octets stand: submessageId, flags, octetsToNextHeader, and the body
-pub record SpellsItem (item : ItemValue) (octets later : List ℕ) : Type 0 where
+-- a submessage, behind which these octets stand: submessageId, flags, octetsToNextHeader, and the body. Its extent comes
+-- from octetsToNextHeader alone: it is the length of the body, or 0 where the body is all that is left
+pub record SpellsSubmessage (order : Order) (value : BodyValue) (octets later : List ℕ) : Type 0 where
   pub flags : ℕ
   pub declared : ℕ
   pub body : List ℕ
   pub short : declared < 2 ^ 16
-  pub parts : octets ≡ written_id item.body ∷ flags ∷ (octets_of item.order 2 declared ++ body)
-  pub named : bit_and flags (named_flags item.body) ≡ written_flags item.order item.body
-  pub size : Declares (written_id item.body) declared (length body) later
-  pub spelled : SpellsBody item.order item.body body
+  pub parts : octets ≡ written_id value ∷ flags ∷ (octets_of order 2 declared ++ body)
+  pub named : bit_and flags (named_flags value) ≡ written_flags order value
+  pub extent : length body ≡ extent_of (written_id value) declared (length body + length later)
+  pub spelled : SpellsBody order value body
 
 -- items, one behind another, wherever they were read
 abbrev pub SpellsItems : List ItemValue → List ℕ → Type 0
 SpellsItems [] octets = octets ≡ []
-SpellsItems (item ∷ items) octets = (first : List ℕ) × (later : List ℕ) × (octets ≡ first ++ later) × SpellsItem item first later × SpellsItems items later
+SpellsItems (item ∷ items) octets = (first : List ℕ) × (later : List ℕ) × (octets ≡ first ++ later) × SpellsSubmessage item.order item.body first later × SpellsItems items later
 
 -- a message: its header, of which each octet says something, and its items
-abbrev pub Spells : Header → List ItemValue → List ℕ → Type 0
-Spells header items message = (rest : List ℕ) × (message ≡ header_octets header ++ rest) × SpellsItems items rest
+pub record Spells (header : Header) (items : List ItemValue) (message : List ℕ) : Type 0 where
+  pub rest : List ℕ
+  pub version : header.version.major ≡ VERSION
+  pub parts : message ≡ header_octets header ++ rest
+  pub spelled : SpellsItems items rest
+
+-- an item, wherever it was read
+abbrev pub unplaced : ItemValue → ItemValue
+unplaced item = record item { at = 0 }
+
+-- what was read is this header and these items, wherever they stand, and has a clean end
+pub record IsReadAs (header : Header) (items : List ItemValue) (reading : Reading) : Type 0 where
+  pub header_is : reading.header ≡ Some header
+  pub items_are : map unplaced reading.items ≡ map unplaced items
+  pub clean : reading.ending ≡ None
+
+-- two messages are alike where one header and the same items are spelled by both: they differ in nothing but what is
+-- ignored
+pub record AreAlike (message other : List ℕ) : Type 0 where
+  pub header : Header
+  pub items : List ItemValue
+  pub one : Spells header items message
+  pub two : Spells header items other

@@ -1,11 +1,11 @@
 //! Laws of the definitions, as contracts of functions that do nothing.
 
-ghost use Rattle.std.specs.Prelude.{◌≡◌, ◌<◌, ◌++◌, ℕ, List, All, map, option_to_list, Ok, Err, Some, None};
+ghost use Rattle.std.specs.Prelude.{◌≡◌, ◌<◌, ◌++◌, ℕ, List, All, map, option_to_list, Ok, Err, None};
 ghost use Rattle.rtps_wire.specs.Held.{IsHeldHeader, IsHeldItem};
 ghost use Rattle.rtps_wire.specs.Layout.{ack_nack_is, data_is, gap_is, header_is, heartbeat_is, id_is, info_dst_is, info_ts_is, submessage_is};
 ghost use Rattle.rtps_wire.specs.Message.{Reading, Reads};
 ghost use Rattle.rtps_wire.specs.Reading.{items_among, outcomes, reading_of, refusal_among};
-ghost use Rattle.rtps_wire.specs.Spelling.{Spells};
+ghost use Rattle.rtps_wire.specs.Spelling.{AreAlike, IsReadAs, Spells};
 ghost use Rattle.rtps_wire.specs.Values.{ItemValue};
 ghost use Rattle.rtps_wire.specs.Writable.{write_fault};
 ghost use Rattle.rtps_wire.specs.Written.{clean_reading, message_octets};
@@ -27,20 +27,24 @@ pub fn written_reads_back()
         → reading_of (message_octets header items) ≡ clean_reading header items }
 {}
 
-/// What is read is spelled by the octets from which it was read: a message that has a clean end consists of its header
-/// and its items, each field at its place, and of what no reader looks at.
+/// A message is read as what it spells, and as nothing else: each octet of a message that has a clean end is a part of its
+/// header or of its items, at its place, or is one at which no reader looks.
 #[tactic(auto, using(crate::proofs::SpelledMessages::read_spelled))]
-pub fn what_is_read_is_spelled()
-    ensures { (header : Header) (items : List ItemValue) (message : List ℕ) → All (λ octet. octet < 256) message
-        → reading_of message ≡ record { header = Some header; items = items; ending = None } → Spells header items message }
+pub fn a_message_is_read_as_it_is_spelled()
+    ensures spelled { (header : Header) (items : List ItemValue) (message : List ℕ) → All (λ octet. octet < 256) message
+        → IsReadAs header items (reading_of message) → Spells header items message }
+    ensures read { (header : Header) (items : List ItemValue) (message : List ℕ) → IsHeldHeader header → All IsHeldItem items
+        → Spells header items message → IsReadAs header items (reading_of message) }
 {}
 
-/// What is written is spelled so, too. So a message that is read and written again differs from what is written in
-/// nothing but what no reader looks at.
-#[tactic(auto, using(crate::proofs::SpelledWritten::written_spelled))]
+/// What is written is spelled so, too. So a message that is read and written again differs from what is written in nothing
+/// but what no reader looks at.
+#[tactic(auto, using(crate::proofs::SpelledAgain::written_spelled, crate::proofs::SpelledAgain::written_alike))]
 pub fn what_is_written_is_spelled()
-    ensures { (header : Header) (items : List ItemValue) → All IsHeldItem items → write_fault header items ≡ None
+    ensures written { (header : Header) (items : List ItemValue) → All IsHeldItem items → write_fault header items ≡ None
         → Spells header items (message_octets header items) }
+    ensures again { (header : Header) (items : List ItemValue) (message : List ℕ) → All (λ octet. octet < 256) message → All IsHeldItem items
+        → IsReadAs header items (reading_of message) → write_fault header items ≡ None → AreAlike message (message_octets header items) }
 {}
 
 /// The ids, flags, sizes and places that readers and definitions name are those of the standard.

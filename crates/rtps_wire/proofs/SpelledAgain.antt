@@ -1,15 +1,21 @@
--- A message that is written is spelled by its octets.
-use Rattle.std.proofs.Common.{◌≡◌, ◌<◌, ◌≤◌, ◌+◌, ◌*◌, ◌/◌, ◌-◌, ◌%◌, ◌^◌, ℕ, suc, pos, List, [], ◌∷◌, ◌++◌, Bool, true, false, Option, None, Some, All, length, take, get_or, refl, ap, sym, ◌∙◌, arith, inl}
+-- A message that is written is spelled by its octets, and alike to one from which it was read.
+use Rattle.std.proofs.Common.{◌≡◌, ◌<◌, ◌≤◌, ◌+◌, ◌*◌, ◌/◌, ◌-◌, ◌%◌, ◌^◌, ℕ, suc, pos, List, [], ◌∷◌, ◌++◌, Bool, true, false, Option, None, Some, All, length, take, get_or, refl, ap, sym, ◌∙◌, arith}
 use Rattle.std.specs.Prelude.{◌==◌, bit_and, bit_or, slice_index}
 use Rattle.std.specs.Int.{bit_at}
 use Rattle.std.specs.List.{flat_map}
-use Rattle.std.proofs.lemmas.List.{append-nil, get_or-take, length-take-le}
+use Rattle.std.proofs.lemmas.List.{append-nil, get_or-take, length-take, length-take-le}
 use Rattle.rtps_ids.specs.NumberSet.{NumberSetValue}
 use Rattle.rtps_ids.specs.Octets.{octets_of, sequence_number_octets}
 use Rattle.rtps_ids.specs.declared.identity.Stamp.{Stamp}
 use Rattle.rtps_ids.specs.declared.order.Order.{Order}
 use Rattle.rtps_ids.specs.declared.order.Order.TheVariants.{Big, Little}
 use Rattle.rtps_params.specs.Lists.{ListValue}
+use Rattle.rtps_wire.proofs.SpelledFields.{AreOctets}
+use Rattle.rtps_wire.proofs.SpelledMessages.{read_spelled}
+use Rattle.rtps_wire.proofs.WrittenBodies.{extent_same}
+use Rattle.rtps_wire.proofs.WrittenSets.{cleared_words_same, set_good}
+use Rattle.rtps_wire.specs.Reading.{reading_of}
+use Rattle.std.proofs.lemmas.Bool.Decides.{nat_tests}
 use Rattle.rtps_wire.proofs.WrittenMessage.{no_fault, no_first}
 use Rattle.rtps_wire.specs.AckNack.{ack_nack_octets}
 use Rattle.rtps_wire.specs.Data.{data_octets, payload_flag, payload_octets, qos_flag}
@@ -19,7 +25,7 @@ use Rattle.rtps_wire.specs.Heartbeat.{heartbeat_octets}
 use Rattle.rtps_wire.specs.Held.{IsHeldBody, IsHeldItem, IsHeldSet}
 use Rattle.rtps_wire.specs.Info.{info_ts_flags}
 use Rattle.rtps_wire.specs.SetField.{set_octets}
-use Rattle.rtps_wire.specs.Spelling.{Spells, SpellsBody, SpellsItem, SpellsItems, SpellsPayload, SpellsSet, named_flags}
+use Rattle.rtps_wire.specs.Spelling.{AreAlike, IsReadAs, Spells, SpellsBody, SpellsItems, SpellsPayload, SpellsSet, SpellsSubmessage, named_flags}
 use Rattle.rtps_wire.specs.Values.{BodyValue, ItemValue, PayloadValue}
 use Rattle.rtps_wire.specs.Values.BodyValue.{Data, Heartbeat, AckNack, Gap, InfoTs, InfoDst, InfoSrc, Skipped}
 use Rattle.rtps_wire.specs.Values.PayloadValue.{Absent, Whole, Key}
@@ -89,12 +95,21 @@ set_written : (order : Order) (set : NumberSetValue) → IsHeldSet set → Spell
 set_written order set held =
     let few = held.kept.few in
     let eight = held.kept.eight in
+    let many = (set.count + 31) / 32 in
     record {
-      words = take ((set.count + 31) / 32) set.words;
-      many = length-take-le ((set.count + 31) / 32) set.words (omega arith);
+      words = take many set.words;
+      many = length-take-le many set.words (omega arith);
+      small = λ k d inside. few_small many set.words held.words k d inside;
       parts = refl;
-      bits = λ i below. ap (λ w. bit_at w (31 - i % 32)) (get_or-take ((set.count + 31) / 32) set.words (i / 32) 0 (omega arith));
+      kept = held.kept.clear
+          ∙ cleared_words_same set.count (λ i. slice_index set.words i) (λ i. slice_index (take many set.words) i) (λ i before. sym (get_or-take many set.words i 0 (omega arith)));
+      good = set_good set held;
     }
+  where
+    few_small : (n : ℕ) (words : List ℕ) → All (λ word. word < 2 ^ 32) words → All (λ word. word < 2 ^ 32) (take n words)
+    few_small n words small k d inside =
+        let shorter = length-take n words in
+        rw (get_or-take n words k d (omega arith)) (small k d (omega arith))
 
 last : (octets : List ℕ) → octets ≡ octets ++ []
 last octets = sym (append-nil octets)
@@ -118,13 +133,13 @@ body_written order (Data body) held good =
     }
 body_written order (Heartbeat body) held good =
     let front = λ (xs : List ℕ). body.reader.0 ++ (body.writer.0 ++ (sequence_number_octets order (pos body.first) ++ (sequence_number_octets order body.last ++ xs))) in
-    record { ignored = []; parts = ap front (last (octets_of order 4 body.count)) }
+    record { ignored = []; parts = ap front (last (octets_of order 4 body.count)); range = good }
 body_written order (AckNack body) held good =
     let front = λ (xs : List ℕ). body.reader.0 ++ (body.writer.0 ++ (set_octets order body.set ++ xs)) in
     record { set = set_octets order body.set; ignored = []; parts = ap front (last (octets_of order 4 body.count)); spelled = set_written order body.set held.set }
 body_written order (Gap body) held good =
     let front = λ (xs : List ℕ). body.reader.0 ++ (body.writer.0 ++ (sequence_number_octets order (pos body.start) ++ xs)) in
-    record { list = set_octets order body.list; ignored = []; parts = ap front (last (set_octets order body.list)); spelled = set_written order body.list held.list }
+    record { list = set_octets order body.list; ignored = []; parts = ap front (last (set_octets order body.list)); spelled = set_written order body.list held.list; positive = good }
 body_written order (InfoTs None) held good = tt
 body_written order (InfoTs (Some stamp)) held good = ([], ap (λ xs. octets_of order 4 stamp.seconds ++ xs) (last (octets_of order 4 stamp.fraction)))
 body_written order (InfoDst prefix) held good = ([], last prefix.0)
@@ -140,7 +155,7 @@ body_written order (Skipped id) held good = cc
 -- ---- a message
 
 item_written : (item : ItemValue) (later : List ℕ) → IsHeldItem item → is_not_writable item.order item.body ≡ false → length (written_body item.order item.body) < 2 ^ 16
-    → SpellsItem item (item_octets item) later
+    → SpellsSubmessage item.order item.body (item_octets item) later
 item_written item later held good small =
     record {
       flags = written_flags item.order item.body;
@@ -149,7 +164,7 @@ item_written item later held good small =
       short = small;
       parts = refl;
       named = named item.order item.body;
-      size = inl refl;
+      extent = sym (extent_same item.order item.body _ held good);
       spelled = body_written item.order item.body held good;
     }
 
@@ -157,17 +172,21 @@ items_written : (items : List ItemValue) → All IsHeldItem items → items_faul
 items_written [] held good = refl
 items_written (item ∷ items) held good =
     let parts = no_first (item_fault (is_none_left items) item) (items_fault items) good in
-    let fine = no_fault (is_none_left items) item parts.0 in (
-      item_octets item,
-      flat_map item_octets items,
-      refl,
-      item_written item (flat_map item_octets items) (held 0 item (omega arith)) fine.0 fine.1,
-      items_written items (λ k d inside. held (suc k) d (omega arith)) parts.1,
-    )
+    let fine = no_fault (is_none_left items) item parts.0 in
+    (item_octets item, flat_map item_octets items, refl, item_written item (flat_map item_octets items) (held 0 item (omega arith)) fine.0 fine.1,
+        items_written items (λ k d inside. held (suc k) d (omega arith)) parts.1)
 
 pub written_spelled : (header : Header) (items : List ItemValue) → All IsHeldItem items → write_fault header items ≡ None → Spells header items (message_octets header items)
 written_spelled header items held good = by (header.version.major == 2) refl
   where
+    two : (n : ℕ) → (n == 2) ≡ true → n ≡ 2
+    two n same = grind (arith, nat_tests)
+
     by : (b : Bool) → (header.version.major == 2) ≡ b → Spells header items (message_octets header items)
-    by true is = (flat_map item_octets items, refl, items_written items held (rw is at good))
+    by true is = record { rest = flat_map item_octets items; version = two header.version.major is; parts = refl; spelled = items_written items held (rw is at good) }
     by false is = let fault : Some NotWritable ≡ None = rw is at good in cc
+
+pub written_alike : (header : Header) (items : List ItemValue) (message : List ℕ) → AreOctets message → All IsHeldItem items → IsReadAs header items (reading_of message)
+    → write_fault header items ≡ None → AreAlike message (message_octets header items)
+written_alike header items message small held read good =
+    record { header = header; items = items; one = read_spelled header items message small read; two = written_spelled header items held good }
