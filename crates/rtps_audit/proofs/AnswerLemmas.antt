@@ -28,33 +28,33 @@ past_base (pos f) base positive lt = let below : base ≤ f = grind (arith, nat_
 past_base (negsuc f) base positive lt = absurd (omega (arith, ints))
 
 -- an answer whose base is not past the front claims only what is told
-told_all : (writer reader : Guid) (placed : List PlacedValue) (answer : Answer) (front : ℤ) → natural answer.base < 2 ^ 63 → int_lt front (pos (natural answer.base)) ≡ false → IsFrontBy writer reader placed (answer.datagram - 1) front → IsToldAll writer reader placed answer
-told_all writer reader placed answer front small past is n positive lt = elim (sign answer.base) [
-  | inl same ↦ let above = past_base front (natural answer.base) is.positive past in is.below n positive (omega (arith, ints, same)) (omega (arith, ints, same))
+told_all : {from : ℕ} (writer reader : Guid) (placed : List PlacedValue) (answer : Answer) (front : ℤ) → natural answer.base < 2 ^ 63 → int_lt front (pos (natural answer.base)) ≡ false → IsFrontBy from writer reader placed (answer.datagram - 1) front → IsToldAll from writer reader placed answer
+told_all writer reader placed answer front small past is n asked lt = elim (sign answer.base) [
+  | inl same ↦ let above = past_base front (natural answer.base) is.positive past in is.below n asked (omega (arith, ints, same)) (omega (arith, ints, same))
   | inr below ↦ absurd (let low = below.0 in omega (arith, ints))
 ]
 
-first_kept : (writer reader : Guid) (placed : List PlacedValue) (answers : List Answer) (answer : Answer) (untold : Untold) → (answer.datagram < untold.datagram → IsToldAll writer reader placed answer) → IsFirstAmong writer reader placed answers untold → IsFirstAmong writer reader placed (answers ++ answer ∷ []) untold
-first_kept writer reader placed answers answer untold told known = record {
+first_kept : {from : ℕ} (writer reader : Guid) (placed : List PlacedValue) (answers : List Answer) (answer : Answer) (untold : Untold) → (answer.datagram < untold.datagram → IsToldAll from writer reader placed answer) → IsFirstAmong from writer reader placed answers untold → IsFirstAmong from writer reader placed (answers ++ answer ∷ []) untold
+first_kept {from} writer reader placed answers answer untold told known = record {
   answer = known.answer;
   among = Contains-append_left answers (answer ∷ []) known.answer known.among;
   datagram = known.datagram;
   below = known.below;
   small = known.small;
   front = known.front;
-  first = All-push (λ (other : Answer). other.datagram < untold.datagram → IsToldAll writer reader placed other) answers answer known.first told;
+  first = All-push (λ (other : Answer). other.datagram < untold.datagram → IsToldAll from writer reader placed other) answers answer known.first told;
 }
 
 -- the claims of one answer more
-pub untold_on : (writer reader : Guid) (placed : List PlacedValue) (answers : List Answer) (answer : Answer) (front : ℤ) (old new : Option Untold) → natural answer.base < 2 ^ 63 → IsFrontBy writer reader placed (answer.datagram - 1) front
+pub untold_on : {from : ℕ} (writer reader : Guid) (placed : List PlacedValue) (answers : List Answer) (answer : Answer) (front : ℤ) (old new : Option Untold) → natural answer.base < 2 ^ 63 → IsFrontBy from writer reader placed (answer.datagram - 1) front
     → new ≡ (if is_earlier answer.datagram old && int_lt front (pos (natural answer.base)) then Some (record { datagram = answer.datagram; number = front }) else old)
-    → IsUntoldAmong writer reader placed answers old → IsUntoldAmong writer reader placed (answers ++ answer ∷ []) new
-untold_on writer reader placed answers answer front old new small is found known = subst (IsUntoldAmong writer reader placed (answers ++ answer ∷ [])) (sym found) (by_test old known (is_earlier answer.datagram old) (int_lt front (pos (natural answer.base))) refl refl)
+    → IsUntoldAmong from writer reader placed answers old → IsUntoldAmong from writer reader placed (answers ++ answer ∷ []) new
+untold_on {from} writer reader placed answers answer front old new small is found known = subst (IsUntoldAmong from writer reader placed (answers ++ answer ∷ [])) (sym found) (by_test old known (is_earlier answer.datagram old) (int_lt front (pos (natural answer.base))) refl refl)
   where
     here : Untold
     here = record { datagram = answer.datagram; number = front }
 
-    found_here : int_lt front (pos (natural answer.base)) ≡ true → All (λ other. other.datagram < answer.datagram → IsToldAll writer reader placed other) answers → IsFirstAmong writer reader placed (answers ++ answer ∷ []) here
+    found_here : int_lt front (pos (natural answer.base)) ≡ true → All (λ other. other.datagram < answer.datagram → IsToldAll from writer reader placed other) answers → IsFirstAmong from writer reader placed (answers ++ answer ∷ []) here
     found_here lt first = record {
       answer = answer;
       among = Contains-push answers answer;
@@ -62,15 +62,15 @@ untold_on writer reader placed answers answer front old new small is found known
       below = elim (sign answer.base) [ inl same ↦ subst (λ z. front <ℤ z) (sym same) (below_base front _ is.positive lt) | inr below ↦ absurd (let low = below_base front _ is.positive lt in let positive = is.positive in let none = below.1 in omega (arith, ints)) ];
       small = let lt = below_base front _ is.positive lt in omega (arith, ints);
       front = is;
-      first = All-push (λ (other : Answer). other.datagram < answer.datagram → IsToldAll writer reader placed other) answers answer first (λ lt. absurd (omega arith));
+      first = All-push (λ (other : Answer). other.datagram < answer.datagram → IsToldAll from writer reader placed other) answers answer first (λ lt. absurd (omega arith));
     }
 
-    by_test : (old : Option Untold) → IsUntoldAmong writer reader placed answers old → (early below : Bool) → is_earlier answer.datagram old ≡ early → int_lt front (pos (natural answer.base)) ≡ below
-        → IsUntoldAmong writer reader placed (answers ++ answer ∷ []) (if early && below then Some here else old)
-    by_test None known true true e f = found_here f (All-weaker (IsToldAll writer reader placed) (λ (other : Answer). other.datagram < answer.datagram → IsToldAll writer reader placed other) (λ other told lt. told) answers known)
-    by_test None known true false e f = All-push (IsToldAll writer reader placed) answers answer known (told_all writer reader placed answer front small f is)
+    by_test : (old : Option Untold) → IsUntoldAmong from writer reader placed answers old → (early below : Bool) → is_earlier answer.datagram old ≡ early → int_lt front (pos (natural answer.base)) ≡ below
+        → IsUntoldAmong from writer reader placed (answers ++ answer ∷ []) (if early && below then Some here else old)
+    by_test None known true true e f = found_here f (All-weaker (IsToldAll from writer reader placed) (λ (other : Answer). other.datagram < answer.datagram → IsToldAll from writer reader placed other) (λ other told lt. told) answers known)
+    by_test None known true false e f = All-push (IsToldAll from writer reader placed) answers answer known (told_all writer reader placed answer front small f is)
     by_test None known false below e f = cc
-    by_test (Some untold) known true true e f = let early : answer.datagram < untold.datagram = grind (arith, nat_tests) in found_here f (All-weaker (λ (other : Answer). other.datagram < untold.datagram → IsToldAll writer reader placed other) (λ (other : Answer). other.datagram < answer.datagram → IsToldAll writer reader placed other) (λ other told lt. told (omega arith)) answers known.first)
+    by_test (Some untold) known true true e f = let early : answer.datagram < untold.datagram = grind (arith, nat_tests) in found_here f (All-weaker (λ (other : Answer). other.datagram < untold.datagram → IsToldAll from writer reader placed other) (λ (other : Answer). other.datagram < answer.datagram → IsToldAll from writer reader placed other) (λ other told lt. told (omega arith)) answers known.first)
     by_test (Some untold) known true false e f = first_kept writer reader placed answers answer untold (λ lt. told_all writer reader placed answer front small f is) known
     by_test (Some untold) known false below e f = first_kept writer reader placed answers answer untold (λ lt. absurd (grind (arith, nat_tests))) known
 

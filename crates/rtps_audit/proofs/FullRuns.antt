@@ -2,8 +2,8 @@
 use Rattle.std.proofs.Common.{ℕ, List}
 use Rattle.rtps_ids.specs.declared.identity.Guid.{Guid}
 use Rattle.rtps_audit.specs.Delivery.{Speech, HasRun}
-use Rattle.rtps_audit.specs.FullRun.{IsBoundedBy, IsFullRun, HasFullRunFrom, HasFullRun}
-use Rattle.rtps_audit.specs.RunVerdict.{IsVerdictFrom, IsVerdict}
+use Rattle.rtps_audit.specs.FullRun.{IsBoundedBy, IsFullRun, HasFullRunFrom}
+use Rattle.rtps_audit.specs.RunVerdict.{IsVerdictFrom}
 use Rattle.rtps_audit.specs.Speech.{speech_of}
 use Rattle.rtps_audit.specs.Laws.{EachRecordingHasAVerdict, FullRunDecidesRecordings}
 use Rattle.rtps_audit.specs.declared.verdict.Verdict.{Verdict}
@@ -33,7 +33,7 @@ full_run_by from speech bound (Open number) bounded is = to_full speech bound bo
 full_run_by from speech bound (Complete last) bounded is = to_full speech bound bounded is.1
 
 -- by each verdict on a recording it is known whether the full run is one
-pub full_run_where : (writer reader : Guid) (recording : List (List ℕ)) (verdict : Verdict) → IsVerdict (speech_of writer reader recording) verdict
-    → HasFullRun (speech_of writer reader recording) verdict
-full_run_where writer reader recording verdict is =
-    full_run_by 1 (speech_of writer reader recording) (end_of_recording recording) verdict (some_bound 1 writer reader recording) is
+pub full_run_where : (from : ℕ) (writer reader : Guid) (recording : List (List ℕ)) (verdict : Verdict) → IsVerdictFrom from (speech_of writer reader recording) verdict
+    → HasFullRunFrom from (speech_of writer reader recording) verdict
+full_run_where from writer reader recording verdict is =
+    full_run_by from (speech_of writer reader recording) (end_of_recording recording) verdict (some_bound from writer reader recording) is

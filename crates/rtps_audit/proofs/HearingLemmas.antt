@@ -1,10 +1,11 @@
 -- What a listener has heard after one act more, and what a hearing tells of it.
 use Rattle.std.proofs.Common.{◌≡◌, ℕ, zero, suc, ℤ, pos, negsuc, ◌+◌, ◌-◌, ◌<◌, ◌≤◌, ◌^◌, ltb, Bool, true, false, not, List, [], ◌∷◌, ◌++◌, length, get_or, slice_index_or, take, max, map, Option, Some, None, ◌⊎◌, inl, inr, refl, sym, ap, ◌∙◌, subst, arith}
-use Rattle.std.specs.Prelude.{IfSome, if◌then◌else◌, ◌&&◌, ◌||◌, MatchOption, is_some, unwrap_or}
+use Rattle.std.specs.Prelude.{IfSome, if◌then◌else◌, ◌&&◌, ◌||◌, MatchOption, is_some, nat_lt, unwrap_or}
 use Rattle.std.specs.Bool.{beq}
 use Rattle.std.specs.List.{All, AllWithin}
 use Rattle.std.specs.List.Sorted.{IsNonDecreasingBy, IsPartitionPoint}
 use Rattle.std.proofs.lemmas.Bool.{cases_lt, ltb-true, ltb-false}
+use Rattle.std.proofs.lemmas.Bool.Decides.{nat_tests}
 use Rattle.std.proofs.lemmas.Int.{ints}
 use Rattle.std.proofs.lemmas.List.{get_or-map, get_or_append_left, get_or_read, length-append, map-append, take_more}
 use Rattle.std.proofs.lemmas.List.Elements.{All-contains, All-map, All-nil, All-push, All-weaker, Contains-append_left, Contains-push, Contains-push_cases}
@@ -16,7 +17,7 @@ use Rattle.rtps_ids.specs.declared.identity.GuidPrefix.{GuidPrefix}
 use Rattle.rtps_receiver.specs.Values.{ActValue, act_value}
 use Rattle.rtps_coverage.specs.Coverage.{IsFront, TellsMore}
 use Rattle.rtps_audit.specs.Common.{nobody}
-use Rattle.rtps_audit.specs.Delivery.{Word}
+use Rattle.rtps_audit.specs.Delivery.{Word, IsAsked}
 use Rattle.rtps_audit.specs.Delivery.Word.{Told}
 use Rattle.rtps_audit.specs.Hearing.{HearsTwo, IsCut, IsFrontBy, IsHeard, IsListening, IsTimeline, IsToldBy, Hears, Marks, front_after}
 use Rattle.rtps_audit.specs.KeptPayloads.{IsKept, KeepsMore, KeepsTwo}
@@ -50,12 +51,12 @@ none_heard heard = let h = heard.among.1 in omega arith
 
 -- ---- fronts
 
-front_after_left : (xs : List Front) (e : Front) (k : ℕ) → k ≤ length xs → front_after (xs ++ e ∷ []) k ≡ front_after xs k
-front_after_left xs e zero le = refl
-front_after_left xs e (suc k) le = ap (λ (f : Front). f.number) (get_or_append_left xs (e ∷ []) _ k (omega arith))
+front_after_left : (from : ℕ) (xs : List Front) (e : Front) (k : ℕ) → k ≤ length xs → front_after from (xs ++ e ∷ []) k ≡ front_after from xs k
+front_after_left from xs e zero le = refl
+front_after_left from xs e (suc k) le = ap (λ (f : Front). f.number) (get_or_append_left xs (e ∷ []) _ k (omega arith))
 
-front_after_push : (xs : List Front) (e : Front) → front_after (xs ++ e ∷ []) (length (xs ++ e ∷ [])) ≡ e.number
-front_after_push xs e = ap (front_after (xs ++ e ∷ [])) all ∙ ap (λ (f : Front). f.number) (last xs)
+front_after_push : (from : ℕ) (xs : List Front) (e : Front) → front_after from (xs ++ e ∷ []) (length (xs ++ e ∷ [])) ≡ e.number
+front_after_push from xs e = ap (front_after from (xs ++ e ∷ [])) all ∙ ap (λ (f : Front). f.number) (last xs)
   where
     all : length (xs ++ e ∷ []) ≡ suc (length xs)
     all = omega (arith, length-append xs (e ∷ []))
@@ -66,24 +67,27 @@ front_after_push xs e = ap (front_after (xs ++ e ∷ [])) all ∙ ap (λ (f : Fr
 
 -- ---- it has heard nothing
 
-pub listening_starts : {C : Type 0} (covered : C → ℕ → Bool) (listener : Listener C) (writer reader : Guid) → ((n : ℕ) → covered listener.words.told n ≡ false) → listener.words.payloads.items ≡ [] → listener.fronts.items ≡ [] → listener.front ≡ pos 1 → listener.last ≡ 0
-    → IsListening covered listener writer reader [] 0
-listening_starts covered listener writer reader none payloads fronts front last = record {
+pub listening_starts : {C : Type 0} (covered : C → ℕ → Bool) (from : ℕ) (listener : Listener C) (writer reader : Guid) → 1 ≤ from → listener.words.from ≡ from
+    → ((n : ℕ) → 1 ≤ n → n < 2 ^ 63 - 1 → covered listener.words.told n ≡ nat_lt n from) → listener.words.payloads.items ≡ [] → listener.fronts.items ≡ [] → listener.front ≡ pos from → listener.last ≡ from - 1
+    → IsListening covered from listener writer reader [] 0
+listening_starts covered from listener writer reader positive asking told payloads fronts front last = record {
+  asking = asking;
   past = All-nil _;
   rising = subst (IsNonDecreasingBy (λ (front : Front). front.datagram)) (sym fronts) (IsNonDecreasingBy-short _ [] (omega arith));
   marked = subst (All (λ (front : Front). front.datagram ≤ 0)) (sym fronts) (All-nil _);
-  told = λ n positive small. (λ e. absurd (let clash : true ≡ false = sym e ∙ none n in cc), λ told. absurd (none_heard told.1.0));
-  timeline = subst (IsTimeline writer reader []) (sym fronts) empty;
-  front = front ∙ sym (ap (λ l. front_after l (length l)) fronts);
-  kept = λ n p positive. (λ kept. absurd (let h = (subst (λ l. IsKept l n p) payloads kept).among.1 in omega arith), λ heard. absurd (none_heard heard));
-  last = last;
+  passed = λ n positive small lt. let below : nat_lt n from ≡ true = grind (arith, nat_tests) in told n positive small ∙ below;
+  told = λ n asked small. (λ e. absurd (let lt = ltb-true n from (sym (told n asked.0 small) ∙ e) in let le = asked.1 in omega arith), λ heard. absurd (none_heard heard.1.0));
+  timeline = subst (IsTimeline from writer reader []) (sym fronts) empty;
+  front = front ∙ sym (ap (λ l. front_after from l (length l)) fronts);
+  kept = λ n p asked. (λ kept. absurd (let h = (subst (λ l. IsKept l n p) payloads kept).among.1 in omega arith), λ heard. absurd (none_heard heard));
+  last = omega (arith, last);
 }
   where
-    empty : IsTimeline writer reader [] []
+    empty : IsTimeline from writer reader [] []
     empty zero datagram cut = record {
       positive = omega (arith, ints);
-      outside = λ n at small told. none_heard told.1.0;
-      below = λ n positive small lt. absurd (omega (arith, ints));
+      outside = λ n at small. ((omega (arith, ints, at), omega (arith, ints, at)), λ told. none_heard told.1.0);
+      below = λ n asked small lt. absurd (let le = asked.1 in omega (arith, ints));
     }
     empty (suc k) datagram cut = absurd (let h = cut.within in omega arith)
 
@@ -113,11 +117,11 @@ cut_before xs e k datagram lt cut = (within, record { within = within; before = 
     behind i d low high = subst (λ (f : Front). datagram < f.datagram) (get_or_append_left xs (e ∷ []) d i high) (cut.behind i d low (omega (arith, all)))
 
 -- what is told up to a datagram before that of the last act is told by those before it
-front_earlier : {writer reader : Guid} (placed : List PlacedValue) (p : PlacedValue) (datagram : ℕ) (front : ℤ) → datagram < p.datagram → IsFrontBy writer reader placed datagram front → IsFrontBy writer reader (placed ++ p ∷ []) datagram front
-front_earlier {writer} {reader} placed p datagram front lt is = record {
+front_earlier : {from : ℕ} {writer reader : Guid} (placed : List PlacedValue) (p : PlacedValue) (datagram : ℕ) (front : ℤ) → datagram < p.datagram → IsFrontBy from writer reader placed datagram front → IsFrontBy from writer reader (placed ++ p ∷ []) datagram front
+front_earlier {from} {writer} {reader} placed p datagram front lt is = record {
   positive = is.positive;
-  outside = λ n at small told. is.outside n at small (told.0, earlier n told.0 told.1);
-  below = λ n positive small below. let told = is.below n positive small below in (told.0, (heard_before placed p told.1.0, told.1.1));
+  outside = λ n at small. let out = is.outside n at small in (out.0, λ told. out.1 (told.0, earlier n told.0 told.1));
+  below = λ n asked small below. let told = is.below n asked small below in (told.0, (heard_before placed p told.1.0, told.1.1));
 }
   where
     earlier : (n : ℕ) (word : Word) → ((heard : IsHeard writer reader (placed ++ p ∷ []) n word) × (heard.at.datagram ≤ datagram)) → (heard : IsHeard writer reader placed n word) × (heard.at.datagram ≤ datagram)
@@ -133,22 +137,25 @@ cut_all fronts k last datagram marked le cut = elim (cases_lt k (length fronts))
   | inr ge ↦ let h = cut.within in omega arith
 ]
 
-pub listening_on : {C : Type 0} (covered : C → ℕ → Bool) (old new : Listener C) (writer reader : Guid) (placed : List PlacedValue) (p : PlacedValue) (datagram : ℕ) → datagram ≤ p.datagram
+pub listening_on : {C : Type 0} {from : ℕ} (covered : C → ℕ → Bool) (old new : Listener C) (writer reader : Guid) (placed : List PlacedValue) (p : PlacedValue) (datagram : ℕ) → datagram ≤ p.datagram
+    → new.words.from ≡ old.words.from
     → TellsMore (covered old.words.told) (covered new.words.told) (λ n. is_some (word_for writer reader p.act n))
-    → KeepsMore old.words.payloads.items new.words.payloads.items (word_for writer reader p.act)
+    → KeepsMore old.words.from old.words.payloads.items new.words.payloads.items (word_for writer reader p.act)
     → IsFront (covered new.words.told) new.front
     → Marks old.front new.front old.fronts.items new.fronts.items p.datagram
     → new.last ≡ max old.last (unwrap_or (announced_for writer p.act) 0)
-    → IsListening covered old writer reader placed datagram → IsListening covered new writer reader (placed ++ p ∷ []) p.datagram
-listening_on covered old new writer reader placed p datagram le tells keeps is_front marks last known = record {
+    → IsListening covered from old writer reader placed datagram → IsListening covered from new writer reader (placed ++ p ∷ []) p.datagram
+listening_on {C} {from} covered old new writer reader placed p datagram le asks tells keeps is_front marks last known = record {
+  asking = asks ∙ known.asking;
   past = past;
   rising = rising marks;
   marked = marked;
-  told = λ n positive small. (to n positive small, from n positive small);
+  passed = passed;
+  told = λ n asked small. (to n asked small, back n asked small);
   timeline = timeline;
   front = front;
-  kept = λ n payload positive. (spoken n payload positive, kept n payload positive);
-  last = last ∙ ap (λ m. max m (unwrap_or (announced_for writer p.act) 0)) known.last ∙ sym (greatest_more (λ (at : PlacedValue). announced_for writer at.act) placed p);
+  kept = λ n payload asked. (spoken n payload asked, kept n payload asked);
+  last = omega (arith, last, known.last, greatest_more (λ (at : PlacedValue). announced_for writer at.act) placed p);
 }
   where
     word : ℕ → Option Word
@@ -177,96 +184,107 @@ listening_on covered old new writer reader placed p datagram le tells keeps is_f
     rising (inr pushed) =
         subst (IsNonDecreasingBy (λ (front : Front). front.datagram)) (sym pushed) (IsNonDecreasingBy-push (λ (front : Front). front.datagram) old.fronts.items mark known.rising (λ d some. old_marked (length old.fronts.items - 1) d (omega arith)))
 
-    to : (n : ℕ) → 1 ≤ n → n < 2 ^ 63 - 1 → covered new.words.told n ≡ true → IsToldBy writer reader (placed ++ p ∷ []) p.datagram n
-    to n positive small is = elim (or_cases (covered old.words.told n) (is_some (word n)) (sym (tells n positive small) ∙ is)) [
-      | inl before ↦ let told = (known.told n positive small).0 before in let until = told.1.1 in (told.0, (heard_before placed p told.1.0, omega arith))
+    passed : (n : ℕ) → 1 ≤ n → n < 2 ^ 63 - 1 → n < from → covered new.words.told n ≡ true
+    passed n positive small lt = tells n positive small ∙ or_left (covered old.words.told n) (is_some (word n)) (known.passed n positive small lt)
+
+    to : (n : ℕ) → IsAsked from n → n < 2 ^ 63 - 1 → covered new.words.told n ≡ true → IsToldBy writer reader (placed ++ p ∷ []) p.datagram n
+    to n asked small is = elim (or_cases (covered old.words.told n) (is_some (word n)) (sym (tells n asked.0 small) ∙ is)) [
+      | inl before ↦ let told = (known.told n asked small).0 before in let until = told.1.1 in (told.0, (heard_before placed p told.1.0, omega arith))
       | inr now ↦ let some = some_word (word n) now in (some.0, (heard_last placed p some.1, omega arith))
     ]
 
-    from : (n : ℕ) → 1 ≤ n → n < 2 ^ 63 - 1 → IsToldBy writer reader (placed ++ p ∷ []) p.datagram n → covered new.words.told n ≡ true
-    from n positive small told = elim (heard_cases placed p told.1.0) [
+    back : (n : ℕ) → IsAsked from n → n < 2 ^ 63 - 1 → IsToldBy writer reader (placed ++ p ∷ []) p.datagram n → covered new.words.told n ≡ true
+    back n asked small told = elim (heard_cases placed p told.1.0) [
       | inl before ↦
           let until = All-contains (λ (at : PlacedValue). at.datagram ≤ datagram) placed before.0.at known.past before.0.among in
-          tells n positive small ∙ or_left (covered old.words.told n) (is_some (word n)) ((known.told n positive small).1 (told.0, (before.0, until)))
-      | inr now ↦ tells n positive small ∙ or_right (covered old.words.told n) (is_some (word n)) (word_some (word n) told.0 now.0)
+          tells n asked.0 small ∙ or_left (covered old.words.told n) (is_some (word n)) ((known.told n asked small).1 (told.0, (before.0, until)))
+      | inr now ↦ tells n asked.0 small ∙ or_right (covered old.words.told n) (is_some (word n)) (word_some (word n) told.0 now.0)
     ]
 
-    front : new.front ≡ front_after new.fronts.items (length new.fronts.items)
+    front : new.front ≡ front_after from new.fronts.items (length new.fronts.items)
     front = elim marks [
-      | inl stays ↦ stays.0 ∙ known.front ∙ sym (ap (λ l. front_after l (length l)) stays.1)
-      | inr pushed ↦ sym (ap (λ l. front_after l (length l)) pushed ∙ front_after_push old.fronts.items mark)
+      | inl stays ↦ stays.0 ∙ known.front ∙ sym (ap (λ l. front_after from l (length l)) stays.1)
+      | inr pushed ↦ sym (ap (λ l. front_after from l (length l)) pushed ∙ front_after_push from old.fronts.items mark)
     ]
 
     -- what is told up to a datagram that is not before that of the last act
     told_late : (d n : ℕ) → p.datagram ≤ d → IsToldBy writer reader (placed ++ p ∷ []) d n → IsToldBy writer reader (placed ++ p ∷ []) p.datagram n
     told_late d n late told = (told.0, (told.1.0, All-contains (λ (at : PlacedValue). at.datagram ≤ p.datagram) (placed ++ p ∷ []) told.1.0.at past told.1.0.among))
 
-    now : (d : ℕ) → p.datagram ≤ d → IsFrontBy writer reader (placed ++ p ∷ []) d new.front
+    now : (d : ℕ) → p.datagram ≤ d → IsFrontBy from writer reader (placed ++ p ∷ []) d new.front
     now d late = by_sign new.front refl
       where
-        by_sign : (f : ℤ) → new.front ≡ f → IsFrontBy writer reader (placed ++ p ∷ []) d new.front
+        out : (n : ℕ) → pos n ≡ new.front → covered new.words.told n ≡ true → ⊥
+        out n at inside =
+            let outside = subst (λ z. Rattle.rtps_coverage.specs.Coverage.has (covered new.words.told) z ≡ false) (sym at) is_front.outside in
+            let clash : true ≡ false = sym inside ∙ outside in
+            cc
+
+        by_sign : (f : ℤ) → new.front ≡ f → IsFrontBy from writer reader (placed ++ p ∷ []) d new.front
         by_sign (negsuc f) e = absurd (let low = is_front.positive in omega (arith, ints))
         by_sign (pos f) e = record {
           positive = is_front.positive;
-          outside = λ n at small told.
-              let same : n ≡ f = omega (arith, ints, at, e) in
+          outside = λ n at small.
               let positive : 1 ≤ n = (let low = is_front.positive in omega (arith, ints, at)) in
-              let inside = from n positive small (told_late d n late told) in
-              let out = subst (λ z. Rattle.rtps_coverage.specs.Coverage.has (covered new.words.told) z ≡ false) e is_front.outside in
-              let clash : true ≡ false = sym (ap (covered new.words.told) (sym same) ∙ inside) ∙ out in
-              cc;
-          below = λ n positive small lt. let told = to n positive small (is_front.below n positive lt) in let until = told.1.1 in (told.0, (told.1.0, omega arith));
+              let asked : IsAsked from n = elim (cases_lt n from) [ inl lt ↦ absurd (out n at (passed n positive small lt)) | inr ge ↦ (positive, ge) ] in
+              (asked, λ told. out n at (back n asked small (told_late d n late told)));
+          below = λ n asked small lt. let told = to n asked small (is_front.below n asked.0 lt) in let until = told.1.1 in (told.0, (told.1.0, omega arith));
         }
 
-    timeline : IsTimeline writer reader (placed ++ p ∷ []) new.fronts.items
+    timeline : IsTimeline from writer reader (placed ++ p ∷ []) new.fronts.items
     timeline k d cut = elim (cases_lt d p.datagram) [
       | inl early ↦ elim marks [
         | inl stays ↦
             let was = known.timeline k d (subst (λ l. IsCut l k d) stays.1 cut) in
-            front_earlier placed p d _ early (subst (IsFrontBy writer reader placed d) (sym (ap (λ l. front_after l k) stays.1)) was)
+            front_earlier placed p d _ early (subst (IsFrontBy from writer reader placed d) (sym (ap (λ l. front_after from l k) stays.1)) was)
         | inr pushed ↦
             let cut' = cut_before old.fronts.items mark k d early (subst (λ l. IsCut l k d) pushed cut) in
-            let same = ap (λ l. front_after l k) pushed ∙ front_after_left old.fronts.items mark k cut'.0 in
-            front_earlier placed p d _ early (subst (IsFrontBy writer reader placed d) (sym same) (known.timeline k d cut'.1))
+            let same = ap (λ l. front_after from l k) pushed ∙ front_after_left from old.fronts.items mark k cut'.0 in
+            front_earlier placed p d _ early (subst (IsFrontBy from writer reader placed d) (sym same) (known.timeline k d cut'.1))
       ]
       | inr late ↦
           let all = cut_all new.fronts.items k p.datagram d marked late cut in
-          subst (IsFrontBy writer reader (placed ++ p ∷ []) d) (front ∙ ap (front_after new.fronts.items) (sym all)) (now d late)
+          subst (IsFrontBy from writer reader (placed ++ p ∷ []) d) (front ∙ ap (front_after from new.fronts.items) (sym all)) (now d late)
     ]
 
-    spoken : (n : ℕ) (payload : PayloadValue) → 1 ≤ n → IsKept new.words.payloads.items n payload → IsHeard writer reader (placed ++ p ∷ []) n (Told payload)
-    spoken n payload positive is = elim ((keeps n payload positive).0 is) [
-      | inl before ↦ heard_before placed p ((known.kept n payload positive).0 before)
+    keeps_asked : KeepsMore from old.words.payloads.items new.words.payloads.items word
+    keeps_asked = subst (λ m. KeepsMore m old.words.payloads.items new.words.payloads.items word) known.asking keeps
+
+    spoken : (n : ℕ) (payload : PayloadValue) → IsAsked from n → IsKept new.words.payloads.items n payload → IsHeard writer reader (placed ++ p ∷ []) n (Told payload)
+    spoken n payload asked is = elim ((keeps_asked n payload asked).0 is) [
+      | inl before ↦ heard_before placed p ((known.kept n payload asked).0 before)
       | inr now ↦ heard_last placed p now
     ]
 
-    kept : (n : ℕ) (payload : PayloadValue) → 1 ≤ n → IsHeard writer reader (placed ++ p ∷ []) n (Told payload) → IsKept new.words.payloads.items n payload
-    kept n payload positive heard = elim (heard_cases placed p heard) [
-      | inl before ↦ (keeps n payload positive).1 (inl ((known.kept n payload positive).1 before.0))
-      | inr now ↦ (keeps n payload positive).1 (inr now.0)
+    kept : (n : ℕ) (payload : PayloadValue) → IsAsked from n → IsHeard writer reader (placed ++ p ∷ []) n (Told payload) → IsKept new.words.payloads.items n payload
+    kept n payload asked heard = elim (heard_cases placed p heard) [
+      | inl before ↦ (keeps_asked n payload asked).1 (inl ((known.kept n payload asked).1 before.0))
+      | inr now ↦ (keeps_asked n payload asked).1 (inr now.0)
     ]
 
 -- ---- the hearing of what was listened to
 
 pub hears : {C : Type 0} (covered : C → ℕ → Bool) (listener : Listener C) (hearing : Hearing) (writer reader : Guid) (placed : List PlacedValue) (datagram : ℕ)
-    → hearing.fronts ≡ listener.fronts → hearing.last ≡ listener.last → IfSome hearing.conflict (λ n. (1 ≤ n) × (n < 2 ^ 63))
+    → hearing.fronts ≡ listener.fronts → hearing.last ≡ listener.last → IfSome hearing.conflict (λ n. IsAsked listener.words.from n × (n < 2 ^ 63))
     → MatchOption hearing.conflict ((n : ℕ) → ¬ KeepsTwo listener.words.payloads.items n) (IsLeast (KeepsTwo listener.words.payloads.items))
-    → IsListening covered listener writer reader placed datagram → Hears hearing writer reader placed
+    → IsListening covered hearing.from listener writer reader placed datagram → Hears hearing writer reader placed
 hears covered listener hearing writer reader placed datagram fronts last positive least known = record {
   rising = subst (λ (f : _). IsNonDecreasingBy (λ (front : Front). front.datagram) f.items) (sym fronts) known.rising;
-  timeline = subst (λ (f : _). IsTimeline writer reader placed f.items) (sym fronts) known.timeline;
+  timeline = subst (λ (f : _). IsTimeline hearing.from writer reader placed f.items) (sym fronts) known.timeline;
   conflict = by_cases hearing.conflict positive least;
   last = last ∙ known.last;
 }
   where
-    to_kept : (n : ℕ) → HearsTwo writer reader placed n → KeepsTwo listener.words.payloads.items n
-    to_kept n (from, (x, y, one, two, differ)) = (x, y, (known.kept n x from).1 one, (known.kept n y from).1 two, differ)
+    to_kept : (n : ℕ) → HearsTwo hearing.from writer reader placed n → KeepsTwo listener.words.payloads.items n
+    to_kept n (asked, (x, y, one, two, differ)) = (x, y, (known.kept n x asked).1 one, (known.kept n y asked).1 two, differ)
 
-    to_heard : (n : ℕ) → 1 ≤ n → KeepsTwo listener.words.payloads.items n → HearsTwo writer reader placed n
-    to_heard n from (x, y, one, two, differ) = (from, (x, y, (known.kept n x from).0 one, (known.kept n y from).0 two, differ))
+    to_heard : (n : ℕ) → IsAsked listener.words.from n → KeepsTwo listener.words.payloads.items n → HearsTwo hearing.from writer reader placed n
+    to_heard n from (x, y, one, two, differ) =
+        let asked = subst (λ m. IsAsked m n) known.asking from in
+        (asked, (x, y, (known.kept n x asked).0 one, (known.kept n y asked).0 two, differ))
 
-    by_cases : (conflict : Option ℕ) → IfSome conflict (λ n. (1 ≤ n) × (n < 2 ^ 63)) → MatchOption conflict ((n : ℕ) → ¬ KeepsTwo listener.words.payloads.items n) (IsLeast (KeepsTwo listener.words.payloads.items))
-        → MatchOption conflict ((n : ℕ) → ¬ HearsTwo writer reader placed n) (IsLeast (HearsTwo writer reader placed))
+    by_cases : (conflict : Option ℕ) → IfSome conflict (λ n. IsAsked listener.words.from n × (n < 2 ^ 63)) → MatchOption conflict ((n : ℕ) → ¬ KeepsTwo listener.words.payloads.items n) (IsLeast (KeepsTwo listener.words.payloads.items))
+        → MatchOption conflict ((n : ℕ) → ¬ HearsTwo hearing.from writer reader placed n) (IsLeast (HearsTwo hearing.from writer reader placed))
     by_cases None positive never = λ n two. never n (to_kept n two)
     by_cases (Some n) positive least = record { holds = to_heard n positive.0 least.holds; least = λ m two. least.least m (to_kept m two) }
 
@@ -281,9 +299,9 @@ cut_found fronts count datagram positive within found = record {
 }
 
 -- the number of the last front that stands before the cut
-pub front_at : (fronts : List Front) (count : ℕ) (front : Front) → (count ≡ 0 → ⊥) → count ≤ length fronts → front ≡ get_or fronts (count - 1) front → front_after fronts count ≡ front.number
-front_at fronts zero front some within at = absurd (some refl)
-front_at fronts (suc k) front some within at =
+pub front_at : (from : ℕ) (fronts : List Front) (count : ℕ) (front : Front) → (count ≡ 0 → ⊥) → count ≤ length fronts → front ≡ get_or fronts (count - 1) front → front_after from fronts count ≡ front.number
+front_at from fronts zero front some within at = absurd (some refl)
+front_at from fronts (suc k) front some within at =
     let last : suc k - 1 ≡ k = omega arith in
     ap (λ (f : Front). f.number) (sym (get_or_read fronts k front (omega arith) (at ∙ ap (λ i. get_or fronts i front) last) _))
 
@@ -328,8 +346,8 @@ told_too : (writer one other : Guid) (placed : List PlacedValue) (datagram n : �
 unfolding heard_too
 told_too writer one other placed datagram n alike told = (told.0, (heard_too writer one other placed n told.0 alike told.1.0, told.1.1))
 
-two_too : (writer one other : Guid) (placed : List PlacedValue) (n : ℕ) → All (λ at. is_heard_by at.act one ≡ is_heard_by at.act other) placed → HearsTwo writer one placed n → HearsTwo writer other placed n
-two_too writer one other placed n alike (positive, (x, y, a, b, differ)) = (positive, (x, y, heard_too writer one other placed n (Told x) alike a, heard_too writer one other placed n (Told y) alike b, differ))
+two_too : {from : ℕ} (writer one other : Guid) (placed : List PlacedValue) (n : ℕ) → All (λ at. is_heard_by at.act one ≡ is_heard_by at.act other) placed → HearsTwo from writer one placed n → HearsTwo from writer other placed n
+two_too writer one other placed n alike (asked, (x, y, a, b, differ)) = (asked, (x, y, heard_too writer one other placed n (Told x) alike a, heard_too writer one other placed n (Told y) alike b, differ))
 
 -- readers that hear the same acts of a writer hear the same of it
 pub hears_too : (hearing : Hearing) (writer one other : Guid) (placed : List PlacedValue) → All (λ at. is_heard_by at.act one ≡ is_heard_by at.act other) placed → Hears hearing writer one placed → Hears hearing writer other placed
@@ -339,8 +357,8 @@ hears_too hearing writer one other placed alike known = record {
       let front = known.timeline k datagram cut in
       record {
         positive = front.positive;
-        outside = λ n at small told. front.outside n at small (told_too writer other one placed datagram n back told);
-        below = λ n positive small lt. told_too writer one other placed datagram n alike (front.below n positive small lt);
+        outside = λ n at small. let out = front.outside n at small in (out.0, λ told. out.1 (told_too writer other one placed datagram n back told));
+        below = λ n asked small lt. told_too writer one other placed datagram n alike (front.below n asked small lt);
       };
   conflict = by_cases hearing.conflict known.conflict;
   last = known.last;
@@ -349,7 +367,7 @@ hears_too hearing writer one other placed alike known = record {
     back : All (λ at. is_heard_by at.act other ≡ is_heard_by at.act one) placed
     back = λ k d lt. sym (alike k d lt)
 
-    by_cases : (conflict : Option ℕ) → MatchOption conflict ((n : ℕ) → ¬ HearsTwo writer one placed n) (IsLeast (HearsTwo writer one placed)) → MatchOption conflict ((n : ℕ) → ¬ HearsTwo writer other placed n) (IsLeast (HearsTwo writer other placed))
+    by_cases : (conflict : Option ℕ) → MatchOption conflict ((n : ℕ) → ¬ HearsTwo hearing.from writer one placed n) (IsLeast (HearsTwo hearing.from writer one placed)) → MatchOption conflict ((n : ℕ) → ¬ HearsTwo hearing.from writer other placed n) (IsLeast (HearsTwo hearing.from writer other placed))
     by_cases None never = λ n two. never n (two_too writer other one placed n back two)
     by_cases (Some n) least = record { holds = two_too writer one other placed n alike least.holds; least = λ m two. least.least m (two_too writer other one placed m back two) }
 

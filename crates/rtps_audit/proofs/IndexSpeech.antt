@@ -14,7 +14,7 @@ use Rattle.rtps_receiver.specs.Values.{ActBodyValue}
 use Rattle.rtps_receiver.specs.Values.ActBodyValue.{Data, Heartbeat, AckNack, Gap}
 use Rattle.rtps_discovery.specs.declared.matching.Pair.{Pair}
 use Rattle.rtps_audit.specs.Answered.{IsToldAll, IsUntoldAmong, base_among}
-use Rattle.rtps_audit.specs.Delivery.{Claims, Datagram, Gives, Speech, Word, greatest, last_announced}
+use Rattle.rtps_audit.specs.Delivery.{Claims, Datagram, Gives, IsAsked, Speech, Word, greatest, last_announced, last_announced_from}
 use Rattle.rtps_audit.specs.Delivery.Word.{Told}
 use Rattle.rtps_audit.specs.Hearing.{HearsTwo, IsHeard, IsToldBy, last_among}
 use Rattle.rtps_audit.specs.Judge.{IsFirstUntold, greatest_base}
@@ -24,6 +24,7 @@ use Rattle.rtps_audit.specs.RunVerdict.{ClaimsUntold, IsLeast, IsTold}
 use Rattle.rtps_audit.specs.Speech.{announced_for, announced_of_body, base_for, natural, said_by, speech_of, word_for, word_of}
 use Rattle.rtps_audit.specs.declared.answers.Answer.{Answer}
 use Rattle.rtps_audit.specs.declared.claims.Untold.{Untold}
+use Rattle.rtps_audit.proofs.DatagramMore.{last_announced_max}
 use Rattle.rtps_audit.proofs.Greatest.{below_greatest, greatest_below}
 use Rattle.rtps_audit.proofs.PlacedActs.{contains_cases, contains_head, contains_none, contains_tail, kept_if_passed, kept_is_there, made_from, makes, stands_there, stands_where}
 use Rattle.rtps_audit.proofs.PlacedLemmas.{both, bytes_eq-sym}
@@ -84,22 +85,22 @@ spoken_is_from writer placed e = by_body writer placed.act.source placed.act.bod
 
 -- ---- words
 
-gives_from : (writer reader : Guid) (recording : List (List ℕ)) (n : ℕ) (word : Word) (heard : IsHeard writer reader (filter (is_from writer) (placed_in recording)) n word) → 1 ≤ n
-    → (i : ℕ) × (k : ℕ) × Gives 1 (speech_of writer reader recording) i k n word × (heard.at.datagram ≡ i + 1)
-gives_from writer reader recording n word heard positive =
+gives_from : {from : ℕ} (writer reader : Guid) (recording : List (List ℕ)) (n : ℕ) (word : Word) (heard : IsHeard writer reader (filter (is_from writer) (placed_in recording)) n word) → IsAsked from n
+    → (i : ℕ) × (k : ℕ) × Gives from (speech_of writer reader recording) i k n word × (heard.at.datagram ≡ i + 1)
+gives_from {from} writer reader recording n word heard asked =
     let stands = stands_where 0 recording heard.at (kept_is_there (is_from writer) (placed_in recording) heard.at heard.among) in
     let at = contained_at (acts_of (reading_of stands.octets)) heard.at.act stands.among in
-    let gives : Gives 1 (speech_of writer reader recording) stands.place at.0 n word = record {
+    let gives : Gives from (speech_of writer reader recording) stands.place at.0 n word = record {
       datagram = said_by writer reader (acts_of (reading_of stands.octets));
       act = word_for writer reader heard.at.act;
       stands = get_mapped (λ octets. said_by writer reader (acts_of (reading_of octets))) recording stands.place stands.octets stands.stands;
       speaks = get_mapped (word_for writer reader) (acts_of (reading_of stands.octets)) at.0 heard.at.act at.1;
-      asked = (positive, positive);
+      asked = asked;
       says = heard.says;
     } in
     (stands.place, at.0, gives, stands.at ∙ omega arith)
 
-heard_from : (writer reader : Guid) (recording : List (List ℕ)) (i k n : ℕ) (word : Word) → Gives 1 (speech_of writer reader recording) i k n word
+heard_from : {from : ℕ} (writer reader : Guid) (recording : List (List ℕ)) (i k n : ℕ) (word : Word) → Gives from (speech_of writer reader recording) i k n word
     → (heard : IsHeard writer reader (filter (is_from writer) (placed_in recording)) n word) × (heard.at.datagram ≡ i + 1)
 heard_from writer reader recording i k n word gives =
     let octets = mapped_get (λ octets. said_by writer reader (acts_of (reading_of octets))) recording i gives.datagram gives.stands in
@@ -112,34 +113,34 @@ heard_from writer reader recording i k n word gives =
     let there = stands_there 0 i recording octets.0 act.0 octets.1 (at_contained acts k act.0 act.1) in
     (record { at = placed; among = kept_if_passed (is_from writer) (placed_in recording) placed there (spoken_is_from writer placed spoken); says = says }, omega arith)
 
-told_from : (writer reader : Guid) (recording : List (List ℕ)) (j n : ℕ) → 1 ≤ n → IsToldBy writer reader (filter (is_from writer) (placed_in recording)) j n → IsTold 1 (speech_of writer reader recording) j n
-told_from writer reader recording j n positive (word, (heard, until)) =
-    let gives = gives_from writer reader recording n word heard positive in
+told_from : {from : ℕ} (writer reader : Guid) (recording : List (List ℕ)) (j n : ℕ) → IsAsked from n → IsToldBy writer reader (filter (is_from writer) (placed_in recording)) j n → IsTold from (speech_of writer reader recording) j n
+told_from writer reader recording j n asked (word, (heard, until)) =
+    let gives = gives_from writer reader recording n word heard asked in
     let at = gives.3 in
     record { place = gives.0; act = gives.1; word = word; earlier = omega arith; gives = gives.2 }
 
-told_to : (writer reader : Guid) (recording : List (List ℕ)) (j n : ℕ) → IsTold 1 (speech_of writer reader recording) j n → IsToldBy writer reader (filter (is_from writer) (placed_in recording)) j n
+told_to : {from : ℕ} (writer reader : Guid) (recording : List (List ℕ)) (j n : ℕ) → IsTold from (speech_of writer reader recording) j n → IsToldBy writer reader (filter (is_from writer) (placed_in recording)) j n
 told_to writer reader recording j n told =
     let heard = heard_from writer reader recording told.place told.act n told.word told.gives in
     let at = heard.1 in
     let earlier = told.earlier in
     (told.word, (heard.0, omega arith))
 
-two_from : (writer reader : Guid) (recording : List (List ℕ)) (n : ℕ) → HearsTwo writer reader (filter (is_from writer) (placed_in recording)) n → SpeaksTwo 1 (speech_of writer reader recording) n
-two_from writer reader recording n (positive, (x, y, one, two, differ)) =
-    let a = gives_from writer reader recording n (Told x) one positive in
-    let b = gives_from writer reader recording n (Told y) two positive in
+two_from : {from : ℕ} (writer reader : Guid) (recording : List (List ℕ)) (n : ℕ) → HearsTwo from writer reader (filter (is_from writer) (placed_in recording)) n → SpeaksTwo from (speech_of writer reader recording) n
+two_from writer reader recording n (asked, (x, y, one, two, differ)) =
+    let a = gives_from writer reader recording n (Told x) one asked in
+    let b = gives_from writer reader recording n (Told y) two asked in
     (x, y, record { place = a.0; act = a.1; gives = a.2 }, record { place = b.0; act = b.1; gives = b.2 }, differ)
 
-two_to : (writer reader : Guid) (recording : List (List ℕ)) (n : ℕ) → SpeaksTwo 1 (speech_of writer reader recording) n → HearsTwo writer reader (filter (is_from writer) (placed_in recording)) n
+two_to : {from : ℕ} (writer reader : Guid) (recording : List (List ℕ)) (n : ℕ) → SpeaksTwo from (speech_of writer reader recording) n → HearsTwo from writer reader (filter (is_from writer) (placed_in recording)) n
 two_to writer reader recording n (x, y, one, two, differ) =
-    (one.gives.asked.0, (x, y, (heard_from writer reader recording one.place one.act n (Told x) one.gives).0, (heard_from writer reader recording two.place two.act n (Told y) two.gives).0, differ))
+    (one.gives.asked, (x, y, (heard_from writer reader recording one.place one.act n (Told x) one.gives).0, (heard_from writer reader recording two.place two.act n (Told y) two.gives).0, differ))
 
-pub conflict_from : (writer reader : Guid) (recording : List (List ℕ)) (conflict : Option ℕ)
-    → MatchOption conflict ((n : ℕ) → ¬ HearsTwo writer reader (filter (is_from writer) (placed_in recording)) n) (IsLeast (HearsTwo writer reader (filter (is_from writer) (placed_in recording))))
-    → MatchOption conflict ((n : ℕ) → ¬ SpeaksTwo 1 (speech_of writer reader recording) n) (IsLeast (SpeaksTwo 1 (speech_of writer reader recording)))
-conflict_from writer reader recording None never = λ n two. never n (two_to writer reader recording n two)
-conflict_from writer reader recording (Some n) least = record { holds = two_from writer reader recording n least.holds; least = λ m two. least.least m (two_to writer reader recording m two) }
+pub conflict_from : (from : ℕ) (writer reader : Guid) (recording : List (List ℕ)) (conflict : Option ℕ)
+    → MatchOption conflict ((n : ℕ) → ¬ HearsTwo from writer reader (filter (is_from writer) (placed_in recording)) n) (IsLeast (HearsTwo from writer reader (filter (is_from writer) (placed_in recording))))
+    → MatchOption conflict ((n : ℕ) → ¬ SpeaksTwo from (speech_of writer reader recording) n) (IsLeast (SpeaksTwo from (speech_of writer reader recording)))
+conflict_from from writer reader recording None never = λ n two. never n (two_to writer reader recording n two)
+conflict_from from writer reader recording (Some n) least = record { holds = two_from writer reader recording n least.holds; least = λ m two. least.least m (two_to writer reader recording m two) }
 
 -- ---- claims
 
@@ -176,7 +177,7 @@ answer_there pair recording j octets base stands among =
     makes (answer_of pair) (placed_in recording) (record { datagram = 0 + j + 1; act = from.0 }) (record { datagram = j + 1; base = pos base }) there
     (ap (answer_at (0 + j + 1)) from.2 ∙ ap (λ d. let made : Answer = record { datagram = d; base = pos base } in Some made) (omega arith))
 
-claim_of : (pair : Pair) (recording : List (List ℕ)) (j n : ℕ) → Claims 1 (speech_of pair.writer pair.reader recording) j n → (answer : Answer) × Contains (answers_among pair (placed_in recording)) answer × (answer.datagram ≡ j + 1) × (pos n <ℤ answer.base)
+claim_of : {from : ℕ} (pair : Pair) (recording : List (List ℕ)) (j n : ℕ) → Claims from (speech_of pair.writer pair.reader recording) j n → (answer : Answer) × Contains (answers_among pair (placed_in recording)) answer × (answer.datagram ≡ j + 1) × (pos n <ℤ answer.base)
 claim_of pair recording j n claims =
     let octets = mapped_get (λ octets. said_by pair.writer pair.reader (acts_of (reading_of octets))) recording j claims.datagram claims.stands in
     let among = subst (λ (d : Datagram). Contains d.bases claims.base) (sym octets.2) claims.answers in
@@ -191,19 +192,19 @@ answers_counted pair recording k d lt =
 
 -- ---- the first claim that is not told
 
-pub first_from : (pair : Pair) (recording : List (List ℕ)) (untold : Option Untold) → IsUntoldAmong pair.writer pair.reader (filter (is_from pair.writer) (placed_in recording)) (answers_among pair (placed_in recording)) untold
-    → IsFirstUntold (speech_of pair.writer pair.reader recording) untold
-first_from pair recording None all = λ j n claims.
+pub first_from : (from : ℕ) (pair : Pair) (recording : List (List ℕ)) (untold : Option Untold) → IsUntoldAmong from pair.writer pair.reader (filter (is_from pair.writer) (placed_in recording)) (answers_among pair (placed_in recording)) untold
+    → IsFirstUntold from (speech_of pair.writer pair.reader recording) untold
+first_from from pair recording None all = λ j n claims.
     let answer = claim_of pair recording j n claims in
-    let told = All-contains (IsToldAll pair.writer pair.reader (filter (is_from pair.writer) (placed_in recording))) (answers_among pair (placed_in recording)) answer.0 all answer.1 n claims.asked.0 answer.3 in
+    let told = All-contains (IsToldAll from pair.writer pair.reader (filter (is_from pair.writer) (placed_in recording))) (answers_among pair (placed_in recording)) answer.0 all answer.1 n claims.asked answer.3 in
     let at : answer.0.datagram - 1 ≡ j = (let h = answer.2 in omega arith) in
-    told_from pair.writer pair.reader recording j n claims.asked.0 (subst (λ i. IsToldBy pair.writer pair.reader (filter (is_from pair.writer) (placed_in recording)) i n) at told)
-first_from pair recording (Some untold) first = by_sign untold.number refl
+    told_from pair.writer pair.reader recording j n claims.asked (subst (λ i. IsToldBy pair.writer pair.reader (filter (is_from pair.writer) (placed_in recording)) i n) at told)
+first_from from pair recording (Some untold) first = by_sign untold.number refl
   where
     placed : List PlacedValue
     placed = filter (is_from pair.writer) (placed_in recording)
 
-    by_sign : (f : ℤ) → untold.number ≡ f → IsFirstUntold (speech_of pair.writer pair.reader recording) (Some untold)
+    by_sign : (f : ℤ) → untold.number ≡ f → IsFirstUntold from (speech_of pair.writer pair.reader recording) (Some untold)
     by_sign (negsuc f) e = absurd (let low = first.front.positive in omega (arith, ints))
     by_sign (pos f) e =
         let stands = answer_stands pair recording first.answer first.among in
@@ -212,44 +213,44 @@ first_from pair recording (Some untold) first = by_sign untold.number refl
         let base = stands.5 in
         let below = first.below in
         let small = first.small in
-        let positive : 1 ≤ f = (let low = first.front.positive in omega (arith, ints, e)) in
+        let outside = first.front.outside f (sym e) (omega (arith, ints, e)) in
         let lt : f < stands.2 = omega (arith, ints, e, base) in
         let here : first.answer.datagram - 1 ≡ j = omega arith in
-        let claim : Claims 1 (speech_of pair.writer pair.reader recording) j f = record {
+        let claim : Claims from (speech_of pair.writer pair.reader recording) j f = record {
           datagram = said_by pair.writer pair.reader (acts_of (reading_of stands.1));
           base = stands.2;
           stands = get_mapped (λ octets. said_by pair.writer pair.reader (acts_of (reading_of octets))) recording j stands.1 stands.3;
           answers = stands.6;
-          asked = (positive, positive);
+          asked = outside.0;
           below = lt;
         } in
-        let untold_here : ClaimsUntold 1 (speech_of pair.writer pair.reader recording) j f = (
+        let untold_here : ClaimsUntold from (speech_of pair.writer pair.reader recording) j f = (
           claim,
-          λ told. first.front.outside f (sym e) (omega (arith, ints, e)) (subst (λ i. IsToldBy pair.writer pair.reader placed i f) (sym here) (told_to pair.writer pair.reader recording j f told)),
+          λ told. outside.1 (subst (λ i. IsToldBy pair.writer pair.reader placed i f) (sym here) (told_to pair.writer pair.reader recording j f told)),
         ) in (
           j,
           first.datagram ∙ at,
           record { holds = (f, untold_here); least = λ m claims. least_place j m (first.datagram ∙ at) claims },
-          subst (λ z. Rattle.rtps_audit.specs.RunVerdict.OnNatural z (IsLeast (ClaimsUntold 1 (speech_of pair.writer pair.reader recording) j))) (sym e)
+          subst (λ z. Rattle.rtps_audit.specs.RunVerdict.OnNatural z (IsLeast (ClaimsUntold from (speech_of pair.writer pair.reader recording) j))) (sym e)
               (record { holds = untold_here; least = λ m claims. least_number j f e here small m claims }),
         )
       where
-        least_place : (j m : ℕ) → untold.datagram ≡ j + 1 → ((n : ℕ) × ClaimsUntold 1 (speech_of pair.writer pair.reader recording) m n) → j ≤ m
+        least_place : (j m : ℕ) → untold.datagram ≡ j + 1 → ((n : ℕ) × ClaimsUntold from (speech_of pair.writer pair.reader recording) m n) → j ≤ m
         least_place j m is (n, (claims, not)) = elim (cases_lt m j) [
           | inl lt ↦
               let answer = claim_of pair recording m n claims in
               let at = answer.2 in
-              let told = All-contains (λ (other : Answer). other.datagram < untold.datagram → IsToldAll pair.writer pair.reader placed other) (answers_among pair (placed_in recording)) answer.0 first.first answer.1 (omega arith) n claims.asked.0 answer.3 in
+              let told = All-contains (λ (other : Answer). other.datagram < untold.datagram → IsToldAll from pair.writer pair.reader placed other) (answers_among pair (placed_in recording)) answer.0 first.first answer.1 (omega arith) n claims.asked answer.3 in
               let same : answer.0.datagram - 1 ≡ m = omega arith in
-              absurd (not (told_from pair.writer pair.reader recording m n claims.asked.0 (subst (λ i. IsToldBy pair.writer pair.reader placed i n) same told)))
+              absurd (not (told_from pair.writer pair.reader recording m n claims.asked (subst (λ i. IsToldBy pair.writer pair.reader placed i n) same told)))
           | inr ge ↦ ge
         ]
 
-        least_number : (j f : ℕ) → untold.number ≡ pos f → first.answer.datagram - 1 ≡ j → untold.number <ℤ pos (2 ^ 63 - 1) → (m : ℕ) → ClaimsUntold 1 (speech_of pair.writer pair.reader recording) j m → f ≤ m
+        least_number : (j f : ℕ) → untold.number ≡ pos f → first.answer.datagram - 1 ≡ j → untold.number <ℤ pos (2 ^ 63 - 1) → (m : ℕ) → ClaimsUntold from (speech_of pair.writer pair.reader recording) j m → f ≤ m
         least_number j f e here small m (claims, not) = elim (cases_lt m f) [
           | inl lt ↦
-              let told = first.front.below m claims.asked.0 (omega (arith, ints, e)) (omega (arith, ints, e)) in
-              absurd (not (told_from pair.writer pair.reader recording j m claims.asked.0 (subst (λ i. IsToldBy pair.writer pair.reader placed i m) here told)))
+              let told = first.front.below m claims.asked (omega (arith, ints, e)) (omega (arith, ints, e)) in
+              absurd (not (told_from pair.writer pair.reader recording j m claims.asked (subst (λ i. IsToldBy pair.writer pair.reader placed i m) here told)))
           | inr ge ↦ ge
         ]
 
@@ -288,8 +289,8 @@ at_base n (first ∷ speech) lt = elim (cases_lt n (greatest first.bases)) [
   | inr past ↦ let rest = at_base n speech (omega arith) in (suc rest.0, rest.1, rest.2, rest.3)
 ]
 
-pub last_from : (writer reader : Guid) (recording : List (List ℕ)) → last_among writer (filter (is_from writer) (placed_in recording)) ≡ last_announced (speech_of writer reader recording)
-last_from writer reader recording = same_number _ _ to back
+pub last_from : (from : ℕ) (writer reader : Guid) (recording : List (List ℕ)) → max (from - 1) (last_among writer (filter (is_from writer) (placed_in recording))) ≡ last_announced_from from (speech_of writer reader recording)
+last_from from writer reader recording = ap (max (from - 1)) (same_number _ _ to back) ∙ sym (last_announced_max from (speech_of writer reader recording))
   where
     of : List ℕ → Datagram
     of octets = said_by writer reader (acts_of (reading_of octets))

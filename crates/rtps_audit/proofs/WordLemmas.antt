@@ -1,5 +1,5 @@
 -- What the words of an act tell, and which payloads they keep.
-use Rattle.std.proofs.Common.{◌≡◌, ℕ, zero, suc, ◌≤◌, Bool, true, false, cond, ◌==◌, ◌||◌, List, [], ◌∷◌, ◌++◌, Option, Some, None, refl, sym, ◌∙◌, ap, subst, arith, ◌⊎◌, inl, inr}
+use Rattle.std.proofs.Common.{◌≡◌, ℕ, zero, suc, ◌<◌, ◌≤◌, Bool, true, false, cond, ◌==◌, ◌||◌, List, [], ◌∷◌, ◌++◌, Option, Some, None, refl, sym, ◌∙◌, ap, subst, arith, ◌⊎◌, inl, inr}
 use Rattle.std.specs.Prelude.{Contains, is_some}
 use Rattle.std.proofs.lemmas.Bool.Decides.{nat_tests}
 use Rattle.std.proofs.lemmas.List.Elements.{Contains-append_left, Contains-append_right, Contains-append_cases}
@@ -65,9 +65,9 @@ if_some : (b : Bool) (word : Word) → b ≡ true → cond b (Some word) None �
 if_some b word e = rw e refl
 
 -- one more
-pub keeps_data : (xs ys : List KeptPayload) (s : KeptPayload) (number : ℕ) (payload : PayloadValue) → ys ≡ xs ++ s ∷ [] → s.number ≡ number → payload_value s.payload ≡ payload
-    → KeepsMore xs ys (λ n. cond (n == number) (Some (told payload)) None)
-keeps_data xs ys s number payload is at value n p positive = (to, from)
+pub keeps_data : {from : ℕ} (xs ys : List KeptPayload) (s : KeptPayload) (number : ℕ) (payload : PayloadValue) → ys ≡ xs ++ s ∷ [] → s.number ≡ number → payload_value s.payload ≡ payload
+    → KeepsMore from xs ys (λ n. cond (n == number) (Some (told payload)) None)
+keeps_data xs ys s number payload is at value n p asked = (to, back)
   where
     to : IsKept ys n p → IsKept xs n p ⊎ (cond (n == number) (Some (told payload)) None ≡ Some (told p))
     to kept =
@@ -81,11 +81,21 @@ keeps_data xs ys s number payload is at value n p positive = (to, from)
               inr (if_some (n == number) (told payload) (eqb_refl n number one) ∙ ap (λ v. Some (told v)) two)
         ]
 
-    from : IsKept xs n p ⊎ (cond (n == number) (Some (told payload)) None ≡ Some (told p)) → IsKept ys n p
-    from (inl kept) = subst (λ l. IsKept l n p) (sym is) (kept_left xs (s ∷ []) n p kept)
-    from (inr says) =
+    back : IsKept xs n p ⊎ (cond (n == number) (Some (told payload)) None ≡ Some (told p)) → IsKept ys n p
+    back (inl kept) = subst (λ l. IsKept l n p) (sym is) (kept_left xs (s ∷ []) n p kept)
+    back (inr says) =
         let both = some_if (n == number) (told payload) (told p) says in
         subst (λ l. IsKept l n p) (sym is) (kept_last xs s n p (at ∙ eqb_same n number both.0) (value ∙ told_same payload p both.1))
+
+-- none more: the number is not asked for
+pub keeps_none : {from : ℕ} (xs : List KeptPayload) (number : ℕ) (payload : PayloadValue) → number < from → KeepsMore from xs xs (λ n. cond (n == number) (Some (told payload)) None)
+keeps_none xs number payload lt n p asked = (
+  λ kept. inl kept,
+  λ either. elim either [
+    | inl kept ↦ kept
+    | inr says ↦ absurd (let le = asked.1 in let same = eqb_same n number (some_if (n == number) (told payload) (told p) says).0 in omega arith)
+  ],
+)
 
 -- a number that some word is for
 pub some_word : (o : Option Word) → is_some o ≡ true → (word : Word) × (o ≡ Some word)

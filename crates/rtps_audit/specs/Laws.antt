@@ -6,7 +6,7 @@ use Rattle.rtps_audit.specs.Delivery.{Word, Speech, DeliveryState, start, IsAske
 use Rattle.rtps_audit.specs.RunVerdict.{OnNatural, EndsInConflict, IsVerdictFrom}
 use Rattle.rtps_audit.specs.PlainVerdict.{IsFounded, SpeaksTwo, IsClaimed, IsPlainVerdictFrom}
 use Rattle.rtps_audit.specs.FullRun.{IsBoundedBy, IsFullRunAllowed, IsFullRun, full_run}
-use Rattle.rtps_audit.specs.Report.{IsReport}
+use Rattle.rtps_audit.specs.Report.{IsReportFrom}
 use Rattle.rtps_audit.specs.Speech.{speech_of}
 use Rattle.rtps_audit.specs.declared.report.Report.{Report}
 use Rattle.rtps_audit.specs.declared.verdict.Verdict.{Verdict}
@@ -124,5 +124,5 @@ ConflictIsFirst = (from : ℕ) (speech : Speech) (number : ℤ) → IsVerdictFro
 -- a recording has one report: the same rows, and the same counts
 abbrev pub HasOneReport : Type 0
 HasOneReport =
-    (recording : List (List ℕ)) (one other : Report) → IsReport recording one → IsReport recording other
+    (from : ℕ) (recording : List (List ℕ)) (one other : Report) → IsReportFrom from recording one → IsReportFrom from recording other
     → (one.rows.items ≡ other.rows.items) × (one.counts ≡ other.counts)

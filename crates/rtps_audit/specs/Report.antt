@@ -8,7 +8,7 @@ use Rattle.rtps_receiver.specs.Speech.{is_ack_nack, is_for_all}
 use Rattle.rtps_receiver.specs.Values.{ActValue}
 use Rattle.rtps_discovery.specs.Directory.{DirectoryValue, IsMapOf, settled_in, unsettled_in}
 use Rattle.rtps_discovery.specs.Matching.{matches_among, reliable_pairs}
-use Rattle.rtps_audit.specs.RunVerdict.{IsVerdict}
+use Rattle.rtps_audit.specs.RunVerdict.{IsVerdictFrom}
 use Rattle.rtps_audit.specs.Speech.{speech_of}
 use Rattle.rtps_audit.specs.declared.report.Counts.{Counts}
 use Rattle.rtps_audit.specs.declared.report.Report.{Report}
@@ -31,15 +31,19 @@ counts_of recording unsettled =
       unsettled = unsettled;
     }
 
--- the row has the verdict on what the recording says of its pair
-abbrev pub IsJudged : List (List ℕ) → Row → Type 0
-IsJudged recording row = IsVerdict (speech_of row.pair.writer row.pair.reader recording) row.verdict
+-- the row has the verdict on what the recording says of its pair, of the numbers from `from` on
+abbrev pub IsJudgedFrom : ℕ → List (List ℕ) → Row → Type 0
+IsJudgedFrom from recording row = IsVerdictFrom from (speech_of row.pair.writer row.pair.reader recording) row.verdict
 
 -- The rows are of the reliable pairs of all that the recording announces, by writer and then by reader, and of no
--- others.
-pub record IsReport (recording : List (List ℕ)) (report : Report) : Type 0 where
+-- others. The verdicts are on the numbers from `from` on.
+pub record IsReportFrom (from : ℕ) (recording : List (List ℕ)) (report : Report) : Type 0 where
   pub directory : DirectoryValue
   pub is_map : IsMapOf (acts_in recording) directory
   pub pairs : map (λ row. row.pair) report.rows.items ≡ reliable_pairs (matches_among (settled_in directory.endpoints))
-  pub judged : All (IsJudged recording) report.rows.items
+  pub judged : All (IsJudgedFrom from recording) report.rows.items
   pub counts : report.counts ≡ counts_of recording (length (unsettled_in directory.endpoints))
+
+-- the verdicts are on all numbers
+abbrev pub IsReport : List (List ℕ) → Report → Type 0
+IsReport recording report = IsReportFrom 1 recording report

@@ -1,8 +1,8 @@
 ghost use Rattle.std.specs.Prelude.{ℤ, ℕ, ◌≡◌, ◌↔◌, map, All, IfOk, List};
-ghost use Rattle.rtps_audit.specs.Delivered.{IsDelivered};
-ghost use Rattle.rtps_audit.specs.FullRun.{HasFullRun};
+ghost use Rattle.rtps_audit.specs.Delivered.{IsDelivered, IsDeliveredFrom};
+ghost use Rattle.rtps_audit.specs.FullRun.{HasFullRun, HasFullRunFrom};
 ghost use Rattle.rtps_audit.specs.Index.{IsIndexOf};
-ghost use Rattle.rtps_audit.specs.Report.{IsJudged, IsReport};
+ghost use Rattle.rtps_audit.specs.Report.{IsJudgedFrom, IsReport, IsReportFrom};
 ghost use Rattle.rtps_audit.specs.Speech.{speech_of};
 
 use crate::common::Common;
@@ -10,17 +10,17 @@ use crate::index::Index;
 use crate::report::{Report, Row};
 use crate::verdict::Verdict;
 use rtps_discovery::Pair;
-use rtps_ids::Memory;
+use rtps_ids::{Memory, SeqNum};
 use std::alloc::Global;
 
-/// Judges each of these pairs.
-fn rows_of(index: &Index<'_>, pairs: &[Pair]) -> Result<Vec<Row>, Memory>
+/// Judges each of these pairs by the numbers from `from` on.
+fn rows_of(index: &Index<'_>, pairs: &[Pair], from: SeqNum) -> Result<Vec<Row>, Memory>
     ensures pairs { IfOk result (λ rows. map (λ row. row.pair) rows.items ≡ pairs.now) }
     ensures judged { (recording : List (List ℕ)) → IsIndexOf recording index.now
-        → IfOk result (λ rows. All (IsJudged recording) rows.items) }
+        → IfOk result (λ rows. All (IsJudgedFrom from recording) rows.items) }
 {
     let mut rows = Vec::new(index.alloc);
-    let mut common = Common::new(index)?;
+    let mut common = Common::new(index, from)?;
     for pair in pairs {
         common.turn_to(index, pair.writer)?;
         let verdict = common.judge(index, *pair)?;
@@ -30,6 +30,32 @@ fn rows_of(index: &Index<'_>, pairs: &[Pair]) -> Result<Vec<Row>, Memory>
         })?;
     }
     Ok(rows)
+}
+
+/// Audits a recording, any datagrams, well formed or not, by the numbers from `from` on.
+///
+/// It is [`audit`], but that smaller numbers are not asked for, whatever is said of them: a run ends with each number from
+/// `from` on announced by the writer received or told gone, and the reader acknowledges of those alone only what it has a
+/// word for.
+pub fn audit_from(alloc: Global, recording: &[&[u8]], from: SeqNum) -> Result<Report, Memory>
+    // The rows are of the matched reliable pairs in order, each with its verdict, and the six counts are exact.
+    ensures report { IfOk result (IsReportFrom from (map (λ datagram. datagram.now) recording.now)) }
+
+    // A row is complete exactly where every run delivers.
+    ensures complete { let octets = map (λ datagram. datagram.now) recording.now in
+        IfOk result (λ report. All (λ row. (last : ℤ) → (row.verdict ≡ Verdict.Complete last)
+        ↔ IsDeliveredFrom from (speech_of row.pair.writer row.pair.reader octets) last) report.rows.items) }
+
+    // Where any run of a row's pair exists, the one that takes all it can after each send is a run.
+    ensures full_run { let octets = map (λ datagram. datagram.now) recording.now in
+        IfOk result (λ report. All (λ row. HasFullRunFrom from (speech_of row.pair.writer row.pair.reader octets) row.verdict) report.rows.items) }
+{
+    let index = Index::build(alloc, recording)?;
+    let pairs = index.directory.pairs()?;
+    let rows = rows_of(&index, &pairs, from)?;
+    let mut counts = index.counts;
+    counts.unsettled = index.directory.unsettled() as u64;
+    Ok(Report { rows, counts })
 }
 
 /// Audits a recording, any datagrams, well formed or not.
@@ -59,10 +85,5 @@ pub fn audit(alloc: Global, recording: &[&[u8]]) -> Result<Report, Memory>
     ensures full_run { let octets = map (λ datagram. datagram.now) recording.now in
         IfOk result (λ report. All (λ row. HasFullRun (speech_of row.pair.writer row.pair.reader octets) row.verdict) report.rows.items) }
 {
-    let index = Index::build(alloc, recording)?;
-    let pairs = index.directory.pairs()?;
-    let rows = rows_of(&index, &pairs)?;
-    let mut counts = index.counts;
-    counts.unsettled = index.directory.unsettled() as u64;
-    Ok(Report { rows, counts })
+    audit_from(alloc, recording, SeqNum::first())
 }

@@ -1,6 +1,7 @@
-ghost use Rattle.std.specs.Prelude.{◌≡◌, ◌<◌, ◌^◌, max, None, IfSome};
+ghost use Rattle.std.specs.Prelude.{◌≡◌, ◌-◌, ◌<◌, ◌^◌, max, None, IfSome};
 
 use crate::verdict::Verdict;
+use rtps_ids::SeqNum;
 
 /// A number that the answers in a datagram, counted from 1, claim and no earlier datagram tells.
 #[derive(Clone, Copy, Debug)]
@@ -13,7 +14,9 @@ pub(crate) struct Untold {
 #[derive(Clone, Copy, Debug)]
 pub(crate) struct Claims {
     pub(crate) untold: Option<Untold>,
+    /// The least number that is asked for and that no answer claims.
     pub(crate) base: u64,
+    /// The last number that is announced; where that is not asked for, the number before the first one that is.
     pub(crate) last: u64,
     ghost in_range: { (base < 2 ^ 63) × (last < 2 ^ 63) },
 }
@@ -21,16 +24,17 @@ pub(crate) struct Claims {
 impl Claims {
     ghost use Rattle.rtps_audit.specs.Claims.{FindsUntold, verdict_by};
 
-    /// Nothing is claimed, and nothing announced.
-    pub(crate) fn new() -> Self
+    /// Nothing is claimed, and nothing announced. The numbers from `from` on are asked for.
+    pub(crate) fn new(from: SeqNum) -> Self
         ensures untold { result.untold ≡ None }
-        ensures base { result.base ≡ 0 }
-        ensures last { result.last ≡ 0 }
+        ensures base { result.base ≡ from }
+        ensures last { result.last ≡ from - 1 }
     {
+        let base = from.get().cast_unsigned();
         Claims {
             untold: None,
-            base: 0,
-            last: 0,
+            base,
+            last: base - 1,
         }
     }
 
@@ -81,10 +85,9 @@ impl Claims {
                 number: number.cast_signed(),
             };
         }
-        let next = self.base.max(1);
-        if next <= self.last {
+        if self.base <= self.last {
             Verdict::Open {
-                number: next.cast_signed(),
+                number: self.base.cast_signed(),
             }
         } else {
             Verdict::Complete {

@@ -9,7 +9,7 @@ use crate::index::Index;
 use crate::placed::Placed;
 use crate::verdict::Verdict;
 use rtps_discovery::Pair;
-use rtps_ids::{EntityId, Guid, GuidPrefix, Memory};
+use rtps_ids::{EntityId, Guid, GuidPrefix, Memory, SeqNum};
 
 /// A reader that hears what is for all readers, and nothing else.
 const NOBODY: Guid = Guid {
@@ -57,21 +57,22 @@ impl Common {
     ghost use Rattle.rtps_audit.specs.Placed.{is_from, placed_in};
     ghost use Rattle.rtps_audit.specs.Common.{IsCommon};
     ghost use Rattle.rtps_audit.specs.Index.{IsIndexOf};
-    ghost use Rattle.rtps_audit.specs.RunVerdict.{IsVerdict};
+    ghost use Rattle.rtps_audit.specs.RunVerdict.{IsVerdictFrom};
     ghost use Rattle.rtps_audit.specs.Speech.{speech_of};
 
-    /// What is heard from a writer.
-    fn of(index: &Index<'_>, writer: Guid) -> Result<Common, Memory>
+    /// What is heard from a writer of the numbers from `from` on.
+    fn of(index: &Index<'_>, writer: Guid, from: SeqNum) -> Result<Common, Memory>
         ensures common { (recording : List (List ℕ)) → IsIndexOf recording index.now
             → IfOk result (IsCommon recording) }
         ensures writer { IfOk result (λ common. common.writer ≡ writer) }
+        ensures from { IfOk result (λ common. common.hearing.from ≡ from) }
     {
         let everyone = Pair {
             writer,
             reader: NOBODY,
         };
         let acts = index.acts_of(writer);
-        let hearing = Hearing::of(index.alloc, acts, everyone)?;
+        let hearing = Hearing::of(index.alloc, acts, everyone, from)?;
         let for_all = are_for_all(acts);
         Ok(Common {
             writer,
@@ -81,21 +82,23 @@ impl Common {
     }
 
     /// Of no writer yet.
-    pub(crate) fn new(index: &Index<'_>) -> Result<Common, Memory>
-        ensures { (recording : List (List ℕ)) → IsIndexOf recording index.now → IfOk result (IsCommon recording) }
+    pub(crate) fn new(index: &Index<'_>, from: SeqNum) -> Result<Common, Memory>
+        ensures common { (recording : List (List ℕ)) → IsIndexOf recording index.now → IfOk result (IsCommon recording) }
+        ensures from { IfOk result (λ common. common.hearing.from ≡ from) }
     {
-        let common = Common::of(index, NOBODY)?;
+        let common = Common::of(index, NOBODY, from)?;
         Ok(common)
     }
 
     /// Turns to a writer, if it is another one.
     pub(crate) fn turn_to(&mut self, index: &Index<'_>, writer: Guid) -> Result<(), Memory>
         ensures writer { OnOk result (self.new.writer ≡ writer) }
+        ensures from { self.new.hearing.from ≡ self.old.hearing.from }
         ensures common { (recording : List (List ℕ)) → IsIndexOf recording index.now → IsCommon recording self.old
             → IsCommon recording self.new }
     {
         if self.writer != writer {
-            *self = Common::of(index, writer)?;
+            *self = Common::of(index, writer, self.hearing.from)?;
         }
         Ok(())
     }
@@ -109,15 +112,15 @@ impl Common {
         self.for_all || hears_as_all(index.acts_of(pair.writer), pair.reader)
     }
 
-    /// Judges a pair of this writer.
+    /// Judges a pair of this writer by the numbers that are asked for.
     pub(crate) fn judge(&self, index: &Index<'_>, pair: Pair) -> Result<Verdict, Memory>
         ensures { (recording : List (List ℕ)) → IsIndexOf recording index.now → IsCommon recording self.now
-            → self.now.writer ≡ pair.writer → IfOk result (IsVerdict (speech_of pair.writer pair.reader recording)) }
+            → self.now.writer ≡ pair.writer → IfOk result (IsVerdictFrom self.now.hearing.from (speech_of pair.writer pair.reader recording)) }
     {
         if self.is_heard_by(index, pair) {
             Ok(self.hearing.verdict(index.answers_of(pair)))
         } else {
-            let verdict = index.judge(pair)?;
+            let verdict = index.judge_from(pair, self.hearing.from)?;
             Ok(verdict)
         }
     }

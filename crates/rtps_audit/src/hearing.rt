@@ -9,7 +9,7 @@ use crate::placed::Placed;
 use crate::verdict::Verdict;
 use rtps_coverage::BitRanges;
 use rtps_discovery::Pair;
-use rtps_ids::Memory;
+use rtps_ids::{Memory, SeqNum};
 use std::alloc::Global;
 
 /// From the datagram behind this one on, the number is the least one that is not told.
@@ -19,13 +19,15 @@ pub(crate) struct Front {
     pub(crate) number: i64,
 }
 
-/// What a reader hears from a writer: which numbers it can have been told by the time, the least one that two payloads
-/// are spoken for, and the last one that is announced.
+/// What a reader hears from a writer of the numbers from `from` on: which of them it can have been told by the time, the
+/// least one that two payloads are spoken for, and the last one that is announced, or the one before `from`.
 #[derive(Drop)]
 pub(crate) struct Hearing {
+    pub(crate) from: SeqNum,
     pub(crate) fronts: Vec<Front>,
     pub(crate) conflict: Option<u64>,
     pub(crate) last: u64,
+    ghost positive: { 1 ≤ from },
     ghost in_range: { ForSome conflict (λ n. (1 ≤ n) × (n < 2 ^ 63)) × (last < 2 ^ 63) },
 }
 
@@ -45,29 +47,36 @@ impl Hearing {
             .partition_point(|front| front.datagram < datagram)
     }
 
-    /// The least number that the reader was not told before a datagram, counted from 1.
+    /// The least number that is asked for and that the reader was not told before a datagram, counted from 1.
     fn front_before(&self, datagram: usize) -> i64
         ensures { (writer reader : GuidValue) (placed : List PlacedValue) → Hears self.now writer reader placed
-            → 1 ≤ datagram → IsFrontBy writer reader placed (datagram - 1) result }
+            → 1 ≤ datagram → IsFrontBy self.now.from writer reader placed (datagram - 1) result }
     {
         let count = self.count_before(datagram);
         if count == 0 {
-            1
+            self.from.get()
         } else {
             self.fronts[count - 1].number
         }
     }
 
-    /// What the pair's reader hears from its writer by these acts, which are from the writer and in the order of sending.
-    pub(crate) fn of(alloc: Global, acts: &[Placed<'_>], pair: Pair) -> Result<Hearing, Memory>
-        ensures { IfOk result (λ hearing. IsNonDecreasingBy (λ placed. placed.datagram) acts.now
+    /// What the pair's reader hears from its writer of the numbers from `from` on by these acts, which are from the writer
+    /// and in the order of sending.
+    pub(crate) fn of(
+        alloc: Global,
+        acts: &[Placed<'_>],
+        pair: Pair,
+        from: SeqNum,
+    ) -> Result<Hearing, Memory>
+        ensures from { IfOk result (λ hearing. hearing.from ≡ from) }
+        ensures hears { IfOk result (λ hearing. IsNonDecreasingBy (λ placed. placed.datagram) acts.now
             → Hears hearing pair.writer pair.reader (map placed_value acts.now)) }
     {
-        let mut listener = Listener::<BitRanges>::new(alloc);
+        let mut listener = Listener::<BitRanges>::new(alloc, from)?;
         for placed in acts {
             listener.note(placed, pair)?;
         }
-        let hearing = listener.end()?;
+        let hearing = listener.end(from)?;
         Ok(hearing)
     }
 
@@ -76,7 +85,7 @@ impl Hearing {
         ensures { (writer reader : GuidValue) (placed : List PlacedValue) → Hears self.now writer reader placed
             → All (λ answer. 1 ≤ answer.datagram) answers.now → IsAnsweredBy writer reader placed self.now answers.now result }
     {
-        let mut claims = Claims::new();
+        let mut claims = Claims::new(self.from);
         for answer in answers {
             let front = self.front_before(answer.datagram);
             claims.note_base(answer.natural_base(), answer.datagram as u64, front);

@@ -1,10 +1,10 @@
 ghost use Rattle.std.specs.Prelude.{ℤ, ℕ, ◌≡◌, ◌↔◌, pos, filter, map, IfOk, List};
-ghost use Rattle.rtps_audit.specs.Delivered.{IsDelivered, IsPlain};
-ghost use Rattle.rtps_audit.specs.Delivery.{last_announced};
-ghost use Rattle.rtps_audit.specs.FullRun.{HasFullRun};
+ghost use Rattle.rtps_audit.specs.Delivered.{IsDelivered, IsDeliveredFrom, IsPlain, IsPlainFrom};
+ghost use Rattle.rtps_audit.specs.Delivery.{last_announced, last_announced_from};
+ghost use Rattle.rtps_audit.specs.FullRun.{HasFullRun, HasFullRunFrom};
 ghost use Rattle.rtps_audit.specs.Index.{IsIndexOf};
 ghost use Rattle.rtps_audit.specs.Placed.{answers_among, is_from, placed_in, placed_value};
-ghost use Rattle.rtps_audit.specs.RunVerdict.{IsVerdict};
+ghost use Rattle.rtps_audit.specs.RunVerdict.{IsVerdict, IsVerdictFrom};
 ghost use Rattle.rtps_audit.specs.Speech.{speech_of};
 
 use crate::answers::{Answer, ReaderFirst};
@@ -15,7 +15,7 @@ use crate::placed::Placed;
 use crate::report::Counts;
 use crate::verdict::Verdict;
 use rtps_discovery::{Directory, Pair};
-use rtps_ids::{Guid, Memory};
+use rtps_ids::{Guid, Memory, SeqNum};
 use rtps_receiver::Walk;
 use std::alloc::Global;
 
@@ -83,6 +83,32 @@ impl<'a> Index<'a> {
         self.origins.answers.of(ReaderFirst::of(pair))
     }
 
+    /// Judges what the recording says of a writer and a reader, any two GUIDs, of the writer's numbers from `from` on, by
+    /// what the two said. Smaller numbers are not asked for, as of [`crate::judge_from`]. `Memory` is answered where what
+    /// is kept of that cannot grow.
+    pub fn judge_from(&self, pair: Pair, from: SeqNum) -> Result<Verdict, Memory>
+        // Each verdict is answered exactly where all runs give it, with its numbers.
+        ensures verdict { (recording : List (List ℕ)) → IsIndexOf recording self.now
+            → IfOk result (IsVerdictFrom from (speech_of pair.writer pair.reader recording)) }
+
+        // Complete is answered exactly where every run delivers.
+        ensures complete { (recording : List (List ℕ)) → IsIndexOf recording self.now
+            → IfOk result (λ verdict. (last : ℤ) → (verdict ≡ Verdict.Complete last)
+            ↔ IsDeliveredFrom from (speech_of pair.writer pair.reader recording) last) }
+
+        // The plain condition is enough for it.
+        ensures plain { (recording : List (List ℕ)) → IsIndexOf recording self.now
+            → let speech = speech_of pair.writer pair.reader recording in
+            IfOk result (λ verdict. IsPlainFrom from speech → verdict ≡ Verdict.Complete (pos (last_announced_from from speech))) }
+
+        // Where any run exists, the one that takes all it can after each send is a run.
+        ensures full_run { (recording : List (List ℕ)) → IsIndexOf recording self.now
+            → IfOk result (HasFullRunFrom from (speech_of pair.writer pair.reader recording)) }
+    {
+        let verdict = self.judged(pair, from)?;
+        Ok(verdict)
+    }
+
     /// Judges what the recording says of a writer and a reader, any two GUIDs, by what the two said. `Memory` is answered
     /// where what is kept of that cannot grow.
     pub fn judge(&self, pair: Pair) -> Result<Verdict, Memory>
@@ -104,16 +130,15 @@ impl<'a> Index<'a> {
         ensures full_run { (recording : List (List ℕ)) → IsIndexOf recording self.now
             → IfOk result (HasFullRun (speech_of pair.writer pair.reader recording)) }
     {
-        let verdict = self.judged(pair)?;
-        Ok(verdict)
+        self.judge_from(pair, SeqNum::first())
     }
 
-    /// The same.
-    fn judged(&self, pair: Pair) -> Result<Verdict, Memory>
+    /// The verdict on a pair.
+    fn judged(&self, pair: Pair, from: SeqNum) -> Result<Verdict, Memory>
         ensures { (recording : List (List ℕ)) → IsIndexOf recording self.now
-            → IfOk result (IsVerdict (speech_of pair.writer pair.reader recording)) }
+            → IfOk result (IsVerdictFrom from (speech_of pair.writer pair.reader recording)) }
     {
-        let hearing = Hearing::of(self.alloc, self.acts_of(pair.writer), pair)?;
+        let hearing = Hearing::of(self.alloc, self.acts_of(pair.writer), pair, from)?;
         Ok(hearing.verdict(self.answers_of(pair)))
     }
 }

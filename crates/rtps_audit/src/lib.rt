@@ -22,9 +22,9 @@ mod said;
 mod verdict;
 mod words;
 
-pub use auditing::audit;
+pub use auditing::{audit, audit_from};
 pub use index::Index;
-pub use judging::{judge, judge_by};
+pub use judging::{judge, judge_by, judge_from};
 pub use placed::Placed;
 pub use report::{Counts, Report, Row};
 pub use rtps_coverage::{BitRanges, Coverage, MergedRanges, PlainRanges};

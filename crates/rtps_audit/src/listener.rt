@@ -1,4 +1,4 @@
-ghost use Rattle.std.specs.Prelude.{◌≡◌, ◌<◌, ◌≤◌, ◌^◌, ◌++◌, ◌∷◌, [], ℕ, List, IfOk, OnOk};
+ghost use Rattle.std.specs.Prelude.{◌≡◌, ◌<◌, ◌≤◌, ◌^◌, ◌++◌, ◌∷◌, [], ℕ, IfOk, List, OnOk};
 ghost use Rattle.rtps_ids.specs.declared.identity.Guid.{Guid as GuidValue};
 
 use crate::hearing::{Front, Hearing};
@@ -7,7 +7,7 @@ use crate::said::{note_heard, number_in};
 use crate::words::Words;
 use rtps_coverage::Coverage;
 use rtps_discovery::Pair;
-use rtps_ids::Memory;
+use rtps_ids::{Memory, SeqNum};
 use std::alloc::Global;
 
 /// Listens to the acts of a writer in their order, as a reader does.
@@ -26,23 +26,24 @@ impl<'a, C: Coverage> Listener<'a, C> {
     ghost use Rattle.rtps_audit.specs.Hearing.{Hears, IsListening, Marks};
     ghost use Rattle.rtps_audit.specs.Placed.{PlacedValue, placed_value};
 
-    /// It has heard nothing.
-    pub(crate) fn new(alloc: Global) -> Self
-        ensures { (writer reader : GuidValue) → IsListening C.covered result writer reader [] 0 }
+    /// It has heard nothing, and asks for the numbers from `from` on.
+    pub(crate) fn new(alloc: Global, from: SeqNum) -> Result<Self, Memory>
+        ensures { IfOk result (λ listener. (writer reader : GuidValue) → IsListening C.covered from listener writer reader [] 0) }
     {
-        Listener {
-            words: Words::new(alloc),
+        let words = Words::new(alloc, from)?;
+        Ok(Listener {
+            words,
             fronts: Vec::new(alloc),
-            front: 1,
-            last: 0,
-        }
+            front: from.get(),
+            last: from.get().cast_unsigned() - 1,
+        })
     }
 
     /// Hears the next act, if the pair's reader does. After `Memory` the listener is of no use.
     pub(crate) fn note(&mut self, placed: &Placed<'a>, pair: Pair) -> Result<(), Memory>
-        ensures { OnOk result ((before : List PlacedValue) (datagram : ℕ) → datagram ≤ placed.now.datagram
-            → IsListening C.covered self.old pair.writer pair.reader before datagram
-            → IsListening C.covered self.new pair.writer pair.reader (before ++ placed_value placed.now ∷ []) placed.now.datagram) }
+        ensures { OnOk result ((from : ℕ) (before : List PlacedValue) (datagram : ℕ) → datagram ≤ placed.now.datagram
+            → IsListening C.covered from self.old pair.writer pair.reader before datagram
+            → IsListening C.covered from self.new pair.writer pair.reader (before ++ placed_value placed.now ∷ []) placed.now.datagram) }
     {
         self.last = self.last.max(number_in(&placed.act, pair));
         note_heard(&mut self.words, &placed.act, pair)?;
@@ -68,13 +69,16 @@ impl<'a, C: Coverage> Listener<'a, C> {
         Ok(())
     }
 
-    /// What it has heard. `Memory` is answered where there is none to put the payloads in order.
-    pub(crate) fn end(mut self) -> Result<Hearing, Memory>
-        ensures { IfOk result (λ hearing. (writer reader : GuidValue) (placed : List PlacedValue) (datagram : ℕ)
-            → IsListening C.covered self.entry writer reader placed datagram → Hears hearing writer reader placed) }
+    /// What it has heard, where it was asking for the numbers from `from` on. `Memory` is answered where there is none to
+    /// put the payloads in order.
+    pub(crate) fn end(mut self, from: SeqNum) -> Result<Hearing, Memory>
+        ensures from { IfOk result (λ hearing. hearing.from ≡ from) }
+        ensures hears { IfOk result (λ hearing. (writer reader : GuidValue) (placed : List PlacedValue) (datagram : ℕ)
+            → IsListening C.covered from self.entry writer reader placed datagram → Hears hearing writer reader placed) }
     {
         let conflict = self.words.least_conflict()?;
         Ok(Hearing {
+            from,
             fronts: self.fronts,
             conflict,
             last: self.last,

@@ -44,10 +44,11 @@ pub(crate) fn note_heard<'a, C: Coverage>(
     act: &Act<'a>,
     pair: Pair,
 ) -> Result<(), Memory>
+    ensures from { words.new.from ≡ words.old.from }
     ensures told { OnOk result (TellsMore (C.covered words.old.told) (C.covered words.new.told)
         (λ n. is_some (word_for pair.writer pair.reader (act_value act.now) n))) }
     ensures payloads { OnOk result
-        (KeepsMore words.old.payloads.items words.new.payloads.items (word_for pair.writer pair.reader (act_value act.now))) }
+        (KeepsMore words.old.from words.old.payloads.items words.new.payloads.items (word_for pair.writer pair.reader (act_value act.now))) }
 {
     if act.spoken_by(pair.writer) && act.heard_by(pair.reader) {
         words.note(&act.body)?;

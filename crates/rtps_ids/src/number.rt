@@ -21,6 +21,13 @@ impl Model for SeqNum {
 }
 
 impl SeqNum {
+    /// The least sequence number, 1.
+    pub fn first() -> SeqNum
+        ensures { result ≡ 1 }
+    {
+        SeqNum { value: 1 }
+    }
+
     /// The sequence number of this value, or None where the value is below 1.
     pub fn new(value: i64) -> Option<SeqNum>
         ensures exists { IsSome result ↔ (pos 0 <ℤ value) }

@@ -4,7 +4,7 @@
 use Rattle.std.specs.Prelude.{ℕ, ◌≡◌, ◌++◌, Bool, true, false, if◌then◌else◌, List, [], ◌∷◌, codes, length, Option, Some, None}
 use Rattle.std.specs.Fmt.{decimal, signed_decimal}
 use Rattle.std.specs.List.{flat_map, list_all}
-use Rattle.rtps_audit.specs.Report.{IsReport}
+use Rattle.rtps_audit.specs.Report.{IsReportFrom}
 use Rattle.rtps_audit.specs.declared.report.Counts.{Counts}
 use Rattle.rtps_audit.specs.declared.report.Report.{Report}
 use Rattle.rtps_audit.specs.declared.report.Row.{Row}
@@ -56,9 +56,14 @@ is_complete (Unfounded datagram number) = false
 abbrev pub ending_of : List Row → Ending
 ending_of rows = if list_all (λ row. is_complete row.verdict) rows then Clean else Unclean
 
--- what `audit` answers: the text of a report on the recording, clean where each row is complete
-pub record IsAudited (recording : RecordingValue) (text : List ℕ) (ending : Ending) : Type 0 where
+-- what `audit` answers of the numbers from `from` on: the text of a report on the recording, clean where each row is
+-- complete
+pub record IsAuditedFrom (from : ℕ) (recording : RecordingValue) (text : List ℕ) (ending : Ending) : Type 0 where
   pub report : Report
-  pub reports : IsReport recording.datagrams report
+  pub reports : IsReportFrom from recording.datagrams report
   pub is_text : text ≡ report_text report.rows.items report.counts recording.ignored
   pub ends : ending ≡ ending_of report.rows.items
+
+-- and of all numbers
+abbrev pub IsAudited : RecordingValue → List ℕ → Ending → Type 0
+IsAudited recording text ending = IsAuditedFrom 1 recording text ending

@@ -1,6 +1,7 @@
 //! Laws of the definitions, each the contract of a function that does nothing.
 
-ghost use Rattle.rtps_text.specs.AuditText.{IsAudited};
+ghost use Rattle.std.specs.Prelude.{ℕ};
+ghost use Rattle.rtps_text.specs.AuditText.{IsAuditedFrom};
 ghost use Rattle.rtps_text.specs.Laws.{HasOneText};
 ghost use Rattle.rtps_text.specs.ListText.{IsListed};
 ghost use Rattle.rtps_text.specs.ShowText.{IsShown};
@@ -8,11 +9,12 @@ ghost use Rattle.rtps_text.specs.ShowText.{IsShown};
 use rtps_audit::laws::one_report;
 use rtps_discovery::laws::one_map;
 
-/// What is printed of a recording, and how a run on it ends, is decided by its datagrams alone.
+/// What is printed of a recording, and how a run on it ends, is decided by its datagrams alone; by `audit`, also by the
+/// number from which on it asks.
 pub fn one_text()
     ensures shown { HasOneText IsShown }
     ensures listed { HasOneText IsListed }
-    ensures audited { HasOneText IsAudited }
+    ensures audited { (from : ℕ) → HasOneText (IsAuditedFrom from) }
 {
     one_map();
     one_report();

@@ -1,10 +1,10 @@
-//! The verdict by trying every event, for small recordings of the numbers 1 to 3.
+//! The verdict by trying every event, for small recordings of the numbers 1 to 3, which are asked for from a number on.
 
 ghost use Rattle.std.specs.Prelude.{◌<◌};
 
-use rtps_audit::{BitRanges, MergedRanges, PlainRanges, Verdict, judge_by};
+use rtps_audit::{BitRanges, Index, MergedRanges, PlainRanges, Verdict, judge_from};
 use rtps_discovery::Pair;
-use rtps_ids::{EntityId, Guid, GuidPrefix};
+use rtps_ids::{EntityId, Guid, GuidPrefix, SeqNum};
 use std::alloc::{AllocError, Global};
 use std::process::Abort;
 use std::test::Fail;
@@ -35,9 +35,19 @@ fn has_word(words: usize, number: u64) -> bool {
     words & bits_of(number) != 0
 }
 
-/// The least number from 1 on, below `end`, without a word.
-fn least_without(words: usize, end: u64) -> Option<u64> {
-    (1..end).find(|number| !has_word(words, *number))
+/// The words of the numbers from `from` on.
+fn asked_words(words: usize, from: u64) -> usize {
+    match from {
+        1 => words & 511,
+        2 => words & 504,
+        3 => words & 448,
+        _ => 0,
+    }
+}
+
+/// The least number from `from` on, below `end`, without a word.
+fn least_without(words: usize, from: u64, end: u64) -> Option<u64> {
+    (from..end).find(|number| !has_word(words, *number))
 }
 
 /// The words of the first datagrams.
@@ -59,16 +69,16 @@ fn is_marked(reached: &Vec<bool>, place: usize) -> bool {
 }
 
 /// Marks what one event makes of a state: a word taken, or the next datagram sent.
-fn mark_next(reached: &mut Vec<bool>, datagrams: &[Small], place: usize) {
+fn mark_next(reached: &mut Vec<bool>, datagrams: &[Small], from: u64, place: usize) {
     let (sent, held) = (place / SETS, place % SETS);
-    let told = told_by(datagrams, sent);
+    let told = asked_words(told_by(datagrams, sent), from);
     for bit in 0..9u32 {
         if told & (1 << bit) != 0 {
             mark(reached, place | (1 << bit));
         }
     }
     if let Some(next) = datagrams.get(sent) {
-        if least_without(held, next.base).is_none() && place < 1 << 20 {
+        if least_without(held, from, next.base).is_none() && place < 1 << 20 {
             mark(reached, place + SETS);
         }
     }
@@ -76,12 +86,12 @@ fn mark_next(reached: &mut Vec<bool>, datagrams: &[Small], place: usize) {
 
 /// The states that events lead to: how many datagrams are sent, times the sets, and the words held. Each event
 /// leads to a later place, so one pass finds all.
-fn reachable(alloc: Global, datagrams: &[Small]) -> Result<Vec<bool>, AllocError> {
+fn reachable(alloc: Global, datagrams: &[Small], from: u64) -> Result<Vec<bool>, AllocError> {
     let mut reached = vec![in alloc; false; 5 * SETS]?;
     mark(&mut reached, 0);
     for place in 0..5 * SETS {
         if is_marked(&reached, place) {
-            mark_next(&mut reached, datagrams, place);
+            mark_next(&mut reached, datagrams, from, place);
         }
     }
     Ok(reached)
@@ -105,10 +115,11 @@ fn signed(number: u64) -> i64 {
 }
 
 /// The verdict where no run exists.
-fn unfounded(reached: &Vec<bool>, datagrams: &[Small]) -> Verdict {
+fn unfounded(reached: &Vec<bool>, datagrams: &[Small], from: u64) -> Verdict {
     for (place, small) in datagrams.iter().enumerate() {
         if !can_send(reached, place + 1) {
-            let number = least_without(told_by(datagrams, place), small.base).unwrap_or(0);
+            let told = told_by(datagrams, place);
+            let number = least_without(told, from, small.base).unwrap_or(0);
             return Verdict::Unfounded {
                 datagram: place as u64 + 1,
                 number: signed(number),
@@ -124,9 +135,9 @@ fn has_both(words: usize, number: u64) -> bool {
     both != 0 && words & both == both
 }
 
-/// The verdict on at most four datagrams, by all lists of events.
-fn verdict_by_trial(alloc: Global, datagrams: &[Small]) -> Result<Verdict, AllocError> {
-    let reached = reachable(alloc, datagrams)?;
+/// The verdict on at most four datagrams, by all lists of events, of the numbers from `from` on.
+fn verdict_by_trial(alloc: Global, datagrams: &[Small], from: u64) -> Result<Verdict, AllocError> {
+    let reached = reachable(alloc, datagrams, from)?;
     let mut ends: Vec<usize> = Vec::new(alloc);
     for held in 0..SETS {
         if is_marked(&reached, place_of(datagrams.len(), held)) {
@@ -134,9 +145,9 @@ fn verdict_by_trial(alloc: Global, datagrams: &[Small]) -> Result<Verdict, Alloc
         }
     }
     if ends.is_empty() {
-        return Ok(unfounded(&reached, datagrams));
+        return Ok(unfounded(&reached, datagrams, from));
     }
-    if let Some(number) = (1..4u64).find(|number| ends
+    if let Some(number) = (from..4u64).find(|number| ends
         .iter()
         .any(|held| has_both(*held, *number)))
     {
@@ -144,8 +155,9 @@ fn verdict_by_trial(alloc: Global, datagrams: &[Small]) -> Result<Verdict, Alloc
             number: signed(number),
         });
     }
-    let last = datagrams.iter().map(|small| small.last).max().unwrap_or(0);
-    if let Some(number) = (1..4u64).find(|number| *number <= last
+    let announced = datagrams.iter().map(|small| small.last).max().unwrap_or(0);
+    let last = announced.max(from.saturating_sub(1));
+    if let Some(number) = (from..4u64).find(|number| *number <= last
         && ends.iter().any(|held| !has_word(*held, *number)))
     {
         return Ok(Verdict::Open {
@@ -299,11 +311,13 @@ fn add_act(random: &mut Random, octets: &mut Vec<u8>, small: &mut Small) -> Resu
     }
 }
 
-/// The verdicts on one recording, by the judge with each kind of set and by trial.
+/// The verdicts on one recording of the numbers from `from` on: by the judge with each kind of set, by the index, and by
+/// trial.
 fn verdicts(
     rt: &impl Abort,
     alloc: Global,
     random: &mut Random,
+    from: u64,
 ) -> Result<(Verdict, Verdict), Fail> {
     let mut recording: Vec<Vec<u8>> = Vec::new(alloc);
     let mut datagrams = Vec::new(alloc);
@@ -325,12 +339,17 @@ fn verdicts(
     for octets in &recording {
         lent.push(octets)?;
     }
-    let judged = judge_by::<PlainRanges>(alloc, &lent, PAIR)?;
-    let merged = judge_by::<MergedRanges>(alloc, &lent, PAIR)?;
-    let bits = judge_by::<BitRanges>(alloc, &lent, PAIR)?;
+    let Some(first) = SeqNum::new(signed(from)) else {
+        return Err("a sequence number".into());
+    };
+    let judged = judge_from::<PlainRanges>(alloc, &lent, PAIR, first)?;
+    let merged = judge_from::<MergedRanges>(alloc, &lent, PAIR, first)?;
+    let bits = judge_from::<BitRanges>(alloc, &lent, PAIR, first)?;
+    let indexed = Index::build(alloc, &lent)?.judge_from(PAIR, first)?;
     assert_eq!(rt; judged, merged);
     assert_eq!(rt; judged, bits);
-    Ok((judged, verdict_by_trial(alloc, &datagrams)?))
+    assert_eq!(rt; judged, indexed);
+    Ok((judged, verdict_by_trial(alloc, &datagrams, from)?))
 }
 
 #[test]
@@ -338,8 +357,14 @@ fn small_recordings_are_judged_as_by_trial(rt: HostRuntime) -> Result<(), Fail> 
     let mut random = Random(1);
     let mut seen = [0u32; 4];
     for recording in 0..3000u32 {
-        let (judged, tried) = verdicts(&rt, rt.alloc(), &mut random)?;
-        assert_eq!(rt; judged, tried, "recording {recording}");
+        // Every second recording is asked from 1 on, the others from 2 to 5.
+        let from = if recording % 2 == 0 {
+            1
+        } else {
+            2 + random.below(4)
+        };
+        let (judged, tried) = verdicts(&rt, rt.alloc(), &mut random, from)?;
+        assert_eq!(rt; judged, tried, "recording {recording}, from {from}");
         let kind = match judged {
             Verdict::Unfounded { .. } => 0,
             Verdict::Conflict { .. } => 1,

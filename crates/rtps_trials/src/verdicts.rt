@@ -1,8 +1,9 @@
 use rtps_audit::{
-    BitRanges, Counts, Index, MergedRanges, PlainRanges, Report, Verdict, audit, judge, judge_by,
+    BitRanges, Counts, Index, MergedRanges, PlainRanges, Report, Verdict, audit, audit_from, judge,
+    judge_by, judge_from,
 };
 use rtps_discovery::Pair;
-use rtps_ids::{EntityId, Guid, GuidPrefix};
+use rtps_ids::{EntityId, Guid, GuidPrefix, SeqNum};
 use std::alloc::{AllocError, Global};
 use std::test::Fail;
 
@@ -78,6 +79,21 @@ const GAP_2_TO_4_AND_6: [u8; 36] = *b"\
     \x00\x00\x00\x02\x00\x00\x00\x00\x00\x00\x00\x05\x00\x00\x00\x02\
     \x40\x00\x00\x00";
 
+/// A DATA of the greatest number.
+const DATA_GREATEST: [u8; 32] = *b"\
+    \x15\x04\x00\x1c\x00\x00\x00\x10\x00\x00\x00\x00\x00\x00\x01\x03\
+    \x7f\xff\xff\xff\xff\xff\xff\xff\x00\x00\x00\x00\x00\x00\x00\x01";
+
+/// A HEARTBEAT of the greatest number alone.
+const HEARTBEAT_GREATEST: [u8; 32] = *b"\
+    \x07\x00\x00\x1c\x00\x00\x00\x00\x00\x00\x01\x03\x7f\xff\xff\xff\
+    \xff\xff\xff\xff\x7f\xff\xff\xff\xff\xff\xff\xff\x00\x00\x00\x01";
+
+/// An ACKNACK of the greatest base.
+const ACK_NACK_GREATEST: [u8; 28] = *b"\
+    \x06\x00\x00\x18\x00\x00\x01\x04\x00\x00\x01\x03\x7f\xff\xff\xff\
+    \xff\xff\xff\xff\x00\x00\x00\x00\x00\x00\x00\x01";
+
 /// A DATA_FRAG.
 const FRAGMENT: [u8; 8] = *b"\
     \x16\x00\x00\x04\x00\x00\x00\x00";
@@ -101,6 +117,9 @@ enum Piece {
     Heartbeat4To5,
     HeartbeatBad,
     Gap2To4And6,
+    DataGreatest,
+    HeartbeatGreatest,
+    AckNackGreatest,
     Fragment,
     Unknown,
     /// A HEARTBEAT of the numbers from 1 to this one.
@@ -112,8 +131,9 @@ enum Piece {
 }
 
 use Piece::{
-    AckNack, Data, Fragment, Gap2To4And6, HeaderA, HeaderB, Heartbeat1To3, Heartbeat4To5,
-    HeartbeatBad, HeartbeatTo, ReaderR, ReaderROther, ToA, ToAll, ToC, Unknown, WriterW,
+    AckNack, AckNackGreatest, Data, DataGreatest, Fragment, Gap2To4And6, HeaderA, HeaderB,
+    Heartbeat1To3, Heartbeat4To5, HeartbeatBad, HeartbeatGreatest, HeartbeatTo, ReaderR,
+    ReaderROther, ToA, ToAll, ToC, Unknown, WriterW,
 };
 
 fn push_data(datagram: &mut Vec<u8>, number: u16, last: u8) -> Result<(), AllocError> {
@@ -151,6 +171,9 @@ fn push_piece(datagram: &mut Vec<u8>, piece: Piece) -> Result<(), AllocError> {
         Heartbeat4To5 => datagram.extend_from_slice(&HEARTBEAT_4_TO_5),
         HeartbeatBad => datagram.extend_from_slice(&HEARTBEAT_BAD),
         Gap2To4And6 => datagram.extend_from_slice(&GAP_2_TO_4_AND_6),
+        DataGreatest => datagram.extend_from_slice(&DATA_GREATEST),
+        HeartbeatGreatest => datagram.extend_from_slice(&HEARTBEAT_GREATEST),
+        AckNackGreatest => datagram.extend_from_slice(&ACK_NACK_GREATEST),
         Fragment => datagram.extend_from_slice(&FRAGMENT),
         Unknown => datagram.extend_from_slice(&UNKNOWN),
         HeartbeatTo(last) => push_heartbeat(datagram, last),
@@ -212,6 +235,37 @@ fn verdict_of(alloc: Global, pieces: &[Piece]) -> Result<Verdict, Fail> {
         [row] => Ok(row.verdict),
         _ => Err("one row".into()),
     }
+}
+
+/// The number of this value.
+fn number(value: i64) -> Result<SeqNum, Fail> {
+    match SeqNum::new(value) {
+        Some(number) => Ok(number),
+        None => Err("a sequence number".into()),
+    }
+}
+
+/// The verdict of the one pair by the numbers from a number on: by the audit, by each kind of set, and by the index. These
+/// pieces stand behind the announcements of the pair.
+fn verdict_from(alloc: Global, pieces: &[Piece], from: i64) -> Result<Verdict, Fail> {
+    let from = number(from)?;
+    let mut datagrams = Vec::new(alloc);
+    push_all(alloc, &mut datagrams, &[HeaderA, WriterW, HeaderB, ReaderR])?;
+    push_all(alloc, &mut datagrams, pieces)?;
+    let slices = slices_of(alloc, &datagrams)?;
+    let report = audit_from(alloc, &slices, from)?;
+    let [row] = report.rows.as_slice() else {
+        return Err("one row".into());
+    };
+    let plain = judge_from::<PlainRanges>(alloc, &slices, row.pair, from)?;
+    let merged = judge_from::<MergedRanges>(alloc, &slices, row.pair, from)?;
+    let bits = judge_from::<BitRanges>(alloc, &slices, row.pair, from)?;
+    let indexed = Index::build(alloc, &slices)?.judge_from(row.pair, from)?;
+    let sets_differ = plain != row.verdict || merged != row.verdict || bits != row.verdict;
+    if sets_differ || indexed != row.verdict {
+        return Err("one verdict by any way".into());
+    }
+    Ok(row.verdict)
 }
 
 /// The counts of so many datagrams in which there is nothing else to count.
@@ -333,6 +387,86 @@ fn verdicts_of_recordings(rt: HostRuntime) -> Result<(), Fail> {
         number: 2,
     };
     assert_eq!(rt; verdict_of(alloc, &elsewhere)?, unfounded);
+    Ok(())
+}
+
+/// The first two samples were written before the reader joined.
+const JOINED_LATE: [Piece; 6] = [HeaderA, Data(3, 3), Heartbeat1To3, HeaderB, ToA, AckNack(4)];
+
+#[test]
+fn numbers_from_a_number_on(rt: HostRuntime) -> Result<(), Fail> {
+    let alloc = rt.alloc();
+    for (from, number) in [(1, 1), (2, 2)] {
+        let unfounded = Verdict::Unfounded {
+            datagram: 4,
+            number,
+        };
+        assert_eq!(rt; verdict_from(alloc, &JOINED_LATE, from)?, unfounded);
+    }
+    for (from, last) in [(3, 3), (4, 3), (5, 4)] {
+        let complete = Verdict::Complete { last };
+        assert_eq!(rt; verdict_from(alloc, &JOINED_LATE, from)?, complete);
+    }
+    let open = [HeaderA, Data(1, 1), Data(2, 2), HeaderB, ToA, AckNack(2)];
+    assert_eq!(rt; verdict_from(alloc, &open, 2)?, Verdict::Open { number: 2 });
+    assert_eq!(rt;
+        verdict_from(alloc, &open, 3)?,
+        Verdict::Complete { last: 2 }
+    );
+    Ok(())
+}
+
+#[test]
+fn two_payloads_of_a_number_that_is_not_asked_for(rt: HostRuntime) -> Result<(), Fail> {
+    let alloc = rt.alloc();
+    let conflict = [
+        HeaderA,
+        Data(1, 1),
+        Data(2, 2),
+        HeaderA,
+        Data(2, 9),
+        HeaderB,
+        ToA,
+        AckNack(3),
+    ];
+    let found = Verdict::Conflict { number: 2 };
+    assert_eq!(rt; verdict_from(alloc, &conflict, 2)?, found);
+    assert_eq!(rt;
+        verdict_from(alloc, &conflict, 3)?,
+        Verdict::Complete { last: 2 }
+    );
+    Ok(())
+}
+
+#[test]
+fn the_greatest_number_alone(rt: HostRuntime) -> Result<(), Fail> {
+    let greatest = [
+        HeaderA,
+        DataGreatest,
+        HeartbeatGreatest,
+        HeaderB,
+        ToA,
+        AckNackGreatest,
+    ];
+    let open = Verdict::Open { number: i64::MAX };
+    assert_eq!(rt; verdict_from(rt.alloc(), &greatest, i64::MAX)?, open);
+    assert_eq!(rt; verdict_from(rt.alloc(), &greatest, 1)?, open);
+    let before = Verdict::Complete { last: i64::MAX - 1 };
+    assert_eq!(rt; verdict_from(rt.alloc(), &[HeaderA], i64::MAX)?, before);
+    Ok(())
+}
+
+#[test]
+fn one_index_is_asked_from_several_numbers(rt: HostRuntime) -> Result<(), Fail> {
+    let alloc = rt.alloc();
+    let mut datagrams = Vec::new(alloc);
+    push_all(alloc, &mut datagrams, &JOINED_LATE)?;
+    let slices = slices_of(alloc, &datagrams)?;
+    let index = Index::build(alloc, &slices)?;
+    for from in [3, 1, 5, 2, 4] {
+        let wanted = judge_from::<MergedRanges>(alloc, &slices, pair(), number(from)?)?;
+        assert_eq!(rt; index.judge_from(pair(), number(from)?)?, wanted);
+    }
     Ok(())
 }
 

@@ -1,31 +1,35 @@
 ghost use Rattle.std.specs.Prelude.{◌≡◌, ◌++◌, IfOk, OnOk, map};
 ghost use Rattle.std.specs.List.{flat_map};
 ghost use Rattle.std.specs.String.{string_bytes};
-ghost use Rattle.rtps_audit.specs.Report.{IsReport};
-ghost use Rattle.rtps_text.specs.AuditText.{IsAudited, ending_of as ending_of_rows, is_complete as completes, report_text as text_of_report, row_line};
+ghost use Rattle.rtps_audit.specs.Report.{IsReportFrom};
+ghost use Rattle.rtps_text.specs.AuditText.{IsAuditedFrom, ending_of as ending_of_rows, is_complete as completes, report_text as text_of_report, row_line};
 
 use crate::ending::Ending;
 use crate::recording::Recording;
 use crate::text::audit_lines::{PairsLine, ReportCountsLine, RowLine};
 use rtps_audit::{Report, Row, Verdict};
-use rtps_ids::Memory;
+use rtps_ids::{Memory, SeqNum};
 use std::alloc::{AllocError, Global};
 
-/// What `audit` prints of a recording, and how it ends.
-pub fn audit_text(alloc: Global, recording: &Recording) -> Result<(String, Ending), Memory>
-    ensures { IfOk result (λ audited. IsAudited recording.now (string_bytes audited.0) audited.1) }
+/// What `audit` prints of a recording by the numbers from `from` on, and how it ends.
+pub fn audit_text(
+    alloc: Global,
+    recording: &Recording,
+    from: SeqNum,
+) -> Result<(String, Ending), Memory>
+    ensures { IfOk result (λ audited. IsAuditedFrom from recording.now (string_bytes audited.0) audited.1) }
 {
-    let report = report_of(alloc, recording)?;
+    let report = report_of(alloc, recording, from)?;
     let text = report_text(alloc, &report, recording.ignored())?;
     Ok((text, ending_of(&report.rows)))
 }
 
 // The audit of a recording.
-fn report_of(alloc: Global, recording: &Recording) -> Result<Report, Memory>
-    ensures { IfOk result (IsReport recording.now.datagrams) }
+fn report_of(alloc: Global, recording: &Recording, from: SeqNum) -> Result<Report, Memory>
+    ensures { IfOk result (IsReportFrom from recording.now.datagrams) }
 {
     let datagrams = datagrams_of(alloc, recording)?;
-    rtps_audit::audit(alloc, &datagrams)
+    rtps_audit::audit_from(alloc, &datagrams, from)
 }
 
 // The datagrams of a recording.

@@ -1,14 +1,22 @@
-use Rattle.std.proofs.Common.{ap, map, refl, sym, subst, All}
+use Rattle.std.proofs.Common.{◌≡◌, ◌∙◌, ℕ, ap, map, refl, sym, subst, All}
 use Rattle.std.proofs.lemmas.List.Elements.{All-nil, All-push}
-use Rattle.rtps_audit.specs.Report.{IsJudged}
+use Rattle.rtps_audit.specs.Report.{IsJudgedFrom}
+use Rattle.rtps_audit.specs.Delivery.{Speech}
+use Rattle.rtps_audit.specs.RunVerdict.{IsVerdictFrom}
+use Rattle.rtps_audit.specs.declared.verdict.Verdict.{Verdict}
 use Rattle.rtps_audit.proofs.RecordingActs.{pairs_more}
 use Rattle.rtps_audit.proofs.auditing.rows_of.Goals as goal
+
+-- a verdict by the numbers from a number on is one by those from an equal one
+judged_from : (old new : ℕ) (speech : Speech) (verdict : Verdict) → old ≡ new → IsVerdictFrom old speech verdict → IsVerdictFrom new speech verdict
+judged_from old new speech verdict same is = subst (λ from. IsVerdictFrom from speech verdict) same is
 
 pub loop-pair-init : goal.loop-pair-init
 loop-pair-init c = record {
   pairs = ap (map (λ row. row.pair)) c.new-rows.ensures.items;
-  judged = λ recording is. subst (All (IsJudged recording)) (sym c.new-rows.ensures.items) (All-nil (IsJudged recording));
-  common = c.in_ok-common.ensures;
+  judged = λ recording is. subst (All (IsJudgedFrom c.args.from recording)) (sym c.new-rows.ensures.items) (All-nil (IsJudgedFrom c.args.from recording));
+  common = c.in_ok-common.ensures.common;
+  from = c.in_ok-common.ensures.from;
 }
 
 pub loop-pair-preserved : goal.loop-pair-preserved
@@ -17,6 +25,7 @@ loop-pair-preserved c =
       pairs = pairs_more c.loop-pair.rows.items _ _ c.args.pairs.now c.loop-pair.pair-index _ c.loop-pair-test.true c.in_ok-push.ensures.items refl c.loop-pair.invariant.pairs;
       judged = λ recording is.
           let common = c.in_ok-turn_to.ensures.common recording is (c.loop-pair.invariant.common recording is) in
-          subst (All (IsJudged recording)) (sym c.in_ok-push.ensures.items) (All-push (IsJudged recording) c.loop-pair.rows.items _ (c.loop-pair.invariant.judged recording is) (c.in_ok-verdict.ensures recording is common c.in_ok-turn_to.ensures.writer));
+          subst (All (IsJudgedFrom c.args.from recording)) (sym c.in_ok-push.ensures.items) (All-push (IsJudgedFrom c.args.from recording) c.loop-pair.rows.items _ (c.loop-pair.invariant.judged recording is) (judged_from _ _ _ _ (c.turn_to.ensures.from ∙ c.loop-pair.invariant.from) (c.in_ok-verdict.ensures recording is common c.in_ok-turn_to.ensures.writer)));
       common = λ recording is. c.in_ok-turn_to.ensures.common recording is (c.loop-pair.invariant.common recording is);
+      from = c.turn_to.ensures.from ∙ c.loop-pair.invariant.from;
     }

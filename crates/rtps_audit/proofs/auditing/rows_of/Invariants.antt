@@ -1,13 +1,14 @@
 use Rattle.std.proofs.Common.{◌≡◌, ℕ, All, List, map, take}
 use Rattle.rtps_audit.specs.Common.{IsCommon}
 use Rattle.rtps_audit.specs.Index.{IsIndexOf}
-use Rattle.rtps_audit.specs.Report.{IsJudged}
+use Rattle.rtps_audit.specs.Report.{IsJudgedFrom}
 use Rattle.rtps_audit.proofs.auditing.rows_of.Given as goal
 
 -- a row for each pair so far
 abbrev pub invariant-loop-pair : goal.invariant-loop-pair
 invariant-loop-pair l = record {
   pairs : map (λ row. row.pair) l.rows.items ≡ take l.pair-index l.pairs;
-  judged : (recording : List (List ℕ)) → IsIndexOf recording l.index → All (IsJudged recording) l.rows.items;
+  judged : (recording : List (List ℕ)) → IsIndexOf recording l.index → All (IsJudgedFrom l.fn.from recording) l.rows.items;
   common : (recording : List (List ℕ)) → IsIndexOf recording l.index → IsCommon recording l.common;
+  from : l.common.hearing.from ≡ l.fn.from;
 }

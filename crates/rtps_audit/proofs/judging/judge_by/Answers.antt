@@ -1,13 +1,11 @@
-use Rattle.std.proofs.Common.{map}
-use Rattle.rtps_audit.proofs.DeliveredLemmas.{complete_where, complete_if_plain}
-use Rattle.rtps_audit.proofs.FullRuns.{full_run_where}
+use Rattle.std.proofs.Common.{◌≡◌, ℤ, map, subst}
+use Rattle.std.specs.Prelude.{◌↔◌, IfOk}
+use Rattle.rtps_audit.specs.Delivered.{IsDeliveredFrom}
+use Rattle.rtps_audit.specs.Speech.{speech_of}
+use Rattle.rtps_audit.specs.declared.verdict.Verdict.TheVariants.{Complete}
 use Rattle.rtps_audit.proofs.judging.judge_by.Goals as goal
 
 pub returns-clause-complete : goal.returns-clause-complete
-returns-clause-complete g c = complete_where _ _ c.in_ok-verdict.ensures
-
-pub returns-clause-plain : goal.returns-clause-plain
-returns-clause-plain g c = complete_if_plain _ _ c.in_ok-verdict.ensures
-
-pub returns-clause-full_run : goal.returns-clause-full_run
-returns-clause-full_run g c = full_run_where c.args.pair.writer c.args.pair.reader (map (λ datagram. datagram.now) c.args.recording.now) _ c.in_ok-verdict.ensures
+returns-clause-complete g c =
+    let speech = speech_of c.args.pair.writer c.args.pair.reader (map (λ datagram. datagram.now) c.args.recording.now) in
+    subst (λ from. IfOk c.judge_from.result (λ verdict. (last : ℤ) → (verdict ≡ Complete last) ↔ IsDeliveredFrom from speech last)) c.first.ensures c.judge_from.ensures.complete

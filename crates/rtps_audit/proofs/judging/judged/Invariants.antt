@@ -6,4 +6,4 @@ use Rattle.rtps_audit.proofs.judging.judged.Given as goal
 -- the judge knows the datagrams so far
 abbrev pub invariant-loop-datagram : goal.invariant-loop-datagram
 invariant-loop-datagram g l =
-    Knows g.C.Coverage.covered l.judge (speech_of l.pair.writer l.pair.reader (map (λ datagram. datagram.now) (take l.datagram-index l.recording)))
+    Knows g.C.Coverage.covered l.fn.from l.judge (speech_of l.pair.writer l.pair.reader (map (λ datagram. datagram.now) (take l.datagram-index l.recording)))

@@ -17,8 +17,8 @@ returns-clause-listed c = λ recording one other ending last ((directory, map, i
     (is ∙ ap (λ (d : DirectoryValue). directory_text d (faults_in (acts_in recording.datagrams))) same ∙ sym also, ends ∙ sym too)
 
 pub returns-clause-audited : goal.returns-clause-audited
-returns-clause-audited c = λ recording one other ending last is also.
-    let same = c.one_report.ensures recording.datagrams is.report also.report is.reports also.reports in (
+returns-clause-audited c = λ from recording one other ending last is also.
+    let same = c.one_report.ensures from recording.datagrams is.report also.report is.reports also.reports in (
       is.is_text ∙ ap (λ (rows : List Row). report_text rows is.report.counts recording.ignored) same.0 ∙ ap (λ (counts : Counts). report_text also.report.rows.items counts recording.ignored) same.1 ∙ sym also.is_text,
       is.ends ∙ ap ending_of same.0 ∙ sym also.ends,
     )

@@ -10,4 +10,4 @@ use Rattle.rtps_audit.proofs.hearing.Hearing.of.Given as goal
 -- the acts so far are heard
 abbrev pub invariant-loop-placed : goal.invariant-loop-placed
 invariant-loop-placed l =
-    IsNonDecreasingBy (λ (placed : Placed). placed.datagram) l.acts → IsListening covered_of l.listener l.pair.writer l.pair.reader (map placed_value (take l.placed-index l.acts)) (reached l.acts l.placed-index)
+    IsNonDecreasingBy (λ (placed : Placed). placed.datagram) l.acts → IsListening covered_of l.fn.from l.listener l.pair.writer l.pair.reader (map placed_value (take l.placed-index l.acts)) (reached l.acts l.placed-index)

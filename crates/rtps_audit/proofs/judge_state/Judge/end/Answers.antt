@@ -5,7 +5,7 @@ use Rattle.rtps_audit.proofs.JudgeLemmas.{ends}
 use Rattle.rtps_audit.proofs.judge_state.Judge.end.Goals as goal
 
 pub returns : goal.returns
-returns g c = λ speech datagram telling.
+returns g c = λ from speech datagram telling.
     let old = c.args.self.now in
     let same : to_z w64 (of_z w64 old.front) ≡ old.front = omega (arith, ints) in
     let found = subst (λ z. FindsUntold old.claims.untold c.note_base.new.self.untold (old.datagrams + 1) z old.base) same c.note_base.ensures.untold in

@@ -1,4 +1,4 @@
-use Rattle.std.proofs.Common.{◌≡◌, map, take}
+use Rattle.std.proofs.Common.{◌≡◌, ℕ, map, take}
 use Rattle.rtps_receiver.specs.Values.{act_value}
 use Rattle.rtps_audit.specs.Delivery.{Speech}
 use Rattle.rtps_audit.specs.Judge.{IsTelling, Knows}
@@ -9,5 +9,5 @@ use Rattle.rtps_audit.proofs.judge_state.Judge.note_all.Given as goal
 abbrev pub invariant-loop-act : goal.invariant-loop-act
 invariant-loop-act g l = record {
   count : l.self.datagrams ≡ l.fn.self.datagrams;
-  told : (speech : Speech) → Knows g.C.Coverage.covered l.fn.self speech → IsTelling g.C.Coverage.covered l.self speech (said_by l.pair.writer l.pair.reader (map act_value (take l.act-index l.acts)));
+  told : (from : ℕ) (speech : Speech) → Knows g.C.Coverage.covered from l.fn.self speech → IsTelling g.C.Coverage.covered from l.self speech (said_by l.pair.writer l.pair.reader (map act_value (take l.act-index l.acts)));
 }
