@@ -127,7 +127,7 @@ fn add_gap<C: Coverage>(told: &mut C, gap: &GapBody) -> Result<(), Memory>
 {
     let mut at = row_end(gap);
     add_row(told, gap.start.get().cast_unsigned(), at)?;
-    'ranges: while let Some(members) = gap.list.range_from(at) {
+    'apart: while let Some(members) = gap.list.range_from(at) {
         add_row(told, members.start, members.end)?;
         at = members.end;
     }
