@@ -29,7 +29,6 @@ pub fn written_reads_back()
 
 /// A message is read as what it spells, and as nothing else: each octet of a message that has a clean end is a part of its
 /// header or of its items, at its place, or is one at which no reader looks.
-#[tactic(auto, using(crate::proofs::SpelledMessages::read_spelled))]
 pub fn a_message_is_read_as_it_is_spelled()
     ensures spelled { (header : Header) (items : List ItemValue) (message : List ℕ) → All (λ octet. octet < 256) message
         → IsReadAs header items (reading_of message) → Spells header items message }
