@@ -20,3 +20,4 @@ pub mod SpelledSets
 pub mod SpelledBodies
 pub mod SpelledMessages
 pub mod SpelledAgain
+pub mod SpelledReads

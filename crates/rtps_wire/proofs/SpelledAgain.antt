@@ -172,9 +172,13 @@ items_written : (items : List ItemValue) → All IsHeldItem items → items_faul
 items_written [] held good = refl
 items_written (item ∷ items) held good =
     let parts = no_first (item_fault (is_none_left items) item) (items_fault items) good in
-    let fine = no_fault (is_none_left items) item parts.0 in
-    (item_octets item, flat_map item_octets items, refl, item_written item (flat_map item_octets items) (held 0 item (omega arith)) fine.0 fine.1,
-        items_written items (λ k d inside. held (suc k) d (omega arith)) parts.1)
+    let fine = no_fault (is_none_left items) item parts.0 in (
+      item_octets item,
+      flat_map item_octets items,
+      refl,
+      item_written item (flat_map item_octets items) (held 0 item (omega arith)) fine.0 fine.1,
+      items_written items (λ k d inside. held (suc k) d (omega arith)) parts.1,
+    )
 
 pub written_spelled : (header : Header) (items : List ItemValue) → All IsHeldItem items → write_fault header items ≡ None → Spells header items (message_octets header items)
 written_spelled header items held good = by (header.version.major == 2) refl

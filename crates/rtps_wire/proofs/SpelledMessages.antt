@@ -164,8 +164,7 @@ items_spelled (item ∷ items) (other ∷ others) rest at small (some, good, is,
     let first = take (4 + body_length rest) rest in
     let heads : unplaced item ≡ unplaced other = cc in
     let tails : map unplaced items ≡ map unplaced others = cc in
-    let here : SpellsSubmessage item.order item.body first (next_rest rest) = rw is (item_spelled rest at small good) in
-    (
+    let here : SpellsSubmessage item.order item.body first (next_rest rest) = rw is (item_spelled rest at small good) in (
       first,
       next_rest rest,
       sym (take-append-drop (4 + body_length rest) rest),

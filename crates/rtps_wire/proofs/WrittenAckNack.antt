@@ -52,14 +52,14 @@ ack_nack_good order body held =
     let tests = good_sizes _ body.set.count at.long in
     rw (set.base, set.count, set_good body.set held.set, tests.0, tests.1) refl
 
-made : (reader reader' writer writer' : EntityId) (set set' : NumberSetValue) (count count' : ℕ) (is_final is_final' : Bool)
+pub made : (reader reader' writer writer' : EntityId) (set set' : NumberSetValue) (count count' : ℕ) (is_final is_final' : Bool)
     → reader ≡ reader' → writer ≡ writer' → set ≡ set' → count ≡ count' → is_final ≡ is_final'
     → ◌≡◌ {A = AckNackBody}
     (record { reader = reader; writer = writer; set = set; count = count; is_final = is_final })
     (record { reader = reader'; writer = writer'; set = set'; count = count'; is_final = is_final' })
 made reader reader' writer writer' set set' count count' is_final is_final' p q r s t = cc
 
-final_flag : (order : Order) (is_final : Bool) → not (bit_and (bit_or (order_flag order) (flag_if is_final 2)) 2 == 0) ≡ is_final
+pub final_flag : (order : Order) (is_final : Bool) → not (bit_and (bit_or (order_flag order) (flag_if is_final 2)) 2 == 0) ≡ is_final
 final_flag Big true = refl
 final_flag Big false = refl
 final_flag Little true = refl

@@ -58,15 +58,15 @@ number_is order body octets held at =
 
 -- ---- the flags
 
-abbrev is_whole : PayloadValue → Bool
+abbrev pub is_whole : PayloadValue → Bool
 is_whole (Whole octets) = true
 is_whole _ = false
 
-abbrev is_key : PayloadValue → Bool
+abbrev pub is_key : PayloadValue → Bool
 is_key (Key octets) = true
 is_key _ = false
 
-flags_are : (order : Order) (qos : Option ListValue) (payload : PayloadValue) → let flags = bit_or (order_flag order) (bit_or (qos_flag qos) (payload_flag payload)) in
+pub flags_are : (order : Order) (qos : Option ListValue) (payload : PayloadValue) → let flags = bit_or (order_flag order) (bit_or (qos_flag qos) (payload_flag payload)) in
     (has_qos flags ≡ is_some qos) × (has_data flags ≡ is_whole payload) × (has_key flags ≡ is_key payload)
 flags_are Big None Absent = (refl, refl, refl)
 flags_are Big None (Whole octets) = (refl, refl, refl)
@@ -81,7 +81,7 @@ flags_are Little (Some list) Absent = (refl, refl, refl)
 flags_are Little (Some list) (Whole octets) = (refl, refl, refl)
 flags_are Little (Some list) (Key octets) = (refl, refl, refl)
 
-one_kind : (payload : PayloadValue) → (is_whole payload && is_key payload) ≡ false
+pub one_kind : (payload : PayloadValue) → (is_whole payload && is_key payload) ≡ false
 one_kind Absent = refl
 one_kind (Whole octets) = refl
 one_kind (Key octets) = refl
@@ -93,10 +93,10 @@ payload_same flags (Key octets) d k = rw (d, k) refl
 
 -- ---- the inline QoS
 
-record QosStands (order : Order) (flags : ℕ) (qos : Option ListValue) (more : List ℕ) : Type 0 where
-  good : (has_qos flags && is_err (list_end order (qos_octets qos ++ more))) ≡ false
-  same : qos_of order flags (qos_octets qos ++ more) ≡ qos
-  behind : behind_qos order flags (qos_octets qos ++ more) ≡ more
+pub record QosStands (order : Order) (flags : ℕ) (qos : Option ListValue) (more : List ℕ) : Type 0 where
+  pub good : (has_qos flags && is_err (list_end order (qos_octets qos ++ more))) ≡ false
+  pub same : qos_of order flags (qos_octets qos ++ more) ≡ qos
+  pub behind : behind_qos order flags (qos_octets qos ++ more) ≡ more
 
 same_order : (order other : Order) → not (is_same_order order other) ≡ false → order ≡ other
 same_order Big Big same = refl
@@ -108,7 +108,7 @@ qos_made : (order order' : Order) (octets octets' : List ℕ) → order ≡ orde
     → ◌≡◌ {A = ListValue} (record { order = order; octets = octets }) (record { order = order'; octets = octets' })
 qos_made order order' octets octets' p q = cc
 
-qos_stands : (order : Order) (flags : ℕ) (qos : Option ListValue) (more : List ℕ) → has_qos flags ≡ is_some qos → IsHeldQos qos → is_other_order order qos ≡ false
+pub qos_stands : (order : Order) (flags : ℕ) (qos : Option ListValue) (more : List ℕ) → has_qos flags ≡ is_some qos → IsHeldQos qos → is_other_order order qos ≡ false
     → QosStands order flags qos more
 qos_stands order flags None more flag held same = record { good = rw flag refl; same = rw flag refl; behind = rw flag refl }
 qos_stands order flags (Some list) more flag held same =
@@ -136,7 +136,7 @@ data_good order body held same =
     let qos = qos_stands order (bit_or (order_flag order) (data_flags body)) body.qos (payload_octets body.payload) flags.0 held.qos same in
     rw (are.0, flags.1, flags.2, one_kind body.payload, at.offset, are.1, number_is order body _ held at, are.2, at.behind, qos.good) refl
 
-made : (reader reader' writer writer' : EntityId) (number number' : ℕ) (qos qos' : Option ListValue) (payload payload' : PayloadValue)
+pub made : (reader reader' writer writer' : EntityId) (number number' : ℕ) (qos qos' : Option ListValue) (payload payload' : PayloadValue)
     → reader ≡ reader' → writer ≡ writer' → number ≡ number' → qos ≡ qos' → payload ≡ payload'
     → ◌≡◌ {A = DataValue}
     (record { reader = reader; writer = writer; number = number; qos = qos; payload = payload })

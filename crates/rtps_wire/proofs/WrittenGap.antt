@@ -61,7 +61,7 @@ gap_good order body held other =
     let are = tests _ body.list.count body.list.base body.start at.long other held.start.0 in
     rw (start_is order body _ held at, list.base, list.count, set_good body.list held.list, are.0, are.1, are.2, are.3) refl
 
-made : (reader reader' writer writer' : EntityId) (start start' : ℕ) (list list' : NumberSetValue)
+pub made : (reader reader' writer writer' : EntityId) (start start' : ℕ) (list list' : NumberSetValue)
     → reader ≡ reader' → writer ≡ writer' → start ≡ start' → list ≡ list'
     → ◌≡◌ {A = GapBody}
     (record { reader = reader; writer = writer; start = start; list = list })

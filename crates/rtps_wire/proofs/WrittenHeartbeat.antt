@@ -73,14 +73,14 @@ heartbeat_good order body held good =
     let tests = good_numbers body.first body.last _ at.long held.first.0 good in
     rw (are.first, are.last, tests.0, tests.1, tests.2) refl
 
-made : (reader reader' writer writer' : EntityId) (first first' : ℕ) (last last' : ℤ) (count count' : ℕ) (is_final is_final' live live' : Bool)
+pub made : (reader reader' writer writer' : EntityId) (first first' : ℕ) (last last' : ℤ) (count count' : ℕ) (is_final is_final' live live' : Bool)
     → reader ≡ reader' → writer ≡ writer' → first ≡ first' → last ≡ last' → count ≡ count' → is_final ≡ is_final' → live ≡ live'
     → ◌≡◌ {A = HeartbeatBody}
     (record { reader = reader; writer = writer; first = first; last = last; count = count; is_final = is_final; live = live })
     (record { reader = reader'; writer = writer'; first = first'; last = last'; count = count'; is_final = is_final'; live = live' })
 made reader reader' writer writer' first first' last last' count count' is_final is_final' live live' p q r s t u v = cc
 
-final_flag : (order : Order) (is_final live : Bool) → not (bit_and (bit_or (order_flag order) (bit_or (flag_if is_final 2) (flag_if live 4))) 2 == 0) ≡ is_final
+pub final_flag : (order : Order) (is_final live : Bool) → not (bit_and (bit_or (order_flag order) (bit_or (flag_if is_final 2) (flag_if live 4))) 2 == 0) ≡ is_final
 final_flag Big true true = refl
 final_flag Big true false = refl
 final_flag Big false true = refl
@@ -90,7 +90,7 @@ final_flag Little true false = refl
 final_flag Little false true = refl
 final_flag Little false false = refl
 
-live_flag : (order : Order) (is_final live : Bool) → not (bit_and (bit_or (order_flag order) (bit_or (flag_if is_final 2) (flag_if live 4))) 4 == 0) ≡ live
+pub live_flag : (order : Order) (is_final live : Bool) → not (bit_and (bit_or (order_flag order) (bit_or (flag_if is_final 2) (flag_if live 4))) 4 == 0) ≡ live
 live_flag Big true true = refl
 live_flag Big true false = refl
 live_flag Big false true = refl

@@ -45,7 +45,7 @@ info_ts_good Little None = refl
 info_ts_good Big (Some stamp) = let long : length (info_ts_octets Big (Some stamp)) ≡ 8 = omega (arith, length-append {A = ℕ}, length-octets_of) in grind (arith, nat_tests)
 info_ts_good Little (Some stamp) = let long : length (info_ts_octets Little (Some stamp)) ≡ 8 = omega (arith, length-append {A = ℕ}, length-octets_of) in grind (arith, nat_tests)
 
-stamp_made : (seconds seconds' fraction fraction' : ℕ) → seconds ≡ seconds' → fraction ≡ fraction'
+pub stamp_made : (seconds seconds' fraction fraction' : ℕ) → seconds ≡ seconds' → fraction ≡ fraction'
     → ◌≡◌ {A = Stamp} (record { seconds = seconds; fraction = fraction }) (record { seconds = seconds'; fraction = fraction' })
 stamp_made seconds seconds' fraction fraction' p q = cc
 

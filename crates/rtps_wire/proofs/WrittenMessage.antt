@@ -115,7 +115,7 @@ reads_items (value ∷ items) at held good =
     (first.some, first.good, first.same, rw (first.next, place) behind)
 
 -- the header
-header_good : (header : Header) (rest : List ℕ) → IsHeldHeader header → (header.version.major == 2) ≡ true → header_fault (header_octets header ++ rest) ≡ None
+pub header_good : (header : Header) (rest : List ℕ) → IsHeldHeader header → (header.version.major == 2) ≡ true → header_fault (header_octets header ++ rest) ≡ None
 unfolding header_fault
 header_good header rest held major =
     let v = held.vendor in
@@ -129,7 +129,7 @@ header_made : (version : Version) (vendor vendor' : Vendor) (prefix prefix' : Gu
     → ◌≡◌ {A = Header} (record { version = version; vendor = vendor; prefix = prefix }) (record { version = version; vendor = vendor'; prefix = prefix' })
 header_made version vendor vendor' prefix prefix' p q = cc
 
-header_same : (header : Header) (rest : List ℕ) → IsHeldHeader header → header_of (header_octets header ++ rest) ≡ header
+pub header_same : (header : Header) (rest : List ℕ) → IsHeldHeader header → header_of (header_octets header ++ rest) ≡ header
 unfolding header_of
 header_same header rest held =
     let v = held.vendor in

@@ -15,11 +15,11 @@ use Rattle.rtps_wire.proofs.WrittenFields.{past, sequence_number_read, word_read
 use Rattle.rtps_wire.specs.Held.{IsHeldSet}
 use Rattle.rtps_wire.specs.SetField.{set_octets}
 
-length-words : (order : Order) (words : List ℕ) → length (flat_map (octets_of order 4) words) ≡ 4 * length words
+pub length-words : (order : Order) (words : List ℕ) → length (flat_map (octets_of order 4) words) ≡ 4 * length words
 length-words order [] = refl
 length-words order (word ∷ words) = omega (arith, length-append {A = ℕ}, length-octets_of order 4 word, length-words order words)
 
-words_read : (order : Order) (words rest : List ℕ) (i : ℕ) → ((k : ℕ) → k < length words → get_or words k 0 < 2 ^ 32) → i < length words
+pub words_read : (order : Order) (words rest : List ℕ) (i : ℕ) → ((k : ℕ) → k < length words → get_or words k 0 < 2 ^ 32) → i < length words
     → number_of order 4 (drop (4 * i) (flat_map (octets_of order 4) words ++ rest)) ≡ get_or words i 0
 words_read order [] rest i small inside = absurd (omega arith)
 words_read order (word ∷ words) rest zero small inside =
@@ -81,7 +81,7 @@ pub cleared_words_same : (count : ℕ) (word other : ℕ → ℕ) → ((i : ℕ)
 unfolding cleared_words
 cleared_words_same count word other same = map_same _ _ (range_with_len 0 8) (λ i. cleared_same count i (word i) (other i) (same i))
 
-made : (base base' count count' : ℕ) (words words' : List ℕ) → base ≡ base' → count ≡ count' → words ≡ words'
+pub made : (base base' count count' : ℕ) (words words' : List ℕ) → base ≡ base' → count ≡ count' → words ≡ words'
     → ◌≡◌ {A = NumberSetValue} (record { base = base; count = count; words = words }) (record { base = base'; count = count'; words = words' })
 made base base' count count' words words' p q r = cc
 

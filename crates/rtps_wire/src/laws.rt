@@ -29,7 +29,6 @@ pub fn written_reads_back()
 
 /// A message is read as what it spells, and as nothing else: each octet of a message that has a clean end is a part of its
 /// header or of its items, at its place, or is one at which no reader looks.
-#[tactic(auto, using(crate::proofs::SpelledMessages::read_spelled))]
 pub fn a_message_is_read_as_it_is_spelled()
     ensures spelled { (header : Header) (items : List ItemValue) (message : List ℕ) → All (λ octet. octet < 256) message
         → IsReadAs header items (reading_of message) → Spells header items message }
@@ -38,7 +37,9 @@ pub fn a_message_is_read_as_it_is_spelled()
 {}
 
 /// What is written is spelled so, too. So a message that is read and written again differs from what is written in nothing
-/// but what no reader looks at.
+/// but what no reader looks at: flags that have no name here, octetsToNextHeader 0 of the last submessage, extraFlags,
+/// octets that octetsToInlineQos skips, octets where there is no payload or no time, the unused octets of an INFO_SRC, bits
+/// of a set past its count, and octets behind the last field.
 #[tactic(auto, using(crate::proofs::SpelledAgain::written_spelled, crate::proofs::SpelledAgain::written_alike))]
 pub fn what_is_written_is_spelled()
     ensures written { (header : Header) (items : List ItemValue) → All IsHeldItem items → write_fault header items ≡ None
