@@ -34,6 +34,23 @@ frames_within-enough (suc m) (suc n) order link file at p q =
     ap (λ (frames : List Frame). if nat_lt at (length file) then frames else [])
     (frames_with-same (frames_within m order link file) (frames_within n order link file) order link file at (is_whole order (drop at file)) behind)
 
+-- each frame takes an octet at least
+length-frames_within : (n : ℕ) (order : Order) (link : Link) (file : List ℕ) (at : ℕ) → length (frames_within n order link file at) ≤ n
+unfolding frames_within
+length-frames_within zero order link file at = omega arith
+length-frames_within (suc n) order link file at =
+    by (nat_lt at (length file)) (is_whole order (drop at file)) (length-frames_within n order link file (frame_at order file at).to)
+  where
+    by : (left whole : Bool) → length (frames_within n order link file (frame_at order file at).to) ≤ n
+        → length (if left then frames_with (frames_within n order link file) order link file at whole else []) ≤ suc n
+    by false whole behind = omega arith
+    by true true behind = omega (arith, behind)
+    by true false behind = omega arith
+
+pub length-frames_from : (order : Order) (link : Link) (file : List ℕ) (at : ℕ) → length (frames_from order link file at) ≤ length file
+unfolding frames_from
+length-frames_from order link file at = omega (arith, length-frames_within (length file - at) order link file at)
+
 -- nothing is left
 pub frames_from-done : (order : Order) (link : Link) (file : List ℕ) (at : ℕ) → length file ≤ at → frames_from order link file at ≡ []
 unfolding frames_from

@@ -1,7 +1,7 @@
 -- How a capture begins. PCAP Capture File Format (IETF draft), 4 "File Header".
 -- own: every minor version is taken, since later ones only add, and a capture is taken on one interface whose frames are
 -- Ethernet frames or IP packets.
-use Rattle.std.specs.Prelude.{ℕ, ◌==◌, ◌||◌, ◌%◌, nat_lt, Bool, if◌then◌else◌, List, length, drop, Option, Some, None}
+use Rattle.std.specs.Prelude.{ℕ, ◌==◌, ◌||◌, ◌%◌, nat_lt, Bool, if◌then◌else◌, List, length, drop, take, Option, Some, None}
 use Rattle.rtps_ids.specs.Octets.{number_of}
 use Rattle.rtps_ids.specs.declared.order.Order.{Order}
 use Rattle.rtps_ids.specs.declared.order.Order.TheVariants.{Big, Little}
@@ -13,14 +13,16 @@ use Rattle.rtps_capture.specs.declared.link.Link.TheVariants.{Ethernet, RawIp}
 abbrev pub is_magic : ℕ → Bool
 is_magic number = number == MICROSECONDS || number == NANOSECONDS
 
--- In which order the numbers of a capture's headers lie: that in which its first four octets are one of the two. Other
--- octets begin no capture.
-unfoldable pub order_of : List ℕ → Option Order
-order_of octets =
-    if nat_lt (length octets) 4 then None
-    else if is_magic (number_of Big 4 octets) then Some Big
+-- the order in which four octets are one of these numbers
+abbrev pub order_by : List ℕ → Option Order
+order_by octets =
+    if is_magic (number_of Big 4 octets) then Some Big
     else if is_magic (number_of Little 4 octets) then Some Little
     else None
+
+-- In which order the numbers of a capture's headers lie: the first four octets tell it. Other octets begin no capture.
+unfoldable pub order_of : List ℕ → Option Order
+order_of octets = if nat_lt (length octets) 4 then None else order_by (take 4 octets)
 
 -- the link types that are read
 abbrev pub link_by : ℕ → Option Link

@@ -46,6 +46,7 @@ impl<'a> Frames<'a> {
     #[tactic(auto, unfolding(crate::specs::Frames::opened))]
     pub fn open(octets: &'a [u8]) -> Option<Frames<'a>>
         ensures opened { result ≡ opened octets.now }
+        ensures few { IfSome result (λ frames. length (frames_left frames) ≤ length octets.now) }
         ensures octets { IfSome result (λ frames. frames.octets ≡ octets.now) }
     {
         let order = capture_order(octets)?;

@@ -13,10 +13,14 @@ use rtps_ids::{Order, u16_at, u32_at};
 pub fn capture_order(octets: &[u8]) -> Option<Order>
     ensures { result ≡ order_of octets.now }
 {
-    if is_magic(u32_at(Order::Big, octets, 0)?) {
+    if octets.len() < 4 {
+        return None;
+    }
+    let start = &octets[..4];
+    if is_magic(u32_at(Order::Big, start, 0)?) {
         return Some(Order::Big);
     }
-    if is_magic(u32_at(Order::Little, octets, 0)?) {
+    if is_magic(u32_at(Order::Little, start, 0)?) {
         return Some(Order::Little);
     }
     None

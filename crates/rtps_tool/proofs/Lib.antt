@@ -1,3 +1,4 @@
+pub mod CaptureLemmas
 pub mod LinesLemmas
 pub mod ReadingLemmas
 pub mod RunsLemmas

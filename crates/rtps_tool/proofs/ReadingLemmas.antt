@@ -1,35 +1,45 @@
 -- Facts on a text that is read in pieces.
-use Rattle.std.proofs.Common.{◌≡◌, ℕ, ◌+◌, ◌<◌, ◌≤◌, ◌^◌, List, [], ◌++◌, length, take, Option, Result, Ok, refl, sym, ap, ◌∙◌, subst, arith}
+use Rattle.std.proofs.Common.{◌≡◌, ℕ, ◌+◌, ◌<◌, ◌≤◌, ◌^◌, List, [], ◌++◌, length, take, Option, None, Result, Ok, refl, sym, ap, ◌∙◌, subst, arith}
 use Rattle.std.proofs.lemmas.List.{append-nil, append_assoc, length-append, length-take-le, take-append-le, take-take}
 use Rattle.std.proofs.Math.Seq.{take-append-add}
-use Rattle.std.proofs.KnownBytes.{Consumes-nil, Consumes-trans}
+use Rattle.std.proofs.KnownBytes.{Consumes-trans}
 use Rattle.std.specs.Io.KnownBytes.{Consumes, IsAtEnd}
 use borrow.Rule.Slice.PartMut.{put_mid, post_of}
+use Rattle.rtps_capture.specs.Opening.{order_of}
+use Rattle.rtps_capture.proofs.Offered.{order_of-append}
+use Rattle.rtps_text.specs.Recording.{RecordingValue}
 use Rattle.rtps_tool.specs.Outcomes.{IsFaultOf}
+use Rattle.rtps_tool.specs.Forms.{recording_of}
 use Rattle.rtps_tool.specs.Lines.{lines_of}
-use Rattle.rtps_tool.specs.RecordingText.{recording_of, recording_of_lines}
+use Rattle.rtps_tool.specs.RecordingText.{recording_of_lines, without_frames}
 use Rattle.rtps_tool.specs.RunFaults.{run_fault_of}
 use Rattle.rtps_tool.specs.Runs.{Reads, ReadsRecording, FailsReading}
 use Rattle.rtps_tool.specs.Unfinished.{ReadsOn, recording_behind}
 use Rattle.rtps_tool.specs.declared.faults.RecFault.{RecFault}
-use Rattle.rtps_tool.specs.declared.faults.RecFault.TheVariants.{BadHex, TooLong, TooMany, Memory}
-use Rattle.rtps_tool.proofs.UnfinishedLemmas.{recording_behind-start, recording_of-within, recording_of-past}
+use Rattle.rtps_tool.specs.declared.faults.RecFault.TheVariants.{BadHex, TooLong, TooMany, Memory, BadCapture, CutCapture}
+use Rattle.rtps_tool.proofs.UnfinishedLemmas.{recording_behind-start, recording_of-text, recording_of-past}
+use Rattle.rtps_tool.proofs.RecordingLemmas.{IsFaultOf-without_frames}
 
--- so many octets were read of a text, and with whatever comes later it stands for what is told
+-- so many octets were read of a text, enough to tell that it is one, and with whatever comes later it stands for what is told
 pub record HasRead (old new : Option (List ℕ)) (total : ℕ) (told : List ℕ → Result (List (List ℕ)) RecFault) : Type 0 where
   pub text : List ℕ
   pub taken : Consumes old new text
   pub size : length text ≡ total
+  pub begun : 4 ≤ length text
+  pub plain : order_of text ≡ None
   pub stands : (later : List ℕ) → told later ≡ recording_of_lines 1 0 (lines_of (text ++ later))
 
--- nothing was read yet
-pub HasRead-start : (a : Option (List ℕ)) (done : List (List ℕ)) (lines : ℕ) (held : List ℕ) → done ≡ [] → lines ≡ 0
-    → HasRead a a 0 (λ later. recording_behind done lines (take 0 held ++ later))
-HasRead-start a done lines held none first = record {
-  text = [];
-  taken = Consumes-nil a;
-  size = refl;
-  stands = λ later. rw (none, first) (recording_behind-start later);
+-- no line was read yet
+pub HasRead-start : (a b : Option (List ℕ)) (done : List (List ℕ)) (lines start : ℕ) (held : List ℕ) → done ≡ [] → lines ≡ 0
+    → Consumes a b (take start held) → start ≤ length held → 4 ≤ start → order_of (take start held) ≡ None
+    → HasRead a b start (λ later. recording_behind done lines (take start held ++ later))
+HasRead-start a b done lines start held none first taken within begun plain = record {
+  text = take start held;
+  taken = taken;
+  size = length-take-le start held within;
+  begun = omega (arith, length-take-le start held within);
+  plain = plain;
+  stands = λ later. rw (none, first) (recording_behind-start (take start held ++ later));
 }
 
 -- a piece more was read
@@ -39,6 +49,8 @@ HasRead-more a b c total got told now piece h taken size same = record {
   text = h.text ++ piece;
   taken = Consumes-trans a b c h.text piece h.taken taken;
   size = omega (arith, length-append h.text piece, h.size);
+  begun = omega (arith, length-append h.text piece, h.begun);
+  plain = order_of-append h.text piece h.begun ∙ h.plain;
   stands = λ later. same later ∙ h.stands (piece ++ later)
       ∙ ap (λ (text : List ℕ). recording_of_lines 1 0 (lines_of text)) (sym (append_assoc h.text piece later));
 }
@@ -46,7 +58,7 @@ HasRead-more a b c total got told now piece h taken size same = record {
 -- the same text is told of in another way
 pub HasRead-told : (a b : Option (List ℕ)) (total : ℕ) (told now : List ℕ → Result (List (List ℕ)) RecFault)
     → HasRead a b total told → ((later : List ℕ) → now later ≡ told later) → HasRead a b total now
-HasRead-told a b total told now h same = record { text = h.text; taken = h.taken; size = h.size; stands = λ later. same later ∙ h.stands later }
+HasRead-told a b total told now h same = record { text = h.text; taken = h.taken; size = h.size; begun = h.begun; plain = h.plain; stands = λ later. same later ∙ h.stands later }
 
 -- a piece was read behind what is kept
 pub take_both : (kept got k : ℕ) (held buf : List ℕ) → kept ≤ length held → got ≤ length buf
@@ -64,6 +76,11 @@ take_kept kept got k held buf within some =
     ap (take kept) (take_both kept got k held buf within some)
     ∙ take-append-le kept (take kept held) (take got buf) (omega (arith, length-take-le kept held within))
     ∙ take-take kept kept held (omega arith)
+
+-- what is kept stays in front of a piece
+pub take_front : (kept k : ℕ) (held buf : List ℕ) → kept ≤ length held → take kept (put_mid kept k held buf) ≡ take kept held
+take_front kept k held buf within =
+    take-append-le kept (take kept held) (buf ++ post_of kept k held) (omega (arith, length-take-le kept held within)) ∙ take-take kept kept held (omega arith)
 
 pub HasRead-read : (a b c : Option (List ℕ)) (total kept got k lines : ℕ) (done : List (List ℕ)) (held buf : List ℕ)
     → HasRead a b total (λ later. recording_behind done lines (take kept held ++ later)) → Consumes b c (take got buf) → length (take got buf) ≡ got
@@ -89,22 +106,23 @@ HasRead-last a b c total kept got k lines done held buf h taken size within some
 
 -- the whole text was read, and is not too long
 recording_of-read : (a b : Option (List ℕ)) (total : ℕ) (told : List ℕ → Result (List (List ℕ)) RecFault) (h : HasRead a b total told) → total ≤ 2 ^ 30
-    → told [] ≡ recording_of h.text
+    → without_frames (told []) ≡ recording_of h.text
 recording_of-read a b total told h within =
-    h.stands [] ∙ ap (λ (text : List ℕ). recording_of_lines 1 0 (lines_of text)) (append-nil h.text) ∙ sym (recording_of-within h.text (omega (arith, h.size)))
+    ap without_frames (h.stands [] ∙ ap (λ (text : List ℕ). recording_of_lines 1 0 (lines_of text)) (append-nil h.text))
+    ∙ sym (recording_of-text h.text (omega (arith, h.size)) h.plain)
 
 pub ReadsRecording-read : (a b : Option (List ℕ)) (total : ℕ) (told : List ℕ → Result (List (List ℕ)) RecFault) (datagrams : List (List ℕ))
-    → HasRead a b total told → IsAtEnd b → total ≤ 2 ^ 30 → told [] ≡ Ok datagrams → ReadsRecording a b datagrams
+    → HasRead a b total told → IsAtEnd b → total ≤ 2 ^ 30 → told [] ≡ Ok datagrams → ReadsRecording a b record { datagrams = datagrams; ignored = None }
 ReadsRecording-read a b total told datagrams h end within fine = record {
   text = h.text;
   taken = h.taken;
   whole = end;
-  recording = sym (recording_of-read a b total told h within) ∙ fine;
+  is_read = sym (recording_of-read a b total told h within) ∙ ap without_frames fine;
 }
 
 pub ReadsRecording-last : (a b : Option (List ℕ)) (total lines : ℕ) (done : List (List ℕ)) (left : List ℕ) (datagrams : List (List ℕ))
     → HasRead a b total (λ later. recording_behind done lines (left ++ later)) → IsAtEnd b → total ≤ 2 ^ 30 → recording_behind done lines left ≡ Ok datagrams
-    → ReadsRecording a b datagrams
+    → ReadsRecording a b record { datagrams = datagrams; ignored = None }
 ReadsRecording-last a b total lines done left datagrams h end within fine =
     ReadsRecording-read a b total (λ later. recording_behind done lines (left ++ later)) datagrams h end within (ap (recording_behind done lines) (append-nil left) ∙ fine)
 
@@ -114,12 +132,14 @@ FailsReading-text a b text (BadHex line) reads faulty = record { text = text; re
 FailsReading-text a b text (TooLong line) reads faulty = record { text = text; reads = reads; faulty = faulty; readable = λ same. cc }
 FailsReading-text a b text TooMany reads faulty = record { text = text; reads = reads; faulty = faulty; readable = λ same. cc }
 FailsReading-text a b text Memory reads faulty = tt
+FailsReading-text a b text BadCapture reads faulty = record { text = text; reads = reads; faulty = faulty; readable = λ same. cc }
+FailsReading-text a b text (CutCapture frame) reads faulty = record { text = text; reads = reads; faulty = faulty; readable = λ same. cc }
 
 pub FailsReading-end : (a b : Option (List ℕ)) (total : ℕ) (told : List ℕ → Result (List (List ℕ)) RecFault) (fault : RecFault)
     → HasRead a b total told → IsAtEnd b → total ≤ 2 ^ 30 → IsFaultOf (told []) fault → FailsReading a b (run_fault_of fault)
 FailsReading-end a b total told fault h end within faulty =
     FailsReading-text a b h.text fault record { taken = h.taken; whole = λ _. end }
-    (subst (λ (all : Result (List (List ℕ)) RecFault). IsFaultOf all fault) (recording_of-read a b total told h within) faulty)
+    (subst (λ (all : Result RecordingValue RecFault). IsFaultOf all fault) (recording_of-read a b total told h within) (IsFaultOf-without_frames (told []) fault faulty))
 
 pub FailsReading-last : (a b : Option (List ℕ)) (total lines : ℕ) (done : List (List ℕ)) (left : List ℕ) (fault : RecFault)
     → HasRead a b total (λ later. recording_behind done lines (left ++ later)) → IsAtEnd b → total ≤ 2 ^ 30 → IsFaultOf (recording_behind done lines left) fault
@@ -143,4 +163,6 @@ FailsReading-on a b c total to told fault h more within faulty =
     let text = h.text ++ more.text in
     let size : length text ≡ to = omega (arith, length-append h.text more.text, h.size, more.size) in
     FailsReading-text a c text fault record { taken = Consumes-trans a b c h.text more.text h.taken more.taken; whole = λ _. more.whole within }
-    (subst (λ (all : Result (List (List ℕ)) RecFault). IsFaultOf all fault) (h.stands more.text ∙ sym (recording_of-within text (omega arith))) (faulty more.text))
+    (subst (λ (all : Result RecordingValue RecFault). IsFaultOf all fault)
+    (ap without_frames (h.stands more.text) ∙ sym (recording_of-text text (omega arith) (order_of-append h.text more.text h.begun ∙ h.plain)))
+    (IsFaultOf-without_frames (told more.text) fault (faulty more.text)))

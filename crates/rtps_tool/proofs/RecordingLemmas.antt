@@ -2,12 +2,21 @@
 use Rattle.std.proofs.Common.{◌≡◌, ℕ, ◌+◌, true, false, Bool, List, [], ◌∷◌, ◌++◌, length, Option, None, Some, Result, Ok, Err, refl, sym, ap, ◌∙◌, ◌⊎◌, inl, inr, add-zero}
 use Rattle.std.proofs.lemmas.List.{append_assoc, append-nil, length-append, nil_from_length}
 use Rattle.rtps_digits.specs.Pairs.{octets_of}
-use Rattle.rtps_tool.specs.RecordingText.{recording_of_lines, is_datagram_line, line_fault, unless_faulty}
+use Rattle.rtps_tool.specs.RecordingText.{recording_of_lines, is_datagram_line, line_fault, unless_faulty, without_frames}
 use Rattle.rtps_tool.specs.declared.faults.RecFault.{RecFault}
-use Rattle.rtps_tool.specs.declared.faults.RecFault.TheVariants.{BadHex, TooLong, TooMany, Memory}
+use Rattle.rtps_tool.specs.declared.faults.RecFault.TheVariants.{BadHex, TooLong, TooMany, Memory, BadCapture, CutCapture}
 use Rattle.rtps_tool.specs.Outcomes.{IsFaultOf}
 use Rattle.rtps_tool.specs.Lines.{lines_of}
 use Rattle.rtps_tool.specs.Unfinished.{with_front}
+
+-- a fault of a text is that of its recording
+pub IsFaultOf-without_frames : (r : Result (List (List ℕ)) RecFault) (fault : RecFault) → IsFaultOf r fault → IsFaultOf (without_frames r) fault
+IsFaultOf-without_frames r (BadHex line) is = ap without_frames is
+IsFaultOf-without_frames r (TooLong line) is = ap without_frames is
+IsFaultOf-without_frames r TooMany is = ap without_frames is
+IsFaultOf-without_frames r Memory is = tt
+IsFaultOf-without_frames r BadCapture is = ap without_frames is
+IsFaultOf-without_frames r (CutCapture frame) is = ap without_frames is
 
 pub with_front-none : (r : Result (List (List ℕ)) RecFault) → with_front [] r ≡ r
 with_front-none (Ok datagrams) = refl
@@ -106,6 +115,8 @@ IsFaultOf-with_front number done line lines (BadHex n) h = ap (with_front done) 
 IsFaultOf-with_front number done line lines (TooLong n) h = ap (with_front done) (recording_of_lines-err number (length done) line lines (TooLong n) h)
 IsFaultOf-with_front number done line lines TooMany h = ap (with_front done) (recording_of_lines-err number (length done) line lines TooMany h)
 IsFaultOf-with_front number done line lines Memory h = tt
+IsFaultOf-with_front number done line lines BadCapture h = ap (with_front done) (recording_of_lines-err number (length done) line lines BadCapture h)
+IsFaultOf-with_front number done line lines (CutCapture n) h = ap (with_front done) (recording_of_lines-err number (length done) line lines (CutCapture n) h)
 
 -- nothing is left to read
 pub with_front-all : (number before : ℕ) (done : List (List ℕ)) (rest : List ℕ) → length rest ≡ 0

@@ -2,9 +2,10 @@
 use Rattle.std.proofs.Common.{◌≡◌, ℕ, List, ◌++◌, Option, Some, None, sym, ◌∙◌, ap, subst, append-nil}
 use Rattle.std.specs.Io.KnownBytes.{Appends, Consumes, IsAtEnd}
 use Rattle.rtps_text.specs.Laws.{HasOneText}
+use Rattle.rtps_text.specs.Recording.{RecordingValue}
 use Rattle.rtps_text.specs.declared.ending.Ending.{Ending}
 use Rattle.rtps_tool.specs.Laws.{RunsAgree}
-use Rattle.rtps_tool.specs.RecordingText.{recording_of}
+use Rattle.rtps_tool.specs.Forms.{recording_of}
 use Rattle.rtps_tool.specs.Runs.{ReadsRecording}
 
 -- where nothing is left, all was read
@@ -12,14 +13,14 @@ all_read : (input : List ℕ) (left : Option (List ℕ)) (text : List ℕ) → C
 all_read input None text taken end = absurd taken
 all_read input (Some rest) text taken end = sym (taken ∙ ap (λ xs. text ++ xs) end ∙ append-nil text)
 
-one_recording : (input : List ℕ) (left left' : Option (List ℕ)) (datagrams datagrams' : List (List ℕ))
-    → ReadsRecording (Some input) left datagrams → ReadsRecording (Some input) left' datagrams' → datagrams ≡ datagrams'
-one_recording input left left' datagrams datagrams' one other =
+one_recording : (input : List ℕ) (left left' : Option (List ℕ)) (recording recording' : RecordingValue)
+    → ReadsRecording (Some input) left recording → ReadsRecording (Some input) left' recording' → recording ≡ recording'
+one_recording input left left' recording recording' one other =
     let same : one.text ≡ other.text = all_read input left one.text one.taken one.whole ∙ sym (all_read input left' other.text other.taken other.whole) in
-    let both = sym one.recording ∙ ap recording_of same ∙ other.recording in
+    let both = sym one.is_read ∙ ap recording_of same ∙ other.is_read in
     cc
 
-pub runs_agree : (Answers : List (List ℕ) → List ℕ → Ending → Type 0) → HasOneText Answers → RunsAgree Answers
+pub runs_agree : (Answers : RecordingValue → List ℕ → Ending → Type 0) → HasOneText Answers → RunsAgree Answers
 runs_agree Answers one_text input left held holds left' held' holds' ending ending' (datagrams, text, reads, answers, wrote) (datagrams', text', reads', answers', wrote') =
     let recording : datagrams' ≡ datagrams = sym (one_recording input left left' datagrams datagrams' reads reads') in
     let same = one_text datagrams text text' ending ending' answers (subst (λ ds. Answers ds text' ending') recording answers') in

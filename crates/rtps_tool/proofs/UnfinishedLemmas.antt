@@ -1,13 +1,15 @@
 -- Facts on a text of which a part was read.
 use Rattle.std.proofs.Common.{◌≡◌, ◌≢◌, ℕ, suc, ◌+◌, ◌-◌, ◌<◌, ◌≤◌, true, false, Bool, List, [], ◌∷◌, ◌++◌, length, take, drop, get_or, None, Some, Ok, Err, refl, sym, ap, ◌∙◌, subst, arith}
-use Rattle.std.specs.Prelude.{if◌then◌else◌, ◌^◌, MatchResult, Result}
+use Rattle.std.specs.Prelude.{if◌then◌else◌, ◌^◌, nat_lt, MatchResult, Result}
 use Rattle.std.specs.List.{position}
 use Rattle.std.specs.Str.Lines.{strip_carriage_return}
 use Rattle.std.proofs.lemmas.List.{append-nil, length-append, length-take, get_or-take, drop-drop}
 use Rattle.std.proofs.lemmas.Bool.Decides.{nat_tests}
+use Rattle.rtps_capture.specs.Opening.{order_of}
 use Rattle.rtps_tool.specs.Outcomes.{IsFaultOf}
+use Rattle.rtps_tool.specs.Forms.{recording_in_form, recording_of}
 use Rattle.rtps_tool.specs.Lines.{lines_of, is_line_feed, parts_of}
-use Rattle.rtps_tool.specs.RecordingText.{recording_of, recording_of_lines, is_datagram_line, line_fault}
+use Rattle.rtps_tool.specs.RecordingText.{recording_of_lines, recording_of_text, is_datagram_line, line_fault, without_frames}
 use Rattle.rtps_tool.specs.Unfinished.{with_front, recording_behind}
 use Rattle.rtps_tool.specs.declared.faults.RecFault.{RecFault}
 use Rattle.rtps_tool.specs.declared.faults.RecFault.TheVariants.{TooLong, TooMany}
@@ -137,18 +139,23 @@ recording_behind-comment-at done lines (b ∷ text) later none some first =
     subst (λ (c : ℕ). position is_line_feed (c ∷ text) ≡ None → recording_behind done lines (c ∷ later) ≡ recording_behind done lines (c ∷ text ++ later))
     (sym first) (recording_behind-comment done lines text later) none
 
--- a text that is not too long stands for what its lines stand for
-pub recording_of-within : (text : List ℕ) → length text ≤ 2 ^ 30 → recording_of text ≡ recording_of_lines 1 0 (lines_of text)
-recording_of-within text within = grind (arith, nat_tests)
+-- an input that is too long
+pub recording_of-past : (input : List ℕ) → 2 ^ 30 < length input → recording_of input ≡ Err TooMany
+recording_of-past input past = grind (arith, nat_tests)
 
-pub recording_of-past : (text : List ℕ) → 2 ^ 30 < length text → recording_of text ≡ Err TooMany
-recording_of-past text past = grind (arith, nat_tests)
+-- an input that is not too long stands for what it is in its form
+pub recording_of-within : (input : List ℕ) → length input ≤ 2 ^ 30 → recording_of input ≡ recording_in_form (order_of input) input
+recording_of-within input within = let few : nat_lt (2 ^ 30) (length input) ≡ false = grind (arith, nat_tests) in rw few refl
 
--- so does one of which nothing was read
-pub recording_behind-whole : (done : List (List ℕ)) (lines : ℕ) (text : List ℕ) → length text ≤ 2 ^ 30 → done ≡ [] → lines ≡ 0
-    → recording_behind done lines (text ++ []) ≡ recording_of text
-recording_behind-whole done lines text within none first =
-    rw (append-nil text, none, first) (recording_behind-start text ∙ sym (recording_of-within text within))
+-- a text stands for what its lines stand for
+pub recording_of-text : (text : List ℕ) → length text ≤ 2 ^ 30 → order_of text ≡ None → recording_of text ≡ without_frames (recording_of_lines 1 0 (lines_of text))
+unfolding recording_of_text
+recording_of-text text within plain = recording_of-within text within ∙ ap (λ form. recording_in_form form text) plain
+
+-- a text of which nothing was read
+pub recording_behind-whole : (done : List (List ℕ)) (lines : ℕ) (text : List ℕ) → done ≡ [] → lines ≡ 0
+    → recording_behind done lines (text ++ []) ≡ recording_of_lines 1 0 (lines_of text)
+recording_behind-whole done lines text none first = rw (append-nil text, none, first) (recording_behind-start text)
 
 -- a line that ends within what is left of a text, whatever comes later
 pub line_within : (text later line : List ℕ) (from end : ℕ) → position is_line_feed (drop from text) ≡ Some end → line ≡ strip_carriage_return (take end (drop from text))

@@ -2,7 +2,7 @@
 use Rattle.std.specs.Prelude.{ℕ, List, [], ◌∷◌, ◌++◌, codes}
 use Rattle.std.specs.Fmt.{decimal}
 use Rattle.rtps_tool.specs.declared.faults.RecFault.{RecFault}
-use Rattle.rtps_tool.specs.declared.faults.RecFault.TheVariants.{BadHex, TooLong, TooMany, Memory}
+use Rattle.rtps_tool.specs.declared.faults.RecFault.TheVariants.{BadHex, TooLong, TooMany, Memory, BadCapture, CutCapture}
 use Rattle.rtps_tool.specs.declared.faults.RunFault.{RunFault}
 use Rattle.rtps_tool.specs.declared.faults.RunFault.TheVariants.{Recording, Input, Output, Memory as RunMemory}
 
@@ -11,6 +11,8 @@ rec_fault_text (BadHex line) = codes "line " ++ (decimal line ++ codes ": bad he
 rec_fault_text (TooLong line) = codes "line " ++ (decimal line ++ codes ": too long")
 rec_fault_text TooMany = codes "too many datagrams"
 rec_fault_text Memory = codes "out of memory"
+rec_fault_text BadCapture = codes "bad capture"
+rec_fault_text (CutCapture frame) = codes "frame " ++ (decimal frame ++ codes ": cut")
 
 unfoldable pub run_fault_text : RunFault → List ℕ
 run_fault_text (Recording fault) = rec_fault_text fault

@@ -1,8 +1,10 @@
 pub mod Outcomes
 pub mod Choices
 pub mod FaultText
+pub mod Forms
 pub mod Laws
 pub mod Lines
+pub mod RecordingCapture
 pub mod RecordingText
 pub mod RunFaults
 pub mod Runs

@@ -1,9 +1,10 @@
 -- The recording that a text stands for, or its first fault.
 -- own: one datagram a line, in hexadecimal digits of either case, with comments; the limits are this project's.
-use Rattle.std.specs.Prelude.{ℕ, ◌^◌, ◌==◌, ◌&&◌, nat_le, nat_lt, not, Bool, if◌then◌else◌, List, [], ◌∷◌, length, slice_index, map, filter, Option, Some, None, Result, Ok, Err, is_err}
+use Rattle.std.specs.Prelude.{ℕ, ◌==◌, ◌&&◌, nat_le, nat_lt, not, Bool, if◌then◌else◌, List, [], ◌∷◌, length, slice_index, map, filter, Option, Some, None, Result, Ok, Err, is_err}
 use Rattle.std.specs.List.{enumerate_from, filter_map}
 use Rattle.hex.specs.Hex.{decode_of}
 use Rattle.rtps_digits.specs.Pairs.{octets_of}
+use Rattle.rtps_text.specs.Recording.{RecordingValue}
 use Rattle.rtps_tool.specs.Lines.{lines_of}
 use Rattle.rtps_tool.specs.declared.faults.RecFault.{RecFault}
 use Rattle.rtps_tool.specs.declared.faults.RecFault.TheVariants.{BadHex, TooLong, TooMany}
@@ -39,6 +40,11 @@ unfoldable pub recording_of_lines : ℕ → ℕ → List (List ℕ) → Result (
 recording_of_lines number before lines =
     unless_faulty (line_faults before (datagram_lines number lines)) (map (λ line. octets_of line.1) (datagram_lines number lines))
 
--- the datagrams of a text in their order, or its first fault: a text has at most 2^30 octets
-abbrev pub recording_of : List ℕ → Result (List (List ℕ)) RecFault
-recording_of text = if nat_lt (2 ^ 30) (length text) then Err TooMany else recording_of_lines 1 0 (lines_of text)
+-- a recording of which these are the datagrams, which no frames carry
+abbrev pub without_frames : Result (List (List ℕ)) RecFault → Result RecordingValue RecFault
+without_frames (Ok datagrams) = Ok (record { datagrams = datagrams; ignored = None })
+without_frames (Err fault) = Err fault
+
+-- the datagrams of a text in their order, or its first fault
+unfoldable pub recording_of_text : List ℕ → Result RecordingValue RecFault
+recording_of_text text = without_frames (recording_of_lines 1 0 (lines_of text))

@@ -2,7 +2,8 @@
 -- own: all is read before anything is written, so that a text never stands for a part of the input.
 use Rattle.std.specs.Prelude.{ℕ, ◌≡◌, ◌≢◌, ◌^◌, ◌<◌, ◌≤◌, List, length, take, Option, Result, Ok, Err}
 use Rattle.std.specs.Io.KnownBytes.{Appends, Consumes, Keeps, IsAtEnd}
-use Rattle.rtps_tool.specs.RecordingText.{recording_of}
+use Rattle.rtps_text.specs.Recording.{RecordingValue}
+use Rattle.rtps_tool.specs.Forms.{recording_of}
 use Rattle.rtps_tool.specs.declared.faults.RecFault.{RecFault}
 use Rattle.rtps_tool.specs.declared.faults.RecFault.TheVariants.{Memory as RecMemory}
 use Rattle.rtps_tool.specs.declared.faults.RunFault.{RunFault}
@@ -10,17 +11,17 @@ use Rattle.rtps_tool.specs.declared.faults.RunFault.TheVariants.{Recording, Inpu
 use Rattle.rtps_text.specs.declared.ending.Ending.{Ending}
 use Rattle.rtps_text.specs.declared.ending.Ending.TheVariants.{Clean}
 
--- these octets were read: all that the reader had, or more of it than a recording's text may have
+-- these octets were read: all that the reader had, or more of it than a recording may have
 pub record Reads (old new : Option (List ℕ)) (text : List ℕ) : Type 0 where
   pub taken : Consumes old new text
   pub whole : length text ≤ 2 ^ 30 → IsAtEnd new
 
--- these datagrams are the recording of all that the reader had
-pub record ReadsRecording (old new : Option (List ℕ)) (datagrams : List (List ℕ)) : Type 0 where
+-- this is the recording of all that the reader had
+pub record ReadsRecording (old new : Option (List ℕ)) (recording : RecordingValue) : Type 0 where
   pub text : List ℕ
   pub taken : Consumes old new text
   pub whole : IsAtEnd new
-  pub recording : recording_of text ≡ Ok datagrams
+  pub is_read : recording_of text ≡ Ok recording
 
 -- this is the fault of what was read: never want of memory, which is a fault of the run
 pub record ReadsFault (old new : Option (List ℕ)) (fault : RecFault) : Type 0 where
@@ -43,15 +44,15 @@ FailsWriting old new text Input = ⊥
 FailsWriting old new text (Output written) = (written < length text) × Appends old new (take written text)
 FailsWriting old new text Memory = ⊥
 
--- A run that writes a text of the datagrams that it reads, and ends as they tell; `Answers` says which texts and ends
+-- A run that writes a text of the recording that it reads, and ends as it tells; `Answers` says which texts and ends
 -- those are. The reader before and after it, the writer before and after it, and what the run answers.
-abbrev pub Runs : (List (List ℕ) → List ℕ → Ending → Type 0) → (unread left held holds : Option (List ℕ)) → Result Ending RunFault → Type 0
+abbrev pub Runs : (RecordingValue → List ℕ → Ending → Type 0) → (unread left held holds : Option (List ℕ)) → Result Ending RunFault → Type 0
 Runs Answers unread left held holds (Ok ending) =
-    (datagrams : List (List ℕ)) × (text : List ℕ) × ReadsRecording unread left datagrams × Answers datagrams text ending × Appends held holds text
+    (recording : RecordingValue) × (text : List ℕ) × ReadsRecording unread left recording × Answers recording text ending × Appends held holds text
 Runs Answers unread left held holds (Err (Recording fault)) = ReadsFault unread left fault × Keeps held holds
 Runs Answers unread left held holds (Err Input) = Keeps held holds
 Runs Answers unread left held holds (Err (Output written)) =
-    (datagrams : List (List ℕ)) × (text : List ℕ) × (ending : Ending) × ReadsRecording unread left datagrams × Answers datagrams text ending
+    (recording : RecordingValue) × (text : List ℕ) × (ending : Ending) × ReadsRecording unread left recording × Answers recording text ending
     × FailsWriting held holds text (Output written)
 Runs Answers unread left held holds (Err Memory) = Keeps held holds
 

@@ -3,13 +3,14 @@
 use Rattle.std.specs.Prelude.{ℕ, List}
 use Rattle.rtps_text.specs.AuditText.{IsAudited}
 use Rattle.rtps_text.specs.ListText.{IsListed}
+use Rattle.rtps_text.specs.Recording.{RecordingValue}
 use Rattle.rtps_text.specs.ShowText.{IsShown}
 use Rattle.rtps_text.specs.declared.ending.Ending.{Ending}
 use Rattle.rtps_tool.specs.declared.run.Subcommand.{Subcommand}
 use Rattle.rtps_tool.specs.declared.run.Subcommand.TheVariants.{Show, List as ListSubcommand, Audit}
 
--- of these datagrams, this text and this ending
-abbrev pub IsTextOf : Subcommand → List (List ℕ) → List ℕ → Ending → Type 0
+-- of this recording, this text and this ending
+abbrev pub IsTextOf : Subcommand → RecordingValue → List ℕ → Ending → Type 0
 IsTextOf Show = IsShown
 IsTextOf ListSubcommand = IsListed
 IsTextOf Audit = IsAudited

@@ -22,11 +22,11 @@ recording_behind done lines left = with_front done (recording_of_lines (lines + 
 pub record IsReadUpTo (old : LineReader) (text : List ℕ) (new : LineReader) (left : List ℕ) : Type 0 where
   pub goes_on : position is_line_feed left ≡ None
   pub counted : new.lines + length left ≤ old.lines + length text
-  pub stands : (later : List ℕ) → recording_behind new.recording new.lines (left ++ later) ≡ recording_behind old.recording old.lines (text ++ later)
+  pub stands : (later : List ℕ) → recording_behind new.datagrams new.lines (left ++ later) ≡ recording_behind old.datagrams old.lines (text ++ later)
 
 -- with whatever comes later, this is the first fault
 abbrev pub IsFaultWithin : LineReader → List ℕ → RecFault → Type 0
-IsFaultWithin reader text fault = (later : List ℕ) → IsFaultOf (recording_behind reader.recording reader.lines (text ++ later)) fault
+IsFaultWithin reader text fault = (later : List ℕ) → IsFaultOf (recording_behind reader.datagrams reader.lines (text ++ later)) fault
 
 -- reading went on from so many octets to so many: to the end of the input, or past the most that a text may have
 pub record ReadsOn (old new : Option (List ℕ)) (from to : ℕ) : Type 0 where

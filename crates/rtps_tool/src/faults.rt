@@ -6,17 +6,21 @@ use std::alloc::{AllocError, AllocFailed};
 use std::fmt;
 use thiserror::Error;
 
-/// Why a text is no recording. Lines are counted from 1, skipped ones too.
+/// Why an input is no recording. Lines are counted from 1, skipped ones too.
 #[derive(Clone, Copy, Debug, PartialEq, Eq, Error)]
 pub enum RecFault {
     /// A datagram line has an odd number of digits, or an octet that is no hexadecimal digit.
     BadHex { line: u64 },
     /// A datagram line has more than 131,070 digits.
     TooLong { line: u64 },
-    /// There are more than 1,000,000 datagrams, or more than 1,073,741,824 octets of text.
+    /// There are more than 1,000,000 datagrams, or more than 1,073,741,824 octets.
     TooMany,
     /// There was no memory for the recording.
     Memory,
+    /// A capture's header is cut, its major version is not 2, or its link type is neither Ethernet nor raw IP.
+    BadCapture,
+    /// A capture ends within a frame. Frames are counted from 1, ignored ones too.
+    CutCapture { frame: u64 },
 }
 
 impl fmt::Display for RecFault {
@@ -29,6 +33,8 @@ impl fmt::Display for RecFault {
             RecFault::TooLong { line } => write!(f, "line {line}: too long"),
             RecFault::TooMany => write!(f, "too many datagrams"),
             RecFault::Memory => write!(f, "out of memory"),
+            RecFault::BadCapture => write!(f, "bad capture"),
+            RecFault::CutCapture { frame } => write!(f, "frame {frame}: cut"),
         }
     }
 }

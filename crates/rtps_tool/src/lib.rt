@@ -1,4 +1,4 @@
-//! The tool `rtps-audit`: recordings that are read from text, the runs that print of them, and the words of the command
+//! The tool `rtps-audit`: recordings that are read from text and from captures, the runs that print of them, and the words of the command
 //! line.
 #![tactic(auto)]
 
@@ -14,7 +14,7 @@ mod streams;
 pub use choices::run_choice;
 pub use command::{Choice, WordFault, read_words};
 pub use faults::{RecFault, RunFault};
-pub use form::hex_lines::read_recording;
+pub use form::either::read_recording;
 pub use outcome::{status, write_fault};
 pub use rtps_text::{Datagrams, Ending, Recording};
 pub use run::{run_audit, run_list, run_sample, run_show};

@@ -1,13 +1,16 @@
-ghost use Rattle.std.specs.Prelude.{◌≡◌, [], ◌+◌, ◌≤◌, ◌<◌, ◌^◌, length, take, vec_len, MatchResult, IfOk};
-ghost use Rattle.std.specs.Io.KnownBytes.{Appends};
+ghost use Rattle.std.specs.Prelude.{◌≡◌, ◌≢◌, [], ◌+◌, ◌≤◌, ◌<◌, ◌^◌, ℕ, List, Option, None, length, take, vec_len, MatchResult, IfOk};
+ghost use Rattle.std.specs.Io.KnownBytes.{Appends, Consumes, IsAtEnd};
+ghost use Rattle.rtps_capture.specs.Opening.{order_of};
 ghost use Rattle.rtps_tool.specs.Runs.{ReadsRecording, FailsReading, FailsWriting};
 ghost use Rattle.rtps_tool.specs.Unfinished.{ReadsOn};
 ghost use Rattle.rtps_tool.specs.declared.faults.RunFault.TheVariants.{Input};
 
 use crate::faults::{RecFault, RunFault};
-use crate::form::hex_lines::TEXT_MAX;
+use crate::form::capture::read_capture;
+use crate::form::either::{INPUT_MAX, read_recording};
 use crate::form::line_reader::{KEPT_MAX, LineReader};
-use rtps_text::Recording;
+use rtps_capture::capture_order;
+use rtps_text::{Recording, push_octets};
 use std::alloc::{AllocError, Global};
 use std::io::{Read, Write};
 
@@ -17,16 +20,24 @@ const PIECE: usize = 1 << 16;
 // How many octets are held of a text: an unfinished line, and what is read behind it.
 const HELD: usize = KEPT_MAX + PIECE;
 
-/// Reads the recording that is all the input.
+// How many octets tell the form of an input.
+const FORM: usize = 4;
+
+/// Reads the recording that is all the input, in either form.
 pub(crate) fn read_input<R: Read>(alloc: Global, input: &mut R) -> Result<Recording, RunFault>
     ensures { MatchResult result
         (ReadsRecording (R.remaining input.old) (R.remaining input.new))
         (FailsReading (R.remaining input.old) (R.remaining input.new)) }
 {
     let mut held = zeros(alloc, HELD)?;
-    let mut reader = LineReader::new(alloc)?;
-    read_pieces(input, &mut reader, &mut held)?;
-    Ok(reader.into_recording())
+    let start = read_start(input, &mut held)?;
+    if start < FORM {
+        return read_short(alloc, &held[..start]);
+    }
+    match capture_order(&held[..start]) {
+        None => read_text_input(alloc, input, &mut held, start),
+        Some(_) => read_capture_input(alloc, input, &mut held, start),
+    }
 }
 
 fn zeros(alloc: Global, size: usize) -> Result<Vec<u8>, AllocError>
@@ -35,35 +46,79 @@ fn zeros(alloc: Global, size: usize) -> Result<Vec<u8>, AllocError>
     vec![in alloc; 0u8; size]
 }
 
-// Reads the recording that is all the input, by way of what is held of it.
+// Reads the first octets of the input, as many as tell its form and perhaps more, or all where there are fewer.
+fn read_start<R: Read>(input: &mut R, held: &mut [u8]) -> Result<usize, RunFault>
+    requires room { length held.old ≡ 196607 }
+    ensures { MatchResult result
+        (λ start. (start ≤ 65539) × Consumes (R.remaining input.old) (R.remaining input.new) (take start held.new)
+        × (start < 4 → IsAtEnd (R.remaining input.new)))
+        (λ fault. fault ≡ Input) }
+{
+    let mut start = 0;
+    'start: while start < FORM {
+        let Ok(got) = input.read(&mut held[start..start + PIECE]) else {
+            return Err(RunFault::Input);
+        };
+        if got == 0 {
+            return Ok(start);
+        }
+        start += got;
+    }
+    Ok(start)
+}
+
+// Reads the recording that is these octets, which are all the input.
+fn read_short(alloc: Global, octets: &[u8]) -> Result<Recording, RunFault>
+    requires { length octets.now ≤ 2 ^ 30 }
+    ensures { (old new : Option (List ℕ)) → Consumes old new octets.now → IsAtEnd new
+        → MatchResult result (ReadsRecording old new) (FailsReading old new) }
+{
+    Ok(read_recording(alloc, octets)?)
+}
+
+// Reads the recording that is a text, of which so many octets were read.
+fn read_text_input<R: Read>(
+    alloc: Global,
+    input: &mut R,
+    held: &mut [u8],
+    start: usize,
+) -> Result<Recording, RunFault>
+    requires room { length held.old ≡ 196607 }
+    requires begun { (4 ≤ start) × (start ≤ 65539) }
+    requires plain { order_of (take start held.old) ≡ None }
+    ensures { (before : Option (List ℕ)) → Consumes before (R.remaining input.old) (take start held.old)
+        → MatchResult result (ReadsRecording before (R.remaining input.new)) (FailsReading before (R.remaining input.new)) }
+{
+    let mut reader = LineReader::new(alloc);
+    read_pieces(input, &mut reader, held, start)?;
+    Ok(Recording::of_text(reader.into_datagrams()))
+}
+
+// Reads the lines that are a text, by way of what is held of it: so many octets were read.
 fn read_pieces<R: Read>(
     input: &mut R,
     reader: &mut LineReader,
     held: &mut [u8],
+    start: usize,
 ) -> Result<(), RunFault>
-    requires empty { (reader.old.recording ≡ []) × (reader.old.lines ≡ 0) }
+    requires empty { (reader.old.datagrams ≡ []) × (reader.old.lines ≡ 0) }
     requires room { length held.old ≡ 196607 }
-    ensures { MatchResult result
-        (λ _. ReadsRecording (R.remaining input.old) (R.remaining input.new) reader.new.recording)
-        (FailsReading (R.remaining input.old) (R.remaining input.new)) }
+    requires begun { (4 ≤ start) × (start ≤ 65539) }
+    requires plain { order_of (take start held.old) ≡ None }
+    ensures { (before : Option (List ℕ)) → Consumes before (R.remaining input.old) (take start held.old) → MatchResult result
+        (λ _. ReadsRecording before (R.remaining input.new) record { datagrams = reader.new.datagrams; ignored = None })
+        (FailsReading before (R.remaining input.new)) }
 {
-    let mut total = 0;
+    let mut total = start;
     let mut kept = 0;
-    'pieces: while total <= TEXT_MAX {
-        let Ok(got) = input.read(&mut held[kept..kept + PIECE]) else {
-            return Err(RunFault::Input);
-        };
-        if got == 0 {
-            reader.finish(&held[..kept])?;
-            return Ok(());
-        }
-        total += got;
+    let mut got = start;
+    'pieces: while total <= INPUT_MAX {
         match reader.feed(&mut held[..kept + got], kept) {
             Ok(left) => kept = left,
             Err(RecFault::Memory) => return Err(RunFault::Memory),
             Err(fault) => {
                 let total = read_on(input, held, total)?;
-                let first = if total > TEXT_MAX {
+                let first = if total > INPUT_MAX {
                     RecFault::TooMany
                 } else {
                     fault
@@ -71,6 +126,15 @@ fn read_pieces<R: Read>(
                 return Err(RunFault::from(first));
             }
         }
+        got = match input.read(&mut held[kept..kept + PIECE]) {
+            Ok(got) => got,
+            Err(_) => return Err(RunFault::Input),
+        };
+        if got == 0 {
+            reader.finish(&held[..kept])?;
+            return Ok(());
+        }
+        total += got;
     }
     Err(RunFault::Recording(RecFault::TooMany))
 }
@@ -83,7 +147,7 @@ fn read_on<R: Read>(input: &mut R, piece: &mut [u8], from: usize) -> Result<usiz
         (λ fault. fault ≡ Input) }
 {
     let mut total = from;
-    'rest: while total <= TEXT_MAX {
+    'rest: while total <= INPUT_MAX {
         let Ok(got) = input.read(piece) else {
             return Err(RunFault::Input);
         };
@@ -93,6 +157,51 @@ fn read_on<R: Read>(input: &mut R, piece: &mut [u8], from: usize) -> Result<usiz
         total += got;
     }
     Ok(total)
+}
+
+// Reads the recording that is a capture, of which so many octets were read.
+fn read_capture_input<R: Read>(
+    alloc: Global,
+    input: &mut R,
+    held: &mut [u8],
+    start: usize,
+) -> Result<Recording, RunFault>
+    requires begun { (4 ≤ start) × (start ≤ length held.old) }
+    requires form { order_of (take start held.old) ≢ None }
+    ensures { (before : Option (List ℕ)) → Consumes before (R.remaining input.old) (take start held.old)
+        → MatchResult result (ReadsRecording before (R.remaining input.new)) (FailsReading before (R.remaining input.new)) }
+{
+    let octets = read_whole(alloc, input, held, start)?;
+    Ok(read_capture(alloc, octets)?)
+}
+
+// Reads all the input, of which so many octets were read. It has the form of these.
+fn read_whole<R: Read>(
+    alloc: Global,
+    input: &mut R,
+    piece: &mut [u8],
+    start: usize,
+) -> Result<Vec<u8>, RunFault>
+    requires { (4 ≤ start) × (start ≤ length piece.old) }
+    ensures form { IfOk result (λ octets. order_of octets.items ≡ order_of (take start piece.old)) }
+    ensures small { IfOk result (λ octets. length octets.items ≤ 2 ^ 30) }
+    ensures read { (before : Option (List ℕ)) → Consumes before (R.remaining input.old) (take start piece.old) → MatchResult result
+        (λ octets. Consumes before (R.remaining input.new) octets.items × IsAtEnd (R.remaining input.new))
+        (FailsReading before (R.remaining input.new)) }
+{
+    let mut octets = Vec::new(alloc);
+    let mut got = start;
+    'pieces: while octets.len() + got <= INPUT_MAX {
+        push_octets(&mut octets, &piece[..got])?;
+        got = match input.read(piece) {
+            Ok(got) => got,
+            Err(_) => return Err(RunFault::Input),
+        };
+        if got == 0 {
+            return Ok(octets);
+        }
+    }
+    Err(RunFault::Recording(RecFault::TooMany))
 }
 
 /// Writes this text.

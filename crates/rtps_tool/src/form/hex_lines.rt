@@ -3,15 +3,12 @@ ghost use Rattle.std.specs.List.{position};
 ghost use Rattle.std.specs.Str.Lines.{strip_carriage_return};
 ghost use Rattle.rtps_tool.specs.Outcomes.{IsFaultOf};
 ghost use Rattle.rtps_tool.specs.Lines.{lines_of, is_line_feed};
-ghost use Rattle.rtps_tool.specs.RecordingText.{is_datagram_line as is_datagram_line_lem, recording_of, recording_of_lines};
+ghost use Rattle.rtps_tool.specs.RecordingText.{is_datagram_line as is_datagram_line_lem, recording_of_lines, recording_of_text};
 
 use crate::faults::RecFault;
 use crate::form::line_reader::LineReader;
-use rtps_text::Recording;
+use rtps_text::{DatagramList, Recording};
 use std::alloc::Global;
-
-// The most octets of a text.
-pub(crate) const TEXT_MAX: usize = 1 << 30;
 
 // The most datagrams of a recording.
 pub(crate) const DATAGRAMS_MAX: usize = 1_000_000;
@@ -45,38 +42,36 @@ pub(crate) fn without_return(line: &[u8]) -> &[u8]
     }
 }
 
-/// Reads a recording: one datagram a line, in hexadecimal digits of either case. Lines end at LF, the last LF may lack,
-/// and one CR at the end of a line is dropped. Empty lines and lines that begin with `#` are skipped.
-///
-/// An `Err` is the first fault of the text, or [`RecFault::Memory`], which may come before any other.
-pub fn read_recording(alloc: Global, text: &[u8]) -> Result<Recording, RecFault>
-    ensures { MatchResult result (λ recording. recording_of text.now ≡ Ok recording) (IsFaultOf (recording_of text.now)) }
+/// Reads a recording from a text: one datagram a line, in hexadecimal digits of either case.
+pub(crate) fn read_text(alloc: Global, text: &[u8]) -> Result<Recording, RecFault>
+    ensures { MatchResult result (λ recording. recording_of_text text.now ≡ Ok recording) (IsFaultOf (recording_of_text text.now)) }
 {
-    if text.len() > TEXT_MAX {
-        return Err(RecFault::TooMany);
-    }
-    let mut reader = LineReader::new(alloc)?;
+    let mut reader = LineReader::new(alloc);
     let from = reader.read_complete(text, 0)?;
     reader.finish(&text[from..])?;
-    Ok(reader.into_recording())
+    Ok(Recording::of_text(reader.into_datagrams()))
 }
 
 // Appends the datagram that a line stands for, if it stands for one.
-pub(crate) fn read_line(recording: &mut Recording, number: u64, line: &[u8]) -> Result<(), RecFault>
-    ensures { let defined = recording_of_lines number (length recording.old) (line.now ∷ []) in MatchResult result
-        (λ _. (found : List (List ℕ)) × (defined ≡ Ok found) × (recording.new ≡ recording.old ++ found))
+pub(crate) fn read_line(
+    datagrams: &mut DatagramList,
+    number: u64,
+    line: &[u8],
+) -> Result<(), RecFault>
+    ensures { let defined = recording_of_lines number (length datagrams.old) (line.now ∷ []) in MatchResult result
+        (λ _. (found : List (List ℕ)) × (defined ≡ Ok found) × (datagrams.new ≡ datagrams.old ++ found))
         (IsFaultOf defined) }
 {
     if !is_datagram_line(line) {
         return Ok(());
     }
-    if recording.len() >= DATAGRAMS_MAX {
+    if datagrams.len() >= DATAGRAMS_MAX {
         return Err(RecFault::TooMany);
     }
     if line.len() > DIGITS_MAX {
         return Err(RecFault::TooLong { line: number });
     }
-    if !recording.push_hex(line)? {
+    if !datagrams.push_hex(line)? {
         return Err(RecFault::BadHex { line: number });
     }
     Ok(())

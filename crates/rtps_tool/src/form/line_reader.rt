@@ -1,4 +1,4 @@
-ghost use Rattle.std.specs.Prelude.{◌≡◌, ◌+◌, ◌^◌, ◌<◌, ◌≤◌, [], None, Ok, length, take, drop, IfOk, MatchResult};
+ghost use Rattle.std.specs.Prelude.{◌≡◌, ◌+◌, ◌^◌, ◌<◌, ◌≤◌, [], None, Ok, length, take, drop, MatchResult};
 ghost use Rattle.std.specs.List.{position};
 ghost use Rattle.rtps_tool.specs.Outcomes.{IsFaultOf};
 ghost use Rattle.rtps_tool.specs.Lines.{is_line_feed};
@@ -8,8 +8,8 @@ use crate::faults::RecFault;
 use crate::form::hex_lines::{
     DATAGRAMS_MAX, DIGITS_MAX, line_end_behind, read_line, without_return,
 };
-use rtps_text::Recording;
-use std::alloc::{AllocError, Global};
+use rtps_text::DatagramList;
+use std::alloc::Global;
 
 /// The most octets of a line that are kept while it is unfinished: its digits and a carriage return.
 pub(crate) const KEPT_MAX: usize = DIGITS_MAX + 1;
@@ -18,28 +18,27 @@ pub(crate) const KEPT_MAX: usize = DIGITS_MAX + 1;
 #[derive(Drop)]
 pub(crate) struct LineReader {
     // The datagrams of the lines that were read.
-    recording: Recording,
+    datagrams: DatagramList,
     // How many lines were read.
     lines: u64,
 }
 
 impl LineReader {
     /// No line was read.
-    pub(crate) fn new(alloc: Global) -> Result<LineReader, AllocError>
-        ensures { IfOk result (λ reader. (reader.recording ≡ []) × (reader.lines ≡ 0)) }
+    pub(crate) fn new(alloc: Global) -> LineReader
+        ensures { (result.datagrams ≡ []) × (result.lines ≡ 0) }
     {
-        let recording = Recording::new(alloc)?;
-        Ok(LineReader {
-            recording,
+        LineReader {
+            datagrams: DatagramList::new(alloc),
             lines: 0,
-        })
+        }
     }
 
     /// The datagrams of the lines that were read.
-    pub(crate) fn into_recording(self) -> Recording
-        ensures { result ≡ self.recording }
+    pub(crate) fn into_datagrams(self) -> DatagramList
+        ensures { result ≡ self.datagrams }
     {
-        self.recording
+        self.datagrams
     }
 
     /// Reads what comes next of a text, of which so much at the front has no end of a line, and answers how much of its
@@ -65,14 +64,14 @@ impl LineReader {
         requires in_range { self.old.lines + length left.now < 2 ^ 64 }
         requires goes_on { position is_line_feed left.now ≡ None }
         ensures { MatchResult result
-            (λ _. recording_behind self.old.recording self.old.lines left.now ≡ Ok self.new.recording)
-            (IsFaultOf (recording_behind self.old.recording self.old.lines left.now)) }
+            (λ _. recording_behind self.old.datagrams self.old.lines left.now ≡ Ok self.new.datagrams)
+            (IsFaultOf (recording_behind self.old.datagrams self.old.lines left.now)) }
     {
         if left.is_empty() {
             return Ok(());
         }
         self.lines += 1;
-        read_line(&mut self.recording, self.lines, without_return(left))
+        read_line(&mut self.datagrams, self.lines, without_return(left))
     }
 
     /// Reads the lines of a text that have an end, and answers where the rest begins. So much at the front has none.
@@ -89,7 +88,7 @@ impl LineReader {
         'lines: while let Some(end) = line_end_behind(&text[from..], known) {
             self.lines += 1;
             let line = without_return(&text[from..from + end]);
-            read_line(&mut self.recording, self.lines, line)?;
+            read_line(&mut self.datagrams, self.lines, line)?;
             from += end + 1;
             known = 0;
         }
@@ -111,7 +110,7 @@ impl LineReader {
         if line[0] == b'#' {
             return Ok(1);
         }
-        if self.recording.len() >= DATAGRAMS_MAX {
+        if self.datagrams.len() >= DATAGRAMS_MAX {
             return Err(RecFault::TooMany);
         }
         Err(RecFault::TooLong {

@@ -1,6 +1,7 @@
-use Rattle.std.proofs.Common.{◌++◌, ◌+◌, ◌-◌, ◌∙◌, ℕ, List, refl, sym, ap, subst, arith}
+use Rattle.std.proofs.Common.{◌≡◌, ◌++◌, ◌+◌, ◌-◌, ◌≤◌, ◌∙◌, ℕ, List, Option, drop, length, take, refl, sym, ap, subst, arith}
+use Rattle.std.specs.Io.KnownBytes.{Consumes}
 use Rattle.std.specs.List.{position}
-use Rattle.std.proofs.lemmas.List.{take-append-le, length-take}
+use Rattle.std.proofs.lemmas.List.{length-append, length-take, take-append-le}
 use borrow.Rule.Slice.PartMut.{put_mid}
 use Rattle.std.proofs.lemmas.Result.{err_from_is_err_and}
 use Rattle.rtps_tool.specs.Lines.{is_line_feed}
@@ -8,61 +9,94 @@ use Rattle.rtps_tool.specs.RunFaults.{run_fault_of}
 use Rattle.rtps_tool.specs.Runs.{FailsReading}
 use Rattle.rtps_tool.specs.Unfinished.{recording_behind}
 use Rattle.rtps_tool.specs.declared.faults.RecFault.{RecFault}
-use Rattle.rtps_tool.proofs.ReadingLemmas.{take_kept, HasRead-start, HasRead-read, HasRead-last, HasRead-told, ReadsRecording-last, FailsReading-last, FailsReading-on, FailsReading-on-past}
+use Rattle.rtps_tool.proofs.ReadingLemmas.{HasRead, take_front, HasRead-start, HasRead-read, HasRead-last, HasRead-told, ReadsRecording-last, FailsReading-last, FailsReading-on, FailsReading-on-past}
 use Rattle.rtps_tool.proofs.streams.read_pieces.Goals as goal
-use Rattle.rtps_tool.proofs.streams.read_pieces.Goals.{then-total-gt-TEXT_MAX, else-total-gt-TEXT_MAX}
+use Rattle.rtps_tool.proofs.streams.read_pieces.Goals.{then-total-gt-INPUT_MAX, else-total-gt-INPUT_MAX}
 
 pub pieces-init : goal.pieces-init
-pieces-init g c = (omega arith, omega (arith, c.requires.empty.1), refl, HasRead-start _ _ _ c.args.held.now c.requires.empty.0 c.requires.empty.1)
+pieces-init g c =
+    let start = c.args.start in
+    let held = c.args.held.now in
+    let reader = c.args.reader.now in
+    let front : start ≡ 0 + start = omega arith in (
+      omega arith,
+      omega (arith, c.requires.begun.1),
+      omega (arith, c.requires.empty.1),
+      refl,
+      λ before taken. subst (λ (n : ℕ). HasRead before (g.R.Read.remaining c.args.input.now) start (λ later. recording_behind reader.datagrams reader.lines (take n held ++ later))) front
+          (HasRead-start before (g.R.Read.remaining c.args.input.now) reader.datagrams reader.lines start held c.requires.empty.0 c.requires.empty.1 taken (omega (arith, c.requires.room, c.requires.begun.1)) c.requires.begun.0 c.requires.plain),
+    )
+
+pub slice_bounds-feed-end : goal.slice_bounds-feed-end
+slice_bounds-feed-end g c = omega (arith, c.pieces.auto.held, c.requires.room, c.pieces.invariant.1)
+
+pub slice_bounds-feed-end-in-pieces : goal.slice_bounds-feed-end-in-pieces
+slice_bounds-feed-end-in-pieces g c = omega (arith, length-take (c.pieces.kept + c.pieces.got) c.pieces.held, c.pieces.auto.held, c.requires.room, c.pieces.invariant.1)
+
+pub returns-in-Err : goal.returns-in-Err
+returns-in-Err g c = λ before taken.
+    let grown = c.pieces.invariant.4 before taken in
+    let more = c.in_ok-total-in-Err.ensures in
+    let F = λ (fault : RecFault). FailsReading before (g.R.Read.remaining c.read_on.new.input) (run_fault_of fault) in
+    let failed : F c.if-total-gt-INPUT_MAX.first = elim c.if-total-gt-INPUT_MAX.branch [
+      | then-total-gt-INPUT_MAX w ↦ subst F (sym w.first-is) (FailsReading-on-past _ _ _ _ _ _ grown more w.if-total-gt-INPUT_MAX.true)
+      | else-total-gt-INPUT_MAX w ↦ subst F (sym w.first-is) (FailsReading-on _ _ _ _ _ _ c.in-Err.fault grown more w.if-total-gt-INPUT_MAX.false c.in-Err.ensures)
+    ] in
+    rw c.from.ensures failed
 
 pub pieces-preserved : goal.pieces-preserved
 pieces-preserved g c =
-    let kept = c.pieces.kept in
-    let got = c.in-Ok.got in
-    let fed = c.in-Ok-feed.ensures in
-    let grown = HasRead-read _ _ _ c.pieces.total kept got (kept + 65536 - kept) _ _ c.pieces.held c.read.new.buf c.pieces.invariant.3
-    c.in-Ok.ensures.bytes.0 (sym c.in-Ok.ensures.bound.1) (omega arith) c.in-Ok.ensures.bound.0 in
+    let left = c.in-Ok.left in
+    let got = c.in-Ok-read.got in
+    let size = left + 65536 - left in
+    let buf = c.read.new.buf in
+    let fed = c.in-Ok.ensures in
     let new = c.feed.new.self in
-    let front = take-append-le c.in-Ok-feed.left c.feed.new.text _ fed.1 in
-    let both = put_mid kept (kept + 65536 - kept) c.pieces.held c.read.new.buf in (
+    let rest = drop (c.pieces.kept + c.pieces.got) c.pieces.held in
+    let held = c.feed.new.text ++ rest in
+    let front : take left held ≡ take left c.feed.new.text = take-append-le left c.feed.new.text rest fed.1 in
+    let within : left ≤ length held = omega (arith, length-append c.feed.new.text rest, fed.1) in (
       fed.0,
-      omega (arith, fed.1, fed.2.counted, c.pieces.invariant.1, length-take (kept + got) both, length-take c.in-Ok-feed.left c.feed.new.text),
-      ap (position is_line_feed) front ∙ fed.2.goes_on,
-      HasRead-told _ _ _ _ _ grown (λ later. ap (λ (text : List ℕ). recording_behind new.recording new.lines (text ++ later)) front ∙ fed.2.stands later),
+      omega (arith, c.in-Ok-read.ensures.bound.0, fed.0),
+      omega (arith, fed.1, fed.2.counted, c.pieces.invariant.2, length-take (c.pieces.kept + c.pieces.got) c.pieces.held, length-take left c.feed.new.text),
+      ap (position is_line_feed) (take_front left size held buf within ∙ front) ∙ fed.2.goes_on,
+      λ before taken.
+          let told = HasRead-told before _ _ _ _ (c.pieces.invariant.4 before taken)
+          (λ later. ap (λ (text : List ℕ). recording_behind new.datagrams new.lines (text ++ later)) front ∙ fed.2.stands later) in
+          HasRead-read before _ _ c.pieces.total left got size new.lines new.datagrams held buf told c.in-Ok-read.ensures.bytes.0 (sym c.in-Ok-read.ensures.bound.1) within c.in-Ok-read.ensures.bound.0,
     )
 
-pub feed-requires-clause-goes_on : goal.feed-requires-clause-goes_on
-feed-requires-clause-goes_on g c =
-    let kept = c.pieces.kept in
-    ap (position is_line_feed) (take_kept kept c.in-Ok.got (kept + 65536 - kept) c.pieces.held c.read.new.buf (omega arith) c.in-Ok.ensures.bound.0) ∙ c.pieces.invariant.2
-
 pub returns-then-got-eq0 : goal.returns-then-got-eq0
-returns-then-got-eq0 g c =
-    let kept = c.pieces.kept in
-    let got = c.in-Ok.got in
-    let last = HasRead-last _ _ _ c.pieces.total kept got (kept + 65536 - kept) _ _ c.pieces.held c.read.new.buf c.pieces.invariant.3
-    c.in-Ok.ensures.bytes.0 (sym c.in-Ok.ensures.bound.1) (omega arith) c.in-Ok.ensures.bound.0 c.if-got-eq0.true in
-    ReadsRecording-last _ _ c.pieces.total _ _ _ _ last (c.in-Ok.ensures.bytes.1 c.if-got-eq0.true (omega arith)) (omega arith) c.in_ok-finish.ensures
+returns-then-got-eq0 g c = λ before taken.
+    let left = c.in-Ok.left in
+    let got = c.in-Ok-read.got in
+    let size = left + 65536 - left in
+    let buf = c.read.new.buf in
+    let fed = c.in-Ok.ensures in
+    let new = c.feed.new.self in
+    let rest = drop (c.pieces.kept + c.pieces.got) c.pieces.held in
+    let held = c.feed.new.text ++ rest in
+    let front : take left held ≡ take left c.feed.new.text = take-append-le left c.feed.new.text rest fed.1 in
+    let within : left ≤ length held = omega (arith, length-append c.feed.new.text rest, fed.1) in
+    let told = HasRead-told before _ _ _ _ (c.pieces.invariant.4 before taken)
+    (λ later. ap (λ (text : List ℕ). recording_behind new.datagrams new.lines (text ++ later)) front ∙ fed.2.stands later) in
+    let last = HasRead-last before _ _ c.pieces.total left got size new.lines new.datagrams held buf told c.in-Ok-read.ensures.bytes.0 (sym c.in-Ok-read.ensures.bound.1) within c.in-Ok-read.ensures.bound.0 c.if-got-eq0.true in
+    ReadsRecording-last before _ c.pieces.total _ _ _ _ last (c.in-Ok-read.ensures.bytes.1 c.if-got-eq0.true (omega arith)) (omega arith) c.in_ok-finish.ensures
 
 pub returns-in_err-finish : goal.returns-in_err-finish
-returns-in_err-finish g c =
-    let p = err_from_is_err_and c.from_residual.result c.from_residual.ensures.1 in
-    let kept = c.pieces.kept in
-    let got = c.in-Ok.got in
-    let last = HasRead-last _ _ _ c.pieces.total kept got (kept + 65536 - kept) _ _ c.pieces.held c.read.new.buf c.pieces.invariant.3
-    c.in-Ok.ensures.bytes.0 (sym c.in-Ok.ensures.bound.1) (omega arith) c.in-Ok.ensures.bound.0 c.if-got-eq0.true in
-    rw (p.1, p.2) (FailsReading-last _ _ c.pieces.total _ _ _ c.in_err-finish.field-0.0 last (c.in-Ok.ensures.bytes.1 c.if-got-eq0.true (omega arith)) (omega arith) c.in_err-finish.ensures)
-
-pub returns-in-Err : goal.returns-in-Err
-returns-in-Err g c =
-    let kept = c.pieces.kept in
-    let got = c.in-Ok.got in
-    let grown = HasRead-read _ _ _ c.pieces.total kept got (kept + 65536 - kept) _ _ c.pieces.held c.read.new.buf c.pieces.invariant.3
-    c.in-Ok.ensures.bytes.0 (sym c.in-Ok.ensures.bound.1) (omega arith) c.in-Ok.ensures.bound.0 in
-    let more = c.in_ok-total-in-Err.ensures in
-    let F = λ (fault : RecFault). FailsReading (g.R.Read.remaining c.args.input.now) (g.R.Read.remaining c.read_on.new.input) (run_fault_of fault) in
-    let failed : F c.if-total-gt-TEXT_MAX.first = elim c.if-total-gt-TEXT_MAX.branch [
-      | then-total-gt-TEXT_MAX w ↦ subst F (sym w.first-is) (FailsReading-on-past _ _ _ _ _ _ grown more w.if-total-gt-TEXT_MAX.true)
-      | else-total-gt-TEXT_MAX w ↦ subst F (sym w.first-is) (FailsReading-on _ _ _ _ _ _ c.in-Err.fault grown more w.if-total-gt-TEXT_MAX.false c.in-Err.ensures)
-    ] in
-    rw c.from.ensures failed
+returns-in_err-finish g c = λ before taken.
+    let p = err_from_is_err_and c.from_residual-in_err-finish.result c.from_residual-in_err-finish.ensures.1 in
+    let left = c.in-Ok.left in
+    let got = c.in-Ok-read.got in
+    let size = left + 65536 - left in
+    let buf = c.read.new.buf in
+    let fed = c.in-Ok.ensures in
+    let new = c.feed.new.self in
+    let rest = drop (c.pieces.kept + c.pieces.got) c.pieces.held in
+    let held = c.feed.new.text ++ rest in
+    let front : take left held ≡ take left c.feed.new.text = take-append-le left c.feed.new.text rest fed.1 in
+    let within : left ≤ length held = omega (arith, length-append c.feed.new.text rest, fed.1) in
+    let told = HasRead-told before _ _ _ _ (c.pieces.invariant.4 before taken)
+    (λ later. ap (λ (text : List ℕ). recording_behind new.datagrams new.lines (text ++ later)) front ∙ fed.2.stands later) in
+    let last = HasRead-last before _ _ c.pieces.total left got size new.lines new.datagrams held buf told c.in-Ok-read.ensures.bytes.0 (sym c.in-Ok-read.ensures.bound.1) within c.in-Ok-read.ensures.bound.0 c.if-got-eq0.true in
+    rw (p.1, p.2) (FailsReading-last before _ c.pieces.total _ _ _ c.in_err-finish.field-0.0 last (c.in-Ok-read.ensures.bytes.1 c.if-got-eq0.true (omega arith)) (omega arith) c.in_err-finish.ensures)

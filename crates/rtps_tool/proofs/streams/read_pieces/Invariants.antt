@@ -1,16 +1,18 @@
-use Rattle.std.proofs.Common.{◌≡◌, None, ◌+◌, ◌-◌, ◌≤◌, ◌^◌, ◌++◌, take}
+use Rattle.std.proofs.Common.{◌≡◌, None, ◌+◌, ◌-◌, ◌≤◌, ◌^◌, ◌++◌, List, ℕ, Option, take}
+use Rattle.std.specs.Io.KnownBytes.{Consumes}
 use Rattle.std.specs.List.{position}
 use Rattle.rtps_tool.specs.Lines.{is_line_feed}
 use Rattle.rtps_tool.specs.Unfinished.{recording_behind}
 use Rattle.rtps_tool.proofs.ReadingLemmas.{HasRead}
 use Rattle.rtps_tool.proofs.streams.read_pieces.Given as goal
 
--- the front of what is held is all that is kept of the text behind the lines that were read
+-- the front of what is held is all of the text behind the lines that were read: what is kept of it, and what was got
 abbrev pub invariant-pieces : goal.invariant-pieces
 invariant-pieces g l =
-    (l.kept ≤ 131071) × (l.reader.lines + l.kept ≤ l.total)
+    (l.kept ≤ 131071) × (l.kept + l.got ≤ 196607) × (l.reader.lines + (l.kept + l.got) ≤ l.total)
     × (position is_line_feed (take l.kept l.held) ≡ None)
-    × HasRead (g.R.Read.remaining l.initial.input) (g.R.Read.remaining l.input) l.total (λ later. recording_behind l.reader.recording l.reader.lines (take l.kept l.held ++ later))
+    × ((before : Option (List ℕ)) → Consumes before (g.R.Read.remaining l.initial.input) (take l.start l.initial.held)
+    → HasRead before (g.R.Read.remaining l.input) l.total (λ later. recording_behind l.reader.datagrams l.reader.lines (take (l.kept + l.got) l.held ++ later)))
 
 -- the octets that may still come
 abbrev pub decreases-pieces : goal.decreases-pieces

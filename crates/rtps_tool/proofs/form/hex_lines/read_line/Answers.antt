@@ -15,22 +15,22 @@ returns-then-not-is_datagram_line c =
 
 pub returns-then-len-ge-DATAGRAMS_MAX : goal.returns-then-len-ge-DATAGRAMS_MAX
 returns-then-len-ge-DATAGRAMS_MAX c =
-    let found : line_fault (length c.args.recording.now) c.args.number c.args.line.now ≡ Some TooMany = grind (arith, nat_tests) in
+    let found : line_fault (length c.args.datagrams.now) c.args.number c.args.line.now ≡ Some TooMany = grind (arith, nat_tests) in
     recording_of_lines-faulty c.args.number _ c.args.line.now [] _ (cc) found
 
 pub returns-then-line-gt-DIGITS_MAX : goal.returns-then-line-gt-DIGITS_MAX
 returns-then-line-gt-DIGITS_MAX c =
-    let found : line_fault (length c.args.recording.now) c.args.number c.args.line.now ≡ Some (TooLong c.args.number) = grind (arith, nat_tests) in
+    let found : line_fault (length c.args.datagrams.now) c.args.number c.args.line.now ≡ Some (TooLong c.args.number) = grind (arith, nat_tests) in
     recording_of_lines-faulty c.args.number _ c.args.line.now [] _ (cc) found
 
 pub returns-then-not-branch : goal.returns-then-not-branch
 returns-then-not-branch c =
-    let found : line_fault (length c.args.recording.now) c.args.number c.args.line.now ≡ Some (BadHex c.args.number) = grind (arith, nat_tests, c.in_ok-push_hex.ensures.found) in
+    let found : line_fault (length c.args.datagrams.now) c.args.number c.args.line.now ≡ Some (BadHex c.args.number) = grind (arith, nat_tests, c.in_ok-push_hex.ensures.found) in
     recording_of_lines-faulty c.args.number _ c.args.line.now [] _ (cc) found
 
 pub returns : goal.returns
 returns c =
-    let found : line_fault (length c.args.recording.now) c.args.number c.args.line.now ≡ None = grind (arith, nat_tests, c.in_ok-push_hex.ensures.found) in (
+    let found : line_fault (length c.args.datagrams.now) c.args.number c.args.line.now ≡ None = grind (arith, nat_tests, c.in_ok-push_hex.ensures.found) in (
       octets_of c.args.line.now ∷ [],
       recording_of_lines-taken c.args.number _ c.args.line.now [] (cc) found ∙ ap (with_front (octets_of c.args.line.now ∷ [])) (recording_of_lines-nil _ _),
       cc (c.in_ok-push_hex.ensures.pushed),

@@ -1,0 +1,115 @@
+-- Facts on the recording of a capture, frame by frame.
+use Rattle.std.proofs.Common.{◌≡◌, ℕ, suc, ◌+◌, ◌<◌, ◌≤◌, true, false, List, [], ◌∷◌, ◌++◌, length, map, Some, None, Ok, Err, refl, sym, ap, ap₂, subst, ◌∙◌, arith}
+use Rattle.std.specs.Prelude.{nat_lt, slice_range, MatchResult, Result}
+use Rattle.std.proofs.lemmas.Bool.Decides.{nat_tests}
+use Rattle.std.proofs.lemmas.List.{append-nil, append_assoc, length-append, length-map, map-append}
+use Rattle.std.proofs.lemmas.List.Elements.{All-nil, All-push}
+use Rattle.rtps_capture.specs.declared.frames.Frame.{Frame}
+use Rattle.rtps_capture.specs.declared.frames.Frame.TheVariants.{Datagram, Ignored, Cut}
+use Rattle.rtps_capture.specs.declared.place.Place.{Place as FilePlace}
+use Rattle.rtps_text.specs.Places.{ArePlaces, StandsWithin, piece, pieces}
+use Rattle.rtps_text.specs.Recording.{RecordingValue}
+use Rattle.rtps_text.specs.declared.places.Place.{Place}
+use Rattle.rtps_tool.specs.Outcomes.{IsFaultOf}
+use Rattle.rtps_tool.specs.RecordingCapture.{cut_among, datagrams_among, ignored_among, recording_of_frames, unless_cut}
+use Rattle.rtps_tool.specs.declared.faults.RecFault.{RecFault}
+use Rattle.rtps_tool.specs.declared.faults.RecFault.TheVariants.{CutCapture, TooMany}
+
+-- what the reader of a capture's frames answers, where this is defined
+abbrev pub IsReadFrom : List ℕ → Result RecordingValue RecFault → List Place → Result ℕ RecFault → Type 0
+IsReadFrom octets defined places result = MatchResult result
+    (λ ignored. ArePlaces octets places × (defined ≡ Ok (record { datagrams = pieces octets places; ignored = Some ignored })))
+    (IsFaultOf defined)
+
+-- of all frames so many were read, which gave these places and so many that are ignored, and the others are left
+pub record HasPushed (octets : List ℕ) (all : List Frame) (places : List Place) (number ignored : ℕ) (left : List Frame) : Type 0 where
+  pub few : length places ≤ 1000000
+  pub within : ArePlaces octets places
+  pub counted : number + length left ≡ length all
+  pub least : ignored ≤ number
+  pub given : pieces octets places ++ datagrams_among octets left ≡ datagrams_among octets all
+  pub passed : ignored + ignored_among left ≡ ignored_among all
+  pub cut : cut_among (number + 1) left ≡ cut_among 1 all
+
+pub HasPushed-start : (octets : List ℕ) (all : List Frame) (places : List Place) → places ≡ [] → HasPushed octets all places 0 0 all
+HasPushed-start octets all places none =
+    subst (λ (start : List Place). HasPushed octets all start 0 0 all) (sym none) record {
+      few = omega arith;
+      within = All-nil (StandsWithin (length octets));
+      counted = omega arith;
+      least = omega arith;
+      given = refl;
+      passed = omega arith;
+      cut = refl;
+    }
+
+-- a frame that gives nothing
+pub HasPushed-ignored : (octets : List ℕ) (all : List Frame) (places : List Place) (number ignored : ℕ) (left later : List Frame)
+    → HasPushed octets all places number ignored left → left ≡ Ignored ∷ later → HasPushed octets all places (number + 1) (ignored + 1) later
+HasPushed-ignored octets all places number ignored left later h is = record {
+  few = h.few;
+  within = h.within;
+  counted = omega (arith, h.counted, ap length is);
+  least = omega (arith, h.least);
+  given = ap (λ (l : List Frame). pieces octets places ++ datagrams_among octets l) (sym is) ∙ h.given;
+  passed = omega (arith, h.passed, ap ignored_among is);
+  cut = ap (cut_among (number + 1)) (sym is) ∙ h.cut;
+}
+
+-- a frame that gives a datagram
+pub HasPushed-datagram : (octets : List ℕ) (all : List Frame) (places pushed : List Place) (number ignored : ℕ) (left later : List Frame) (place : FilePlace) (one : Place)
+    → HasPushed octets all places number ignored left → left ≡ Datagram place ∷ later → pushed ≡ places ++ one ∷ []
+    → one.from ≡ place.from → one.to ≡ place.to → place.from ≤ place.to → place.to ≤ length octets → length places < 1000000
+    → HasPushed octets all pushed (number + 1) ignored later
+HasPushed-datagram octets all places pushed number ignored left later place one h is push from to ordered within few =
+    subst (λ (now : List Place). HasPushed octets all now (number + 1) ignored later) (sym push) record {
+      few = omega (arith, length-append places (one ∷ []));
+      within = All-push (StandsWithin (length octets)) places one h.within (omega (arith, from, to, ordered), omega (arith, to, within));
+      counted = omega (arith, h.counted, ap length is);
+      least = omega (arith, h.least);
+      given = ap (λ (done : List (List ℕ)). done ++ datagrams_among octets later) (map-append (piece octets) places (one ∷ []))
+          ∙ append_assoc (pieces octets places) (piece octets one ∷ []) (datagrams_among octets later)
+          ∙ ap₂ (λ (a b : ℕ). pieces octets places ++ slice_range octets a b ∷ datagrams_among octets later) from to
+          ∙ ap (λ (l : List Frame). pieces octets places ++ datagrams_among octets l) (sym is) ∙ h.given;
+      passed = ap (λ (l : List Frame). ignored + ignored_among l) (sym is) ∙ h.passed;
+      cut = ap (cut_among (number + 1)) (sym is) ∙ h.cut;
+    }
+
+by_fault : (octets : List ℕ) (all : List Frame) (datagrams : List (List ℕ)) → datagrams_among octets all ≡ datagrams → length datagrams ≤ 1000000
+    → recording_of_frames octets all ≡ unless_cut (cut_among 1 all) (record { datagrams = datagrams; ignored = Some (ignored_among all) })
+unfolding recording_of_frames
+by_fault octets all datagrams is few = let fits : nat_lt 1000000 (length datagrams) ≡ false = grind (arith, nat_tests) in rw is (rw fits refl)
+
+-- no frame is left
+pub recording_of_frames-done : (octets : List ℕ) (all : List Frame) (places : List Place) (number ignored : ℕ) (left : List Frame)
+    → HasPushed octets all places number ignored left → left ≡ []
+    → recording_of_frames octets all ≡ Ok (record { datagrams = pieces octets places; ignored = Some ignored })
+recording_of_frames-done octets all places number ignored left h none =
+    let given : datagrams_among octets all ≡ pieces octets places =
+    sym h.given ∙ ap (λ (l : List Frame). pieces octets places ++ datagrams_among octets l) none ∙ append-nil (pieces octets places) in
+    let passed : ignored_among all ≡ ignored = omega (arith, h.passed, ap ignored_among none) in
+    let whole : cut_among 1 all ≡ None = sym h.cut ∙ ap (cut_among (number + 1)) none in
+    by_fault octets all (pieces octets places) given (omega (arith, length-map places (piece octets), h.few))
+    ∙ ap (λ cut. unless_cut cut (record { datagrams = pieces octets places; ignored = Some (ignored_among all) })) whole
+    ∙ ap (λ n. Ok (record { datagrams = pieces octets places; ignored = Some n })) passed
+
+-- a frame is cut
+pub recording_of_frames-cut : (octets : List ℕ) (all : List Frame) (places : List Place) (number ignored : ℕ) (left later : List Frame)
+    → HasPushed octets all places number ignored left → left ≡ Cut ∷ later → recording_of_frames octets all ≡ Err (CutCapture (number + 1))
+recording_of_frames-cut octets all places number ignored left later h is =
+    let given : datagrams_among octets all ≡ pieces octets places =
+    sym h.given ∙ ap (λ (l : List Frame). pieces octets places ++ datagrams_among octets l) is ∙ append-nil (pieces octets places) in
+    let cut : cut_among 1 all ≡ Some (number + 1) = sym h.cut ∙ ap (cut_among (number + 1)) is in
+    by_fault octets all (pieces octets places) given (omega (arith, length-map places (piece octets), h.few))
+    ∙ ap (λ cut. unless_cut cut (record { datagrams = pieces octets places; ignored = Some (ignored_among all) })) cut
+
+-- there are too many datagrams
+pub recording_of_frames-many : (octets : List ℕ) (all : List Frame) (places : List Place) (number ignored : ℕ) (left later : List Frame) (place : FilePlace)
+    → HasPushed octets all places number ignored left → left ≡ Datagram place ∷ later → 1000000 ≤ length places → recording_of_frames octets all ≡ Err TooMany
+unfolding recording_of_frames
+recording_of_frames-many octets all places number ignored left later place h is many =
+    let size : length (datagrams_among octets all) ≡ length (pieces octets places) + length (datagrams_among octets left) =
+    ap length (sym h.given) ∙ length-append (pieces octets places) (datagrams_among octets left) in
+    let more : length (datagrams_among octets left) ≡ suc (length (datagrams_among octets later)) = ap (λ (l : List Frame). length (datagrams_among octets l)) is in
+    let past : nat_lt 1000000 (length (datagrams_among octets all)) ≡ true = grind (arith, nat_tests, length-map places (piece octets)) in
+    rw past refl

@@ -1,0 +1,12 @@
+use Rattle.std.proofs.Common.{◌≡◌}
+use Rattle.rtps_capture.specs.Frames.{frames_left}
+use Rattle.rtps_tool.proofs.CaptureLemmas.{HasPushed}
+use Rattle.rtps_tool.proofs.form.capture.push_places.Given as goal
+
+-- what was read of the frames, and what is left
+abbrev pub invariant-loop-frame : goal.invariant-loop-frame
+invariant-loop-frame l =
+    (goal.iterator-loop-frame).can_next l.frame-iterator
+    × (goal.iterator-loop-frame).is_finite l.frame-iterator
+    × (l.frame-iterator.octets ≡ l.fn.frames.octets)
+    × HasPushed l.fn.frames.octets (frames_left l.fn.frames) l.places.items l.number l.ignored (frames_left l.frame-iterator)

@@ -1,0 +1,37 @@
+ghost use Rattle.std.specs.Prelude.{◌≡◌, Ok, MatchResult};
+ghost use Rattle.rtps_tool.specs.Outcomes.{IsFaultOf};
+ghost use Rattle.rtps_tool.specs.Forms.{recording_of};
+
+use crate::faults::RecFault;
+use crate::form::capture::read_capture;
+use crate::form::hex_lines::read_text;
+use rtps_capture::capture_order;
+use rtps_text::Recording;
+use std::alloc::Global;
+
+// The most octets of an input.
+pub(crate) const INPUT_MAX: usize = 1 << 30;
+
+/// Reads a recording in one of two forms, which the first four octets tell apart.
+///
+/// A text has one datagram a line, in hexadecimal digits of either case. Lines end at LF, the last LF may lack, and one CR
+/// at the end of a line is dropped. Empty lines and lines that begin with `#` are skipped. A capture is a file as
+/// `tcpdump` writes it, whose frames are Ethernet frames or IP packets: the UDP datagrams of IPv4 that were sent in one
+/// packet are the recording, and other frames are ignored.
+///
+/// An `Err` is the first fault of the input, or [`RecFault::Memory`], which may come before any other.
+pub fn read_recording(alloc: Global, input: &[u8]) -> Result<Recording, RecFault>
+    ensures { MatchResult result (λ recording. recording_of input.now ≡ Ok recording) (IsFaultOf (recording_of input.now)) }
+{
+    if input.len() > INPUT_MAX {
+        return Err(RecFault::TooMany);
+    }
+    match capture_order(input) {
+        None => read_text(alloc, input),
+        Some(_) => {
+            let mut octets = Vec::with_capacity(alloc, input.len())?;
+            octets.extend_from_slice(input)?;
+            read_capture(alloc, octets)
+        }
+    }
+}
