@@ -19,4 +19,4 @@ pub use faults::{RecFault, RunFault};
 pub use form::hex_lines::read_recording;
 pub use outcome::{status, write_fault};
 pub use rtps_text::{Datagrams, Ending, Recording};
-pub use run::{run_audit, run_list, run_sample, run_show};
+pub use run::{run_audit, run_audit_from, run_list, run_sample, run_show};
