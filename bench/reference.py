@@ -2,6 +2,7 @@
 """A second reading of recordings, apart from the proved program, to compare it with.
 
     reference.py show|list|audit FILE      prints what `rtps-audit` should print
+    reference.py audit --from N FILE       the same, of the numbers from N on
     reference.py compare PROGRAM [COUNT [SEED]]
                                            runs PROGRAM on COUNT random recordings, and says where it differs
     reference.py texts PROGRAM [COUNT [SEED]]
@@ -411,8 +412,7 @@ def speech(recording, w, r):
     return said, last
 
 
-def least_missing(spans):
-    n = 1
+def least_missing(spans, n):
     for lo, hi in sorted(spans):
         if lo > n:
             break
@@ -420,12 +420,14 @@ def least_missing(spans):
     return n
 
 
-def judge(recording, w, r):
+def judge(recording, w, r, first=1):
+    """the verdict by the plain conditions, of the numbers from `first` on"""
     said, last = speech(recording, w, r)
-    spans, greatest = [], 0
+    last = max(last, first - 1)
+    spans, greatest = [], first
     for j, (words, bases) in enumerate(said, 1):
-        if bases and max(bases) > 1:
-            n = least_missing(spans)
+        if bases and max(bases) > first:
+            n = least_missing(spans, first)
             if n < max(bases):
                 return f'unfounded {j} {n}'
             greatest = max(greatest, max(bases))
@@ -436,23 +438,27 @@ def judge(recording, w, r):
         for word in words:
             if word.payload is not None:
                 n = word.spans[0][0]
+                if n < first:
+                    continue
                 if payloads.setdefault(n, word.payload) != word.payload:
                     conflict = n if conflict is None else min(n, conflict)
     if conflict is not None:
         return f'conflict {conflict}'
-    if max(greatest, 1) <= last:
-        return f'open {max(greatest, 1)}'
+    if greatest <= last:
+        return f'open {greatest}'
     return f'complete {last}'
 
 
-def verdict_by_runs(recording, w, r, bound):
-    """the verdict of a recording whose numbers are all below `bound`, by trying what the reader may take"""
+def verdict_by_runs(recording, w, r, bound, first=1):
+    """the verdict of a recording whose numbers are all below `bound`, by trying what the reader may take of those from
+    `first` on"""
     said, last = speech(recording, w, r)
-    gives = [{(n, word.payload or 'gone') for word in words for lo, hi in word.spans for n in range(lo, min(hi, bound))} for words, _ in said]
+    last = max(last, first - 1)
+    gives = [{(n, word.payload or 'gone') for word in words for lo, hi in word.spans for n in range(max(lo, first), min(hi, bound))} for words, _ in said]
     # a state is how many datagrams were sent and which (number, word) are held; all that can be reached
     states = {frozenset()}
     for j, (words, bases) in enumerate(said):
-        claims = {n for b in bases for n in range(1, min(b, bound + 1))}
+        claims = {n for b in bases for n in range(first, min(b, bound + 1))}
         sendable = {s for s in states if claims <= {n for n, _ in s}}
         if not sendable:
             told = {n for g in gives[:j] for n, _ in g}
@@ -464,19 +470,19 @@ def verdict_by_runs(recording, w, r, bound):
     conflicts = {n for s in states for n, a in s for m, b in s if n == m and a != b and 'gone' not in (a, b)}
     if conflicts:
         return f'conflict {min(conflicts)}'
-    missing = {n for s in states for n in range(1, min(last, bound) + 1) if n not in {m for m, _ in s}}
+    missing = {n for s in states for n in range(first, min(last, bound) + 1) if n not in {m for m, _ in s}}
     if missing:
         return f'open {min(missing)}'
     return f'complete {last}'
 
 
-def audit(datagrams):
+def audit(datagrams, first=1):
     _, _, matched, unsettled, _ = discovery(datagrams)
     pairs = [(w[0], r[0]) for w, r in matched if w[4] == 1 and r[4] == 1]
     recording = [acts_of(d) for d in datagrams]
     out = [f'pairs {len(pairs)}']
     for w, r in pairs:
-        out.append(f'{guid_text(w)} {guid_text(r)} {judge(recording, w, r)}')
+        out.append(f'{guid_text(w)} {guid_text(r)} {judge(recording, w, r, first)}')
     refused = skipped = fragments = undirected = 0
     for d, acts in zip(datagrams, recording):
         _, items, refusal = read(d)
@@ -492,12 +498,12 @@ def audit(datagrams):
 VIEWS = {'show': show, 'list': list_text, 'audit': audit}
 
 
-def answer(view, text):
-    """text and status of the program"""
+def answer(view, text, first=1):
+    """text and status of the program; `first` is for audit alone"""
     datagrams = recording_of(text)
     if isinstance(datagrams, str):
         return '', 2
-    lines = VIEWS[view](datagrams)
+    lines = audit(datagrams, first) if view == 'audit' else VIEWS[view](datagrams)
     unclean = view == 'audit' and any(' complete ' not in line for line in lines[1:-1])
     return ''.join(line + '\n' for line in lines), int(unclean)
 
@@ -649,6 +655,12 @@ def some_recording(rng):
     return text[:-1] if text and rng.random() < 0.1 else text
 
 
+def kept(text):
+    with tempfile.NamedTemporaryFile(delete=False, suffix='.rec') as f:
+        f.write(text)
+    return f.name
+
+
 def compare(program, count, seed):
     rng, differing, verdicts = random.Random(seed), 0, {}
     for k in range(count):
@@ -658,9 +670,13 @@ def compare(program, count, seed):
             got = subprocess.run(program.split() + [view, '-'], input=text, capture_output=True)
             if got.stdout.decode() != want or got.returncode != status:
                 differing += 1
-                with tempfile.NamedTemporaryFile(delete=False, suffix='.rec') as f:
-                    f.write(text)
-                print(f'{view} differs on recording {k}, kept in {f.name}')
+                print(f'{view} differs on recording {k}, kept in {kept(text)}')
+        first = rng.choice([1, 2, 3, 4, 5, 6, GREATEST])
+        want, status = answer('audit', text, first)
+        got = subprocess.run(program.split() + ['audit', '--from', str(first), '-'], input=text, capture_output=True)
+        if got.stdout.decode() != want or got.returncode != status:
+            differing += 1
+            print(f'audit --from {first} differs on recording {k}, kept in {kept(text)}')
         datagrams = recording_of(text)
         if not isinstance(datagrams, str):
             recording = [acts_of(d) for d in datagrams]
@@ -670,9 +686,10 @@ def compare(program, count, seed):
             verdicts[kind] = verdicts.get(kind, 0) + 1
             said, _ = speech(recording, w, r)
             few = len({(n, x.payload) for words, _ in said for x in words for lo, hi in x.spans for n in range(lo, min(hi, 12))}) <= 8
-            if few and all(hi < 12 for words, _ in said for x in words for _, hi in x.spans) and plain != verdict_by_runs(recording, w, r, 12):
-                differing += 1
-                print(f'the plain conditions and the runs differ on recording {k}')
+            for first in range(1, 7):
+                if few and all(hi < 12 for words, _ in said for x in words for _, hi in x.spans) and judge(recording, w, r, first) != verdict_by_runs(recording, w, r, 12, first):
+                    differing += 1
+                    print(f'the plain conditions and the runs from {first} on differ on recording {k}')
     print(f'{count} recordings, {differing} differences; verdicts {verdicts}')
     return int(differing > 0)
 
@@ -728,9 +745,7 @@ def texts(program, count, seed):
         want, status = answer('show', text)
         if in_pieces(rng, program, ['show', '-'], text) != (want, told, status):
             differing += 1
-            with tempfile.NamedTemporaryFile(delete=False, suffix='.rec') as f:
-                f.write(text)
-            print(f'text {k} differs, kept in {f.name}')
+            print(f'text {k} differs, kept in {kept(text)}')
     print(f'{count} texts, {faulty} of them no recordings, {differing} differences')
     return int(differing > 0)
 
@@ -740,8 +755,9 @@ def main():
         count = int(sys.argv[3]) if len(sys.argv) > 3 else 1000
         run = compare if sys.argv[1] == 'compare' else texts
         return run(sys.argv[2], count, int(sys.argv[4]) if len(sys.argv) > 4 else 1)
-    with open(sys.argv[2], 'rb') as f:
-        text, status = answer(sys.argv[1], f.read())
+    first = int(sys.argv[3]) if sys.argv[2] == '--from' else 1
+    with open(sys.argv[-1], 'rb') as f:
+        text, status = answer(sys.argv[1], f.read(), first)
     sys.stdout.write(text)
     return status
 

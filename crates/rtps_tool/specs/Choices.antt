@@ -1,7 +1,7 @@
 -- What a run does by what the words chose.
 -- own: each subcommand is one run.
 use Rattle.std.specs.Prelude.{ℕ, ◌≡◌, List, Option, Result}
-use Rattle.rtps_text.specs.AuditText.{IsAudited}
+use Rattle.rtps_text.specs.AuditText.{IsAuditedFrom}
 use Rattle.rtps_text.specs.ListText.{IsListed}
 use Rattle.rtps_text.specs.SampleText.{sample}
 use Rattle.rtps_text.specs.ShowText.{IsShown}
@@ -15,5 +15,5 @@ use Rattle.rtps_tool.specs.declared.faults.RunFault.{RunFault}
 abbrev pub RunsChoice : Choice → (unread left held holds : Option (List ℕ)) → Result Ending RunFault → Type 0
 RunsChoice (Show file) unread left held holds result = Runs IsShown unread left held holds result
 RunsChoice (ListChoice file) unread left held holds result = Runs IsListed unread left held holds result
-RunsChoice (Audit file) unread left held holds result = Runs IsAudited unread left held holds result
+RunsChoice (Audit file from) unread left held holds result = Runs (IsAuditedFrom from) unread left held holds result
 RunsChoice Sample unread left held holds result = (left ≡ unread) × Writes sample held holds result

@@ -1,7 +1,7 @@
 -- What a subcommand answers of a recording.
 -- own: a text, and how the run ends.
 use Rattle.std.specs.Prelude.{ℕ, List}
-use Rattle.rtps_text.specs.AuditText.{IsAudited}
+use Rattle.rtps_text.specs.AuditText.{IsAuditedFrom}
 use Rattle.rtps_text.specs.ListText.{IsListed}
 use Rattle.rtps_text.specs.Recording.{RecordingValue}
 use Rattle.rtps_text.specs.ShowText.{IsShown}
@@ -13,4 +13,4 @@ use Rattle.rtps_tool.specs.declared.run.Subcommand.TheVariants.{Show, List as Li
 abbrev pub IsTextOf : Subcommand → RecordingValue → List ℕ → Ending → Type 0
 IsTextOf Show = IsShown
 IsTextOf ListSubcommand = IsListed
-IsTextOf Audit = IsAudited
+IsTextOf (Audit from) = IsAuditedFrom from

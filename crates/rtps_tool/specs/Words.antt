@@ -1,11 +1,14 @@
 -- The words of the command line, as `clap` reads them.
--- own: a subcommand and one FILE, so that no option changes what a text means; `sample` reads none.
-use Rattle.std.specs.Prelude.{◌≡◌, ◌≢◌, codes, true, List, [], ◌∷◌, IfSome, Option, None, Some, unwrap_or}
-use Rattle.clap.specs.Words.{App, IsAmong, Kinds, Row, Rule, Text, fault_of, first_of, kind_of, new_app, new_rule, with_rule, with_subcommand}
+-- own: a subcommand and one FILE; `sample` reads none. No option changes what a text means, but for that of `audit`,
+-- which says from which number on its verdicts ask.
+use Rattle.std.specs.Prelude.{ℕ, ◌≡◌, ◌≢◌, ◌-◌, ◌^◌, codes, true, List, [], ◌∷◌, IfSome, Option, None, Some, unwrap_or}
+use Rattle.std.specs.Str.Parse.{digits_value, without_leading_plus}
+use Rattle.clap.specs.Words.{App, IsAmong, IsUnsignedIn, Kinds, Row, Rule, Text, fault_of, first_of, kind_of, new_app, new_rule, with_rule, with_subcommand}
 use Rattle.clap.specs.declared.builder.action.ArgAction.TheVariants.{Set}
+use Rattle.clap.specs.declared.builder.value_parser.ValueParser.TheVariants.{Unsigned}
 use Rattle.clap.specs.declared.error.Error.{Error}
 use Rattle.clap.specs.declared.error.kind.ErrorKind.{ErrorKind}
-use Rattle.clap.specs.declared.error.kind.ErrorKind.TheVariants.{DisplayHelp, DisplayVersion, MissingRequiredArgument, MissingSubcommand, OutOfMemory, UnknownArgument}
+use Rattle.clap.specs.declared.error.kind.ErrorKind.TheVariants.{DisplayHelp, DisplayVersion, MissingRequiredArgument, MissingSubcommand, OutOfMemory, UnknownArgument, ValueValidation}
 use Rattle.std.specs.String.{string_bytes}
 use Rattle.rtps_tool.specs.declared.command.Choice.{Choice}
 use Rattle.rtps_tool.specs.declared.command.Choice.TheVariants.{Show, List as ListChoice, Audit, Sample}
@@ -20,6 +23,13 @@ file_rule = record (new_rule (codes "FILE")) { action = Some Set; required = tru
 abbrev pub reading_app : Text → App
 reading_app name = with_rule (new_app name) file_rule
 
+-- the number from which on `audit` asks: a sequence number
+abbrev pub from_rule : Rule
+from_rule = record (new_rule (codes "N")) { long = Some (codes "from"); action = Some Set; parser = Some (Unsigned 1 (2 ^ 63 - 1)) }
+
+abbrev pub audit_app : App
+audit_app = with_rule (reading_app (codes "audit")) from_rule
+
 -- a program that has a version and wants a subcommand
 abbrev pub bare_program : App
 bare_program = record (new_app (codes "rtps-audit")) { top = record (new_app (codes "rtps-audit")).top { has_version = true; subcommand_required = true } }
@@ -27,30 +37,44 @@ bare_program = record (new_app (codes "rtps-audit")) { top = record (new_app (co
 abbrev pub program : App
 program =
     with_subcommand
-    (with_subcommand (with_subcommand (with_subcommand bare_program (reading_app (codes "show")).top) (reading_app (codes "list")).top) (reading_app (codes "audit")).top)
+    (with_subcommand (with_subcommand (with_subcommand bare_program (reading_app (codes "show")).top) (reading_app (codes "list")).top) audit_app.top)
     (new_app (codes "sample")).top
 
 -- the subcommand that was chosen
 abbrev pub subcommand_name : Choice → Text
 subcommand_name (Show file) = codes "show"
 subcommand_name (ListChoice file) = codes "list"
-subcommand_name (Audit file) = codes "audit"
+subcommand_name (Audit file from) = codes "audit"
 subcommand_name Sample = codes "sample"
 
 -- the file that was chosen; `sample` has none
 abbrev pub file_name : Choice → Option Text
 file_name (Show file) = Some (string_bytes file)
 file_name (ListChoice file) = Some (string_bytes file)
-file_name (Audit file) = Some (string_bytes file)
+file_name (Audit file from) = Some (string_bytes file)
 file_name Sample = None
 
 -- its FILE is the one that was given, and empty where none was
 abbrev pub HasItsFile : Choice → List Row → Type 0
 HasItsFile choice rows = IfSome (file_name choice) (λ name. name ≡ unwrap_or (first_of (codes "FILE") rows) [])
 
--- the choice has the name of the subcommand that was found, and its FILE
+-- The number is the one that was given, and 1 where none was. `clap` takes no text that is none from 1 to 2^63 - 1; such
+-- a text would be as none.
+abbrev pub IsNumberGiven : Option Text → ℕ → Type 0
+IsNumberGiven None n = n ≡ 1
+IsNumberGiven (Some text) n =
+    (IsUnsignedIn 1 (2 ^ 63 - 1) text → n ≡ digits_value 10 (without_leading_plus text)) × (¬ IsUnsignedIn 1 (2 ^ 63 - 1) text → n ≡ 1)
+
+-- its number is the one that was given; only `audit` has one
+abbrev pub HasItsNumber : Choice → List Row → Type 0
+HasItsNumber (Show file) rows = Unit {0}
+HasItsNumber (ListChoice file) rows = Unit {0}
+HasItsNumber (Audit file from) rows = IsNumberGiven (first_of (codes "N") rows) from
+HasItsNumber Sample rows = Unit {0}
+
+-- the choice has the name of the subcommand that was found, its FILE and its number
 abbrev pub IsChoice : Option (Text × List Row) → Choice → Type 0
-IsChoice found choice = (rows : List Row) × (found ≡ Some (subcommand_name choice, rows)) × HasItsFile choice rows
+IsChoice found choice = (rows : List Row) × (found ≡ Some (subcommand_name choice, rows)) × HasItsFile choice rows × HasItsNumber choice rows
 
 -- help and the version are answers, want of memory has no text, and any other error of `clap` refuses the words
 abbrev pub word_fault_by : ErrorKind → Error → WordFault
@@ -80,8 +104,8 @@ IsOneOf kinds Memory = Unit {0}
 abbrev pub faults_of_words : List Text → Kinds
 faults_of_words words = fault_of program (codes "rtps-audit" ∷ words)
 
--- Without a subcommand, and without its FILE, words are refused, and so is a FILE of `sample`; `--help` and `--version`
--- are answered.
+-- Without a subcommand, and without its FILE, words are refused, and so is a FILE of `sample`, and a number that is none
+-- from 1 to 2^63 - 1, or of a subcommand that asks for none; `--help` and `--version` are answered.
 pub record WordsAreWanted : Type 0 where
   pub no_subcommand : faults_of_words [] ≡ MissingSubcommand ∷ []
   pub no_file_to_show : faults_of_words (codes "show" ∷ []) ≡ MissingRequiredArgument ∷ []
@@ -92,3 +116,10 @@ pub record WordsAreWanted : Type 0 where
   pub whole : faults_of_words (codes "audit" ∷ codes "a.rec" ∷ []) ≡ []
   pub sample : faults_of_words (codes "sample" ∷ []) ≡ []
   pub no_file_of_sample : faults_of_words (codes "sample" ∷ codes "a.rec" ∷ []) ≡ UnknownArgument ∷ []
+  pub least : faults_of_words (codes "audit" ∷ codes "--from" ∷ codes "1" ∷ codes "a.rec" ∷ []) ≡ []
+  pub greatest : faults_of_words (codes "audit" ∷ codes "--from" ∷ codes "9223372036854775807" ∷ codes "a.rec" ∷ []) ≡ []
+  pub none : faults_of_words (codes "audit" ∷ codes "--from" ∷ codes "0" ∷ codes "a.rec" ∷ []) ≡ ValueValidation ∷ []
+  pub too_great : faults_of_words (codes "audit" ∷ codes "--from" ∷ codes "9223372036854775808" ∷ codes "a.rec" ∷ []) ≡ ValueValidation ∷ []
+  pub no_number : faults_of_words (codes "audit" ∷ codes "--from" ∷ codes "1x" ∷ codes "a.rec" ∷ []) ≡ ValueValidation ∷ []
+  pub from_of_show : faults_of_words (codes "show" ∷ codes "--from" ∷ codes "1" ∷ codes "a.rec" ∷ []) ≡ UnknownArgument ∷ []
+  pub from_of_list : faults_of_words (codes "list" ∷ codes "--from" ∷ codes "1" ∷ codes "a.rec" ∷ []) ≡ UnknownArgument ∷ []

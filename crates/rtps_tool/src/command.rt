@@ -1,11 +1,13 @@
-ghost use Rattle.std.specs.Prelude.{◌≡◌, ◌⊎◌, true, false, codes, IfOk, IfErr, OnOk, List, [], MatchOption, map, unwrap_or};
+ghost use Rattle.std.specs.Prelude.{◌≡◌, ◌⊎◌, true, false, codes, Some, IfOk, IfErr, OnOk, List, [], MatchOption, map, unwrap_or};
 ghost use Rattle.std.specs.String.{string_bytes};
 ghost use Rattle.clap.specs.Words.{app_of, fault_of, first_of, found_of, new_app, rows_of, subcommand_of, subcommand_rows_of, takes};
 ghost use Rattle.clap.specs.declared.builder.command.Command.TheViews.{out-Command};
-ghost use Rattle.rtps_tool.specs.Words.{program as program_app, reading_app, IsChoice, IsOneOf, HasItsKind};
+ghost use Rattle.rtps_tool.specs.Words.{audit_app, program as program_app, reading_app, IsChoice, IsNumberGiven, IsOneOf, HasItsKind};
 
+use clap::builder::ValueParser;
 use clap::error::ErrorKind;
 use clap::{Arg, ArgAction, ArgMatches, Command};
+use rtps_ids::SeqNum;
 use std::alloc::{AllocError, Global};
 
 /// What the words ask for. A FILE of `-` is standard input.
@@ -15,8 +17,9 @@ pub enum Choice {
     Show { file: String },
     /// List participants, endpoints and the pairs that match.
     List { file: String },
-    /// Judge for each reliable writer and reader that match whether the reader got all data.
-    Audit { file: String },
+    /// Judge for each reliable writer and reader that match whether the reader got all data, of the writer's numbers from
+    /// `from` on.
+    Audit { file: String, from: SeqNum },
     /// Write a recording to try.
     Sample,
 }
@@ -59,11 +62,17 @@ impl From<clap::Error> for WordFault {
     }
 }
 
+// The greatest sequence number.
+const GREATEST: u64 = 9_223_372_036_854_775_807;
+
 // The version of the program.
 const VERSION: &str = "0.1.0";
 
 const FILE_HELP: &str =
     "A recording: one datagram a line, in hexadecimal digits; - is standard input";
+
+const FROM_HELP: &str = "The first number that a reader is owed, 1 to 9223372036854775807; \
+    1 where it is not given";
 
 const STATUSES: &str =
     "Status: 0 clean, 1 not every pair is complete, 2 the arguments or the recording are refused, \
@@ -88,6 +97,20 @@ fn reading_subcommand<'a>(
         .arg(file)
 }
 
+// The subcommand that judges: it reads a FILE, and asks for numbers from some number on.
+fn audit_subcommand<'a>(alloc: Global, about: &'a str) -> Result<Command<'a>, AllocError>
+    ensures app { IfOk result (λ command. app_of command ≡ audit_app) }
+    ensures local { IfOk result (λ command. (out-Command command).has_globals ≡ false) }
+{
+    let from = Arg::new(alloc, "N")
+        .long("from")
+        .action(ArgAction::Set)
+        .value_parser(ValueParser::unsigned(1, GREATEST))
+        .help(FROM_HELP);
+    let reading = reading_subcommand(alloc, "audit", about)?;
+    reading.arg(from)
+}
+
 // A subcommand that reads nothing.
 fn plain_subcommand<'a>(alloc: Global, name: &'a str, about: &'a str) -> Command<'a>
     ensures app { app_of result ≡ new_app name.now }
@@ -107,7 +130,7 @@ fn program<'a>(alloc: Global) -> Result<Command<'a>, AllocError>
     let samples = "Writes a recording to try, which audit finds complete";
     let show = reading_subcommand(alloc, "show", shows)?;
     let list = reading_subcommand(alloc, "list", lists)?;
-    let audit = reading_subcommand(alloc, "audit", audits)?;
+    let audit = audit_subcommand(alloc, audits)?;
     let sample = plain_subcommand(alloc, "sample", samples);
     Command::new(alloc, "rtps-audit")
         .about("Audits recordings of RTPS datagrams: shows them, lists discovery, judges delivery")
@@ -127,6 +150,28 @@ fn file_of(alloc: Global, found: &ArgMatches) -> Result<String, AllocError>
     String::from_str(alloc, found.get_str("FILE").unwrap_or(""))
 }
 
+// The number that a text is; 1 where it is none that a sample can have.
+fn number_in(text: &str) -> SeqNum
+    ensures { IsNumberGiven (Some text.now) result }
+{
+    match text.parse::<u64>() {
+        Ok(number) if 1 <= number && number <= GREATEST => {
+            SeqNum::new(number.cast_signed()).unwrap_or(SeqNum::first())
+        }
+        _ => SeqNum::first(),
+    }
+}
+
+// The number from which on `audit` asks; 1 where none is given.
+fn number_of(found: &ArgMatches) -> SeqNum
+    ensures { IsNumberGiven (first_of (codes "N") (rows_of (found_of found.now))) result }
+{
+    match found.get_str("N") {
+        Some(text) => number_in(text),
+        None => SeqNum::first(),
+    }
+}
+
 // What the matches choose; None where they have no subcommand that can be chosen.
 fn choice_of(alloc: Global, matches: &ArgMatches) -> Result<Option<Choice>, AllocError>
     ensures { IfOk result (λ choice. MatchOption choice
@@ -143,7 +188,8 @@ fn choice_of(alloc: Global, matches: &ArgMatches) -> Result<Option<Choice>, Allo
     }
     if let Some(audit) = matches.subcommand_matches("audit") {
         let file = file_of(alloc, audit)?;
-        return Ok(Some(Choice::Audit { file }));
+        let from = number_of(audit);
+        return Ok(Some(Choice::Audit { file, from }));
     }
     if matches.subcommand_matches("sample").is_some() {
         return Ok(Some(Choice::Sample));
@@ -153,7 +199,7 @@ fn choice_of(alloc: Global, matches: &ArgMatches) -> Result<Option<Choice>, Allo
 
 /// Reads the words of the command line, of which the first is the program's name.
 pub fn read_words<'a>(alloc: Global, words: &'a [&'a str]) -> Result<Choice, WordFault>
-    // The subcommand and the FILE are those of the matches that `clap` defines for the words.
+    // The subcommand, the FILE and the number are those of the matches that `clap` defines for the words.
     ensures chosen { IfOk result (IsChoice (subcommand_of program_app (map (λ word. word.now) words.now))) }
 
     // Words with a fault are refused, and the refusal is of its kind.

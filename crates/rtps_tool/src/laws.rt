@@ -1,6 +1,7 @@
 //! Laws of the definitions, as contracts of functions that do nothing.
 
-ghost use Rattle.rtps_text.specs.AuditText.{IsAudited};
+ghost use Rattle.std.specs.Prelude.{ℕ};
+ghost use Rattle.rtps_text.specs.AuditText.{IsAuditedFrom};
 ghost use Rattle.rtps_text.specs.ListText.{IsListed};
 ghost use Rattle.rtps_text.specs.ShowText.{IsShown};
 ghost use Rattle.rtps_tool.specs.Laws.{RunsAgree};
@@ -9,17 +10,19 @@ ghost use Rattle.rtps_tool.specs.Words.{WordsAreWanted};
 use rtps_text::laws::one_text;
 
 /// Which words are refused, as `clap` defines it of this command line: those without a subcommand, and a subcommand
-/// without its FILE; `--help` and `--version` are answered, and a subcommand with its FILE is taken; `sample` has none.
+/// without its FILE, and an option `--from` whose value is no number from 1 to 9223372036854775807; `--help` and
+/// `--version` are answered, and a subcommand with its FILE is taken; `sample` has none.
 pub fn words_are_wanted()
     ensures { WordsAreWanted }
 {}
 
-/// What a run prints, and how it ends, is decided by what it reads: two runs of `show`, of `list` or of `audit` over the
-/// same octets that both end well end in the same way and write the same text.
+/// What a run prints, and how it ends, is decided by what it reads, and of `audit` also by the number from which on it
+/// asks: two runs of `show`, of `list` or of `audit` over the same octets that both end well end in the same way and write
+/// the same text.
 pub fn runs_agree()
     ensures show { RunsAgree IsShown }
     ensures list { RunsAgree IsListed }
-    ensures audit { RunsAgree IsAudited }
+    ensures audit { (from : ℕ) → RunsAgree (IsAuditedFrom from) }
 {
     one_text();
 }

@@ -17,4 +17,4 @@ pub use faults::{RecFault, RunFault};
 pub use form::either::read_recording;
 pub use outcome::{status, write_fault};
 pub use rtps_text::{Datagrams, Ending, Recording};
-pub use run::{run_audit, run_list, run_sample, run_show};
+pub use run::{run_audit, run_audit_from, run_list, run_sample, run_show};

@@ -1,6 +1,6 @@
 ghost use Rattle.std.specs.Prelude.{IfOk};
 ghost use Rattle.std.specs.String.{string_bytes};
-ghost use Rattle.rtps_text.specs.AuditText.{IsAudited};
+ghost use Rattle.rtps_text.specs.AuditText.{IsAudited, IsAuditedFrom};
 ghost use Rattle.rtps_text.specs.ListText.{IsListed};
 ghost use Rattle.rtps_text.specs.SampleText.{sample};
 ghost use Rattle.rtps_text.specs.ShowText.{IsShown};
@@ -9,7 +9,7 @@ ghost use Rattle.rtps_tool.specs.Subcommands.{IsTextOf};
 
 use crate::faults::RunFault;
 use crate::streams::{read_input, write_text};
-use rtps_ids::Memory;
+use rtps_ids::{Memory, SeqNum};
 use rtps_text::{Ending, Recording, audit_text, list_text, sample_text, show_text};
 use std::alloc::Global;
 use std::io::{Read, Write};
@@ -19,7 +19,8 @@ use std::io::{Read, Write};
 pub(crate) enum Subcommand {
     Show,
     List,
-    Audit,
+    /// By the numbers from this one on.
+    Audit(SeqNum),
 }
 
 /// Reads a recording, to the end of the input, and writes what `show` prints of it; it ends [`Ending::Clean`].
@@ -50,6 +51,20 @@ pub fn run_list<R: Read, W: Write>(
     run(alloc, Subcommand::List, input, output)
 }
 
+/// Reads a recording, to the end of the input, and writes what `audit` prints of it by the numbers from `from` on:
+/// smaller numbers are not asked for. Else it is [`run_audit`].
+pub fn run_audit_from<R: Read, W: Write>(
+    alloc: Global,
+    input: &mut R,
+    output: &mut W,
+    from: SeqNum,
+) -> Result<Ending, RunFault>
+    ensures { Runs (IsAuditedFrom from)
+        (R.remaining input.old) (R.remaining input.new) (W.contents output.old) (W.contents output.new) result }
+{
+    run(alloc, Subcommand::Audit(from), input, output)
+}
+
 /// Reads a recording, to the end of the input, and writes what `audit` prints of it: the verdict on each pair of a
 /// reliable writer and reader that match, and what was counted. It ends [`Ending::Clean`] where each pair is complete,
 /// and fails as [`run_show`] does.
@@ -61,7 +76,7 @@ pub fn run_audit<R: Read, W: Write>(
     ensures { Runs IsAudited
         (R.remaining input.old) (R.remaining input.new) (W.contents output.old) (W.contents output.new) result }
 {
-    run(alloc, Subcommand::Audit, input, output)
+    run_audit_from(alloc, input, output, SeqNum::first())
 }
 
 /// Writes a recording to try, of six datagrams; it ends [`Ending::Clean`]. It reads nothing, and fails with
@@ -100,6 +115,6 @@ fn text_of(
     match subcommand {
         Subcommand::Show => show_text(alloc, recording),
         Subcommand::List => list_text(alloc, recording),
-        Subcommand::Audit => audit_text(alloc, recording),
+        Subcommand::Audit(from) => audit_text(alloc, recording, from),
     }
 }

@@ -1,4 +1,7 @@
-use rtps_tool::{Ending, RecFault, RunFault, run_audit, run_list, run_show, status, write_fault};
+use rtps_ids::SeqNum;
+use rtps_tool::{
+    Ending, RecFault, RunFault, run_audit, run_audit_from, run_list, run_show, status, write_fault,
+};
 use std::test::Fail;
 
 // A heartbeat, and a submessage header that is cut short.
@@ -59,6 +62,28 @@ fn a_recording_is_audited(rt: HostRuntime) -> Result<(), Fail> {
         datagrams 4 refused 0 skipped 0 fragments 0 undirected 0 unsettled 0\n";
     assert_eq!(rt; output.as_slice(), wanted.as_bytes());
     assert_eq!(rt; ending, Ending::Unclean);
+    Ok(())
+}
+
+#[test]
+fn a_recording_is_audited_from_a_number_on(rt: HostRuntime) -> Result<(), Fail> {
+    for (from, verdict, wanted_ending) in [
+        (1, "open 2", Ending::Unclean),
+        (2, "open 2", Ending::Unclean),
+        (3, "complete 2", Ending::Clean),
+        (i64::MAX, "complete 9223372036854775806", Ending::Clean),
+    ] {
+        let mut output = Vec::new(rt.alloc());
+        let from = SeqNum::new(from).expect(&rt, "a number");
+        let ending = run_audit_from(rt.alloc(), &mut OPEN.as_bytes(), &mut output, from)?;
+        let wanted = format!(in rt.alloc();
+            "pairs 1\n\
+            aaaaaaaaaaaaaaaaaaaaaaaa.00000103 bbbbbbbbbbbbbbbbbbbbbbbb.00000104 {verdict}\n\
+            datagrams 4 refused 0 skipped 0 fragments 0 undirected 0 unsettled 0\n"
+        )?;
+        assert_eq!(rt; output.as_slice(), wanted.as_bytes());
+        assert_eq!(rt; ending, wanted_ending);
+    }
     Ok(())
 }
 

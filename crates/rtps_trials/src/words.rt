@@ -1,3 +1,4 @@
+use rtps_ids::SeqNum;
 use rtps_tool::{Choice, RunFault, WordFault, read_words, write_fault};
 use std::alloc::Global;
 use std::test::Fail;
@@ -13,7 +14,7 @@ fn chosen_of(alloc: Global, words: &[&str]) -> Result<(&'static str, String), Wo
     Ok(match read_words(alloc, words)? {
         Choice::Show { file } => ("show", file),
         Choice::List { file } => ("list", file),
-        Choice::Audit { file } => ("audit", file),
+        Choice::Audit { file, from: _ } => ("audit", file),
         Choice::Sample => ("sample", String::new(alloc)),
     })
 }
@@ -40,6 +41,52 @@ fn a_subcommand_is_chosen_with_its_file(rt: HostRuntime) -> Result<(), Fail> {
         assert_eq!(rt; file.as_str(), "-");
     }
     Ok(())
+}
+
+// The number from which on the words ask `audit`; None where they choose something else.
+fn number_of(alloc: Global, words: &[&str]) -> Result<Option<SeqNum>, WordFault> {
+    Ok(match read_words(alloc, words)? {
+        Choice::Audit { file: _, from } => Some(from),
+        Choice::Show { file: _ } | Choice::List { file: _ } | Choice::Sample => None,
+    })
+}
+
+#[test]
+fn a_number_is_chosen(rt: HostRuntime) {
+    let alloc = rt.alloc();
+    for (words, wanted) in [
+        (["rtps-audit", "audit", "--from=1", "-"].as_slice(), 1),
+        (["rtps-audit", "audit", "-"].as_slice(), 1),
+        (["rtps-audit", "audit", "--from", "2", "-"].as_slice(), 2),
+        (
+            ["rtps-audit", "audit", "-", "--from", "0017"].as_slice(),
+            17,
+        ),
+        (
+            ["rtps-audit", "audit", "--from=9223372036854775807", "-"].as_slice(),
+            i64::MAX,
+        ),
+    ] {
+        let number = number_of(alloc, words).expect(&rt, "a choice");
+        assert_eq!(rt; number, SeqNum::new(wanted));
+    }
+}
+
+// Whether the words are refused.
+fn are_refused(alloc: Global, words: &[&str]) -> bool {
+    matches!(&read_words(alloc, words), Err(WordFault::Refused(_)))
+}
+
+#[test]
+fn what_is_no_number_is_refused(rt: HostRuntime) {
+    let alloc = rt.alloc();
+    for number in ["0", "9223372036854775808", "-1", "1x", "", " 1", "1.0"] {
+        assert!(rt; are_refused(alloc, &["rtps-audit", "audit", "--from", number, "-"]));
+    }
+    assert!(rt; are_refused(alloc, &["rtps-audit", "audit", "-", "--from"]));
+    assert!(rt; are_refused(alloc, &["rtps-audit", "show", "--from", "1", "-"]));
+    let twice = ["rtps-audit", "audit", "--from", "1", "--from", "1", "-"];
+    assert!(rt; are_refused(alloc, &twice));
 }
 
 // Whether the words ask for help.

@@ -1,4 +1,4 @@
-use Rattle.rtps_text.specs.AuditText.{IsAudited}
+use Rattle.rtps_text.specs.AuditText.{IsAuditedFrom}
 use Rattle.rtps_text.specs.ListText.{IsListed}
 use Rattle.rtps_text.specs.ShowText.{IsShown}
 use Rattle.rtps_tool.proofs.RunsLemmas.{runs_agree}
@@ -11,4 +11,4 @@ pub returns-clause-list : goal.returns-clause-list
 returns-clause-list c = runs_agree IsListed c.one_text.ensures.listed
 
 pub returns-clause-audit : goal.returns-clause-audit
-returns-clause-audit c = runs_agree IsAudited c.one_text.ensures.audited
+returns-clause-audit c = λ from. runs_agree (IsAuditedFrom from) (c.one_text.ensures.audited from)
