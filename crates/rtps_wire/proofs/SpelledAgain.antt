@@ -1,7 +1,6 @@
 -- A message that is written is spelled by its octets, and alike to one from which it was read.
-use Rattle.std.proofs.Common.{◌≡◌, ◌<◌, ◌≤◌, ◌+◌, ◌*◌, ◌/◌, ◌-◌, ◌%◌, ◌^◌, ℕ, suc, pos, List, [], ◌∷◌, ◌++◌, Bool, true, false, Option, None, Some, All, length, take, get_or, refl, ap, sym, ◌∙◌, arith}
+use Rattle.std.proofs.Common.{◌≡◌, ◌<◌, ◌+◌, ◌/◌, ◌^◌, ℕ, suc, pos, List, [], ◌∷◌, ◌++◌, Bool, true, false, Option, None, Some, All, length, take, refl, ap, sym, ◌∙◌, arith}
 use Rattle.std.specs.Prelude.{◌==◌, bit_and, bit_or, slice_index}
-use Rattle.std.specs.Int.{bit_at}
 use Rattle.std.specs.List.{flat_map}
 use Rattle.std.proofs.lemmas.List.{append-nil, get_or-take, length-append, length-take, length-take-le}
 use Rattle.rtps_ids.proofs.Offered.{length-octets_of}
@@ -21,12 +20,9 @@ use Rattle.rtps_wire.proofs.WrittenSets.{cleared_words_same}
 use Rattle.rtps_wire.specs.Reading.{reading_of}
 use Rattle.std.proofs.lemmas.Bool.Decides.{nat_tests}
 use Rattle.rtps_wire.proofs.WrittenMessage.{no_fault, no_first}
-use Rattle.rtps_wire.specs.AckNack.{ack_nack_octets}
-use Rattle.rtps_wire.specs.Data.{data_octets, payload_flag, payload_octets, qos_flag}
+use Rattle.rtps_wire.specs.Data.{payload_flag, payload_octets, qos_flag}
 use Rattle.rtps_wire.specs.Flags.{flag_if, order_flag}
-use Rattle.rtps_wire.specs.Gap.{gap_octets}
-use Rattle.rtps_wire.specs.Heartbeat.{heartbeat_octets}
-use Rattle.rtps_wire.specs.Held.{IsHeldBody, IsHeldItem, IsHeldSet}
+use Rattle.rtps_wire.specs.Held.{IsHeldItem}
 use Rattle.rtps_wire.specs.Info.{info_ts_flags}
 use Rattle.rtps_wire.specs.SetField.{set_octets}
 use Rattle.rtps_wire.specs.Spelling.{AreAlike, IsReadAs, Spells, SpellsBody, SpellsItems, SpellsPayload, SpellsSet, SpellsSubmessage, named_flags}
@@ -34,9 +30,8 @@ use Rattle.rtps_wire.specs.Values.{BodyValue, ItemValue, PayloadValue}
 use Rattle.rtps_wire.specs.Values.BodyValue.{Data, Heartbeat, AckNack, Gap, InfoTs, InfoDst, InfoSrc, Skipped}
 use Rattle.rtps_wire.specs.Values.PayloadValue.{Absent, Whole, Key}
 use Rattle.rtps_wire.specs.Writable.{is_none_left, is_not_writable, item_fault, items_fault, write_fault}
-use Rattle.rtps_wire.specs.Written.{item_octets, message_octets, own_flags, submessage_octets, written_body, written_flags, written_id}
+use Rattle.rtps_wire.specs.Written.{item_octets, message_octets, written_body, written_flags, written_id}
 use Rattle.rtps_wire.specs.declared.header.Header.{Header}
-use Rattle.rtps_wire.specs.declared.write_fault.WriteFault.{WriteFault}
 use Rattle.rtps_wire.specs.declared.write_fault.WriteFault.TheVariants.{NotWritable}
 
 -- ---- flags

@@ -1,15 +1,14 @@
 -- A body that is read is spelled by the octets from which it was read.
-use Rattle.std.proofs.Common.{◌≡◌, ◌<◌, ◌≤◌, ◌+◌, ◌-◌, ◌^◌, ℕ, zero, suc, ℤ, pos, negsuc, List, [], ◌∷◌, ◌++◌, Bool, true, false, Option, None, Some, length, take, drop, slice_index, refl, ap, sym, ◌∙◌, arith}
-use Rattle.std.specs.Prelude.{◌==◌, ◌&&◌, ◌||◌, ◌-ℤ◌, bit_and, int_le, int_lt, is_err, nat_lt, if◌then◌else◌, ⊤}
+use Rattle.std.proofs.Common.{◌≡◌, ◌≤◌, ◌+◌, ◌-◌, ℕ, zero, suc, ℤ, pos, negsuc, List, ◌∷◌, ◌++◌, Bool, true, false, Option, None, Some, length, take, drop, slice_index, refl, ap, sym, ◌∙◌, arith}
+use Rattle.std.specs.Prelude.{◌==◌, ◌&&◌, ◌||◌, ◌-ℤ◌, bit_and, int_le, int_lt, nat_lt, if◌then◌else◌, ⊤}
 use Rattle.std.specs.Int.RustNames.{unsigned_abs}
 use Rattle.std.proofs.lemmas.Bool.Decides.{nat_tests}
 use Rattle.std.proofs.lemmas.Int.{ints}
 use Rattle.std.proofs.lemmas.List.{drop-drop, length-drop, length-take-le, take-append-drop}
-use Rattle.rtps_ids.specs.NumberSet.{is_bad, octets_of_count, spelled_base, spelled_count, spelled_set}
+use Rattle.rtps_ids.specs.NumberSet.{octets_of_count, spelled_base, spelled_count}
 use Rattle.rtps_ids.specs.Octets.{number_of, octets_of, sequence_number_octets}
 use Rattle.rtps_ids.specs.declared.order.Order.{Order}
 use Rattle.rtps_ids.specs.declared.order.Order.TheVariants.{Big, Little}
-use Rattle.rtps_params.specs.Reading.{list_end}
 use Rattle.rtps_params.specs.Shown.{is_same_order}
 use Rattle.rtps_wire.proofs.SpelledFields.{AreOctets, field_stands, half_below, half_stands, number_stands, octet_stands, octets-drop, pos-unsigned_abs, word_stands}
 use Rattle.rtps_wire.proofs.SpelledSets.{IsFit, held_fits, set_fits, set_stands}

@@ -1,21 +1,19 @@
 -- A message that is read is spelled by its octets.
-use Rattle.std.proofs.Common.{◌≡◌, ◌<◌, ◌≤◌, ◌+◌, ◌^◌, ℕ, zero, suc, List, [], ◌∷◌, ◌++◌, append_assoc, Bool, true, false, Option, None, Some, length, map, take, drop, slice_index, refl, ap, sym, subst, ◌∙◌, arith, inl, inr}
+use Rattle.std.proofs.Common.{◌≡◌, ◌≤◌, ◌+◌, ℕ, suc, List, [], ◌∷◌, ◌++◌, append_assoc, Bool, true, false, Option, None, Some, length, map, take, drop, slice_index, refl, ap, sym, subst, ◌∙◌, arith}
 use Rattle.std.specs.Prelude.{◌==◌, ◌||◌, bit_and, nat_lt, not, if◌then◌else◌, ⊤}
 use Rattle.std.proofs.lemmas.Bool.Decides.{nat_tests}
-use Rattle.std.proofs.lemmas.List.{drop-drop, get_or-take, length-drop, length-take, length-take-le, take-append-drop}
-use Rattle.rtps_ids.specs.Octets.{number_of, octets_of}
+use Rattle.std.proofs.lemmas.List.{get_or-take, length-drop, length-take, length-take-le, take-append-drop}
+use Rattle.rtps_ids.specs.Octets.{octets_of}
 use Rattle.rtps_wire.proofs.OneReading.{has_reading}
-use Rattle.rtps_wire.proofs.Readings.{fault_at-body}
 use Rattle.rtps_wire.proofs.SpelledBodies.{IsSized, ack_nack_sized, ack_nack_spelled, data_spelled, destination_sized, destination_spelled, gap_sized, gap_spelled, heartbeat_sized, heartbeat_spelled, at_least, one_kind, source_spelled, time_spelled}
 use Rattle.rtps_wire.proofs.SpelledFields.{AreOctets, field_stands, half_below, half_octets, octet_stands, octets-drop}
 use Rattle.rtps_wire.proofs.SpelledFlags.{ack_nack_flags_read, data_flags_read, heartbeat_flags_read, plain_flags, time_flags_read}
 use Rattle.rtps_wire.specs.Header.{header_fault, header_octets, header_of}
-use Rattle.rtps_wire.specs.Message.{Reading, Reads, ReadsFrom, ReadsWith, body_fault, body_length, body_octets, body_of, extent_of, fault_at, flags_of, id_of, item_at, next_rest, octets_to_next_header, order_of}
+use Rattle.rtps_wire.specs.Message.{Reading, ReadsFrom, ReadsWith, body_fault, body_length, body_octets, body_of, extent_of, fault_at, flags_of, id_of, item_at, next_rest, octets_to_next_header, order_of}
 use Rattle.rtps_wire.specs.Reading.{reading_of}
 use Rattle.rtps_wire.specs.Skipped.{is_read}
 use Rattle.rtps_wire.specs.Spelling.{IsReadAs, Spells, SpellsBody, SpellsItems, SpellsSubmessage, named_flags, unplaced}
 use Rattle.rtps_wire.specs.Values.{BodyValue, ItemValue}
-use Rattle.rtps_wire.specs.Values.BodyValue.{Data, Heartbeat, AckNack, Gap, InfoTs, InfoDst, InfoSrc, Skipped}
 use Rattle.rtps_wire.specs.Written.{written_flags, written_id}
 use Rattle.rtps_wire.specs.declared.fault.WireFault.{WireFault}
 use Rattle.rtps_wire.specs.declared.fault.WireFault.TheVariants.{BadVersion, CutHeader, NotRtps, Overrun, Short}

@@ -1,5 +1,5 @@
 -- A set that is read is spelled by the octets from which it was read.
-use Rattle.std.proofs.Common.{◌≡◌, ◌<◌, ◌≤◌, ◌+◌, ◌-◌, ◌*◌, ◌/◌, ◌%◌, ◌^◌, ℕ, ℤ, zero, suc, pos, List, [], ◌∷◌, ◌++◌, Bool, true, false, length, drop, get_or, refl, ap, sym, ◌∙◌, append_assoc, arith, All}
+use Rattle.std.proofs.Common.{◌≡◌, ◌<◌, ◌≤◌, ◌+◌, ◌-◌, ◌*◌, ◌/◌, ◌^◌, ℕ, ℤ, zero, suc, pos, List, [], ◌∷◌, ◌++◌, Bool, true, false, length, drop, get_or, refl, ap, sym, ◌∙◌, append_assoc, arith, All}
 use Rattle.std.specs.Prelude.{int_le, nat_lt, slice_index}
 use Rattle.std.specs.Int.RustNames.{unsigned_abs}
 use Rattle.std.specs.List.{flat_map}
@@ -9,9 +9,8 @@ use Rattle.std.proofs.Math.Nat.{div-add-mod', mul-add-div, zero-div}
 use Rattle.std.proofs.lemmas.List.{drop-drop, length-drop}
 use Rattle.std.proofs.lemmas.List.FromFn.{fill_by_all, get_or-map-range_with_len, length-map-range_with_len}
 use Rattle.std.proofs.lemmas.Nat.{pow_pos}
-use Rattle.std.proofs.lemmas.Nat.Bits.{bit_at_cat_high}
 use Rattle.rtps_ids.proofs.Offered.{at_most_256}
-use Rattle.rtps_ids.specs.NumberSet.{NumberSetValue, bit_of, cleared, cleared_words, is_bad, kept_bits, octets_of_count, spelled_base, spelled_count, spelled_set, spelled_word}
+use Rattle.rtps_ids.specs.NumberSet.{NumberSetValue, cleared, cleared_words, is_bad, kept_bits, octets_of_count, spelled_base, spelled_count, spelled_set, spelled_word}
 use Rattle.rtps_ids.specs.Octets.{number_of, octets_of, sequence_number_octets}
 use Rattle.rtps_ids.specs.declared.order.Order.{Order}
 use Rattle.rtps_wire.proofs.SpelledFields.{AreOctets, number_stands, octets-drop, pos-unsigned_abs, word_below, word_stands}
