@@ -1,21 +1,23 @@
 -- A body that is read is spelled by the octets from which it was read.
-use Rattle.std.proofs.Common.{◌≡◌, ◌<◌, ◌≤◌, ◌+◌, ◌-◌, ◌^◌, ℕ, zero, suc, ℤ, pos, negsuc, List, [], ◌∷◌, ◌++◌, Bool, true, false, Option, None, Some, length, take, drop, slice_index, refl, ap, sym, ◌∙◌, arith}
-use Rattle.std.specs.Prelude.{◌==◌, ◌&&◌, ◌||◌, ◌-ℤ◌, bit_and, int_le, int_lt, is_err, nat_lt, if◌then◌else◌}
+use Rattle.std.proofs.Common.{◌≡◌, ◌≤◌, ◌+◌, ◌-◌, ℕ, zero, suc, ℤ, pos, negsuc, List, ◌∷◌, ◌++◌, Bool, true, false, Option, None, Some, length, take, drop, slice_index, refl, ap, sym, ◌∙◌, arith}
+use Rattle.std.specs.Prelude.{◌==◌, ◌&&◌, ◌||◌, ◌-ℤ◌, bit_and, int_le, int_lt, nat_lt, if◌then◌else◌, ⊤}
 use Rattle.std.specs.Int.RustNames.{unsigned_abs}
 use Rattle.std.proofs.lemmas.Bool.Decides.{nat_tests}
 use Rattle.std.proofs.lemmas.Int.{ints}
 use Rattle.std.proofs.lemmas.List.{drop-drop, length-drop, length-take-le, take-append-drop}
-use Rattle.rtps_ids.specs.NumberSet.{is_bad, octets_of_count, spelled_base, spelled_count, spelled_set}
+use Rattle.rtps_ids.specs.NumberSet.{octets_of_count, spelled_base, spelled_count}
 use Rattle.rtps_ids.specs.Octets.{number_of, octets_of, sequence_number_octets}
 use Rattle.rtps_ids.specs.declared.order.Order.{Order}
 use Rattle.rtps_ids.specs.declared.order.Order.TheVariants.{Big, Little}
-use Rattle.rtps_params.specs.Reading.{list_end}
 use Rattle.rtps_params.specs.Lists.{is_same_order}
 use Rattle.rtps_wire.proofs.SpelledFields.{AreOctets, field_stands, half_below, half_stands, number_stands, octet_stands, octets-drop, pos-unsigned_abs, word_stands}
-use Rattle.rtps_wire.proofs.SpelledSets.{set_stands}
+use Rattle.rtps_wire.proofs.SpelledSets.{IsFit, held_fits, set_fits, set_stands}
 use Rattle.rtps_wire.specs.AckNack.{ack_nack_fault, ack_nack_of, count_place}
 use Rattle.rtps_wire.specs.Data.{behind_fields, behind_qos, data_fault, data_number, data_of, has_data, has_key, has_qos, is_other_order, octets_to_inline_qos, payload_of, qos_octets, qos_of}
 use Rattle.rtps_wire.specs.Gap.{gap_fault, gap_of, start_number}
+use Rattle.rtps_wire.specs.Held.{IsHeldBody}
+use Rattle.rtps_wire.specs.Values.{BodyValue}
+use Rattle.rtps_wire.specs.Values.BodyValue.{Data, Heartbeat, AckNack, Gap, InfoTs, InfoDst, InfoSrc, Skipped}
 use Rattle.rtps_wire.specs.Heartbeat.{first_number, heartbeat_fault, heartbeat_of, last_number}
 use Rattle.rtps_wire.specs.Info.{info_dst_fault, info_dst_of, info_src_fault, info_src_of, info_ts_fault, info_ts_of}
 use Rattle.rtps_wire.specs.Spelling.{SpellsAckNack, SpellsData, SpellsDestination, SpellsGap, SpellsHeartbeat, SpellsPayload, SpellsSource, SpellsTime}
@@ -221,3 +223,53 @@ data_spelled order flags octets small good =
 
 pub one_kind : (order : Order) (flags : ℕ) (octets : List ℕ) → data_fault order flags octets ≡ None → (has_data flags && has_key flags) ≡ false
 one_kind order flags octets good = (no_row _ _ _ (no_row _ _ _ good).1).0
+
+-- ---- what every body has that is read or held: sets that are fit, and a first field of its size
+
+abbrev pub IsSized : BodyValue → Type 0
+IsSized (Heartbeat body) = length body.reader.0 ≡ 4
+IsSized (AckNack body) = (length body.reader.0 ≡ 4) × IsFit body.set
+IsSized (Gap body) = (length body.reader.0 ≡ 4) × IsFit body.list
+IsSized (InfoDst prefix) = length prefix.0 ≡ 12
+IsSized _ = ⊤
+
+pub held_sized : (value : BodyValue) → IsHeldBody value → IsSized value
+held_sized (Data body) held = tt
+held_sized (Heartbeat body) held = held.reader
+held_sized (AckNack body) held = (held.reader, held_fits body.set held.set)
+held_sized (Gap body) held = (held.reader, held_fits body.list held.list)
+held_sized (InfoTs time) held = tt
+held_sized (InfoDst prefix) held = held
+held_sized (InfoSrc version vendor prefix) held = tt
+held_sized (Skipped id) held = tt
+
+pub heartbeat_sized : (order : Order) (octets : List ℕ) → heartbeat_fault order octets ≡ None → length (take 4 octets) ≡ 4
+heartbeat_sized order octets good =
+    let sized = no_row _ _ _ good in
+    let long = at_least (length octets) 28 sized.0 in
+    length-take-le 4 octets (omega arith)
+
+pub ack_nack_sized : (order : Order) (flags : ℕ) (octets : List ℕ) → AreOctets octets → ack_nack_fault order octets ≡ None → IsSized (AckNack (ack_nack_of order flags octets))
+ack_nack_sized order flags octets small good =
+    let sized = no_row _ _ _ good in
+    let set_good = no_row _ _ _ sized.1 in
+    let whole = no_row _ _ _ set_good.1 in
+    let long = at_least (length octets) 24 sized.0 in
+    let enough = at_least (length octets) (count_place order octets + 4) whole.0 in
+    (length-take-le 4 octets (omega arith), set_fits order (drop 8 octets) set_good.0 (omega (arith, length-drop 8 octets)) (octets-drop octets 8 small))
+
+pub gap_sized : (order : Order) (octets : List ℕ) → AreOctets octets → gap_fault order octets ≡ None → IsSized (Gap (gap_of order octets))
+gap_sized order octets small good =
+    let sized = no_row _ _ _ good in
+    let started = no_row _ _ _ sized.1 in
+    let list_good = no_row _ _ _ started.1 in
+    let whole = no_row _ _ _ list_good.1 in
+    let long = at_least (length octets) 28 sized.0 in
+    let enough = at_least (length octets) (16 + octets_of_count (spelled_count order (drop 16 octets))) whole.0 in
+    (length-take-le 4 octets (omega arith), set_fits order (drop 16 octets) (neither _ _ list_good.0).0 (omega (arith, length-drop 16 octets)) (octets-drop octets 16 small))
+
+pub destination_sized : (octets : List ℕ) → info_dst_fault octets ≡ None → length (take 12 octets) ≡ 12
+destination_sized octets good =
+    let sized = no_row _ _ _ good in
+    let long = at_least (length octets) 12 sized.0 in
+    length-take-le 12 octets (omega arith)

@@ -1,21 +1,19 @@
 -- A message that is read is spelled by its octets.
-use Rattle.std.proofs.Common.{◌≡◌, ◌<◌, ◌≤◌, ◌+◌, ◌^◌, ℕ, zero, suc, List, [], ◌∷◌, ◌++◌, append_assoc, Bool, true, false, Option, None, Some, length, map, take, drop, slice_index, refl, ap, sym, subst, ◌∙◌, arith, inl, inr}
-use Rattle.std.specs.Prelude.{◌==◌, ◌||◌, bit_and, nat_lt, not, if◌then◌else◌}
+use Rattle.std.proofs.Common.{◌≡◌, ◌≤◌, ◌+◌, ℕ, suc, List, [], ◌∷◌, ◌++◌, append_assoc, Bool, true, false, Option, None, Some, length, map, take, drop, slice_index, refl, ap, sym, subst, ◌∙◌, arith}
+use Rattle.std.specs.Prelude.{◌==◌, ◌||◌, bit_and, nat_lt, not, if◌then◌else◌, ⊤}
 use Rattle.std.proofs.lemmas.Bool.Decides.{nat_tests}
-use Rattle.std.proofs.lemmas.List.{drop-drop, get_or-take, length-drop, length-take, length-take-le, take-append-drop}
-use Rattle.rtps_ids.specs.Octets.{number_of, octets_of}
+use Rattle.std.proofs.lemmas.List.{get_or-take, length-drop, length-take, length-take-le, take-append-drop}
+use Rattle.rtps_ids.specs.Octets.{octets_of}
 use Rattle.rtps_wire.proofs.OneReading.{has_reading}
-use Rattle.rtps_wire.proofs.Readings.{fault_at-body}
-use Rattle.rtps_wire.proofs.SpelledBodies.{ack_nack_spelled, data_spelled, destination_spelled, gap_spelled, heartbeat_spelled, at_least, one_kind, source_spelled, time_spelled}
+use Rattle.rtps_wire.proofs.SpelledBodies.{IsSized, ack_nack_sized, ack_nack_spelled, data_spelled, destination_sized, destination_spelled, gap_sized, gap_spelled, heartbeat_sized, heartbeat_spelled, at_least, one_kind, source_spelled, time_spelled}
 use Rattle.rtps_wire.proofs.SpelledFields.{AreOctets, field_stands, half_below, half_octets, octet_stands, octets-drop}
 use Rattle.rtps_wire.proofs.SpelledFlags.{ack_nack_flags_read, data_flags_read, heartbeat_flags_read, plain_flags, time_flags_read}
 use Rattle.rtps_wire.specs.Header.{header_fault, header_octets, header_of}
-use Rattle.rtps_wire.specs.Message.{Reading, Reads, ReadsFrom, ReadsWith, body_fault, body_length, body_octets, body_of, extent_of, fault_at, flags_of, id_of, item_at, next_rest, octets_to_next_header, order_of}
+use Rattle.rtps_wire.specs.Message.{Reading, ReadsFrom, ReadsWith, body_fault, body_length, body_octets, body_of, extent_of, fault_at, flags_of, id_of, item_at, next_rest, octets_to_next_header, order_of}
 use Rattle.rtps_wire.specs.Reading.{reading_of}
 use Rattle.rtps_wire.specs.Skipped.{is_read}
 use Rattle.rtps_wire.specs.Spelling.{IsReadAs, Spells, SpellsBody, SpellsItems, SpellsSubmessage, named_flags, unplaced}
 use Rattle.rtps_wire.specs.Values.{BodyValue, ItemValue}
-use Rattle.rtps_wire.specs.Values.BodyValue.{Data, Heartbeat, AckNack, Gap, InfoTs, InfoDst, InfoSrc, Skipped}
 use Rattle.rtps_wire.specs.Written.{written_flags, written_id}
 use Rattle.rtps_wire.specs.declared.fault.WireFault.{WireFault}
 use Rattle.rtps_wire.specs.declared.fault.WireFault.TheVariants.{BadVersion, CutHeader, NotRtps, Overrun, Short}
@@ -27,6 +25,7 @@ record Spelled (id flags : ℕ) (octets : List ℕ) (value : BodyValue) : Type 0
   id_is : written_id value ≡ id
   named : bit_and flags (named_flags value) ≡ written_flags (order_of flags) value
   spelled : SpellsBody (order_of flags) value octets
+  sized : IsSized value
 
 same_id : (id other : ℕ) → (id == other) ≡ true → other ≡ id
 same_id id other same = grind (arith, nat_tests)
@@ -41,45 +40,45 @@ body_spelled id flags octets small good = ack_nack (id == 6) refl
         → Spelled id flags octets (body_of id flags octets)
     rest p6 p7 p8 p9 p12 p14 true is =
         let fine = rw (p6, p7, p8, p9, p12, p14, is) at good in
-        rw (p6, p7, p8, p9, p12, p14, is) (record { id_is = same_id id 21 is; named = data_flags_read (order_of flags) flags _ _ (one_kind (order_of flags) flags octets fine); spelled = data_spelled (order_of flags) flags octets small fine })
+        rw (p6, p7, p8, p9, p12, p14, is) (record { id_is = same_id id 21 is; named = data_flags_read (order_of flags) flags _ _ (one_kind (order_of flags) flags octets fine); spelled = data_spelled (order_of flags) flags octets small fine; sized = tt })
     rest p6 p7 p8 p9 p12 p14 false is =
-        rw (p6, p7, p8, p9, p12, p14, is) (record { id_is = refl; named = plain_flags flags; spelled = not_read id p6 p7 p8 p9 p12 p14 is })
+        rw (p6, p7, p8, p9, p12, p14, is) (record { id_is = refl; named = plain_flags flags; spelled = not_read id p6 p7 p8 p9 p12 p14 is; sized = tt })
 
     info_dst : (id == 6) ≡ false → (id == 7) ≡ false → (id == 8) ≡ false → (id == 9) ≡ false → (id == 12) ≡ false → (b : Bool) → (id == 14) ≡ b
         → Spelled id flags octets (body_of id flags octets)
     info_dst p6 p7 p8 p9 p12 true is =
         let fine = rw (p6, p7, p8, p9, p12, is) at good in
-        rw (p6, p7, p8, p9, p12, is) (record { id_is = same_id id 14 is; named = plain_flags flags; spelled = destination_spelled octets fine })
+        rw (p6, p7, p8, p9, p12, is) (record { id_is = same_id id 14 is; named = plain_flags flags; spelled = destination_spelled octets fine; sized = destination_sized octets fine })
     info_dst p6 p7 p8 p9 p12 false is = rest p6 p7 p8 p9 p12 is (id == 21) refl
 
     info_src : (id == 6) ≡ false → (id == 7) ≡ false → (id == 8) ≡ false → (id == 9) ≡ false → (b : Bool) → (id == 12) ≡ b → Spelled id flags octets (body_of id flags octets)
     info_src p6 p7 p8 p9 true is =
         let fine = rw (p6, p7, p8, p9, is) at good in
-        rw (p6, p7, p8, p9, is) (record { id_is = same_id id 12 is; named = plain_flags flags; spelled = source_spelled octets fine })
+        rw (p6, p7, p8, p9, is) (record { id_is = same_id id 12 is; named = plain_flags flags; spelled = source_spelled octets fine; sized = tt })
     info_src p6 p7 p8 p9 false is = info_dst p6 p7 p8 p9 is (id == 14) refl
 
     info_ts : (id == 6) ≡ false → (id == 7) ≡ false → (id == 8) ≡ false → (b : Bool) → (id == 9) ≡ b → Spelled id flags octets (body_of id flags octets)
     info_ts p6 p7 p8 true is =
         let fine = rw (p6, p7, p8, is) at good in
-        rw (p6, p7, p8, is) (record { id_is = same_id id 9 is; named = time_flags_read flags _; spelled = time_spelled (order_of flags) flags octets small fine })
+        rw (p6, p7, p8, is) (record { id_is = same_id id 9 is; named = time_flags_read flags _; spelled = time_spelled (order_of flags) flags octets small fine; sized = tt })
     info_ts p6 p7 p8 false is = info_src p6 p7 p8 is (id == 12) refl
 
     gap : (id == 6) ≡ false → (id == 7) ≡ false → (b : Bool) → (id == 8) ≡ b → Spelled id flags octets (body_of id flags octets)
     gap p6 p7 true is =
         let fine = rw (p6, p7, is) at good in
-        rw (p6, p7, is) (record { id_is = same_id id 8 is; named = plain_flags flags; spelled = gap_spelled (order_of flags) octets small fine })
+        rw (p6, p7, is) (record { id_is = same_id id 8 is; named = plain_flags flags; spelled = gap_spelled (order_of flags) octets small fine; sized = gap_sized (order_of flags) octets small fine })
     gap p6 p7 false is = info_ts p6 p7 is (id == 9) refl
 
     heartbeat : (id == 6) ≡ false → (b : Bool) → (id == 7) ≡ b → Spelled id flags octets (body_of id flags octets)
     heartbeat p6 true is =
         let fine = rw (p6, is) at good in
-        rw (p6, is) (record { id_is = same_id id 7 is; named = heartbeat_flags_read flags; spelled = heartbeat_spelled (order_of flags) flags octets small fine })
+        rw (p6, is) (record { id_is = same_id id 7 is; named = heartbeat_flags_read flags; spelled = heartbeat_spelled (order_of flags) flags octets small fine; sized = heartbeat_sized (order_of flags) octets fine })
     heartbeat p6 false is = gap p6 is (id == 8) refl
 
     ack_nack : (b : Bool) → (id == 6) ≡ b → Spelled id flags octets (body_of id flags octets)
     ack_nack true is =
         let fine = rw is at good in
-        rw is (record { id_is = same_id id 6 is; named = ack_nack_flags_read flags; spelled = ack_nack_spelled (order_of flags) flags octets small fine })
+        rw is (record { id_is = same_id id 6 is; named = ack_nack_flags_read flags; spelled = ack_nack_spelled (order_of flags) flags octets small fine; sized = ack_nack_sized (order_of flags) flags octets small fine })
     ack_nack false is = heartbeat is (id == 7) refl
 
 -- ---- a submessage
@@ -147,6 +146,12 @@ item_spelled rest at small good =
       spelled = body.spelled;
     }
 
+item_sized : (rest : List ℕ) (at : ℕ) → AreOctets rest → fault_at rest ≡ None → IsSized (item_at rest at).body
+unfolding item_at
+item_sized rest at small good =
+    let whole = is_whole rest good in
+    (body_spelled (id_of rest) (flags_of rest) (body_octets rest) (octets-take (drop 4 rest) (body_length rest) (octets-drop rest 4 small)) whole.body).sized
+
 -- of the same order and body as one that is spelled
 same_spelled : (item other : ItemValue) (octets later : List ℕ) → unplaced item ≡ unplaced other → SpellsSubmessage item.order item.body octets later
     → SpellsSubmessage other.order other.body octets later
@@ -171,6 +176,22 @@ items_spelled (item ∷ items) (other ∷ others) rest at small (some, good, is,
       same_spelled item other first (next_rest rest) heads here,
       items_spelled items others (next_rest rest) (at + 4 + body_length rest) (octets-drop rest (4 + body_length rest) small) behind tails,
     )
+
+-- each item has the sizes that are read
+abbrev pub AreSized : List ItemValue → Type 0
+AreSized [] = ⊤
+AreSized (item ∷ items) = IsSized item.body × AreSized items
+
+items_sized : (items others : List ItemValue) (rest : List ℕ) (at : ℕ) → AreOctets rest → ReadsFrom rest at items None → map unplaced items ≡ map unplaced others → AreSized others
+items_sized [] [] rest at small done same = tt
+items_sized [] (other ∷ others) rest at small done same = cc
+items_sized (item ∷ items) [] rest at small done same = cc
+items_sized (item ∷ items) (other ∷ others) rest at small (some, good, is, behind) same =
+    let heads : unplaced item ≡ unplaced other = cc in
+    let tails : map unplaced items ≡ map unplaced others = cc in
+    let here : IsSized item.body = rw is (item_sized rest at small good) in
+    let body : item.body ≡ other.body = ap (λ (i : ItemValue). i.body) heads in
+    (subst IsSized body here, items_sized items others (next_rest rest) (at + 4 + body_length rest) (octets-drop rest (4 + body_length rest) small) behind tails)
 
 -- ---- the header
 
@@ -224,13 +245,19 @@ major_is octets good = (is_header octets good).major
 
 -- ---- a message
 
-pub read_spelled : (header : Header) (items : List ItemValue) (message : List ℕ) → AreOctets message → IsReadAs header items (reading_of message) → Spells header items message
-read_spelled header items message small read = by (header_fault message) refl (has_reading message)
+-- what is read of a message that has a clean end
+record IsRead (header : Header) (message : List ℕ) (found : Reading) : Type 0 where
+  fine : header_fault message ≡ None
+  header_is : header ≡ header_of message
+  behind : ReadsFrom (drop 20 message) 20 found.items None
+
+is_read_of : (header : Header) (items : List ItemValue) (message : List ℕ) → IsReadAs header items (reading_of message) → IsRead header message (reading_of message)
+is_read_of header items message read = by (header_fault message) refl (has_reading message)
   where
     found : Reading
     found = reading_of message
 
-    by : (fault : Option WireFault) → header_fault message ≡ fault → ReadsWith (header_fault message) message found → Spells header items message
+    by : (fault : Option WireFault) → header_fault message ≡ fault → ReadsWith (header_fault message) message found → IsRead header message (reading_of message)
     by (Some fault) is reads =
         let bad = rw is at reads in
         let none : Some header ≡ None = sym read.header_is ∙ bad.0 in
@@ -239,10 +266,19 @@ read_spelled header items message small read = by (header_fault message) refl (h
         let fine = rw is at reads in
         let header_is : Some header ≡ Some (header_of message) = sym read.header_is ∙ fine.0 in
         let same : header ≡ header_of message = cc in
-        let behind : ReadsFrom (drop 20 message) 20 found.items None = subst (λ e. ReadsFrom (drop 20 message) 20 found.items e) read.clean fine.1 in
-        record {
-          rest = drop 20 message;
-          version = ap (λ (h : Header). h.version.major) same ∙ major_is message is;
-          parts = rw same (header_stands message is);
-          spelled = items_spelled found.items items (drop 20 message) 20 (octets-drop message 20 small) behind read.items_are;
-        }
+        record { fine = is; header_is = same; behind = subst (λ e. ReadsFrom (drop 20 message) 20 found.items e) read.clean fine.1 }
+
+pub read_spelled : (header : Header) (items : List ItemValue) (message : List ℕ) → AreOctets message → IsReadAs header items (reading_of message) → Spells header items message
+read_spelled header items message small read =
+    let is = is_read_of header items message read in
+    record {
+      rest = drop 20 message;
+      version = ap (λ (h : Header). h.version.major) is.header_is ∙ major_is message is.fine;
+      parts = rw is.header_is (header_stands message is.fine);
+      spelled = items_spelled (reading_of message).items items (drop 20 message) 20 (octets-drop message 20 small) is.behind read.items_are;
+    }
+
+pub read_sized : (header : Header) (items : List ItemValue) (message : List ℕ) → AreOctets message → IsReadAs header items (reading_of message) → AreSized items
+read_sized header items message small read =
+    let is = is_read_of header items message read in
+    items_sized (reading_of message).items items (drop 20 message) 20 (octets-drop message 20 small) is.behind read.items_are

@@ -1,6 +1,6 @@
 -- A message is read as what it spells.
-use Rattle.std.proofs.Common.{◌≡◌, ◌<◌, ◌≤◌, ◌+◌, ◌*◌, ◌/◌, ◌^◌, ℕ, suc, ℤ, pos, List, [], ◌∷◌, ◌++◌, Bool, true, false, Option, None, Some, All, length, map, take, drop, get_or, slice_index, refl, ap, sym, subst, ◌∙◌, append_assoc, arith}
-use Rattle.std.specs.Prelude.{◌==◌, ◌&&◌, ◌||◌, ◌-ℤ◌, ◌≤ℤ◌, bit_and, bit_or, int_le, int_lt, is_err, nat_lt, not, if◌then◌else◌}
+use Rattle.std.proofs.Common.{◌≡◌, ◌<◌, ◌≤◌, ◌+◌, ◌*◌, ℕ, suc, ℤ, pos, List, [], ◌∷◌, ◌++◌, Bool, true, false, Option, None, Some, All, length, map, take, drop, get_or, slice_index, refl, ap, sym, subst, ◌∙◌, append_assoc, arith}
+use Rattle.std.specs.Prelude.{◌==◌, ◌||◌, ◌-ℤ◌, ◌≤ℤ◌, bit_and, bit_or, int_le, int_lt, nat_lt, not, if◌then◌else◌}
 use Rattle.std.specs.Int.RustNames.{unsigned_abs}
 use Rattle.std.specs.List.{flat_map}
 use Rattle.std.proofs.lemmas.Bool.Decides.{nat_tests}
@@ -8,7 +8,7 @@ use Rattle.std.proofs.lemmas.Int.{ints}
 use Rattle.std.proofs.lemmas.List.{drop-drop, drop_at, get_or-drop, length-append, length-drop, take_at}
 use Rattle.std.proofs.lemmas.Nat.{and_assoc}
 use Rattle.rtps_ids.proofs.Offered.{length-octets_of, length-sequence_number_octets, number-octets_of}
-use Rattle.rtps_ids.specs.NumberSet.{NumberSetValue, cleared_words, is_bad, octets_of_count, spelled_base, spelled_count, spelled_word}
+use Rattle.rtps_ids.specs.NumberSet.{NumberSetValue, cleared_words, octets_of_count, spelled_base, spelled_count, spelled_word}
 use Rattle.rtps_ids.specs.Octets.{number_of, octets_of, sequence_number_octets}
 use Rattle.rtps_ids.specs.declared.identity.GuidPrefix.{GuidPrefix}
 use Rattle.rtps_ids.specs.declared.identity.Stamp.{Stamp}
@@ -32,11 +32,11 @@ use Rattle.rtps_wire.specs.AckNack.{ack_nack_fault, ack_nack_flags, ack_nack_of}
 use Rattle.rtps_wire.specs.Data.{behind_fields, behind_qos, data_fault, data_flags, data_number, data_of, has_data, has_key, octets_to_inline_qos, payload_of, qos_octets, qos_of}
 use Rattle.rtps_wire.specs.Flags.{order_flag}
 use Rattle.rtps_wire.specs.Gap.{gap_fault, gap_of, start_number}
-use Rattle.rtps_wire.specs.Header.{header_fault, header_octets, header_of}
+use Rattle.rtps_wire.specs.Header.{header_fault, header_octets}
 use Rattle.rtps_wire.specs.Heartbeat.{first_number, heartbeat_fault, heartbeat_flags, heartbeat_of, last_number}
 use Rattle.rtps_wire.specs.Held.{IsHeldAckNack, IsHeldBody, IsHeldData, IsHeldGap, IsHeldHeader, IsHeldHeartbeat, IsHeldItem, IsHeldSet, IsHeldTime}
 use Rattle.rtps_wire.specs.Info.{info_dst_fault, info_dst_of, info_src_fault, info_src_of, info_ts_fault, info_ts_flags, info_ts_of}
-use Rattle.rtps_wire.specs.Message.{Reading, ReadsFrom, ReadsWith, body_fault, body_length, body_octets, body_of, extent_of, fault_at, flags_of, id_of, item_at, next_rest, octets_to_next_header, order_of, source_value}
+use Rattle.rtps_wire.specs.Message.{Reading, ReadsFrom, ReadsWith, body_fault, body_length, body_octets, body_of, extent_of, fault_at, item_at, next_rest, octets_to_next_header, order_of, source_value}
 use Rattle.rtps_wire.specs.Reading.{reading_of}
 use Rattle.rtps_wire.specs.Skipped.{is_read}
 use Rattle.rtps_wire.specs.Spelling.{IsReadAs, Spells, SpellsAckNack, SpellsBody, SpellsData, SpellsDestination, SpellsGap, SpellsHeartbeat, SpellsItems, SpellsPayload, SpellsSet, SpellsSource, SpellsSubmessage, SpellsTime, named_flags, unplaced}
@@ -47,7 +47,6 @@ use Rattle.rtps_wire.specs.Written.{written_flags, written_id}
 use Rattle.rtps_wire.specs.declared.body.AckNackBody.{AckNackBody}
 use Rattle.rtps_wire.specs.declared.body.GapBody.{GapBody}
 use Rattle.rtps_wire.specs.declared.body.HeartbeatBody.{HeartbeatBody}
-use Rattle.rtps_wire.specs.declared.fault.WireFault.{WireFault}
 use Rattle.rtps_wire.specs.declared.header.Header.{Header}
 
 -- ---- places

@@ -1,22 +1,21 @@
 -- A set that is read is spelled by the octets from which it was read.
-use Rattle.std.proofs.Common.{◌≡◌, ◌<◌, ◌≤◌, ◌+◌, ◌-◌, ◌*◌, ◌/◌, ◌%◌, ◌^◌, ℕ, ℤ, zero, suc, pos, List, [], ◌∷◌, ◌++◌, true, false, length, drop, get_or, refl, ap, sym, ◌∙◌, append_assoc, arith, All}
+use Rattle.std.proofs.Common.{◌≡◌, ◌<◌, ◌≤◌, ◌+◌, ◌-◌, ◌*◌, ◌/◌, ◌^◌, ℕ, ℤ, zero, suc, pos, List, [], ◌∷◌, ◌++◌, Bool, true, false, length, drop, get_or, refl, ap, sym, ◌∙◌, append_assoc, arith, All}
 use Rattle.std.specs.Prelude.{int_le, nat_lt, slice_index}
-use Rattle.std.specs.Int.{bit_at}
 use Rattle.std.specs.Int.RustNames.{unsigned_abs}
 use Rattle.std.specs.List.{flat_map}
-use Rattle.std.proofs.Math.Nat.{div-add-mod', mod-lt}
 use Rattle.std.proofs.lemmas.Bool.Decides.{nat_tests}
 use Rattle.std.proofs.lemmas.Int.{ints}
+use Rattle.std.proofs.Math.Nat.{div-add-mod', mul-add-div, zero-div}
 use Rattle.std.proofs.lemmas.List.{drop-drop, length-drop}
-use Rattle.std.proofs.lemmas.List.FromFn.{get_or-map-range_with_len}
+use Rattle.std.proofs.lemmas.List.FromFn.{fill_by_all, get_or-map-range_with_len, length-map-range_with_len}
 use Rattle.std.proofs.lemmas.Nat.{pow_pos}
-use Rattle.std.proofs.lemmas.Nat.Bits.{bit_at_cat_high}
 use Rattle.rtps_ids.proofs.Offered.{at_most_256}
-use Rattle.rtps_ids.specs.NumberSet.{bit_of, cleared, cleared_words, is_bad, kept_bits, octets_of_count, spelled_base, spelled_count, spelled_set, spelled_word}
+use Rattle.rtps_ids.specs.NumberSet.{NumberSetValue, cleared, cleared_words, is_bad, kept_bits, octets_of_count, spelled_base, spelled_count, spelled_set, spelled_word}
 use Rattle.rtps_ids.specs.Octets.{number_of, octets_of, sequence_number_octets}
 use Rattle.rtps_ids.specs.declared.order.Order.{Order}
 use Rattle.rtps_wire.proofs.SpelledFields.{AreOctets, number_stands, octets-drop, pos-unsigned_abs, word_below, word_stands}
-use Rattle.rtps_wire.proofs.WrittenSets.{cleared_words_same}
+use Rattle.rtps_wire.proofs.WrittenSets.{cleared_words_same, set_good}
+use Rattle.rtps_wire.specs.Held.{IsHeldSet}
 use Rattle.rtps_wire.specs.Spelling.{SpellsSet}
 
 -- ---- words that stand one behind another
@@ -104,4 +103,76 @@ set_stands order octets good whole small =
         kept = cleared_words_same count (spelled_word order octets) (λ i. slice_index words i) (λ j before. sym (word_is j (omega arith)));
         good = good_again (spelled_base order octets) _ count base_is good;
       };
+    }
+
+-- ---- what every set has that is read or kept
+
+pub record IsFit (set : NumberSetValue) : Type 0 where
+  pub few : set.count < 257
+  pub eight : length set.words ≡ 8
+  pub small : All (λ word. word < 2 ^ 32) set.words
+  pub clear : set.words ≡ cleared_words set.count (λ i. slice_index set.words i)
+  pub good : is_bad (pos set.base) set.count ≡ false
+
+pub held_fits : (set : NumberSetValue) → IsHeldSet set → IsFit set
+held_fits set held = record { few = held.kept.few; eight = held.kept.eight; small = held.words; clear = held.kept.clear; good = set_good set held }
+
+-- a word that is cleared is no greater, and stays as it is when it is cleared again
+cleared-below : (count word i : ℕ) → (32 * i < count → word < 2 ^ 32) → cleared count word i < 2 ^ 32
+cleared-below count word i small = by (nat_lt (32 * i) count) refl
+  where
+    by : (begun : Bool) → nat_lt (32 * i) count ≡ begun → cleared count word i < 2 ^ 32
+    by true e =
+        let before : 32 * i < count = grind (arith, nat_tests) in
+        let parts = div-add-mod' word (2 ^ (32 - kept_bits count i)) in
+        let bound = small before in
+        rw e (omega arith)
+    by false e = rw e (omega arith)
+
+without_low-twice : (word m : ℕ) → word / 2 ^ m * 2 ^ m / 2 ^ m * 2 ^ m ≡ word / 2 ^ m * 2 ^ m
+without_low-twice word m =
+    let room : zero < 2 ^ m = pow_pos m in
+    let turned : 2 ^ m * (word / 2 ^ m) + 0 ≡ word / 2 ^ m * 2 ^ m = omega arith in
+    let divided : (2 ^ m * (word / 2 ^ m) + 0) / 2 ^ m ≡ word / 2 ^ m + 0 / 2 ^ m = mul-add-div room (word / 2 ^ m) 0 in
+    let nothing : 0 / 2 ^ m ≡ 0 = zero-div (2 ^ m) in
+    let back : word / 2 ^ m * 2 ^ m / 2 ^ m ≡ word / 2 ^ m = ap (λ n. n / 2 ^ m) (sym turned) ∙ (divided ∙ (ap (λ n. word / 2 ^ m + n) nothing ∙ omega arith)) in
+    ap (λ n. n * 2 ^ m) back
+
+cleared-twice : (count word i : ℕ) → cleared count (cleared count word i) i ≡ cleared count word i
+cleared-twice count word i = by (nat_lt (32 * i) count) refl
+  where
+    by : (begun : Bool) → nat_lt (32 * i) count ≡ begun → cleared count (cleared count word i) i ≡ cleared count word i
+    by true e = rw e (without_low-twice word (32 - kept_bits count i))
+    by false e = rw e refl
+
+-- word i of those that are cleared
+cleared_word : (count i d : ℕ) (word : ℕ → ℕ) → i < 8 → get_or (cleared_words count word) i d ≡ cleared count (word i) i
+unfolding cleared_words
+cleared_word count i d word few = get_or-map-range_with_len (λ j. cleared count (word j) j) 0 8 i i d few (omega arith)
+
+length-cleared_words : (count : ℕ) (word : ℕ → ℕ) → length (cleared_words count word) ≡ 8
+unfolding cleared_words
+length-cleared_words count word = length-map-range_with_len (λ j. cleared count (word j) j) 0 8
+
+cleared_words-twice : (count : ℕ) (word : ℕ → ℕ) → cleared_words count word ≡ cleared_words count (λ i. slice_index (cleared_words count word) i)
+unfolding cleared_words
+cleared_words-twice count word =
+    fill_by_all (λ i. cleared count (slice_index (cleared_words count word) i) i) (cleared_words count word) 8 0 refl
+    (λ k below. cleared_word count k 0 word below ∙ sym (ap (λ w. cleared count w k) (cleared_word count k 0 word below) ∙ cleared-twice count (word k) k))
+
+pub set_fits : (order : Order) (octets : List ℕ) → is_bad (spelled_base order octets) (spelled_count order octets) ≡ false
+    → octets_of_count (spelled_count order octets) ≤ length octets → AreOctets octets → IsFit (spelled_set order octets)
+set_fits order octets good whole small =
+    let count = spelled_count order octets in
+    let word = spelled_word order octets in
+    let few = at_most_256 (spelled_base order octets) count good in
+    let base_is = pos-unsigned_abs (spelled_base order octets) (good_base (spelled_base order octets) count good) in
+    let eight = length-cleared_words count word in
+    record {
+      few = omega arith;
+      eight = eight;
+      small = λ k d inside. rw (cleared_word count k d word (omega arith))
+          (cleared-below count (word k) k (λ before. word_below order (drop (12 + 4 * k) octets) (omega (arith, length-drop (12 + 4 * k) octets)) (octets-drop octets (12 + 4 * k) small)));
+      clear = cleared_words-twice count word;
+      good = good_again (spelled_base order octets) _ count base_is good;
     }

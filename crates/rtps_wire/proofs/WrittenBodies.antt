@@ -111,7 +111,7 @@ body_same order (InfoSrc version vendor prefix) held good = ap source_value (inf
 body_same order (Skipped id) held good = cc
 
 -- a body that is not empty has the extent that is written; one that is empty is that of an INFO_TS
-extent_some : (order : Order) (body : BodyValue) (left : ℕ) → 0 < length (written_body order body)
+pub extent_some : (order : Order) (body : BodyValue) (left : ℕ) → 0 < length (written_body order body)
     → extent_of (written_id body) (length (written_body order body)) left ≡ length (written_body order body)
 extent_some order body left some =
     let other : (length (written_body order body) == 0) ≡ false = positive_test (length (written_body order body)) some in rw other refl

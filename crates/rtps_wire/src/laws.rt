@@ -44,7 +44,7 @@ pub fn a_message_is_read_as_it_is_spelled()
 pub fn what_is_written_is_spelled()
     ensures written { (header : Header) (items : List ItemValue) → All IsHeldItem items → write_fault header items ≡ None
         → Spells header items (message_octets header items) }
-    ensures again { (header : Header) (items : List ItemValue) (message : List ℕ) → All (λ octet. octet < 256) message → All IsHeldItem items
+    ensures again { (header : Header) (items : List ItemValue) (message : List ℕ) → All (λ octet. octet < 256) message
         → IsReadAs header items (reading_of message) → write_fault header items ≡ None → AreAlike message (message_octets header items) }
 {}
 
