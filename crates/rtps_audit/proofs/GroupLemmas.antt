@@ -10,7 +10,7 @@ use Rattle.std.specs.declared.cmp.Ordering.{Ordering}
 use Rattle.std.specs.declared.cmp.Ordering.TheVariants.{Less, Equal, Greater}
 use Rattle.rtps_audit.specs.Groups.{items_or_none, values_at}
 
-equal_of : (order : Ordering) → is_eq order ≡ true → order ≡ Equal
+pub equal_of : (order : Ordering) → is_eq order ≡ true → order ≡ Equal
 equal_of Less e = cc
 equal_of Equal e = refl
 equal_of Greater e = cc
@@ -20,30 +20,35 @@ is_eq-reversed Less = refl
 is_eq-reversed Equal = refl
 is_eq-reversed Greater = refl
 
-module _ {K V : Type 0} {cmp : K → K → Ordering} (total : IsTotalOrder cmp) where
-  found_alike : (x y : K) → cmp x y ≡ Equal → (entries : List (K × Vec V)) → lookup (is_at (cmp x)) entries ≡ lookup (is_at (cmp y)) entries
+module _ {K A : Type 0} {cmp : K → K → Ordering} (total : IsTotalOrder cmp) where
+  found_alike : (x y : K) → cmp x y ≡ Equal → (entries : List (K × A)) → lookup (is_at (cmp x)) entries ≡ lookup (is_at (cmp y)) entries
   found_alike x y e [] = refl
   found_alike x y e (entry ∷ entries) =
       ap (λ order. cond (is_eq order) (Some entry.1) (lookup (is_at (cmp x)) entries)) (total.congr x y entry.0 e)
       ∙ ap (λ found. cond (is_eq (cmp y entry.0)) (Some entry.1) found) (found_alike x y e entries)
 
-  -- what is seen of the list of a key grows where the key is that of the list that grew
-  pub list_grown : {X : Type 0} (seen : List V → List X) (old new : BTreeMap K (Vec V)) (key other : K) (list : Vec V) (added : List X) → Updates cmp old new key (Some list)
-      → seen list.items ≡ seen (values_at cmp old key) ++ added → seen (values_at cmp new other) ≡ seen (values_at cmp old other) ++ cond (is_eq (cmp other key)) added []
-  list_grown seen old new key other list added updates grown = by_test (is_eq (cmp other key)) refl
+  -- what is seen at a key grows where the value is written under that key
+  pub entry_grown : {X : Type 0} (seen : Option A → List X) (old new : BTreeMap K A) (key other : K) (value : A) (added : List X) → Updates cmp old new key (Some value)
+      → (is_eq (cmp other key) ≡ true → seen (Some value) ≡ seen (get cmp old key) ++ added) → seen (get cmp new other) ≡ seen (get cmp old other) ++ cond (is_eq (cmp other key)) added []
+  entry_grown seen old new key other value added updates grown = by_test (is_eq (cmp other key)) refl
     where
       at : is_eq (cmp key other) ≡ is_eq (cmp other key)
       at = ap is_eq (total.antisymm key other) ∙ is_eq-reversed (cmp other key)
 
-      now : values_at cmp new other ≡ items_or_none (cond (is_eq (cmp other key)) (Some list) (get cmp old other))
-      now = ap items_or_none (updates.0 other) ∙ ap (λ b. items_or_none (cond b (Some list) (get cmp old other))) at
+      now : get cmp new other ≡ cond (is_eq (cmp other key)) (Some value) (get cmp old other)
+      now = updates.0 other ∙ ap (λ b. cond b (Some value) (get cmp old other)) at
 
-      by_test : (b : Bool) → is_eq (cmp other key) ≡ b → seen (values_at cmp new other) ≡ seen (values_at cmp old other) ++ cond b added []
+      by_test : (b : Bool) → is_eq (cmp other key) ≡ b → seen (get cmp new other) ≡ seen (get cmp old other) ++ cond b added []
       by_test true e =
-          ap seen (now ∙ ap (λ b. items_or_none (cond b (Some list) (get cmp old other))) e) ∙ grown
-          ∙ ap (λ found. seen (items_or_none found) ++ added) (sym (found_alike other key (equal_of (cmp other key) e) old.entries))
+          ap seen (now ∙ ap (λ b. cond b (Some value) (get cmp old other)) e) ∙ grown e
+          ∙ ap (λ found. seen found ++ added) (sym (found_alike other key (equal_of (cmp other key) e) old.entries))
       by_test false e =
-          ap seen (now ∙ ap (λ b. items_or_none (cond b (Some list) (get cmp old other))) e) ∙ sym (append-nil _)
+          ap seen (now ∙ ap (λ b. cond b (Some value) (get cmp old other)) e) ∙ sym (append-nil _)
+
+-- the same of lists
+pub list_grown : {K V : Type 0} {cmp : K → K → Ordering} (total : IsTotalOrder cmp) {X : Type 0} (seen : List V → List X) (old new : BTreeMap K (Vec V)) (key other : K) (list : Vec V) (added : List X) → Updates cmp old new key (Some list)
+    → seen list.items ≡ seen (values_at cmp old key) ++ added → seen (values_at cmp new other) ≡ seen (values_at cmp old other) ++ cond (is_eq (cmp other key)) added []
+list_grown total seen old new key other list added updates grown = entry_grown total (λ found. seen (items_or_none found)) old new key other list added updates (λ e. grown)
 
 -- the list that an entry lends
 pub lent_items : {V : Type 0} (found value : Option (Vec V)) (empty list : Vec V) → empty.items ≡ [] → value ≡ found → list ≡ unwrap_or value empty → list.items ≡ items_or_none found

@@ -13,6 +13,7 @@ pub mod OneVerdict
 pub mod SameSaid
 pub mod GroupLemmas
 pub mod PlacedLemmas
+pub mod AnswerMapLemmas
 pub mod HearingLemmas
 pub mod AnswerLemmas
 pub mod PlacedActs

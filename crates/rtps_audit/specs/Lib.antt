@@ -9,6 +9,7 @@ pub mod KeptPayloads
 pub mod Claims
 pub mod OneDatagram
 pub mod Groups
+pub mod KeptAnswers
 pub mod Placed
 pub mod Hearing
 pub mod Answered

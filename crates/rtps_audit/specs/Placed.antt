@@ -4,8 +4,6 @@ use Rattle.std.specs.Prelude.{ℕ, pos, Bool, ◌+◌, ◌≡◌, ◌&&◌, List
 use Rattle.std.specs.BTreeMap.{BTreeMap}
 use Rattle.std.specs.Global.{Vec}
 use Rattle.std.specs.List.{filter_map}
-use Rattle.std.specs.Ordering.{ordering_then}
-use Rattle.std.specs.declared.cmp.Ordering.{Ordering}
 use Rattle.rtps_ids.specs.declared.identity.Guid.{Guid}
 use Rattle.rtps_wire.specs.Reading.{reading_of}
 use Rattle.rtps_receiver.specs.Acts.{acts_of}
@@ -14,11 +12,12 @@ use Rattle.rtps_receiver.specs.Values.{ActValue, act_value}
 use Rattle.rtps_discovery.specs.GuidOrder.{guid_cmp}
 use Rattle.rtps_discovery.specs.declared.matching.Pair.{Pair}
 use Rattle.rtps_audit.specs.Groups.{values_at}
+use Rattle.rtps_audit.specs.KeptAnswers.{answers_in}
 use Rattle.rtps_audit.specs.Speech.{base_for}
 use Rattle.rtps_audit.specs.declared.answers.Answer.{Answer}
-use Rattle.rtps_audit.specs.declared.answers.ReaderFirst.{ReaderFirst}
 use Rattle.rtps_audit.specs.declared.origins.Origins.{Origins}
 use Rattle.rtps_audit.specs.declared.placed.Placed.{Placed}
+use Rattle.rtps_audit.specs.declared.reader_answers.ReaderAnswers.{ReaderAnswers}
 
 -- an act, and the datagram that it stands in, counted from 1
 pub record PlacedValue : Type 0 where
@@ -48,13 +47,6 @@ is_guid one other = is_prefix one.prefix other.prefix && is_entity one.entity ot
 abbrev pub is_from : Guid → PlacedValue → Bool
 is_from origin placed = is_guid origin (origin_of placed.act)
 
-abbrev pub reader_first : Pair → ReaderFirst
-reader_first pair = record { reader = pair.reader; writer = pair.writer }
-
--- by reader, and then by writer
-abbrev pub reader_first_cmp : ReaderFirst → ReaderFirst → Ordering
-reader_first_cmp one other = ordering_then (guid_cmp one.reader other.reader) (guid_cmp one.writer other.writer)
-
 -- the answer that an act is of a pair's reader to its writer
 abbrev pub answer_at : ℕ → Option ℕ → Option Answer
 answer_at datagram (Some base) = Some (record { datagram = datagram; base = pos base })
@@ -70,10 +62,10 @@ answers_among pair placed = filter_map (answer_of pair) placed
 abbrev pub AddsActs : BTreeMap Guid (Vec Placed) → BTreeMap Guid (Vec Placed) → List PlacedValue → Type 0
 AddsActs old new placed = (origin : Guid) → map placed_value (values_at guid_cmp new origin) ≡ map placed_value (values_at guid_cmp old origin) ++ filter (is_from origin) placed
 
-abbrev pub AddsAnswers : BTreeMap ReaderFirst (Vec Answer) → BTreeMap ReaderFirst (Vec Answer) → List PlacedValue → Type 0
-AddsAnswers old new placed = (pair : Pair) → values_at reader_first_cmp new (reader_first pair) ≡ values_at reader_first_cmp old (reader_first pair) ++ answers_among pair placed
+abbrev pub AddsAnswers : BTreeMap Guid ReaderAnswers → BTreeMap Guid ReaderAnswers → List PlacedValue → Type 0
+AddsAnswers old new placed = (pair : Pair) → answers_in new pair ≡ answers_in old pair ++ answers_among pair placed
 
 -- the lists are of these acts, by origin, and of their answers, by pair
 pub record AreOf (origins : Origins) (placed : List PlacedValue) : Type 0 where
   pub acts : (origin : Guid) → map placed_value (values_at guid_cmp origins.acts.map origin) ≡ filter (is_from origin) placed
-  pub answers : (pair : Pair) → values_at reader_first_cmp origins.answers.map (reader_first pair) ≡ answers_among pair placed
+  pub answers : (pair : Pair) → answers_in origins.answers.readers pair ≡ answers_among pair placed

@@ -1,12 +1,12 @@
 ghost use Rattle.std.specs.Prelude.{◌≡◌, cond, pos, Some, None, MatchOption};
 ghost use Rattle.std.specs.Option.{option_map};
 ghost use Rattle.std.specs.Ordering.{is_eq};
+ghost use Rattle.rtps_discovery.specs.GuidOrder.{guid_cmp};
 ghost use Rattle.rtps_discovery.specs.declared.matching.Pair.{Pair as PairValue};
+ghost use Rattle.rtps_receiver.specs.Speech.{origin_of};
 ghost use Rattle.rtps_receiver.specs.Values.{act_value};
-ghost use Rattle.rtps_audit.specs.Placed.{reader_first, reader_first_cmp};
 ghost use Rattle.rtps_audit.specs.Speech.{base_for};
 
-use rtps_discovery::Pair;
 use rtps_ids::Guid;
 use rtps_receiver::{Act, ActBody};
 
@@ -31,32 +31,12 @@ impl Answer {
     }
 }
 
-/// A pair in the order of the readers' GUIDs and then of the writers'. The answers in a datagram are of one reader, so by
-/// this order they stand side by side.
-#[derive(Clone, Copy, PartialEq, Eq, PartialOrd, Ord, Debug)]
-pub(crate) struct ReaderFirst {
-    pub(crate) reader: Guid,
-    pub(crate) writer: Guid,
-}
-
-impl ReaderFirst {
-    /// The same pair.
-    pub(crate) fn of(pair: Pair) -> ReaderFirst
-        ensures { result ≡ reader_first pair }
-    {
-        ReaderFirst {
-            reader: pair.reader,
-            writer: pair.writer,
-        }
-    }
-}
-
-/// Whom an act answers for whom, and the base of the answer; None where it answers nobody.
-pub(crate) fn answer_in(act: &Act<'_>) -> Option<(ReaderFirst, i64)>
+/// Whom an act answers, and the base of the answer; None where it answers nobody.
+pub(crate) fn answer_in(act: &Act<'_>) -> Option<(Guid, i64)>
     ensures { MatchOption result
         ((pair : PairValue) → base_for pair.writer pair.reader (act_value act.now) ≡ None)
-        (λ answer. (pair : PairValue) → option_map pos (base_for pair.writer pair.reader (act_value act.now))
-        ≡ cond (is_eq (reader_first_cmp (reader_first pair) answer.0)) (Some answer.1) None) }
+        (λ answer. (pair : PairValue) → origin_of (act_value act.now) ≡ pair.reader
+        → option_map pos (base_for pair.writer pair.reader (act_value act.now)) ≡ cond (is_eq (guid_cmp pair.writer answer.0)) (Some answer.1) None) }
 {
     let ActBody::AckNack(ack_nack) = &act.body else {
         return None;
@@ -65,9 +45,5 @@ pub(crate) fn answer_in(act: &Act<'_>) -> Option<(ReaderFirst, i64)>
         prefix: act.dest?,
         entity: ack_nack.writer,
     };
-    let pair = ReaderFirst {
-        reader: act.origin(),
-        writer,
-    };
-    Some((pair, ack_nack.set.base()))
+    Some((writer, ack_nack.set.base()))
 }

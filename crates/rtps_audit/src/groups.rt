@@ -47,7 +47,7 @@ impl<K: Ord + Copy + Drop, V: Copy + Drop> Groups<K, V> {
 }
 
 /// Appends a value to a list. Many lists stay at their first value, so that one takes no room for others.
-fn append<V: Drop>(list: &mut Vec<V>, value: V) -> Result<(), Memory>
+pub(crate) fn append<V: Drop>(list: &mut Vec<V>, value: V) -> Result<(), Memory>
     ensures { OnOk result (list.new.items ≡ list.old.items ++ value ∷ []) }
 {
     if list.is_empty() {

@@ -7,7 +7,7 @@ ghost use Rattle.rtps_audit.specs.Placed.{answers_among, is_from, placed_in, pla
 ghost use Rattle.rtps_audit.specs.RunVerdict.{IsVerdict, IsVerdictFrom};
 ghost use Rattle.rtps_audit.specs.Speech.{speech_of};
 
-use crate::answers::{Answer, ReaderFirst};
+use crate::answers::Answer;
 use crate::counting::{one_if, undirected_among};
 use crate::hearing::Hearing;
 use crate::origins::Origins;
@@ -80,7 +80,7 @@ impl<'a> Index<'a> {
         ensures { (recording : List (List ℕ)) → IsIndexOf recording self.now
             → result.now ≡ answers_among pair (placed_in recording) }
     {
-        self.origins.answers.of(ReaderFirst::of(pair))
+        self.origins.answers.of(pair)
     }
 
     /// Judges what the recording says of a writer and a reader, any two GUIDs, of the writer's numbers from `from` on, by

@@ -2,6 +2,7 @@
 //! (DDSI-RTPS 2.5, 8.4 "Behavior Module").
 #![tactic(auto)]
 
+mod all_answers;
 mod answers;
 mod auditing;
 mod claims;
@@ -17,6 +18,7 @@ mod listener;
 mod origins;
 mod payloads;
 mod placed;
+mod reader_answers;
 mod report;
 mod said;
 mod verdict;

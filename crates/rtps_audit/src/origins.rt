@@ -1,4 +1,4 @@
-ghost use Rattle.std.specs.Prelude.{◌≡◌, ◌≤◌, ◌++◌, ◌∷◌, [], cond, length, map, List, OnOk};
+ghost use Rattle.std.specs.Prelude.{◌≡◌, ◌≤◌, ◌++◌, [], cond, length, map, All, List, OnOk};
 ghost use Rattle.std.specs.List.{AllWithin};
 ghost use Rattle.std.specs.Ordering.{is_eq};
 ghost use Rattle.rtps_ids.specs.declared.identity.Guid.{Guid as GuidValue};
@@ -8,7 +8,7 @@ ghost use Rattle.rtps_discovery.specs.GuidOrder.{guid_cmp};
 ghost use Rattle.rtps_audit.specs.Groups.{values_at};
 ghost use Rattle.rtps_audit.specs.Placed.{AddsActs, AddsAnswers, placed_at, placed_value};
 
-use crate::answers::{Answer, ReaderFirst, answer_in};
+use crate::all_answers::AllAnswers;
 use crate::groups::Groups;
 use crate::placed::{Placed, append_placed};
 use rtps_ids::{Guid, Memory};
@@ -19,7 +19,7 @@ use std::alloc::Global;
 #[derive(Drop)]
 pub(crate) struct Origins<'a> {
     pub(crate) acts: Groups<Guid, Placed<'a>>,
-    pub(crate) answers: Groups<ReaderFirst, Answer>,
+    pub(crate) answers: AllAnswers,
 }
 
 impl<'a> Origins<'a> {
@@ -31,37 +31,38 @@ impl<'a> Origins<'a> {
     {
         Origins {
             acts: Groups::new(alloc),
-            answers: Groups::new(alloc),
+            answers: AllAnswers::new(alloc),
         }
     }
 
-    /// Adds the acts of one datagram more. After `Memory` the lists are of no use.
+    /// Adds the acts of one datagram more. Those of one GUID that follow one another are added at once. After `Memory`
+    /// the lists are of no use.
     pub(crate) fn note_all(&mut self, datagram: usize, acts: &[Act<'a>]) -> Result<(), Memory>
         ensures { OnOk result ((before : List PlacedValue) → AreOf self.old before
             → AreOf self.new (before ++ placed_at datagram (map act_value acts.now))) }
     {
-        note_acts(&mut self.acts, datagram, acts)?;
-        note_answers(&mut self.answers, datagram, acts)?;
+        let mut start = 0;
+        'runs: while start < acts.len() {
+            let origin = acts[start].origin();
+            let end = run_end(acts, start + 1, origin);
+            self.note_run(origin, datagram, &acts[start..end])?;
+            start = end;
+        }
         Ok(())
     }
-}
 
-/// Adds the acts of a datagram. Those of one GUID that follow one another are added at once.
-fn note_acts<'a>(
-    groups: &mut Groups<Guid, Placed<'a>>,
-    datagram: usize,
-    acts: &[Act<'a>],
-) -> Result<(), Memory>
-    ensures { OnOk result (AddsActs groups.old.map groups.new.map (placed_at datagram (map act_value acts.now))) }
-{
-    let mut start = 0;
-    'runs: while start < acts.len() {
-        let origin = acts[start].origin();
-        let end = run_end(acts, start + 1, origin);
-        note_run(groups, origin, datagram, &acts[start..end])?;
-        start = end;
+    /// Adds acts of a datagram that are all from this GUID.
+    fn note_run(&mut self, origin: Guid, datagram: usize, run: &[Act<'a>]) -> Result<(), Memory>
+        requires { All (λ act. origin_of (act_value act) ≡ origin) run.now }
+        ensures acts { OnOk result
+            (AddsActs self.old.acts.map self.new.acts.map (placed_at datagram (map act_value run.now))) }
+        ensures answers { OnOk result
+            (AddsAnswers self.old.answers.readers self.new.answers.readers (placed_at datagram (map act_value run.now))) }
+    {
+        place_run(&mut self.acts, origin, datagram, run)?;
+        self.answers.note_run(origin, datagram, run)?;
+        Ok(())
     }
-    Ok(())
 }
 
 /// The first place from this one on whose act is from another GUID; the end, where none is.
@@ -80,7 +81,7 @@ fn run_end(acts: &[Act<'_>], start: usize, origin: Guid) -> usize
 }
 
 /// Adds acts of a datagram to those of this GUID.
-fn note_run<'a>(
+fn place_run<'a>(
     groups: &mut Groups<Guid, Placed<'a>>,
     origin: Guid,
     datagram: usize,
@@ -92,34 +93,5 @@ fn note_run<'a>(
 {
     let placed = groups.map.entry(origin)?.or_insert(Vec::new(groups.alloc));
     append_placed(placed, datagram, run)?;
-    Ok(())
-}
-
-/// Adds the answers in a datagram.
-fn note_answers(
-    groups: &mut Groups<ReaderFirst, Answer>,
-    datagram: usize,
-    acts: &[Act<'_>],
-) -> Result<(), Memory>
-    ensures { OnOk result (AddsAnswers groups.old.map groups.new.map (placed_at datagram (map act_value acts.now))) }
-{
-    for act in acts {
-        note_answer(groups, datagram, act)?;
-    }
-    Ok(())
-}
-
-/// Adds the answer that an act of a datagram is, if it is one.
-fn note_answer(
-    groups: &mut Groups<ReaderFirst, Answer>,
-    datagram: usize,
-    act: &Act<'_>,
-) -> Result<(), Memory>
-    ensures { OnOk result
-        (AddsAnswers groups.old.map groups.new.map (placed_at datagram (act_value act.now ∷ []))) }
-{
-    if let Some((pair, base)) = answer_in(act) {
-        groups.push(pair, Answer { datagram, base })?;
-    }
     Ok(())
 }

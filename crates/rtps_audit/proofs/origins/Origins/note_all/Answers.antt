@@ -1,9 +1,43 @@
-use Rattle.std.proofs.Common.{[]}
-use Rattle.rtps_audit.proofs.PlacedLemmas.{acts_joined, answers_joined}
+use Rattle.std.proofs.Common.{◌≡◌, ◌+◌, ◌-◌, ◌++◌, [], ap, append-nil, arith, map, subst, sym, take, ◌∙◌}
+use Rattle.std.specs.List.{slice_range}
+use Rattle.std.proofs.Math.Seq.{take-add}
+use Rattle.std.proofs.lemmas.List.{take_all}
+use Rattle.rtps_receiver.specs.Speech.{origin_of}
+use Rattle.rtps_receiver.specs.Values.{act_value}
+use Rattle.rtps_receiver.specs.declared.act.Act.{Act}
+use Rattle.rtps_audit.specs.Placed.{AddsActs, AddsAnswers, placed_at}
+use Rattle.rtps_audit.proofs.PlacedLemmas.{acts_joined, all_between, all_with_first, answers_joined, placed_both}
 use Rattle.rtps_audit.proofs.origins.Origins.note_all.Goals as goal
 
+pub note_run-requires : goal.note_run-requires
+note_run-requires c =
+    let from = λ (a : Act). origin_of (act_value a) ≡ c.origin-origin.result in
+    all_between from c.args.acts.now c.runs.start c.run_end-end.result (all_with_first from c.args.acts.now c.runs.start c.run_end-end.result _ c.index-acts-start.is c.runs-test.true (sym c.origin-origin.ensures) c.run_end-end.ensures.run)
+
+pub runs-init : goal.runs-init
+runs-init c = record { acts = λ origin. sym (append-nil _); answers = λ pair. sym (append-nil _) }
+
+pub runs-preserved : goal.runs-preserved
+runs-preserved c =
+    let acts = c.args.acts.now in
+    let start = c.runs.start in
+    let end = c.run_end-end.result in
+    let old = c.args.self.now in
+    let new = c.note_run.new.self in
+    let whole : start + (end - start) ≡ end = omega (arith, c.run_end-end.ensures.onward) in
+    let joined : take start acts ++ slice_range acts start end ≡ take end acts = sym (take-add start (end - start) acts) ∙ ap (λ n. take n acts) whole in
+    let more = sym (placed_both c.args.datagram (take start acts) (slice_range acts start end)) ∙ ap (λ l. placed_at c.args.datagram (map act_value l)) joined in
+    record {
+      acts = subst (AddsActs old.acts.map new.acts.map) more (λ origin. acts_joined origin _ _ _ _ _ (c.runs.invariant.acts origin) (c.in_ok-note_run.ensures.acts origin));
+      answers = subst (AddsAnswers old.answers.readers new.answers.readers) more (λ pair. answers_joined pair _ _ _ _ _ (c.runs.invariant.answers pair) (c.in_ok-note_run.ensures.answers pair));
+    }
+
 pub returns : goal.returns
-returns c = λ before known. record {
-  acts = λ origin. acts_joined origin [] _ _ before _ (known.acts origin) (c.in_ok-note_acts.ensures origin);
-  answers = λ pair. answers_joined pair [] _ _ before _ (known.answers pair) (c.in_ok-note_answers.ensures pair);
-}
+returns c = λ before known.
+    let all : take c.runs.start c.args.acts.now ≡ c.args.acts.now = take_all c.runs.start c.args.acts.now (omega (arith, c.runs-test.false)) in
+    let acts = subst (λ l. AddsActs c.args.self.now.acts.map c.runs.self.acts.map (placed_at c.args.datagram (map act_value l))) all c.runs.invariant.acts in
+    let answers = subst (λ l. AddsAnswers c.args.self.now.answers.readers c.runs.self.answers.readers (placed_at c.args.datagram (map act_value l))) all c.runs.invariant.answers in
+    record {
+      acts = λ origin. acts_joined origin [] _ _ before _ (known.acts origin) (acts origin);
+      answers = λ pair. answers_joined pair [] _ _ before _ (known.answers pair) (answers pair);
+    }

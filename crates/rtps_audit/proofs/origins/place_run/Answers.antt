@@ -4,7 +4,7 @@ use Rattle.rtps_receiver.specs.Values.{act_value}
 use Rattle.rtps_audit.specs.Placed.{placed_at, placed_value}
 use Rattle.rtps_audit.proofs.GroupLemmas.{lent_items, list_grown}
 use Rattle.rtps_audit.proofs.PlacedLemmas.{guids_total}
-use Rattle.rtps_audit.proofs.origins.note_run.Goals as goal
+use Rattle.rtps_audit.proofs.origins.place_run.Goals as goal
 
 pub returns : goal.returns
 returns c = λ other.
