@@ -53,10 +53,12 @@ pub(super) fn in_pieces(text: &[u8], most: usize, cut: usize) -> Pieces<'_> {
 }
 
 // Whether what is read in pieces is what the text as a whole stands for.
-fn reads_as_whole(alloc: Global, mut input: Pieces<'_>) -> bool {
+pub(super) fn reads_as_whole(alloc: Global, mut input: Pieces<'_>) -> bool {
     let text = input.text;
     match (read_input(alloc, &mut input), read_recording(alloc, text)) {
-        (Ok(one), Ok(other)) => one.datagrams().eq(other.datagrams()),
+        (Ok(one), Ok(other)) => {
+            one.ignored() == other.ignored() && one.datagrams().eq(other.datagrams())
+        }
         (Err(RunFault::Recording(one)), Err(other)) => one == other,
         _ => false,
     }
