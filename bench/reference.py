@@ -215,6 +215,60 @@ def recording_of(text):
     return datagrams
 
 
+CAPTURES = {'a1b2c3d4': 'big', 'a1b23c4d': 'big', 'd4c3b2a1': 'little', '4d3cb2a1': 'little'}
+
+
+def payload_of(link, frame):
+    """the datagram that a frame of a capture gives, or None"""
+    packet = frame
+    if link == 1:
+        if len(frame) < 14 or frame[12:14] != b'\x08\x00':
+            return None
+        packet = frame[14:]
+    if len(packet) < 20 or packet[0] >> 4 != 4:
+        return None
+    header, total = (packet[0] & 15) * 4, number(packet[2:4], 'be')
+    if header < 20 or total < header + 8 or total > len(packet):
+        return None
+    more_fragments, offset = packet[6] & 0x20, number(packet[6:8], 'be') & 0x1fff
+    if more_fragments or offset or packet[9] != 17:
+        return None
+    udp = packet[header:total]
+    size = number(udp[4:6], 'be')
+    return udp[8:size] if 8 <= size <= len(udp) else None
+
+
+def capture_of(file):
+    """datagrams of a capture and how many frames were ignored, or the line that is written to standard error"""
+    order = CAPTURES[file[:4].hex()]
+    if len(file) < 24 or int.from_bytes(file[4:6], order) != 2:
+        return 'bad capture'
+    link = int.from_bytes(file[20:24], order) % 65536
+    if link not in (1, 101):
+        return 'bad capture'
+    at, frame, datagrams = 24, 0, []
+    while at < len(file):
+        frame += 1
+        size = int.from_bytes(file[at + 8:at + 12], order)
+        if len(file) < at + 16 or len(file) < at + 16 + size:
+            return f'frame {frame}: cut'
+        payload = payload_of(link, file[at + 16:at + 16 + size])
+        if payload is not None:
+            if len(datagrams) == 1000000:
+                return 'too many datagrams'
+            datagrams.append(payload)
+        at += 16 + size
+    return datagrams, frame - len(datagrams)
+
+
+def input_of(octets):
+    """datagrams of an input, and of a capture how many frames were ignored, or the line that is written to standard error"""
+    if len(octets) <= 1073741824 and octets[:4].hex() in CAPTURES:
+        return capture_of(octets)
+    datagrams = recording_of(octets)
+    return datagrams if isinstance(datagrams, str) else (datagrams, None)
+
+
 def show(datagrams):
     out = []
     for i, d in enumerate(datagrams, 1):
@@ -500,10 +554,13 @@ VIEWS = {'show': show, 'list': list_text, 'audit': audit}
 
 def answer(view, text, first=1):
     """text and status of the program; `first` is for audit alone"""
-    datagrams = recording_of(text)
-    if isinstance(datagrams, str):
+    read = input_of(text)
+    if isinstance(read, str):
         return '', 2
+    datagrams, ignored = read
     lines = audit(datagrams, first) if view == 'audit' else VIEWS[view](datagrams)
+    if view == 'audit' and ignored is not None:
+        lines[-1] += f' ignored {ignored}'
     unclean = view == 'audit' and any(' complete ' not in line for line in lines[1:-1])
     return ''.join(line + '\n' for line in lines), int(unclean)
 

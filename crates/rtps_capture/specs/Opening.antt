@@ -24,14 +24,26 @@ order_by octets =
 unfoldable pub order_of : List ℕ → Option Order
 order_of octets = if nat_lt (length octets) 4 then None else order_by (take 4 octets)
 
--- the link types that are read
-abbrev pub link_by : ℕ → Option Link
-link_by number = if number == ETHERNET then Some Ethernet else if number == RAW_IP then Some RawIp else None
-
--- what the frames are, where the header is whole, its major version is the one that is read and its link type, the low
--- 16 bits of a field, is one that is read
-unfoldable pub link_of : Order → List ℕ → Option Link
-link_of order file =
+-- the link type, the low 16 bits of a field, where the header is whole and its major version is the one that is read
+unfoldable pub link_type_in : Order → List ℕ → Option ℕ
+link_type_in order file =
     if nat_lt (length file) SIZE then None
-    else if number_of order 2 (drop MAJOR file) == VERSION then link_by (number_of order 4 (drop LINK file) % LINKS)
+    else if number_of order 2 (drop MAJOR file) == VERSION then Some (number_of order 4 (drop LINK file) % LINKS)
     else None
+
+abbrev pub link_type_by : Option Order → List ℕ → Option ℕ
+link_type_by None file = None
+link_type_by (Some order) file = link_type_in order file
+
+-- the link type of a capture of that version
+abbrev pub link_type_of : List ℕ → Option ℕ
+link_type_of file = link_type_by (order_of file) file
+
+-- the link types that are read
+abbrev pub link_by : Option ℕ → Option Link
+link_by None = None
+link_by (Some number) = if number == ETHERNET then Some Ethernet else if number == RAW_IP then Some RawIp else None
+
+-- what the frames are
+abbrev pub link_of : Order → List ℕ → Option Link
+link_of order file = link_by (link_type_in order file)

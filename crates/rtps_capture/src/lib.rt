@@ -11,5 +11,5 @@ mod place;
 
 pub use frames::{Frame, Frames};
 pub use link::Link;
-pub use opening::capture_order;
+pub use opening::{capture_order, link_type};
 pub use place::Place;

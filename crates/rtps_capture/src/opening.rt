@@ -1,6 +1,6 @@
 ghost use Rattle.std.specs.Prelude.{◌≡◌, ◌≤◌, length};
 ghost use Rattle.rtps_ids.specs.Octets.{number_of};
-ghost use Rattle.rtps_capture.specs.Opening.{is_magic as is_magic_lem, link_by, link_of as link_of_lem, order_of};
+ghost use Rattle.rtps_capture.specs.Opening.{is_magic as is_magic_lem, link_of as link_of_lem, link_type_in as link_type_in_lem, link_type_of, order_of};
 ghost use Rattle.rtps_capture.specs.declared.layout.file.TheConstants.{SIZE};
 
 use crate::layout::file;
@@ -33,11 +33,30 @@ fn is_magic(number: u32) -> bool
     number == file::MICROSECONDS || number == file::NANOSECONDS
 }
 
+/// The link type of a capture, which says what its frames are, also where these are not read. None where the octets begin
+/// no capture of major version 2, or do not reach to its end (PCAP Capture File Format, 4 "File Header").
+pub fn link_type(octets: &[u8]) -> Option<u32>
+    ensures { result ≡ link_type_of octets.now }
+{
+    link_type_in(capture_order(octets)?, octets)
+}
+
 /// What the frames of a file are whose numbers lie in this order. None where its header is cut, of another major
 /// version, or of another link type.
-#[tactic(auto, unfolding(crate::specs::Opening::link_of))]
 pub(crate) fn link_of(order: Order, octets: &[u8]) -> Option<Link>
     ensures { result ≡ link_of_lem order octets.now }
+{
+    match link_type_in(order, octets)? {
+        file::ETHERNET => Some(Link::Ethernet),
+        file::RAW_IP => Some(Link::RawIp),
+        _ => None,
+    }
+}
+
+// The link type of a file whose numbers lie in this order.
+#[tactic(auto, unfolding(crate::specs::Opening::link_type_in))]
+fn link_type_in(order: Order, octets: &[u8]) -> Option<u32>
+    ensures { result ≡ link_type_in_lem order octets.now }
 {
     if octets.len() < file::SIZE {
         return None;
@@ -45,9 +64,5 @@ pub(crate) fn link_of(order: Order, octets: &[u8]) -> Option<Link>
     if u16_at(order, octets, file::MAJOR)? != file::VERSION {
         return None;
     }
-    match u32_at(order, octets, file::LINK)? % file::LINKS {
-        file::ETHERNET => Some(Link::Ethernet),
-        file::RAW_IP => Some(Link::RawIp),
-        _ => None,
-    }
+    Some(u32_at(order, octets, file::LINK)? % file::LINKS)
 }

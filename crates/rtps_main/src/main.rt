@@ -1,28 +1,52 @@
 //! The program `rtps-audit`: opens what its words name, runs, and ends with the status of the run.
 #![tactic(auto)]
 
-use rtps_tool::{Choice, Ending, RunFault, WordFault, read_words, run_choice, status, write_fault};
+use rtps_tool::{
+    Choice, Ending, RunFault, WordFault, link_type, read_words, run_choice, status, write_fault,
+};
 use std::alloc::AllocError;
 use std::fs::File;
 use std::io::{Read, Write};
 use std::process::ExitCode;
 use std::{env, io};
 
-// An input that remembers why its last read failed.
+// How many octets of an input tell why it is refused: those of a capture's header.
+const START: usize = 24;
+
+// The octets that a pcapng file begins with.
+const PCAPNG: &[u8] = b"\x0a\x0d\x0d\x0a";
+
+// An input that remembers how it began, and why its last read failed.
 #[derive(Drop)]
 struct Remembering<R> {
     input: R,
+    start: [u8; START],
+    known: usize,
     failure: Option<io::Error>,
 }
 
 impl<R: Read> Read for Remembering<R> {
     fn read(&mut self, buf: &mut [u8]) -> io::Result<usize> {
         let outcome = self.input.read(buf);
-        if let Err(failure) = &outcome {
-            self.failure = Some(same_error(failure));
+        match &outcome {
+            Ok(got) => self.known = remember(&mut self.start, self.known, &buf[..*got]),
+            Err(failure) => self.failure = Some(same_error(failure)),
         }
         outcome
     }
+}
+
+// Writes octets behind those that are known, as many as there is room for, and answers how many are known then.
+fn remember(start: &mut [u8], known: usize, octets: &[u8]) -> usize {
+    let mut known = known;
+    for octet in octets {
+        if known >= start.len() {
+            return known;
+        }
+        start[known] = *octet;
+        known += 1;
+    }
+    known
 }
 
 // The error again, with the reason that the system gave.
@@ -107,13 +131,38 @@ fn run_on_input<R: Read + Drop>(
 ) -> Result<Ending, RunFault> {
     let mut input = Remembering {
         input,
+        start: [0; START],
+        known: 0,
         failure: None,
     };
     let outcome = run_choice(rt.alloc(), choice, &mut input, &mut rt.stdout());
     if let Some(failure) = &input.failure {
         tell_reason(rt, file, failure);
     }
+    if let Err(RunFault::Recording(_)) = &outcome {
+        tell_form(rt, file, input.start.get(..input.known).unwrap_or(&[]));
+    }
     outcome
+}
+
+// Says of an input that is refused what it is, by its first octets, where it is a capture of a kind that is not read, and
+// what makes one of it that is.
+fn tell_form(rt: &HostRuntime, file: &str, start: &[u8]) {
+    if start.starts_with(PCAPNG) {
+        let _ = writeln!(
+            rt.stderr(),
+            "rtps-audit: {file}: a pcapng file; editcap -F pcap IN OUT makes a capture of it"
+        );
+    }
+    match link_type(start) {
+        None | Some(1 | 101) => {}
+        Some(number) => {
+            let _ = writeln!(
+                rt.stderr(),
+                "rtps-audit: {file}: frames of link type {number}; tshark -r IN -Y 'udp && !icmp' -T fields -e udp.payload >OUT makes a recording of it"
+            );
+        }
+    }
 }
 
 // Names a file that cannot be opened or read, with the reason but without the number that the system gives it.

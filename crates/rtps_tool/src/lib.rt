@@ -16,5 +16,6 @@ pub use command::{Choice, WordFault, read_words};
 pub use faults::{RecFault, RunFault};
 pub use form::either::read_recording;
 pub use outcome::{status, write_fault};
+pub use rtps_capture::link_type;
 pub use rtps_text::{Datagrams, Ending, Recording};
 pub use run::{run_audit, run_audit_from, run_list, run_sample, run_show};

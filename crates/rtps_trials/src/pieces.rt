@@ -60,7 +60,7 @@ fn shown(alloc: Global, input: &mut Pieces<'_>) -> Result<Vec<u8>, RunFault> {
 }
 
 // Whether what is read in pieces is what the text as a whole stands for.
-fn reads_as_whole(alloc: Global, mut input: Pieces<'_>) -> bool {
+pub(super) fn reads_as_whole(alloc: Global, mut input: Pieces<'_>) -> bool {
     let text = input.text;
     match (shown(alloc, &mut input), read_recording(alloc, text)) {
         (Ok(one), Ok(other)) => show_text(alloc, &other).is_ok_and(|shown| one.as_slice()

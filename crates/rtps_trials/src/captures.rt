@@ -1,0 +1,78 @@
+//! Captures: a small one whole, in pieces and cut.
+
+use crate::pieces::{in_pieces, reads_as_whole};
+use rtps_tool::{RecFault, RunFault, read_recording, run_audit, status, write_fault};
+use std::alloc::{AllocError, Global};
+use std::test::Fail;
+
+// The header of a capture of raw IP packets.
+const HEADER: &[u8] = &[
+    0xd4, 0xc3, 0xb2, 0xa1, 2, 0, 4, 0, 0, 0, 0, 0, 0, 0, 0, 0, 0xff, 0xff, 0, 0, 101, 0, 0, 0,
+];
+
+// A frame with a datagram of two octets.
+const DATAGRAM: &[u8] = &[
+    0, 0, 0, 0, 0, 0, 0, 0, 30, 0, 0, 0, 30, 0, 0, 0, 0x45, 0, 0, 30, 0, 0, 0, 0, 64, 17, 0, 0, 127, 0,
+    0, 1, 127, 0, 0, 1, 0x1c, 0xe8, 0x1c, 0xe8, 0, 10, 0, 0, 0x52, 0x54,
+];
+
+// A frame that gives none, of one octet.
+const IGNORED: &[u8] = &[0, 0, 0, 0, 0, 0, 0, 0, 1, 0, 0, 0, 1, 0, 0, 0, 0x45];
+
+// A capture of a frame that is ignored and one that gives a datagram.
+fn capture(alloc: Global) -> Result<Vec<u8>, AllocError> {
+    let mut octets = Vec::new(alloc);
+    octets.extend_from_slice(HEADER)?;
+    octets.extend_from_slice(IGNORED)?;
+    octets.extend_from_slice(DATAGRAM)?;
+    Ok(octets)
+}
+
+#[test]
+fn frames_stand_for_datagrams(rt: HostRuntime) -> Result<(), Fail> {
+    let octets = capture(rt.alloc())?;
+    let recording = read_recording(rt.alloc(), &octets)?;
+    assert_eq!(rt; recording.len(), 1);
+    assert!(rt; matches!(recording.datagram(0), Some([0x52, 0x54])));
+    assert_eq!(rt; recording.ignored(), Some(1));
+    let text = read_recording(rt.alloc(), b"5254")?;
+    assert_eq!(rt; text.ignored(), None);
+    Ok(())
+}
+
+#[test]
+fn a_capture_is_read_in_any_pieces(rt: HostRuntime) -> Result<(), Fail> {
+    let octets = capture(rt.alloc())?;
+    for cut in [0, 1, 3, 4, 5, 23, 24, 40, 41, 56] {
+        for most in [1, usize::MAX] {
+            assert!(rt;
+                reads_as_whole(rt.alloc(), in_pieces(&octets, most, cut)),
+                "{cut}"
+            );
+        }
+    }
+    Ok(())
+}
+
+// What an audit of these octets says on standard error.
+fn told(alloc: Global, octets: &[u8], line: &[u8]) -> Option<(RunFault, bool)> {
+    let mut output = Vec::new(alloc);
+    let mut input = octets;
+    let outcome = run_audit(alloc, &mut input, &mut output);
+    let is_refused = status(&outcome) == 2;
+    let fault = outcome.err()?;
+    let is_told = write_fault(&fault, &mut output) && output.as_slice() == line;
+    Some((fault, is_refused && is_told))
+}
+
+#[test]
+fn a_capture_that_is_cut_is_refused(rt: HostRuntime) -> Result<(), Fail> {
+    let octets = capture(rt.alloc())?;
+    let bad = RunFault::Recording(RecFault::BadCapture);
+    let found = told(rt.alloc(), &octets[..23], b"rtps-audit: bad capture\n");
+    assert_eq!(rt; found, Some((bad, true)));
+    let cut = RunFault::Recording(RecFault::CutCapture { frame: 2 });
+    let found = told(rt.alloc(), &octets[..86], b"rtps-audit: frame 2: cut\n");
+    assert_eq!(rt; found, Some((cut, true)));
+    Ok(())
+}

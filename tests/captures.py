@@ -1,0 +1,327 @@
+#!/usr/bin/env python3
+"""Tests the program with captures: whole ones, cut and changed ones, and what their frames may be.
+
+    tests/captures.py PROGRAM
+
+What is wanted was worked out, or is what the second implementation, bench/reference.py, says. Each group prints a line
+with what was counted. The last line is 'N passed, M failed'.
+"""
+import os
+import random
+import subprocess
+import sys
+import tempfile
+
+ROOT = os.path.dirname(os.path.dirname(os.path.realpath(__file__)))
+sys.dont_write_bytecode = True
+sys.path.insert(0, os.path.join(ROOT, 'bench'))
+import reference
+
+A, B = b'\xaa' * 12, b'\xbb' * 12
+HEADER = b'RTPS\2\5\0\0' + A
+HEARTBEAT = bytes.fromhex('07011c00 00000000 00000103 00000000 01000000 00000000 00000000 01000000')
+DATAGRAM = HEADER + HEARTBEAT
+SHOWN = ('datagram 1 version 2.5 vendor 0000 prefix aaaaaaaaaaaaaaaaaaaaaaaa\n'
+         'heartbeat 20 le reader 00000000 writer 00000103 first 1 last 0 count 1 final 0 live 0 '
+         'from aaaaaaaaaaaaaaaaaaaaaaaa to all time none\n')
+ETHERNET, RAW_IP = 1, 101
+MICROSECONDS, NANOSECONDS = 0xa1b2c3d4, 0xa1b23c4d
+
+
+def start(link=RAW_IP, order='little', magic=MICROSECONDS, major=2, minor=4):
+    numbers = (magic, 4), (major, 2), (minor, 2), (0, 4), (0, 4), (65535, 4), (link, 4)
+    return b''.join(value.to_bytes(size, order) for value, size in numbers)
+
+
+def record(frame, order='little', size=None, original=None):
+    size = len(frame) if size is None else size
+    numbers = 0, 0, size, len(frame) if original is None else original
+    return b''.join(value.to_bytes(4, order) for value in numbers) + frame
+
+
+def udp(payload, size=None):
+    size = len(payload) + 8 if size is None else size
+    return (7400).to_bytes(2, 'big') * 2 + size.to_bytes(2, 'big') + b'\0\0' + payload
+
+
+def packet(payload, options=b'', total=None, fragment=0, protocol=17, version=4, words=None, size=None):
+    words = 5 + len(options) // 4 if words is None else words
+    inner = udp(payload, size)
+    total = 20 + len(options) + len(inner) if total is None else total
+    return (bytes([version * 16 + words, 0]) + total.to_bytes(2, 'big') + b'\0\0' + fragment.to_bytes(2, 'big')
+            + bytes([64, protocol]) + b'\0\0' + b'\x7f\0\0\1' * 2 + options + inner)
+
+
+def ethernet(inner, kind=0x0800):
+    return b'\xff' * 6 + b'\2\0\0\0\0\1' + kind.to_bytes(2, 'big') + inner
+
+
+def capture(frames, link=RAW_IP, order='little', magic=MICROSECONDS):
+    return start(link, order, magic) + b''.join(record(frame, order) for frame in frames)
+
+
+def last_line(datagrams, refused, ignored):
+    return (f'datagrams {datagrams} refused {refused} skipped 0 fragments 0 undirected 0 unsettled 0'
+            f' ignored {ignored}\n')
+
+
+def audited(datagrams, refused, ignored):
+    return 'pairs 0\n' + last_line(datagrams, refused, ignored)
+
+
+class Tests:
+    def __init__(self, program):
+        self.program, self.passed, self.failed = program, 0, 0
+        self.file = tempfile.NamedTemporaryFile()
+
+    def run(self, view, octets):
+        """standard output, the last line of standard error and the status of the program"""
+        self.file.seek(0)
+        self.file.truncate()
+        self.file.write(octets)
+        self.file.flush()
+        done = subprocess.run([self.program, view, self.file.name], capture_output=True)
+        return done.stdout.decode(), done.stderr.decode(), done.returncode
+
+    def holds(self, name, wanted, got):
+        if wanted == got:
+            self.passed += 1
+            return
+        self.failed += 1
+        print(f'FAILED: {name}\n-- wanted {wanted}\n-- got    {got}'[:900])
+
+    def answers(self, name, view, octets, wanted, status=0):
+        self.holds(f'{view}: {name}', (wanted, '', status), self.run(view, octets))
+
+    def refuses(self, name, octets, fault, reason=''):
+        """in each view, with the reason in front, if there is one"""
+        told = reason.replace('FILE', self.file.name)
+        for view in ('show', 'list', 'audit'):
+            self.holds(f'{view}: {name}', ('', f'{told}rtps-audit: {fault}\n', 2), self.run(view, octets))
+
+    def agrees(self, name, octets, views=('audit',)):
+        """each view is what the second implementation says"""
+        read = reference.input_of(octets)
+        for view in views:
+            output, error, status = self.run(view, octets)
+            wanted, ended = reference.answer(view, octets)
+            told = f'rtps-audit: {read}\n' if isinstance(read, str) else ''
+            self.holds(f'{view}: {name}', (wanted, told, ended), (output, error[-len(told):] if told else error, status))
+
+
+# ---- what was worked out by hand
+
+# How a capture of one raw IP packet and how one of an Ethernet frame lie, octet by octet.
+BASE = bytes.fromhex('d4c3b2a1 02000400 00000000 00000000 ffff0000 65000000'
+                     '00000000 00000000 50000000 50000000'
+                     '45000050 00000000 40110000 7f000001 7f000001'
+                     '1ce81ce8 003c0000') + DATAGRAM
+FRAMED = bytes.fromhex('a1b23c4d 00020004 00000000 00000000 0000ffff 00000001'
+                       '00000000 00000000 0000005e 0000005e'
+                       'ffffffffffff 020000000001 0800'
+                       '45000050 00000000 40110000 7f000001 7f000001'
+                       '1ce81ce8 003c0000') + DATAGRAM
+
+
+def with_octets(octets, at, new):
+    new = bytes.fromhex(new)
+    return octets[:at] + new + octets[at + len(new):]
+
+
+def rows(tests):
+    tests.answers('a header alone', 'audit', BASE[:24], audited(0, 0, 0))
+    tests.answers('a header alone', 'show', BASE[:24], '')
+    tests.answers('a header alone', 'list', BASE[:24], 'participants 0 endpoints 0 unsettled 0 faults 0\n')
+    for name, octets in (('a raw IP packet', BASE), ('an Ethernet frame', FRAMED)):
+        tests.answers(name, 'show', octets, SHOWN)
+        tests.answers(name, 'audit', octets, audited(1, 0, 0))
+    tests.answers('ARP', 'audit', with_octets(FRAMED, 24 + 16 + 12, '0806'), audited(0, 0, 1))
+    ip = 24 + 16
+    tests.answers('a fragment with more behind it', 'audit', with_octets(BASE, ip + 6, '2000'), audited(0, 0, 1))
+    tests.answers('TCP', 'audit', with_octets(BASE, ip + 9, '06'), audited(0, 0, 1))
+    tests.answers('a UDP length past the packet', 'audit', with_octets(BASE, ip + 24, '003d'), audited(0, 0, 1))
+    short = with_octets(BASE, ip + 24, '0008')
+    tests.answers('an empty datagram', 'show', short, 'datagram 1 unread\nrefused 0 Short\n')
+    tests.answers('an empty datagram', 'audit', short, audited(1, 1, 0))
+    padded = with_octets(BASE, 24 + 8, '54000000') + bytes(4)
+    tests.answers('padding', 'show', padded, SHOWN)
+    tests.answers('padding', 'audit', padded, audited(1, 0, 0))
+    tests.refuses('the last octet lacks', BASE[:-1], 'frame 1: cut')
+    tests.refuses('a header without its last octet', BASE[:23], 'bad capture')
+    other = with_octets(BASE, 20, '71000000')
+    tshark = "tshark -r IN -Y 'udp && !icmp' -T fields -e udp.payload >OUT makes a recording of it"
+    tests.refuses('another link type', other, 'bad capture', f'rtps-audit: FILE: frames of link type 113; {tshark}\n')
+    tests.refuses('another link type, header alone', other[:24], 'bad capture', f'rtps-audit: FILE: frames of link type 113; {tshark}\n')
+    tests.refuses('another major version', with_octets(BASE, 4, '0300'), 'bad capture')
+    tests.answers('another minor version', 'show', with_octets(BASE, 6, 'ffff'), SHOWN)
+    tests.answers('what stands above the link type', 'show', with_octets(BASE, 22, '00f4'), SHOWN)
+    editcap = 'editcap -F pcap IN OUT makes a capture of it'
+    tests.refuses('pcapng', bytes.fromhex('0a0d0d0a 1c000000 4d3c2b1a 01000000'), 'line 2: bad hex',
+                  f'rtps-audit: FILE: a pcapng file; {editcap}\n')
+    tests.answers('three octets of a magic are text', 'audit', b'', audited(0, 0, 0).replace(' ignored 0', ''))
+    for size in range(1, 4):
+        tests.refuses(f'{size} octets of a magic are text', BASE[:size], 'line 1: bad hex')
+    with open(os.path.join(ROOT, 'examples', 'pose.rec'), 'rb') as f:
+        pose = reference.recording_of(f.read())
+    for view in ('show', 'list', 'audit'):
+        with open(os.path.join(ROOT, 'tests', 'examples', f'pose.{view}')) as f:
+            wanted = f.read()
+        if view == 'audit':
+            wanted = wanted[:-1] + ' ignored 0\n'
+        tests.answers('the datagrams of pose.rec as raw IP', view, capture([packet(d) for d in pose]), wanted)
+        framed = [ethernet(packet(d)) for d in pose]
+        tests.answers('the same in Ethernet frames', view, capture(framed, ETHERNET), wanted)
+        mixed = [f for frame in framed for f in (ethernet(b'', 0x0806), frame, b'')]
+        tests.answers('ignored frames between', view, capture(mixed, ETHERNET), wanted.replace('ignored 0', 'ignored 12'))
+    print('rows worked out by hand')
+
+
+# ---- each cut, and each octet of the headers changed
+
+def small(link, order, magic):
+    frames = [packet(DATAGRAM), packet(b'', options=b'\1\1\1\0'), packet(HEADER + b'\1', fragment=0x4000) + b'\0\0']
+    if link == ETHERNET:
+        frames = [ethernet(frame) for frame in frames]
+    return capture(frames, link, order, magic)
+
+
+def cut_and_changed(tests):
+    cuts = changes = 0
+    for link, order, magic in ((RAW_IP, 'little', MICROSECONDS), (ETHERNET, 'big', NANOSECONDS)):
+        whole = small(link, order, magic)
+        for length in range(len(whole)):
+            tests.agrees(f'cut to {length} octets', whole[:length], ('show', 'audit'))
+            cuts += 1
+        for at in range(len(whole)):
+            for value in {0, 0xff, whole[at] ^ 1} - {whole[at]}:
+                tests.agrees(f'octet {at} is {value}', whole[:at] + bytes([value]) + whole[at + 1:])
+                changes += 1
+    print(f'cuts: {cuts}; changed octets: {changes}')
+
+
+# ---- what frames may be
+
+def kinds(tests):
+    good, six = packet(DATAGRAM), b'\x60' + bytes(39) + udp(DATAGRAM)
+    frames = {
+        'options': packet(DATAGRAM, options=b'\1' * 4), 'most options': packet(DATAGRAM, options=b'\1' * 40),
+        'options past the header': packet(DATAGRAM, words=6), 'a header of 16 octets': packet(DATAGRAM, words=4),
+        'no header': packet(DATAGRAM, words=0), 'version 6 on 4': packet(DATAGRAM, version=6), 'IPv6': six,
+        'the first fragment': packet(DATAGRAM, fragment=0x2000), 'the last fragment': packet(DATAGRAM, fragment=1),
+        'a fragment at the greatest offset': packet(DATAGRAM, fragment=0x1fff),
+        'do not fragment': packet(DATAGRAM, fragment=0x4000), 'the reserved flag': packet(DATAGRAM, fragment=0x8000),
+        'TCP': packet(DATAGRAM, protocol=6), 'ICMP': packet(DATAGRAM, protocol=1),
+        'an empty datagram': packet(b''), 'a UDP length of 7': packet(DATAGRAM, size=7), 'a UDP length of 0': packet(DATAGRAM, size=0),
+        'a shorter UDP length': packet(DATAGRAM, size=8 + 20), 'a longer UDP length': packet(DATAGRAM, size=len(DATAGRAM) + 9),
+        'a longer UDP length over padding': packet(DATAGRAM, size=len(DATAGRAM) + 9) + bytes(4),
+        'padding': good + b'\xff' * 18, 'a shorter total length': packet(DATAGRAM, total=len(good) - 1),
+        'a longer total length': packet(DATAGRAM, total=len(good) + 1), 'a total length of 27': packet(b'', total=27),
+        'the total length of no datagram': packet(b'', total=28), 'no octet': b'', 'one octet': b'\x45', '19 octets': good[:19],
+        '20 octets': good[:20], '28 octets': good[:28], 'the greatest datagram': packet(bytes(65535 - 28)),
+    }
+    count = 0
+    for name, frame in frames.items():
+        for link, octets in ((RAW_IP, frame), (ETHERNET, ethernet(frame))):
+            for order in ('little', 'big'):
+                for magic in (MICROSECONDS, NANOSECONDS):
+                    tests.agrees(f'{name}, {order}, link {link}', capture([octets, octets], link, order, magic), ('show', 'list', 'audit'))
+                    count += 1
+    others = {'VLAN': ethernet(b'\0\1\x08\0' + good, 0x8100), 'IPv6': ethernet(six, 0x86dd), 'ARP': ethernet(bytes(28), 0x0806),
+              'the length of an LLC frame': ethernet(good, 0x0040), '13 octets': ethernet(b'')[:13], '14 octets': ethernet(b'')}
+    for name, frame in others.items():
+        tests.agrees(name, capture([frame], ETHERNET), ('show', 'list', 'audit'))
+        count += 1
+    for snap in (0, 14, 28, 34, 42, 60, 93):
+        whole = ethernet(good)
+        tests.agrees(f'a snap length of {snap}', start(ETHERNET) + record(whole[:snap], original=len(whole)), ('show', 'audit'))
+        count += 1
+    print(f'kinds of frames: {count}')
+
+
+def some_frame(rng):
+    payload = rng.choice([b'', HEADER, DATAGRAM, HEADER + HEARTBEAT * 3, rng.randbytes(rng.randrange(60))])
+    words = {}
+    if rng.random() < 0.3:
+        words['options'] = bytes(4 * rng.randrange(11))
+    for name, values in (('total', 80), ('fragment', 65536), ('protocol', 256), ('version', 16), ('words', 16), ('size', 80)):
+        if rng.random() < 0.08:
+            words[name] = rng.randrange(values)
+    return packet(payload, **words) + bytes(rng.choice([0, 0, 0, 4, 18]))
+
+
+def random_captures(tests):
+    rng = random.Random(13)
+    for i in range(300):
+        link, order, magic = rng.choice([ETHERNET, RAW_IP]), rng.choice(['little', 'big']), rng.choice([MICROSECONDS, NANOSECONDS])
+        frames = [some_frame(rng) for _ in range(rng.randrange(8))]
+        if link == ETHERNET:
+            frames = [ethernet(frame, rng.choice([0x0800] * 9 + [0x0806])) for frame in frames]
+        octets = capture(frames, link, order, magic)
+        if rng.random() < 0.2:
+            octets = octets[:rng.randrange(len(octets) + 1)]
+        if rng.random() < 0.2 and octets:
+            at = rng.randrange(len(octets))
+            octets = octets[:at] + rng.randbytes(1) + octets[at + 1:]
+        tests.agrees(f'random capture {i}', octets, ('show', 'list', 'audit'))
+    print('random captures: 300')
+
+
+# ---- pipes
+
+def piped(tests, pieces):
+    """what an audit answers of octets that come in pieces"""
+    child = subprocess.Popen([tests.program, 'audit', '-'], stdin=subprocess.PIPE, stdout=subprocess.PIPE, stderr=subprocess.PIPE)
+    for piece in pieces:
+        os.write(child.stdin.fileno(), piece)
+    output, error = child.communicate()
+    return output.decode(), error.decode(), child.returncode
+
+
+def pipes(tests):
+    octets = small(ETHERNET, 'little', MICROSECONDS)
+    wanted = reference.answer('audit', octets)[0], '', 0
+    tests.holds('an octet a write', wanted, piped(tests, [octets[i:i + 1] for i in range(len(octets))]))
+    for cut in (1, 2, 3, 4, 5, 23, 24, 25, 40):
+        tests.holds(f'a cut at {cut}', wanted, piped(tests, [octets[:cut], octets[cut:]]))
+    large = capture([ethernet(packet(bytes(1400))) for _ in range(300)], ETHERNET)
+    size = 65536
+    tests.holds('more than a pipe holds', (audited(300, 300, 0), '', 0), piped(tests, [large[i:i + size] for i in range(0, len(large), size)]))
+    text = b'# a1b2\n' + DATAGRAM.hex().encode() + b'\n'
+    said = audited(1, 0, 0).replace(' ignored 0', '')
+    tests.holds('a text, an octet a write', (said, '', 0), piped(tests, [text[i:i + 1] for i in range(len(text))]))
+    print('pipes: 12')
+
+
+# ---- limits
+
+def limits(tests):
+    empty = record(packet(b''))
+    tests.answers('1,000,000 datagrams', 'audit', start() + empty * 1000000, audited(1000000, 1000000, 0))
+    tests.refuses('1,000,001 datagrams', start() + empty * 1000001, 'too many datagrams')
+    tests.refuses('1,000,000 datagrams and a frame that is cut', start() + empty * 1000000 + empty[:-1], 'frame 1000001: cut')
+    tests.refuses('1,000,001 datagrams and a frame that is cut', start() + empty * 1000001 + empty[:-1], 'too many datagrams')
+    tests.answers('2,000,000 ignored frames', 'audit', start() + record(b'') * 2000000, audited(0, 0, 2000000))
+    most = 2 ** 30
+    frame = record(bytes(65535 * 16))
+    count = (most - 24) // len(frame)
+    rest = most - 24 - count * len(frame)
+    whole = start() + frame * count + record(bytes(rest - 16))
+    assert len(whole) == most
+    tests.answers('1,073,741,824 octets', 'audit', whole, audited(0, 0, count + 1))
+    tests.refuses('1,073,741,825 octets', whole + b'\0', 'too many datagrams')
+    tests.refuses('1,073,741,825 octets of another version', whole[:4] + b'\3' + whole[5:] + b'\0', 'too many datagrams')
+    print('limits: 8')
+
+
+def main():
+    if len(sys.argv) != 2:
+        raise SystemExit(__doc__)
+    tests = Tests(os.path.realpath(sys.argv[1]))
+    for group in (rows, cut_and_changed, kinds, random_captures, pipes, limits):
+        group(tests)
+    print(f'{tests.passed} passed, {tests.failed} failed')
+    return 0 if tests.passed and not tests.failed else 1
+
+
+if __name__ == '__main__':
+    sys.exit(main())
