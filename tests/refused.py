@@ -97,7 +97,7 @@ def main():
             for name, text in recordings.items():
                 tried.append((f'{call}, {name}', [calls, call], text, answer, call in WORDS, MARK))
         nothing = '', ['rtps-audit: out of memory'], 3
-        for words in (['show', '-'], ['list', '-'], ['audit', '-'], ['--help'], ['audit', '--help'], ['--version'], ['audit'], []):
+        for words in (['show', '-'], ['list', '-'], ['audit', '-'], ['audit', '--from', '3', '-'], ['--help'], ['audit', '--help'], ['--version'], ['audit'], []):
             tried.append((f"rtps-audit {' '.join(words)}", [program, *words], recordings['of six datagrams'], nothing, True))
         for name, *one in tried:
             told, went_on, others = sweep(library, *one)
