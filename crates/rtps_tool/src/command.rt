@@ -2,7 +2,7 @@ ghost use Rattle.std.specs.Prelude.{◌≡◌, ◌⊎◌, true, false, codes, So
 ghost use Rattle.std.specs.String.{string_bytes};
 ghost use Rattle.clap.specs.Words.{app_of, fault_of, first_of, found_of, new_app, rows_of, subcommand_of, subcommand_rows_of, takes};
 ghost use Rattle.clap.specs.declared.builder.command.Command.TheViews.{out-Command};
-ghost use Rattle.rtps_tool.specs.Words.{audit_app, program as program_app, reading_app, IsChoice, IsNumberGiven, IsOneOf, HasItsKind};
+ghost use Rattle.rtps_tool.specs.Words.{audit_app, bare_program as bare_app, program as program_app, reading_app, IsChoice, IsNumberGiven, IsOneOf, HasItsKind};
 
 use clap::builder::ValueParser;
 use clap::error::ErrorKind;
@@ -78,6 +78,15 @@ const STATUSES: &str =
     "Status: 0 clean, 1 not every pair is complete, 2 the arguments or the recording are refused, \
     3 input, output or memory failed";
 
+const SHOWS: &str = "Shows each datagram of a recording and its submessages";
+
+const LISTS: &str = "Lists participants, endpoints and pairs of writers and readers that match";
+
+const AUDITS: &str =
+    "Says for each reliable writer and reader that match whether the reader got all data";
+
+const SAMPLES: &str = "Writes a recording to try, which audit finds complete";
+
 // A subcommand that reads a FILE.
 fn reading_subcommand<'a>(
     alloc: Global,
@@ -119,28 +128,28 @@ fn plain_subcommand<'a>(alloc: Global, name: &'a str, about: &'a str) -> Command
     Command::new(alloc, name).about(about).after_help(STATUSES)
 }
 
-// The program's command line.
-fn program<'a>(alloc: Global) -> Result<Command<'a>, AllocError>
-    ensures { IfOk result (λ command. app_of command ≡ program_app) }
+// The program, with no subcommand yet.
+fn bare_program<'a>(alloc: Global) -> Command<'a>
+    ensures { app_of result ≡ bare_app }
 {
-    let shows = "Shows each datagram of a recording and its submessages";
-    let lists = "Lists participants, endpoints and pairs of writers and readers that match";
-    let audits =
-        "Says for each reliable writer and reader that match whether the reader got all data";
-    let samples = "Writes a recording to try, which audit finds complete";
-    let show = reading_subcommand(alloc, "show", shows)?;
-    let list = reading_subcommand(alloc, "list", lists)?;
-    let audit = audit_subcommand(alloc, audits)?;
-    let sample = plain_subcommand(alloc, "sample", samples);
     Command::new(alloc, "rtps-audit")
         .about("Audits recordings of RTPS datagrams: shows them, lists discovery, judges delivery")
         .after_help(STATUSES)
         .version(VERSION)
         .subcommand_required(true)
-        .subcommand(show)?
-        .subcommand(list)?
-        .subcommand(audit)?
-        .subcommand(sample)
+}
+
+// The program's command line.
+fn program<'a>(alloc: Global) -> Result<Command<'a>, AllocError>
+    ensures { IfOk result (λ command. app_of command ≡ program_app) }
+{
+    let show = reading_subcommand(alloc, "show", SHOWS)?;
+    let one = bare_program(alloc).subcommand(show)?;
+    let list = reading_subcommand(alloc, "list", LISTS)?;
+    let two = one.subcommand(list)?;
+    let audit = audit_subcommand(alloc, AUDITS)?;
+    let three = two.subcommand(audit)?;
+    three.subcommand(plain_subcommand(alloc, "sample", SAMPLES))
 }
 
 // The FILE of a subcommand; empty where it has none.
