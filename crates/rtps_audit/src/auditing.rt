@@ -34,9 +34,10 @@ fn rows_of(index: &Index<'_>, pairs: &[Pair], from: SeqNum) -> Result<Vec<Row>, 
 
 /// Audits a recording, any datagrams, well formed or not, by the numbers from `from` on.
 ///
-/// It is [`audit`], but that smaller numbers are not asked for, whatever is said of them: a run ends with each number from
-/// `from` on announced by the writer received or told gone, and the reader acknowledges of those alone only what it has a
-/// word for.
+/// It is [`audit`], but that smaller numbers are not asked for, whatever is said of them. A pair is complete exactly where
+/// a run exists and every run ends with each number from `from` on that the writer announced received with its one recorded
+/// payload or told gone. Of the premises, the second speaks of numbers from `from` on alone: the reader acknowledges one
+/// of them only when it has a word for it.
 pub fn audit_from(alloc: Global, recording: &[&[u8]], from: SeqNum) -> Result<Report, Memory>
     // The rows are of the matched reliable pairs in order, each with its verdict, and the six counts are exact.
     ensures report { IfOk result (IsReportFrom from (map (λ datagram. datagram.now) recording.now)) }

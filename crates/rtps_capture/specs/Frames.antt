@@ -1,5 +1,6 @@
 -- The frames of a capture. PCAP Capture File Format (IETF draft), 5 "Packet Record".
--- own: a capture that ends within a frame is cut, and what stands before that frame counts.
+-- own: a capture that ends within a frame is cut at that frame. The frames before it are told all the same, so that who
+-- reads them can say at which one it is cut.
 use Rattle.std.specs.Prelude.{ℕ, zero, suc, ◌+◌, ◌-◌, ◌≡◌, ◌<◌, ◌≤◌, ◌&&◌, nat_le, nat_lt, Bool, true, false, if◌then◌else◌, List, [], ◌∷◌, length, drop, Option, Some, None, IfSome}
 use Rattle.std.specs.Iterator.{YieldsFirst}
 use Rattle.rtps_ids.specs.Octets.{number_of}

@@ -9,8 +9,8 @@ ghost use Rattle.rtps_text.specs.ShowText.{IsShown};
 use rtps_audit::laws::one_report;
 use rtps_discovery::laws::one_map;
 
-/// What is printed of a recording, and how a run on it ends, is decided by its datagrams alone; by `audit`, also by the
-/// number from which on it asks.
+/// What is printed of a recording, and how a run on it ends, is decided by its datagrams alone; by `audit`, also by how many
+/// frames of a capture were ignored, and by the number from which on it asks.
 pub fn one_text()
     ensures shown { HasOneText IsShown }
     ensures listed { HasOneText IsListed }

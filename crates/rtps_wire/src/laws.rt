@@ -38,8 +38,9 @@ pub fn a_message_is_read_as_it_is_spelled()
 
 /// What is written is spelled so, too. So a message that is read and written again differs from what is written in nothing
 /// but what no reader looks at: flags that have no name here, octetsToNextHeader 0 of the last submessage, extraFlags,
-/// octets that octetsToInlineQos skips, octets where there is no payload or no time, the unused octets of an INFO_SRC, bits
-/// of a set past its count, and octets behind the last field.
+/// flag N of a DATA, octets that octetsToInlineQos skips, octets where there is no payload or no time, the unused octets of an
+/// INFO_SRC, bits of a set past its count, and octets behind the last field. Where such octets go, octetsToNextHeader and
+/// octetsToInlineQos tell the fewer octets that are left.
 #[tactic(auto, using(crate::proofs::SpelledAgain::written_spelled, crate::proofs::SpelledAgain::written_alike))]
 pub fn what_is_written_is_spelled()
     ensures written { (header : Header) (items : List ItemValue) → All IsHeldItem items → write_fault header items ≡ None
