@@ -20,9 +20,6 @@ past field rest at more is =
 pub taken : (field rest octets : List ℕ) (width : ℕ) → length field ≡ width → octets ≡ field ++ rest → take width octets ≡ field
 taken field rest octets width is at = ap (take width) at ∙ take_at field rest width is
 
-pub taken_last : (field octets : List ℕ) (width : ℕ) → length field ≡ width → octets ≡ field → take width octets ≡ field
-taken_last field octets width is at = ap (take width) at ∙ take_all width field (omega arith)
-
 pub entity_read : (entity : EntityId) (at : ℕ) (rest octets : List ℕ) → length entity.0 ≡ 4 → drop at octets ≡ entity.0 ++ rest → entity_at at octets ≡ entity
 entity_read entity at rest octets is found =
     let made : List ℕ → EntityId = λ xs. record { 0 = xs } in
@@ -33,16 +30,8 @@ vendor_read vendor at rest octets is found =
     let made : List ℕ → Vendor = λ xs. record { 0 = xs } in
     ap made (taken vendor.0 rest (drop at octets) 2 is found)
 
-pub prefix_read : (prefix : GuidPrefix) (at : ℕ) (octets : List ℕ) → length prefix.0 ≡ 12 → drop at octets ≡ prefix.0 → prefix_at at octets ≡ prefix
-prefix_read prefix at octets is found =
-    let made : List ℕ → GuidPrefix = λ xs. record { 0 = xs } in
-    ap made (taken_last prefix.0 (drop at octets) 12 is found)
-
 pub word_read : (order : Order) (value : ℕ) (rest octets : List ℕ) → value < 2 ^ 32 → octets ≡ octets_of order 4 value ++ rest → number_of order 4 octets ≡ value
 word_read order value rest octets small found = ap (number_of order 4) found ∙ number-octets_of order 4 value rest small
-
-pub word_read_last : (order : Order) (value : ℕ) (octets : List ℕ) → value < 2 ^ 32 → octets ≡ octets_of order 4 value → number_of order 4 octets ≡ value
-word_read_last order value octets small found = word_read order value [] octets small (found ∙ sym (append-nil _))
 
 pub sequence_number_read : (order : Order) (value : ℤ) (rest octets : List ℕ) → pos 0 ≤ℤ value → value <ℤ pos (2 ^ 63) → octets ≡ sequence_number_octets order value ++ rest
     → sequence_number_of order octets ≡ value
