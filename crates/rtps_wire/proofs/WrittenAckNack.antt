@@ -1,19 +1,16 @@
 -- The flags, the fields and the length of an ACKNACK that is written.
-use Rattle.std.proofs.Common.{◌≡◌, ◌+◌, ℕ, List, ◌++◌, Bool, true, false, None, length, drop, refl, ap, ◌∙◌, arith}
-use Rattle.std.specs.Prelude.{◌==◌, bit_and, bit_or, nat_lt, not}
-use Rattle.std.proofs.lemmas.Bool.Decides.{nat_tests}
+use Rattle.std.proofs.Common.{◌≡◌, ◌+◌, ℕ, Bool, true, false, length, refl, arith}
+use Rattle.std.specs.Prelude.{◌==◌, bit_and, bit_or, not}
 use Rattle.std.proofs.lemmas.List.{length-append}
 use Rattle.rtps_ids.proofs.Offered.{length-octets_of}
 use Rattle.rtps_ids.specs.NumberSet.{NumberSetValue, octets_of_count}
-use Rattle.rtps_ids.specs.Octets.{octets_of}
 use Rattle.rtps_ids.specs.declared.identity.EntityId.{EntityId}
 use Rattle.rtps_ids.specs.declared.order.Order.{Order}
 use Rattle.rtps_ids.specs.declared.order.Order.TheVariants.{Big, Little}
 use Rattle.rtps_wire.proofs.WrittenSets.{length-set_octets}
-use Rattle.rtps_wire.specs.AckNack.{ack_nack_fault, ack_nack_flags, ack_nack_octets, ack_nack_of}
+use Rattle.rtps_wire.specs.AckNack.{ack_nack_octets}
 use Rattle.rtps_wire.specs.Flags.{flag_if, order_flag}
 use Rattle.rtps_wire.specs.Held.{IsHeldAckNack}
-use Rattle.rtps_wire.specs.SetField.{set_octets}
 use Rattle.rtps_wire.specs.declared.body.AckNackBody.{AckNackBody}
 
 pub made : (reader reader' writer writer' : EntityId) (set set' : NumberSetValue) (count count' : ℕ) (is_final is_final' : Bool)

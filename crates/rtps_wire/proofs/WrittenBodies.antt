@@ -1,25 +1,18 @@
 -- A written body, by its kind: its flags tell the order, and its extent is its length.
-use Rattle.std.proofs.Common.{◌≡◌, ◌<◌, ℕ, List, ◌++◌, Bool, true, false, Option, Some, None, length, refl, ap, sym, ◌∙◌, arith}
+use Rattle.std.proofs.Common.{◌≡◌, ◌<◌, ℕ, Bool, true, false, Option, Some, None, length, refl, arith}
 use Rattle.std.specs.Prelude.{◌==◌, bit_or}
 use Rattle.std.proofs.lemmas.Bool.Decides.{nat_tests}
-use Rattle.std.proofs.lemmas.List.{length-append}
-use Rattle.rtps_ids.proofs.Offered.{length-octets_of}
 use Rattle.rtps_ids.specs.declared.identity.Stamp.{Stamp}
 use Rattle.rtps_ids.specs.declared.order.Order.{Order}
 use Rattle.rtps_ids.specs.declared.order.Order.TheVariants.{Big, Little}
 use Rattle.rtps_params.specs.Shown.{ListValue}
-use Rattle.rtps_wire.specs.AckNack.{ack_nack_fault, ack_nack_of}
-use Rattle.rtps_wire.specs.Data.{data_fault, data_of, payload_flag, qos_flag}
+use Rattle.rtps_wire.specs.Data.{payload_flag, qos_flag}
 use Rattle.rtps_wire.specs.Flags.{flag_if, order_flag}
-use Rattle.rtps_wire.specs.Gap.{gap_fault, gap_of}
-use Rattle.rtps_wire.specs.Held.{IsHeldBody}
-use Rattle.rtps_wire.specs.Heartbeat.{heartbeat_fault, heartbeat_of}
-use Rattle.rtps_wire.specs.Info.{info_ts_flags, info_ts_of}
-use Rattle.rtps_wire.specs.Message.{body_fault, body_of, extent_of, order_of, source_value}
+use Rattle.rtps_wire.specs.Info.{info_ts_flags}
+use Rattle.rtps_wire.specs.Message.{extent_of, order_of}
 use Rattle.rtps_wire.specs.Values.{BodyValue, PayloadValue}
 use Rattle.rtps_wire.specs.Values.BodyValue.{Data, Heartbeat, AckNack, Gap, InfoTs, InfoDst, InfoSrc, Skipped}
 use Rattle.rtps_wire.specs.Values.PayloadValue.{Absent, Whole, Key}
-use Rattle.rtps_wire.specs.Writable.{is_not_writable}
 use Rattle.rtps_wire.specs.Written.{written_body, written_flags, written_id}
 
 order_plain : (order : Order) → order_of (bit_or (order_flag order) 0) ≡ order

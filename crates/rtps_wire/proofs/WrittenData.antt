@@ -1,19 +1,15 @@
 -- The flags, the inline QoS, the fields and the length of a DATA that is written.
-use Rattle.std.proofs.Common.{◌≡◌, ◌<◌, ◌+◌, ℕ, pos, List, ◌++◌, Bool, true, false, Option, Some, None, Ok, length, drop, refl, ap, ◌∙◌, arith}
-use Rattle.std.specs.Prelude.{◌&&◌, ◌||◌, bit_or, int_le, is_err, is_some, nat_lt, not}
-use Rattle.std.specs.Int.RustNames.{unsigned_abs}
-use Rattle.std.proofs.lemmas.Bool.Decides.{nat_tests}
-use Rattle.std.proofs.lemmas.Int.{ints}
+use Rattle.std.proofs.Common.{◌≡◌, ◌+◌, ℕ, pos, List, ◌++◌, Bool, true, false, Option, Some, None, Ok, length, refl, ap, ◌∙◌, arith}
+use Rattle.std.specs.Prelude.{◌&&◌, bit_or, is_err, is_some, not}
 use Rattle.std.proofs.lemmas.List.{drop_at, length-append, take_at}
-use Rattle.rtps_ids.proofs.Offered.{length-octets_of, length-sequence_number_octets, number-octets_of}
-use Rattle.rtps_ids.specs.Octets.{octets_of, sequence_number_octets}
+use Rattle.rtps_ids.proofs.Offered.{length-octets_of, length-sequence_number_octets}
 use Rattle.rtps_ids.specs.declared.identity.EntityId.{EntityId}
 use Rattle.rtps_ids.specs.declared.order.Order.{Order}
 use Rattle.rtps_ids.specs.declared.order.Order.TheVariants.{Big, Little}
 use Rattle.rtps_params.proofs.Offered.{end_of_list}
 use Rattle.rtps_params.specs.Reading.{list_end, pairs_of}
 use Rattle.rtps_params.specs.Shown.{ListValue, is_same_order}
-use Rattle.rtps_wire.specs.Data.{behind_fields, behind_qos, data_fault, data_flags, data_number, data_octets, data_of, has_data, has_key, has_qos, is_other_order, octets_to_inline_qos, payload_flag, payload_octets, payload_of, qos_flag, qos_octets, qos_of}
+use Rattle.rtps_wire.specs.Data.{behind_qos, data_octets, has_data, has_key, has_qos, is_other_order, payload_flag, payload_octets, qos_flag, qos_octets, qos_of}
 use Rattle.rtps_wire.specs.Flags.{order_flag}
 use Rattle.rtps_wire.specs.Held.{IsHeldData, IsHeldQos}
 use Rattle.rtps_wire.specs.Values.{DataValue, PayloadValue}

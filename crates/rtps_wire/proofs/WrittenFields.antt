@@ -1,15 +1,14 @@
 -- Fields of written octets, found at their places.
-use Rattle.std.proofs.Common.{◌≡◌, ◌<◌, ◌+◌, ◌^◌, ℕ, ℤ, pos, List, [], ◌++◌, length, take, drop, refl, ap, sym, ◌∙◌, arith}
+use Rattle.std.proofs.Common.{◌≡◌, ◌<◌, ◌+◌, ◌^◌, ℕ, ℤ, pos, List, ◌++◌, length, take, drop, refl, ap, sym, ◌∙◌, arith}
 use Rattle.std.specs.Prelude.{◌≤ℤ◌, ◌<ℤ◌}
 use Rattle.std.proofs.lemmas.Int.{ints}
-use Rattle.std.proofs.lemmas.List.{append-nil, drop-drop, drop_at, take_all, take_at}
+use Rattle.std.proofs.lemmas.List.{drop-drop, drop_at, take_at}
 use Rattle.rtps_ids.specs.Octets.{number_of, octets_of, sequence_number_octets, sequence_number_of}
 use Rattle.rtps_ids.specs.declared.identity.EntityId.{EntityId}
-use Rattle.rtps_ids.specs.declared.identity.GuidPrefix.{GuidPrefix}
 use Rattle.rtps_ids.specs.declared.identity.Vendor.{Vendor}
 use Rattle.rtps_ids.specs.declared.order.Order.{Order}
 use Rattle.rtps_ids.proofs.Offered.{number-octets_of, sequence_number-octets}
-use Rattle.rtps_wire.specs.Fields.{entity_at, prefix_at, vendor_at}
+use Rattle.rtps_wire.specs.Fields.{entity_at, vendor_at}
 
 -- behind a field that is passed over
 pub past : (field rest : List ℕ) (at more : ℕ) → length field + more ≡ at → drop at (field ++ rest) ≡ drop more rest

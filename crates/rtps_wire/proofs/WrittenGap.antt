@@ -1,19 +1,13 @@
 -- The fields and the length of a GAP that is written.
-use Rattle.std.proofs.Common.{◌≡◌, ◌<◌, ◌+◌, ℕ, pos, List, [], ◌++◌, false, None, length, drop, refl, ap, sym, ◌∙◌, arith}
-use Rattle.std.specs.Prelude.{◌==◌, int_le, nat_lt}
-use Rattle.std.specs.Int.RustNames.{unsigned_abs}
-use Rattle.std.proofs.lemmas.Bool.Decides.{nat_tests}
-use Rattle.std.proofs.lemmas.Int.{ints}
-use Rattle.std.proofs.lemmas.List.{append-nil, length-append}
+use Rattle.std.proofs.Common.{◌≡◌, ◌+◌, ℕ, pos, length, arith}
+use Rattle.std.proofs.lemmas.List.{length-append}
 use Rattle.rtps_ids.proofs.Offered.{length-sequence_number_octets}
 use Rattle.rtps_ids.specs.NumberSet.{NumberSetValue, octets_of_count}
-use Rattle.rtps_ids.specs.Octets.{sequence_number_octets}
 use Rattle.rtps_ids.specs.declared.identity.EntityId.{EntityId}
 use Rattle.rtps_ids.specs.declared.order.Order.{Order}
 use Rattle.rtps_wire.proofs.WrittenSets.{length-set_octets}
-use Rattle.rtps_wire.specs.Gap.{gap_fault, gap_octets, gap_of, start_number}
+use Rattle.rtps_wire.specs.Gap.{gap_octets}
 use Rattle.rtps_wire.specs.Held.{IsHeldGap}
-use Rattle.rtps_wire.specs.SetField.{set_octets}
 use Rattle.rtps_wire.specs.declared.body.GapBody.{GapBody}
 
 pub made : (reader reader' writer writer' : EntityId) (start start' : ℕ) (list list' : NumberSetValue)

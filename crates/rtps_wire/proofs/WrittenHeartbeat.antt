@@ -1,18 +1,14 @@
 -- The flags, the fields and the length of a HEARTBEAT that is written.
-use Rattle.std.proofs.Common.{◌≡◌, ◌<◌, ◌+◌, ℕ, ℤ, pos, List, ◌++◌, Bool, true, false, None, length, drop, refl, ap, ◌∙◌, arith}
-use Rattle.std.specs.Prelude.{bit_and, bit_or, not, ◌==◌, ◌-ℤ◌, ◌≤ℤ◌, ◌||◌, int_le, int_lt, nat_lt}
-use Rattle.std.specs.Int.RustNames.{unsigned_abs}
-use Rattle.std.proofs.lemmas.Bool.Decides.{nat_tests}
-use Rattle.std.proofs.lemmas.Int.{ints}
+use Rattle.std.proofs.Common.{◌≡◌, ℕ, ℤ, pos, Bool, true, false, length, refl, arith}
+use Rattle.std.specs.Prelude.{bit_and, bit_or, not, ◌==◌}
 use Rattle.std.proofs.lemmas.List.{length-append}
-use Rattle.rtps_ids.specs.Octets.{octets_of, sequence_number_octets}
 use Rattle.rtps_ids.specs.declared.identity.EntityId.{EntityId}
 use Rattle.rtps_ids.specs.declared.order.Order.{Order}
 use Rattle.rtps_ids.specs.declared.order.Order.TheVariants.{Big, Little}
 use Rattle.rtps_ids.proofs.Offered.{length-octets_of, length-sequence_number_octets}
 use Rattle.rtps_wire.specs.Flags.{flag_if, order_flag}
 use Rattle.rtps_wire.specs.Held.{IsHeldHeartbeat}
-use Rattle.rtps_wire.specs.Heartbeat.{first_number, heartbeat_fault, heartbeat_flags, heartbeat_octets, heartbeat_of, is_bad_range, last_number}
+use Rattle.rtps_wire.specs.Heartbeat.{heartbeat_octets}
 use Rattle.rtps_wire.specs.declared.body.HeartbeatBody.{HeartbeatBody}
 
 pub made : (reader reader' writer writer' : EntityId) (first first' : ℕ) (last last' : ℤ) (count count' : ℕ) (is_final is_final' live live' : Bool)

@@ -1,17 +1,15 @@
 -- A written set of sequence numbers: its length, and how its words are read.
-use Rattle.std.proofs.Common.{◌≡◌, ◌<◌, ◌+◌, ◌*◌, ◌/◌, ◌^◌, ℕ, zero, suc, pos, List, [], ◌∷◌, ◌++◌, false, length, take, drop, get_or, map, refl, ap, sym, ◌∙◌, append_assoc, arith, inl, inr}
+use Rattle.std.proofs.Common.{◌≡◌, ◌<◌, ◌+◌, ◌*◌, ◌/◌, ◌^◌, ℕ, zero, suc, pos, List, [], ◌∷◌, ◌++◌, false, length, take, drop, get_or, map, refl, ap, ◌∙◌, append_assoc, arith, inl, inr}
 use Rattle.std.specs.Prelude.{nat_lt}
-use Rattle.std.specs.Int.RustNames.{unsigned_abs}
 use Rattle.std.specs.List.{flat_map, range_with_len}
 use Rattle.std.proofs.lemmas.Bool.{cases_lt}
 use Rattle.std.proofs.lemmas.Bool.Decides.{nat_tests}
-use Rattle.std.proofs.lemmas.Int.{ints}
-use Rattle.std.proofs.lemmas.List.{get_or-take, length-append, length-take, length-take-le}
-use Rattle.rtps_ids.specs.NumberSet.{NumberSetValue, cleared, cleared_words, is_bad, octets_of_count, spelled_base, spelled_count, spelled_set, spelled_word}
-use Rattle.rtps_ids.specs.Octets.{number_of, octets_of, sequence_number_octets}
+use Rattle.std.proofs.lemmas.List.{length-append, length-take-le}
+use Rattle.rtps_ids.specs.NumberSet.{NumberSetValue, cleared, cleared_words, is_bad, octets_of_count, spelled_base, spelled_count, spelled_set}
+use Rattle.rtps_ids.specs.Octets.{number_of, octets_of}
 use Rattle.rtps_ids.specs.declared.order.Order.{Order}
 use Rattle.rtps_ids.proofs.Offered.{length-octets_of, length-sequence_number_octets}
-use Rattle.rtps_wire.proofs.WrittenFields.{past, sequence_number_read, word_read}
+use Rattle.rtps_wire.proofs.WrittenFields.{past, word_read}
 use Rattle.rtps_wire.specs.Held.{IsHeldSet}
 use Rattle.rtps_wire.specs.SetField.{set_octets}
 
