@@ -21,3 +21,5 @@ pub mod SpelledBodies
 pub mod SpelledMessages
 pub mod SpelledAgain
 pub mod SpelledReads
+pub mod Reasons
+pub mod WrittenHeader

@@ -19,7 +19,7 @@ use Rattle.rtps_wire.proofs.WrittenBodies.{extent_some}
 use Rattle.rtps_wire.proofs.WrittenSets.{cleared_words_same}
 use Rattle.rtps_wire.specs.Reading.{reading_of}
 use Rattle.std.proofs.lemmas.Bool.Decides.{nat_tests}
-use Rattle.rtps_wire.proofs.WrittenMessage.{no_fault, no_first}
+use Rattle.rtps_wire.proofs.Reasons.{no_fault, no_first}
 use Rattle.rtps_wire.specs.Data.{payload_flag, payload_octets, qos_flag}
 use Rattle.rtps_wire.specs.Flags.{flag_if, order_flag}
 use Rattle.rtps_wire.specs.Held.{IsHeldItem}
@@ -170,7 +170,7 @@ extent_written order (Skipped id) left sized good = cc
 
 -- ---- a message
 
-item_written : (item : ItemValue) (later : List ℕ) → IsSized item.body → is_not_writable item.order item.body ≡ false → length (written_body item.order item.body) < 2 ^ 16
+pub item_written : (item : ItemValue) (later : List ℕ) → IsSized item.body → is_not_writable item.order item.body ≡ false → length (written_body item.order item.body) < 2 ^ 16
     → SpellsSubmessage item.order item.body (item_octets item) later
 item_written item later sized good small =
     record {

@@ -5,7 +5,7 @@ use Rattle.std.specs.Int.RustNames.{unsigned_abs}
 use Rattle.std.proofs.lemmas.Bool.Decides.{nat_tests}
 use Rattle.std.proofs.lemmas.Int.{ints}
 use Rattle.std.proofs.lemmas.List.{drop-drop, length-drop, length-take-le, take-append-drop}
-use Rattle.rtps_ids.specs.NumberSet.{octets_of_count, spelled_base, spelled_count}
+use Rattle.rtps_ids.specs.NumberSet.{is_bad, octets_of_count, spelled_base, spelled_count}
 use Rattle.rtps_ids.specs.Octets.{number_of, octets_of, sequence_number_octets}
 use Rattle.rtps_ids.specs.declared.order.Order.{Order}
 use Rattle.rtps_ids.specs.declared.order.Order.TheVariants.{Big, Little}
@@ -102,19 +102,27 @@ above_zero (pos zero) above = absurd (grind (arith, nat_tests))
 above_zero (pos (suc n)) above = grind (arith, nat_tests)
 above_zero (negsuc n) above = absurd (grind (arith, nat_tests))
 
+gap_rows : (order : Order) (octets : List ℕ) → gap_fault order octets ≡ None
+    → (nat_lt (length octets) 28 ≡ false) × (int_le (start_number order octets) (pos 0) ≡ false)
+    × ((is_bad (spelled_base order (drop 16 octets)) (spelled_count order (drop 16 octets)) || int_le (spelled_base order (drop 16 octets)) (pos 0)) ≡ false)
+    × (nat_lt (length octets) (16 + octets_of_count (spelled_count order (drop 16 octets))) ≡ false)
+gap_rows order octets good =
+    let p = no_row _ _ _ good in
+    let q = no_row _ _ _ p.1 in
+    let r = no_row _ _ _ q.1 in
+    let s = no_row _ _ _ r.1 in
+    (p.0, q.0, r.0, s.0)
+
 pub gap_spelled : (order : Order) (octets : List ℕ) → AreOctets octets → gap_fault order octets ≡ None → SpellsGap order (gap_of order octets) octets
 gap_spelled order octets small good =
-    let sized = no_row _ _ _ good in
-    let started = no_row _ _ _ sized.1 in
-    let list_good = no_row _ _ _ started.1 in
-    let whole = no_row _ _ _ list_good.1 in
-    let long = at_least (length octets) 28 sized.0 in
+    let are = gap_rows order octets good in
+    let long = at_least (length octets) 28 are.0 in
     let size = octets_of_count (spelled_count order (drop 16 octets)) in
-    let enough = at_least (length octets) (16 + size) whole.0 in
-    let start_low = not_low (start_number order octets) started.0 in
+    let enough = at_least (length octets) (16 + size) are.3 in
+    let start_low = not_low (start_number order octets) are.1 in
     let start_is = pos-unsigned_abs (start_number order octets) start_low in
     let s = sequence_number_octets order (pos (unsigned_abs (start_number order octets))) in
-    let list = set_stands order (drop 16 octets) (neither _ _ list_good.0).0 (omega (arith, length-drop 16 octets)) (octets-drop octets 16 small) in
+    let list = set_stands order (drop 16 octets) (neither _ _ are.2).0 (omega (arith, length-drop 16 octets)) (octets-drop octets 16 small) in
     record {
       list = list.set;
       ignored = drop size (drop 16 octets);
@@ -123,7 +131,7 @@ gap_spelled order octets small good =
           ∙ ap (λ xs. take 4 (drop 4 octets) ++ xs) (number_stands order octets 8 16 _ refl (omega arith) small (sym start_is) (ap (int_le (pos 0)) start_is ∙ start_low)
           ∙ ap (λ xs. s ++ xs) list.stands));
       spelled = list.spelled;
-      positive = above_zero (spelled_base order (drop 16 octets)) (neither _ _ list_good.0).1;
+      positive = above_zero (spelled_base order (drop 16 octets)) (neither _ _ are.2).1;
     }
 
 -- ---- INFO_TS, INFO_DST and INFO_SRC
@@ -184,22 +192,34 @@ payload_spelled flags octets = by (has_data flags) (has_key flags) refl refl
     by false true p q = rw (p, q) refl
     by false false p q = rw (p, q) tt
 
+five_rows : (a b c d e : Bool) (f g h i j : WireFault) → (if a then Some f else if b then Some g else if c then Some h else if d then Some i else if e then Some j else None) ≡ None
+    → (a ≡ false) × (b ≡ false) × (c ≡ false) × (d ≡ false)
+five_rows a b c d e f g h i j none =
+    let p = no_row f a _ none in
+    let q = no_row g b _ p.1 in
+    let r = no_row h c _ q.1 in
+    let s = no_row i d _ r.1 in
+    (p.0, q.0, r.0, s.0)
+
+data_rows : (order : Order) (flags : ℕ) (octets : List ℕ) → data_fault order flags octets ≡ None
+    → (nat_lt (length octets) 20 ≡ false) × ((has_data flags && has_key flags) ≡ false)
+    × ((nat_lt (4 + octets_to_inline_qos order octets) 20 || nat_lt (length octets) (4 + octets_to_inline_qos order octets)) ≡ false)
+    × (int_le (data_number order octets) (pos 0) ≡ false)
+data_rows order flags octets good = five_rows _ _ _ _ _ _ _ _ _ _ good
+
 pub data_spelled : (order : Order) (flags : ℕ) (octets : List ℕ) → AreOctets octets → data_fault order flags octets ≡ None
     → SpellsData order (data_of order flags octets) octets
 data_spelled order flags octets small good =
-    let sized = no_row _ _ _ good in
-    let kinds = no_row _ _ _ sized.1 in
-    let near = no_row _ _ _ kinds.1 in
-    let numbered = no_row _ _ _ near.1 in
-    let bounds = neither _ _ near.0 in
-    let long = at_least (length octets) 20 sized.0 in
+    let are = data_rows order flags octets good in
+    let long = at_least (length octets) 20 are.0 in
     let offset = octets_to_inline_qos order octets in
+    let bounds = neither (nat_lt (4 + offset) 20) (nat_lt (length octets) (4 + offset)) are.2 in
     let above = at_least (4 + offset) 20 bounds.0 in
     let within = at_least (length octets) (4 + offset) bounds.1 in
     let skipped = take (offset - 16) (drop 20 octets) in
     let skipped_long : length skipped ≡ offset - 16 = length-take-le (offset - 16) (drop 20 octets) (omega (arith, length-drop 20 octets)) in
     let offset_is : 16 + length skipped ≡ offset = omega arith in
-    let number_low = not_low (data_number order octets) numbered.0 in
+    let number_low = not_low (data_number order octets) are.3 in
     let number_is = pos-unsigned_abs (data_number order octets) number_low in
     let n = sequence_number_octets order (pos (unsigned_abs (data_number order octets))) in
     let behind = behind_fields order octets in
@@ -222,7 +242,7 @@ data_spelled order flags octets small good =
     }
 
 pub one_kind : (order : Order) (flags : ℕ) (octets : List ℕ) → data_fault order flags octets ≡ None → (has_data flags && has_key flags) ≡ false
-one_kind order flags octets good = (no_row _ _ _ (no_row _ _ _ good).1).0
+one_kind order flags octets good = (data_rows order flags octets good).1
 
 -- ---- what every body has that is read or held: sets that are fit, and a first field of its size
 
@@ -260,13 +280,10 @@ ack_nack_sized order flags octets small good =
 
 pub gap_sized : (order : Order) (octets : List ℕ) → AreOctets octets → gap_fault order octets ≡ None → IsSized (Gap (gap_of order octets))
 gap_sized order octets small good =
-    let sized = no_row _ _ _ good in
-    let started = no_row _ _ _ sized.1 in
-    let list_good = no_row _ _ _ started.1 in
-    let whole = no_row _ _ _ list_good.1 in
-    let long = at_least (length octets) 28 sized.0 in
-    let enough = at_least (length octets) (16 + octets_of_count (spelled_count order (drop 16 octets))) whole.0 in
-    (length-take-le 4 octets (omega arith), set_fits order (drop 16 octets) (neither _ _ list_good.0).0 (omega (arith, length-drop 16 octets)) (octets-drop octets 16 small))
+    let are = gap_rows order octets good in
+    let long = at_least (length octets) 28 are.0 in
+    let enough = at_least (length octets) (16 + octets_of_count (spelled_count order (drop 16 octets))) are.3 in
+    (length-take-le 4 octets (omega arith), set_fits order (drop 16 octets) (neither _ _ are.2).0 (omega (arith, length-drop 16 octets)) (octets-drop octets 16 small))
 
 pub destination_sized : (octets : List ℕ) → info_dst_fault octets ≡ None → length (take 12 octets) ≡ 12
 destination_sized octets good =

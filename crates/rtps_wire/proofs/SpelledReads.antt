@@ -26,7 +26,7 @@ use Rattle.rtps_wire.proofs.WrittenFields.{entity_read, past, sequence_number_re
 use Rattle.rtps_wire.proofs.WrittenGap.{made as gap_made}
 use Rattle.rtps_wire.proofs.WrittenHeartbeat.{final_flag, live_flag, made as heartbeat_made}
 use Rattle.rtps_wire.proofs.WrittenInfo.{stamp_made}
-use Rattle.rtps_wire.proofs.WrittenMessage.{header_good, header_same}
+use Rattle.rtps_wire.proofs.WrittenHeader.{header_good, header_same}
 use Rattle.rtps_wire.proofs.WrittenSets.{SpellsSet as SetRead, cleared_words_same, length-words, made as set_made, words_read}
 use Rattle.rtps_wire.specs.AckNack.{ack_nack_fault, ack_nack_flags, ack_nack_of}
 use Rattle.rtps_wire.specs.Data.{behind_fields, behind_qos, data_fault, data_flags, data_number, data_of, has_data, has_key, octets_to_inline_qos, payload_of, qos_octets, qos_of}
@@ -372,13 +372,14 @@ declared_within id declared size later is = by (declared == 0) refl
     by false e = let whole : size ≡ declared = rw e at is in omega arith
 
 -- the first submessage of octets is read as this one, and what is left is what stands behind it
-record ReadsFirst (order : Order) (value : BodyValue) (rest later : List ℕ) : Type 0 where
-  some : 0 < length rest
-  good : fault_at rest ≡ None
-  same : (at : ℕ) → ◌≡◌ {A = ItemValue} (record { at = at; order = order; body = value }) (item_at rest at)
-  next : next_rest rest ≡ later
+pub record ReadsFirst (order : Order) (value : BodyValue) (first rest later : List ℕ) : Type 0 where
+  pub size : 4 + body_length rest ≡ length first
+  pub some : 0 < length rest
+  pub good : fault_at rest ≡ None
+  pub same : (at : ℕ) → ◌≡◌ {A = ItemValue} (record { at = at; order = order; body = value }) (item_at rest at)
+  pub next : next_rest rest ≡ later
 
-reads_first : (order : Order) (value : BodyValue) (first later : List ℕ) → IsHeldBody value → SpellsSubmessage order value first later → ReadsFirst order value (first ++ later) later
+pub reads_first : (order : Order) (value : BodyValue) (first later : List ℕ) → IsHeldBody value → SpellsSubmessage order value first later → ReadsFirst order value first (first ++ later) later
 reads_first order value first later held spelled =
     let id = written_id value in
     let field = octets_of order 2 spelled.declared in
@@ -397,14 +398,15 @@ reads_first order value first later held spelled =
     let within : octets_to_next_header rest ≤ length (drop 4 rest) = rw (declared, left) (declared_within id spelled.declared (length body) (length later) spelled.extent) in
     let reads = body_reads order value spelled.flags body is held spelled.spelled spelled.named in
     let long : 4 ≤ length rest = omega (arith, two, length-append field (body ++ later)) in
-    let whole : ReadsFirst order value rest later = record {
+    let whole : ReadsFirst order value first rest later = record {
+      size = omega (arith, size, two, ap length spelled.parts, length-append field body);
       some = omega arith;
       good = fault_at-body rest long within ∙ (ap (body_fault id spelled.flags) octets ∙ reads.0);
       same = λ at. item_of_parts rest body at order value (sym is) (sym octets) (sym reads.1);
       next = ap (λ n. drop (4 + n) rest) size
           ∙ (past (id ∷ spelled.flags ∷ field) (body ++ later) (4 + length body) (length body) (omega arith) ∙ drop_at body later (length body) refl);
     } in
-    let P : List ℕ → Type 0 = λ xs. ReadsFirst order value xs later in
+    let P : List ℕ → Type 0 = λ xs. ReadsFirst order value first xs later in
     subst P (sym stands) whole
 
 -- ---- a message
@@ -419,8 +421,8 @@ items_read : (items : List ItemValue) (rest : List ℕ) (at : ℕ) → All IsHel
 items_read [] rest at held done = record { found = []; reads = done; same = refl }
 items_read (item ∷ items) rest at held (first, later, parts, spelled, behind) =
     let here = reads_first item.order item.body first later (held 0 item (omega arith)) spelled in
-    let P : List ℕ → Type 0 = λ xs. ReadsFirst item.order item.body xs later in
-    let there : ReadsFirst item.order item.body rest later = subst P (sym parts) here in
+    let P : List ℕ → Type 0 = λ xs. ReadsFirst item.order item.body first xs later in
+    let there : ReadsFirst item.order item.body first rest later = subst P (sym parts) here in
     let more = items_read items later (at + 4 + body_length rest) (λ k d inside. held (suc k) d (omega arith)) behind in
     let one : ItemValue = item_at rest at in
     let same : unplaced one ≡ unplaced item = ap unplaced (sym (there.same at)) in

@@ -1,15 +1,14 @@
 -- Fields of written octets, found at their places.
-use Rattle.std.proofs.Common.{◌≡◌, ◌<◌, ◌+◌, ◌^◌, ℕ, ℤ, pos, List, [], ◌++◌, length, take, drop, refl, ap, sym, ◌∙◌, arith}
+use Rattle.std.proofs.Common.{◌≡◌, ◌<◌, ◌+◌, ◌^◌, ℕ, ℤ, pos, List, ◌++◌, length, take, drop, refl, ap, sym, ◌∙◌, arith}
 use Rattle.std.specs.Prelude.{◌≤ℤ◌, ◌<ℤ◌}
 use Rattle.std.proofs.lemmas.Int.{ints}
-use Rattle.std.proofs.lemmas.List.{append-nil, drop-drop, drop_at, take_all, take_at}
+use Rattle.std.proofs.lemmas.List.{drop-drop, drop_at, take_at}
 use Rattle.rtps_ids.specs.Octets.{number_of, octets_of, sequence_number_octets, sequence_number_of}
 use Rattle.rtps_ids.specs.declared.identity.EntityId.{EntityId}
-use Rattle.rtps_ids.specs.declared.identity.GuidPrefix.{GuidPrefix}
 use Rattle.rtps_ids.specs.declared.identity.Vendor.{Vendor}
 use Rattle.rtps_ids.specs.declared.order.Order.{Order}
 use Rattle.rtps_ids.proofs.Offered.{number-octets_of, sequence_number-octets}
-use Rattle.rtps_wire.specs.Fields.{entity_at, prefix_at, vendor_at}
+use Rattle.rtps_wire.specs.Fields.{entity_at, vendor_at}
 
 -- behind a field that is passed over
 pub past : (field rest : List ℕ) (at more : ℕ) → length field + more ≡ at → drop at (field ++ rest) ≡ drop more rest
@@ -19,9 +18,6 @@ past field rest at more is =
 -- the octets of a field, by what stands at its place
 pub taken : (field rest octets : List ℕ) (width : ℕ) → length field ≡ width → octets ≡ field ++ rest → take width octets ≡ field
 taken field rest octets width is at = ap (take width) at ∙ take_at field rest width is
-
-pub taken_last : (field octets : List ℕ) (width : ℕ) → length field ≡ width → octets ≡ field → take width octets ≡ field
-taken_last field octets width is at = ap (take width) at ∙ take_all width field (omega arith)
 
 pub entity_read : (entity : EntityId) (at : ℕ) (rest octets : List ℕ) → length entity.0 ≡ 4 → drop at octets ≡ entity.0 ++ rest → entity_at at octets ≡ entity
 entity_read entity at rest octets is found =
@@ -33,16 +29,8 @@ vendor_read vendor at rest octets is found =
     let made : List ℕ → Vendor = λ xs. record { 0 = xs } in
     ap made (taken vendor.0 rest (drop at octets) 2 is found)
 
-pub prefix_read : (prefix : GuidPrefix) (at : ℕ) (octets : List ℕ) → length prefix.0 ≡ 12 → drop at octets ≡ prefix.0 → prefix_at at octets ≡ prefix
-prefix_read prefix at octets is found =
-    let made : List ℕ → GuidPrefix = λ xs. record { 0 = xs } in
-    ap made (taken_last prefix.0 (drop at octets) 12 is found)
-
 pub word_read : (order : Order) (value : ℕ) (rest octets : List ℕ) → value < 2 ^ 32 → octets ≡ octets_of order 4 value ++ rest → number_of order 4 octets ≡ value
 word_read order value rest octets small found = ap (number_of order 4) found ∙ number-octets_of order 4 value rest small
-
-pub word_read_last : (order : Order) (value : ℕ) (octets : List ℕ) → value < 2 ^ 32 → octets ≡ octets_of order 4 value → number_of order 4 octets ≡ value
-word_read_last order value octets small found = word_read order value [] octets small (found ∙ sym (append-nil _))
 
 pub sequence_number_read : (order : Order) (value : ℤ) (rest octets : List ℕ) → pos 0 ≤ℤ value → value <ℤ pos (2 ^ 63) → octets ≡ sequence_number_octets order value ++ rest
     → sequence_number_of order octets ≡ value

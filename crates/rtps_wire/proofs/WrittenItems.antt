@@ -4,7 +4,7 @@ use Rattle.std.specs.Prelude.{◌==◌, All}
 use Rattle.std.proofs.lemmas.Bool.Decides.{nat_tests}
 use Rattle.std.proofs.lemmas.List.Elements.{All-push}
 use Rattle.std.proofs.lemmas.List.{drop_more, length-append, length-drop, map-append, take-take, take_at, take_more}
-use Rattle.rtps_wire.proofs.WrittenMessage.{no_fault, no_first}
+use Rattle.rtps_wire.proofs.Reasons.{no_fault, no_first}
 use Rattle.rtps_wire.specs.Held.{IsHeldItem}
 use Rattle.rtps_wire.specs.Values.{ItemValue, item_value}
 use Rattle.rtps_wire.specs.Writable.{first_of, is_none_left, item_fault, items_fault}

@@ -1,17 +1,15 @@
--- A written set of sequence numbers is good and spells what was written.
-use Rattle.std.proofs.Common.{◌≡◌, ◌<◌, ◌+◌, ◌*◌, ◌/◌, ◌^◌, ℕ, zero, suc, pos, List, [], ◌∷◌, ◌++◌, false, length, take, drop, get_or, map, refl, ap, sym, ◌∙◌, append_assoc, arith, inl, inr}
+-- A written set of sequence numbers: its length, and how its words are read.
+use Rattle.std.proofs.Common.{◌≡◌, ◌<◌, ◌+◌, ◌*◌, ◌/◌, ◌^◌, ℕ, zero, suc, pos, List, [], ◌∷◌, ◌++◌, false, length, take, drop, get_or, map, refl, ap, ◌∙◌, append_assoc, arith, inl, inr}
 use Rattle.std.specs.Prelude.{nat_lt}
-use Rattle.std.specs.Int.RustNames.{unsigned_abs}
 use Rattle.std.specs.List.{flat_map, range_with_len}
 use Rattle.std.proofs.lemmas.Bool.{cases_lt}
 use Rattle.std.proofs.lemmas.Bool.Decides.{nat_tests}
-use Rattle.std.proofs.lemmas.Int.{ints}
-use Rattle.std.proofs.lemmas.List.{get_or-take, length-append, length-take, length-take-le}
-use Rattle.rtps_ids.specs.NumberSet.{NumberSetValue, cleared, cleared_words, is_bad, octets_of_count, spelled_base, spelled_count, spelled_set, spelled_word}
-use Rattle.rtps_ids.specs.Octets.{number_of, octets_of, sequence_number_octets}
+use Rattle.std.proofs.lemmas.List.{length-append, length-take-le}
+use Rattle.rtps_ids.specs.NumberSet.{NumberSetValue, cleared, cleared_words, is_bad, octets_of_count, spelled_base, spelled_count, spelled_set}
+use Rattle.rtps_ids.specs.Octets.{number_of, octets_of}
 use Rattle.rtps_ids.specs.declared.order.Order.{Order}
 use Rattle.rtps_ids.proofs.Offered.{length-octets_of, length-sequence_number_octets}
-use Rattle.rtps_wire.proofs.WrittenFields.{past, sequence_number_read, word_read}
+use Rattle.rtps_wire.proofs.WrittenFields.{past, word_read}
 use Rattle.rtps_wire.specs.Held.{IsHeldSet}
 use Rattle.rtps_wire.specs.SetField.{set_octets}
 
@@ -84,37 +82,3 @@ cleared_words_same count word other same = map_same _ _ (range_with_len 0 8) (λ
 pub made : (base base' count count' : ℕ) (words words' : List ℕ) → base ≡ base' → count ≡ count' → words ≡ words'
     → ◌≡◌ {A = NumberSetValue} (record { base = base; count = count; words = words }) (record { base = base'; count = count'; words = words' })
 made base base' count count' words words' p q r = cc
-
-small_words : (set : NumberSetValue) → IsHeldSet set → (k : ℕ) → k < length (kept_words set) → get_or (kept_words set) k 0 < 2 ^ 32
-unfolding kept_words
-small_words set held k inside =
-    let shorter = length-take (word_count set.count) set.words in
-    let small : get_or set.words k 0 < 2 ^ 32 = held.words k 0 (omega arith) in
-    rw (get_or-take (word_count set.count) set.words k 0 (omega arith)) small
-
-pub set_spelled : (order : Order) (set : NumberSetValue) (rest octets : List ℕ) → IsHeldSet set → octets ≡ set_octets order set ++ rest → SpellsSet order set octets
-unfolding kept_words
-set_spelled order set rest octets held is =
-    let b = sequence_number_octets order (pos set.base) in
-    let c = octets_of order 4 set.count in
-    let ws = flat_map (octets_of order 4) (kept_words set) in
-    let stands : octets ≡ b ++ (c ++ (ws ++ rest)) = is ∙ (append_assoc b (c ++ ws) rest ∙ ap (λ xs. b ++ xs) (append_assoc c ws rest)) in
-    let b_long = length-sequence_number_octets order (pos set.base) in
-    let c_long = length-octets_of order 4 set.count in
-    let low = held.kept.low in
-    let few = held.kept.few in
-    let base_is : spelled_base order octets ≡ pos set.base = sequence_number_read order (pos set.base) (c ++ (ws ++ rest)) octets (omega (arith, ints)) (omega (arith, ints)) stands in
-    let behind_base = λ (at : ℕ). ap (drop (8 + at)) stands ∙ past b (c ++ (ws ++ rest)) (8 + at) at (omega arith) in
-    let count_is : spelled_count order octets ≡ set.count = word_read order set.count (ws ++ rest) (drop 8 octets) (omega arith) (behind_base 0) in
-    let many = kept_words-length set held in
-    let word_is : (i : ℕ) → 32 * i < set.count → spelled_word order octets i ≡ get_or set.words i 0 = λ i before.
-    let inside : i < word_count set.count = omega arith in
-    ap (λ n. number_of order 4 (drop n octets)) (word_place i)
-    ∙ (ap (number_of order 4) (behind_base (4 + 4 * i) ∙ past c (ws ++ rest) (4 + 4 * i) (4 * i) (omega arith))
-    ∙ (words_read order (kept_words set) rest i (small_words set held) (omega arith) ∙ get_or-take (word_count set.count) set.words i 0 inside)) in
-    let words_are = ap (λ n. cleared_words n (λ i. spelled_word order octets i)) count_is
-    ∙ (cleared_words_same set.count _ _ word_is ∙ sym held.kept.clear) in
-    record { base = base_is; count = count_is; whole = made _ _ _ _ _ _ (ap unsigned_abs base_is) count_is words_are }
-  where
-    word_place : (i : ℕ) → 12 + 4 * i ≡ 8 + (4 + 4 * i)
-    word_place i = omega arith
