@@ -16,11 +16,6 @@ pub none_kept : (b : Bool) (answers others : List Answer) → answers ≡ [] →
 none_kept true answers others one other = one
 none_kept false answers others one other = other
 
--- one more to the writer whose answers stand apart
-pub pushed_apart : (b : Bool) (old new others : List Answer) (answer : Answer) → new ≡ old ++ answer ∷ [] → cond b new others ≡ cond b old others ++ cond b (answer ∷ []) []
-pushed_apart true old new others answer e = e
-pushed_apart false old new others answer e = sym (append-nil others)
-
 -- one more to another writer
 pub pushed_to : (other apart writer : Guid) (answers old new : List Answer) (answer : Answer) → (apart ≡ writer → ⊥) → new ≡ old ++ cond (is_eq (guid_cmp other writer)) (answer ∷ []) []
     → cond (is_eq (guid_cmp other apart)) answers new ≡ cond (is_eq (guid_cmp other apart)) answers old ++ cond (is_eq (guid_cmp other writer)) (answer ∷ []) []

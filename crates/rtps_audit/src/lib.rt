@@ -21,6 +21,7 @@ mod placed;
 mod reader_answers;
 mod report;
 mod said;
+mod same_guid;
 mod verdict;
 mod words;
 
