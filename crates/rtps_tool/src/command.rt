@@ -63,7 +63,7 @@ impl From<clap::Error> for WordFault {
 const VERSION: &str = "0.1.0";
 
 const FILE_HELP: &str =
-    "A recording: one datagram a line, in hexadecimal digits; - is standard input";
+    "A capture, or a text with one datagram a line in hexadecimal digits; - is standard input";
 
 const STATUSES: &str =
     "Status: 0 clean, 1 not every pair is complete, 2 the arguments or the recording are refused, \
