@@ -19,12 +19,13 @@ effect in `src/laws.rt`: its contract states a fact over definitions. Crates sta
 those that stand on it, and files are below `crates/NAME/specs/`.
 
 Each file begins with what its comment says, with its source: a clause of OMG DDSI-RTPS 2.5 by number and title (one of DDS
-1.4 says so), or `own:` and the reason where this project chooses. Then come its public definitions, each with the first
+1.4, of the PCAP Capture File Format, of an RFC or of IEEE 802.3 says so), or `own:` and the reason where this project
+chooses. Then come its public definitions, each with the first
 sentence of its comment, if it has one, and behind the arrow the files of `src/` whose contracts name it. A definition that
 no contract names serves those that do.
 """
 DEFINES = re.compile(r"^(?:(?:abbrev|unfoldable|opaque)\s+)*pub\s+(?:(?:abbrev|unfoldable|opaque|record|data)\s+)*([^\s:(){}]+)")
-SOURCE = re.compile(r"\bDDSI-RTPS\b|\bDDS 1\.4\b|\bown:")
+SOURCE = re.compile(r"\bDDSI-RTPS\b|\bDDS 1\.4\b|\bPCAP Capture File Format\b|\bRFC \d+\b|\bown:")
 
 
 def read(path):

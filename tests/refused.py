@@ -99,6 +99,10 @@ def main():
         nothing = '', ['rtps-audit: out of memory'], 3
         for words in (['show', '-'], ['list', '-'], ['audit', '-'], ['audit', '--from', '3', '-'], ['--help'], ['audit', '--help'], ['--version'], ['audit'], []):
             tried.append((f"rtps-audit {' '.join(words)}", [program, *words], recordings['of six datagrams'], nothing, True))
+        with open(os.path.join(ROOT, 'examples', 'loopback.pcap'), 'rb') as f:
+            capture = f.read()
+        for view in ('show', 'list', 'audit'):
+            tried.append((f'rtps-audit {view} - of a capture', [program, view, '-'], capture, nothing, True))
         for name, *one in tried:
             told, went_on, others = sweep(library, *one)
             passed += told

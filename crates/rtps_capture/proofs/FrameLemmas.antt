@@ -3,7 +3,7 @@ use Rattle.std.proofs.Common.{◌≡◌, ℕ, zero, suc, ◌+◌, ◌-◌, ◌<�
 use Rattle.std.specs.Prelude.{nat_lt, if◌then◌else◌}
 use Rattle.std.proofs.lemmas.Bool.Decides.{nat_tests}
 use Rattle.rtps_ids.specs.declared.order.Order.{Order}
-use Rattle.rtps_capture.specs.Frames.{HasFrames, captured, frame_at, frames_from, frames_with, frames_within, given_at, is_whole}
+use Rattle.rtps_capture.specs.Frames.{HasFrames, frame_at, frames_from, frames_with, frames_within, given_at, is_whole}
 use Rattle.rtps_capture.specs.declared.frames.Frame.{Frame}
 use Rattle.rtps_capture.specs.declared.frames.Frame.TheVariants.{Cut}
 use Rattle.rtps_capture.specs.declared.link.Link.{Link}

@@ -1,10 +1,10 @@
 -- Lemmas about the definitions of this crate, for the crates above it: whether octets begin a capture, the first four
 -- tell.
-use Rattle.std.proofs.Common.{◌≡◌, ◌≤◌, List, ℕ, ◌++◌, length, take, true, false, refl, arith}
+use Rattle.std.proofs.Common.{◌≡◌, ◌≤◌, List, ℕ, ◌++◌, length, false, refl, arith}
 use Rattle.std.specs.Prelude.{nat_lt}
 use Rattle.std.proofs.lemmas.Bool.Decides.{nat_tests}
 use Rattle.std.proofs.lemmas.List.{length-append, take-append-le}
-use Rattle.rtps_capture.specs.Opening.{order_by, order_of}
+use Rattle.rtps_capture.specs.Opening.{order_of}
 
 pub order_of-append : (start more : List ℕ) → 4 ≤ length start → order_of (start ++ more) ≡ order_of start
 unfolding order_of

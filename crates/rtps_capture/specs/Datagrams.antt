@@ -2,7 +2,7 @@
 -- RFC 768 "User Datagram Protocol", "Format".
 -- own: packets of IPv4 alone give datagrams, and fragments give none; checksums are not looked at, since a sender may
 -- leave them to its network interface, behind the place where it records.
-use Rattle.std.specs.Prelude.{ℕ, ◌+◌, ◌-◌, ◌*◌, ◌/◌, ◌%◌, ◌==◌, ◌&&◌, nat_le, Bool, true, if◌then◌else◌, List, length, drop, slice_index, slice_range, Option, Some, None}
+use Rattle.std.specs.Prelude.{ℕ, ◌+◌, ◌-◌, ◌*◌, ◌/◌, ◌%◌, ◌==◌, ◌&&◌, nat_le, Bool, if◌then◌else◌, List, length, drop, slice_index, slice_range, Option, Some, None}
 use Rattle.rtps_ids.specs.Octets.{number_of}
 use Rattle.rtps_ids.specs.declared.order.Order.TheVariants.{Big}
 use Rattle.rtps_capture.specs.declared.layout.ethernet.TheConstants as ethernet

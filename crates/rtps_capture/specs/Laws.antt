@@ -1,5 +1,5 @@
 -- What a reader of the definitions would ask of frames. own: a file that could be read in two ways would be no evidence.
-use Rattle.std.specs.Prelude.{ℕ, ◌≡◌, ◌++◌, Bool, true, false, if◌then◌else◌, List, [], ◌∷◌, map}
+use Rattle.std.specs.Prelude.{ℕ, ◌≡◌, ◌++◌, Bool, if◌then◌else◌, List, [], ◌∷◌, map}
 use Rattle.rtps_ids.specs.declared.order.Order.{Order}
 use Rattle.rtps_capture.specs.Frames.{HasFrames, frames_from, given_at}
 use Rattle.rtps_capture.specs.declared.frames.Frame.TheVariants.{Cut}

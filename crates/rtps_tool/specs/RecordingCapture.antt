@@ -1,7 +1,7 @@
 -- The recording that a capture stands for, or its first fault.
 -- own: the datagrams are numbered without the frames that give none, since a verdict speaks of datagrams, and those frames
 -- are counted; the limit on datagrams is that of a text.
-use Rattle.std.specs.Prelude.{ℕ, suc, ◌+◌, nat_lt, if◌then◌else◌, List, [], ◌∷◌, length, map, slice_range, Option, Some, None, Result, Ok, Err}
+use Rattle.std.specs.Prelude.{ℕ, ◌+◌, nat_lt, if◌then◌else◌, List, [], ◌∷◌, length, slice_range, Option, Some, None, Result, Ok, Err}
 use Rattle.rtps_capture.specs.Frames.{Unread, frames_left, opened}
 use Rattle.rtps_capture.specs.declared.frames.Frame.{Frame}
 use Rattle.rtps_capture.specs.declared.frames.Frame.TheVariants.{Datagram, Ignored, Cut}

@@ -69,7 +69,7 @@ const GREATEST: u64 = 9_223_372_036_854_775_807;
 const VERSION: &str = "0.1.0";
 
 const FILE_HELP: &str =
-    "A recording: one datagram a line, in hexadecimal digits; - is standard input";
+    "A capture, or a text with one datagram a line in hexadecimal digits; - is standard input";
 
 const FROM_HELP: &str = "The first number that a reader is owed, 1 to 9223372036854775807; \
     1 where it is not given";

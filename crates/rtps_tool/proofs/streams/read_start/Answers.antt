@@ -1,7 +1,6 @@
-use Rattle.std.proofs.Common.{◌++◌, ◌+◌, ◌-◌, ◌≤◌, length, take, subst, sym, arith}
+use Rattle.std.proofs.Common.{◌+◌, ◌-◌, take, subst, sym, arith}
 use Rattle.std.specs.Io.KnownBytes.{Consumes}
 use Rattle.std.proofs.KnownBytes.{Consumes-trans}
-use borrow.Rule.Slice.PartMut.{put_mid}
 use Rattle.rtps_tool.proofs.ReadingLemmas.{take_both}
 use Rattle.rtps_tool.proofs.streams.read_start.Goals as goal
 

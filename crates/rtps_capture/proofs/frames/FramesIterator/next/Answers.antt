@@ -1,5 +1,4 @@
-use Rattle.std.proofs.Common.{◌≡◌, ◌∷◌, [], ◌<◌, ◌+◌, ◌∙◌, length, refl, ap, sym, arith}
-use Rattle.rtps_capture.specs.Frames.{frames_from, frames_left}
+use Rattle.std.proofs.Common.{◌∷◌, ◌∙◌, length, refl, ap, sym, arith}
 use Rattle.rtps_capture.specs.declared.frames.Frame.TheVariants.{Cut}
 use Rattle.rtps_capture.proofs.FrameLemmas.{frames_from-cut, frames_from-done, frames_from-frame}
 use Rattle.rtps_capture.proofs.frames.FramesIterator.next.Goals as goal

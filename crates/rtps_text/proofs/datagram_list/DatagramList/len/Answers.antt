@@ -1,4 +1,4 @@
-use Rattle.std.proofs.Common.{sym, ◌∙◌, arith}
+use Rattle.std.proofs.Common.{arith}
 use Rattle.rtps_text.proofs.PiecesLemmas.{length-pieces}
 use Rattle.rtps_text.proofs.datagram_list.DatagramList.len.Goals as goal
 

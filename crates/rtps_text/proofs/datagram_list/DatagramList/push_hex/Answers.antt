@@ -1,4 +1,4 @@
-use Rattle.std.proofs.Common.{◌≡◌, ◌++◌, ◌∷◌, [], ◌∙◌, ◌+◌, List, length, arith}
+use Rattle.std.proofs.Common.{◌≡◌, ◌++◌, ◌∷◌, [], length, arith}
 use Rattle.rtps_digits.specs.Pairs.{octets_of}
 use Rattle.rtps_text.proofs.PiecesLemmas.{pieces-push}
 use Rattle.rtps_text.specs.declared.places.Place.{Place}

@@ -1,7 +1,7 @@
-use Rattle.std.proofs.Common.{◌≡◌, ◌∷◌, ◌≤◌, ◌∙◌, ℕ, List, ap, length, subst, refl, arith}
+use Rattle.std.proofs.Common.{◌∷◌, ◌∙◌, ℕ, List, ap, length, subst, refl, arith}
 use Rattle.rtps_capture.specs.Frames.{StandsWithin, frames_left}
 use Rattle.rtps_capture.specs.declared.frames.Frame.{Frame}
-use Rattle.rtps_capture.specs.declared.frames.Frame.TheVariants.{Cut, Datagram}
+use Rattle.rtps_capture.specs.declared.frames.Frame.TheVariants.{Datagram}
 use Rattle.rtps_tool.proofs.CaptureLemmas.{HasPushed-datagram, recording_of_frames-cut, recording_of_frames-done, recording_of_frames-many}
 use Rattle.rtps_tool.proofs.form.capture.push_places.Goals as goal
 

@@ -1,8 +1,6 @@
-use Rattle.std.proofs.Common.{◌≡◌, ◌∙◌, List, ℕ, Some, None, refl, sym, ap, subst}
-use Rattle.rtps_capture.specs.Frames.{Unread, frames_left, opened}
-use Rattle.rtps_text.specs.Places.{ArePlaces, pieces}
-use Rattle.rtps_tool.specs.Outcomes.{IsFaultOf}
-use Rattle.rtps_tool.specs.RecordingCapture.{recording_of_capture, recording_of_frames, recording_opened}
+use Rattle.std.proofs.Common.{◌≡◌, List, ℕ, Some, None, refl, sym, subst}
+use Rattle.rtps_capture.specs.Frames.{frames_left, opened}
+use Rattle.rtps_tool.specs.RecordingCapture.{recording_of_capture, recording_of_frames}
 use Rattle.rtps_tool.proofs.CaptureLemmas.{IsReadFrom}
 use Rattle.rtps_tool.proofs.form.capture.read_places.Goals as goal
 

@@ -1,4 +1,4 @@
-use Rattle.std.proofs.Common.{◌≡◌, ◌∙◌, [], drop, sym, ap, subst, List, ℕ, Ok, Result}
+use Rattle.std.proofs.Common.{◌∙◌, [], drop, sym, ap, subst, List, ℕ, Result}
 use Rattle.std.proofs.lemmas.List.{append-nil, take_rest}
 use Rattle.std.proofs.lemmas.Result.{err_from_is_err_and}
 use Rattle.rtps_tool.specs.Outcomes.{IsFaultOf}
