@@ -12,4 +12,4 @@ returns c =
     let one_is = c.in_ok-one.ensures.shape c.in_ok-show.ensures.local ∙ ap₂ with_subcommand c.bare_program.ensures show_is in
     let two_is = c.in_ok-two.ensures.shape c.in_ok-list.ensures.local ∙ ap₂ with_subcommand one_is list_is in
     let three_is = c.in_ok-three.ensures.shape c.in_ok-audit.ensures.local ∙ ap₂ with_subcommand two_is audit_is in
-    IfOk-weaker c.subcommand.result _ _ (λ command added. added.shape c.plain_subcommand.ensures.local ∙ ap₂ with_subcommand three_is sample_is) c.subcommand.ensures
+    IfOk-weaker c.subcommand-4.result _ _ (λ command added. added.shape c.plain_subcommand.ensures.local ∙ ap₂ with_subcommand three_is sample_is) c.subcommand-4.ensures
