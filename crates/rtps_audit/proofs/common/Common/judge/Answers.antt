@@ -1,10 +1,9 @@
-use Rattle.std.proofs.Common.{◌≡◌, All, filter, subst, sym}
+use Rattle.std.proofs.Common.{filter, subst, sym}
 use Rattle.rtps_ids.specs.declared.identity.Guid.{Guid}
-use Rattle.rtps_receiver.specs.Speech.{is_heard_by}
 use Rattle.rtps_audit.specs.Common.{nobody}
 use Rattle.rtps_audit.specs.Hearing.{Hears}
-use Rattle.rtps_audit.specs.Placed.{PlacedValue, is_from, placed_in}
-use Rattle.rtps_audit.proofs.HearingLemmas.{alike_values, hears_too}
+use Rattle.rtps_audit.specs.Placed.{is_from, placed_in}
+use Rattle.rtps_audit.proofs.HearingLemmas.{hears_too}
 use Rattle.rtps_audit.proofs.IndexVerdict.{verdict_by_index}
 use Rattle.rtps_audit.proofs.common.Common.judge.Goals as goal
 
