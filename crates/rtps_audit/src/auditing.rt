@@ -9,12 +9,18 @@ use crate::common::Common;
 use crate::index::Index;
 use crate::report::{Report, Row};
 use crate::verdict::Verdict;
+use crate::watch::{Unwatched, Watch};
 use rtps_discovery::Pair;
 use rtps_ids::{Memory, SeqNum};
 use std::alloc::Global;
 
-/// Judges each of these pairs by the numbers from `from` on.
-fn rows_of(index: &Index<'_>, pairs: &[Pair], from: SeqNum) -> Result<Vec<Row>, Memory>
+/// Judges each of these pairs by the numbers from `from` on, and tells of each.
+fn rows_of<P: Watch>(
+    index: &Index<'_>,
+    pairs: &[Pair],
+    from: SeqNum,
+    watch: &mut P,
+) -> Result<Vec<Row>, Memory>
     ensures pairs { IfOk result (λ rows. map (λ row. row.pair) rows.items ≡ pairs.now) }
     ensures judged { (recording : List (List ℕ)) → IsIndexOf recording index.now
         → IfOk result (λ rows. All (IsJudgedFrom from recording) rows.items) }
@@ -28,8 +34,36 @@ fn rows_of(index: &Index<'_>, pairs: &[Pair], from: SeqNum) -> Result<Vec<Row>, 
             pair: *pair,
             verdict,
         })?;
+        watch.judged(rows.len(), pairs.len());
     }
     Ok(rows)
+}
+
+/// Audits a recording as [`audit_from`] does, and tells how far it is.
+pub fn audit_watched<P: Watch>(
+    alloc: Global,
+    recording: &[&[u8]],
+    from: SeqNum,
+    watch: &mut P,
+) -> Result<Report, Memory>
+    // The rows are of the matched reliable pairs in order, each with its verdict, and the six counts are exact.
+    ensures report { IfOk result (IsReportFrom from (map (λ datagram. datagram.now) recording.now)) }
+
+    // A row is complete exactly where every run delivers.
+    ensures complete { let octets = map (λ datagram. datagram.now) recording.now in
+        IfOk result (λ report. All (λ row. (last : ℤ) → (row.verdict ≡ Verdict.Complete last)
+        ↔ IsDeliveredFrom from (speech_of row.pair.writer row.pair.reader octets) last) report.rows.items) }
+
+    // Where any run of a row's pair exists, the one that takes all it can after each send is a run.
+    ensures full_run { let octets = map (λ datagram. datagram.now) recording.now in
+        IfOk result (λ report. All (λ row. HasFullRunFrom from (speech_of row.pair.writer row.pair.reader octets) row.verdict) report.rows.items) }
+{
+    let index = Index::build(alloc, recording)?;
+    let pairs = index.directory.pairs()?;
+    let rows = rows_of(&index, &pairs, from, watch)?;
+    let mut counts = index.counts;
+    counts.unsettled = index.directory.unsettled() as u64;
+    Ok(Report { rows, counts })
 }
 
 /// Audits a recording, any datagrams, well formed or not, by the numbers from `from` on.
@@ -51,12 +85,7 @@ pub fn audit_from(alloc: Global, recording: &[&[u8]], from: SeqNum) -> Result<Re
     ensures full_run { let octets = map (λ datagram. datagram.now) recording.now in
         IfOk result (λ report. All (λ row. HasFullRunFrom from (speech_of row.pair.writer row.pair.reader octets) row.verdict) report.rows.items) }
 {
-    let index = Index::build(alloc, recording)?;
-    let pairs = index.directory.pairs()?;
-    let rows = rows_of(&index, &pairs, from)?;
-    let mut counts = index.counts;
-    counts.unsettled = index.directory.unsettled() as u64;
-    Ok(Report { rows, counts })
+    audit_watched(alloc, recording, from, &mut Unwatched)
 }
 
 /// Audits a recording, any datagrams, well formed or not.

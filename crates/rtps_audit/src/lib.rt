@@ -23,12 +23,14 @@ mod report;
 mod said;
 mod same_guid;
 mod verdict;
+mod watch;
 mod words;
 
-pub use auditing::{audit, audit_from};
+pub use auditing::{audit, audit_from, audit_watched};
 pub use index::Index;
 pub use judging::{judge, judge_by, judge_from};
 pub use placed::Placed;
 pub use report::{Counts, Report, Row};
 pub use rtps_coverage::{BitRanges, Coverage, MergedRanges, PlainRanges};
 pub use verdict::Verdict;
+pub use watch::{Unwatched, Watch};

@@ -13,6 +13,7 @@ pub use datagram_list::{DatagramList, Datagrams};
 pub use ending::Ending;
 pub use places::{Place, push_octets, push_place};
 pub use recording::Recording;
+pub use rtps_audit::{Unwatched, Watch};
 pub use text::audit::audit_text;
 pub use text::list::list_text;
 pub use text::sample::sample_text;

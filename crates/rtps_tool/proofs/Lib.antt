@@ -1,5 +1,6 @@
 pub mod CaptureLemmas
 pub mod LinesLemmas
+pub mod OpeningLemmas
 pub mod ReadingLemmas
 pub mod RunsLemmas
 pub mod RecordingLemmas

@@ -4,7 +4,7 @@ ghost use Rattle.std.specs.Prelude.{ℕ};
 ghost use Rattle.rtps_text.specs.AuditText.{IsAuditedFrom};
 ghost use Rattle.rtps_text.specs.ListText.{IsListed};
 ghost use Rattle.rtps_text.specs.ShowText.{IsShown};
-ghost use Rattle.rtps_tool.specs.Laws.{RunsAgree};
+ghost use Rattle.rtps_tool.specs.Laws.{NoTextBeginsAsACapture, RunsAgree};
 ghost use Rattle.rtps_tool.specs.Words.{WordsAreWanted};
 
 use rtps_text::laws::one_text;
@@ -26,3 +26,10 @@ pub fn runs_agree()
 {
     one_text();
 }
+
+/// Octets that begin as a capture begin no text: as a text they would have a fault in their first line. So which form an
+/// input has is never in doubt.
+#[tactic(auto, using(crate::proofs::OpeningLemmas::capture_is_no_text))]
+pub fn no_text_begins_as_a_capture()
+    ensures { NoTextBeginsAsACapture }
+{}

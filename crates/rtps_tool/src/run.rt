@@ -10,7 +10,7 @@ ghost use Rattle.rtps_tool.specs.Subcommands.{IsTextOf};
 use crate::faults::RunFault;
 use crate::streams::{read_input, write_text};
 use rtps_ids::{Memory, SeqNum};
-use rtps_text::{Ending, Recording, audit_text, list_text, sample_text, show_text};
+use rtps_text::{Ending, Recording, Unwatched, audit_text, list_text, sample_text, show_text};
 use std::alloc::Global;
 use std::io::{Read, Write};
 
@@ -115,6 +115,6 @@ fn text_of(
     match subcommand {
         Subcommand::Show => show_text(alloc, recording),
         Subcommand::List => list_text(alloc, recording),
-        Subcommand::Audit(from) => audit_text(alloc, recording, from),
+        Subcommand::Audit(from) => audit_text(alloc, recording, from, &mut Unwatched),
     }
 }

@@ -7,29 +7,35 @@ ghost use Rattle.rtps_text.specs.AuditText.{IsAuditedFrom, ending_of as ending_o
 use crate::ending::Ending;
 use crate::recording::Recording;
 use crate::text::audit_lines::{PairsLine, ReportCountsLine, RowLine};
-use rtps_audit::{Report, Row, Verdict};
+use rtps_audit::{Report, Row, Verdict, Watch};
 use rtps_ids::{Memory, SeqNum};
 use std::alloc::{AllocError, Global};
 
-/// What `audit` prints of a recording by the numbers from `from` on, and how it ends.
-pub fn audit_text(
+/// What `audit` prints of a recording by the numbers from `from` on, and how it ends. It tells how far it is.
+pub fn audit_text<P: Watch>(
     alloc: Global,
     recording: &Recording,
     from: SeqNum,
+    watch: &mut P,
 ) -> Result<(String, Ending), Memory>
     ensures { IfOk result (λ audited. IsAuditedFrom from recording.now (string_bytes audited.0) audited.1) }
 {
-    let report = report_of(alloc, recording, from)?;
+    let report = report_of(alloc, recording, from, watch)?;
     let text = report_text(alloc, &report, recording.ignored())?;
     Ok((text, ending_of(&report.rows)))
 }
 
 // The audit of a recording.
-fn report_of(alloc: Global, recording: &Recording, from: SeqNum) -> Result<Report, Memory>
+fn report_of<P: Watch>(
+    alloc: Global,
+    recording: &Recording,
+    from: SeqNum,
+    watch: &mut P,
+) -> Result<Report, Memory>
     ensures { IfOk result (IsReportFrom from recording.now.datagrams) }
 {
     let datagrams = datagrams_of(alloc, recording)?;
-    rtps_audit::audit_from(alloc, &datagrams, from)
+    rtps_audit::audit_watched(alloc, &datagrams, from, watch)
 }
 
 // The datagrams of a recording.

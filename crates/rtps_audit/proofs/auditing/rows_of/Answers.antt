@@ -12,7 +12,7 @@ judged_from : (old new : ℕ) (speech : Speech) (verdict : Verdict) → old ≡ 
 judged_from old new speech verdict same is = subst (λ from. IsVerdictFrom from speech verdict) same is
 
 pub loop-pair-init : goal.loop-pair-init
-loop-pair-init c = record {
+loop-pair-init g c = record {
   pairs = ap (map (λ row. row.pair)) c.new-rows.ensures.items;
   judged = λ recording is. subst (All (IsJudgedFrom c.args.from recording)) (sym c.new-rows.ensures.items) (All-nil (IsJudgedFrom c.args.from recording));
   common = c.in_ok-common.ensures.common;
@@ -20,7 +20,7 @@ loop-pair-init c = record {
 }
 
 pub loop-pair-preserved : goal.loop-pair-preserved
-loop-pair-preserved c =
+loop-pair-preserved g c =
     record {
       pairs = pairs_more c.loop-pair.rows.items _ _ c.args.pairs.now c.loop-pair.pair-index _ c.loop-pair-test.true c.in_ok-push.ensures.items refl c.loop-pair.invariant.pairs;
       judged = λ recording is.

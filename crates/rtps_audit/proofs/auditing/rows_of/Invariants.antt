@@ -6,7 +6,7 @@ use Rattle.rtps_audit.proofs.auditing.rows_of.Given as goal
 
 -- a row for each pair so far
 abbrev pub invariant-loop-pair : goal.invariant-loop-pair
-invariant-loop-pair l = record {
+invariant-loop-pair g l = record {
   pairs : map (λ row. row.pair) l.rows.items ≡ take l.pair-index l.pairs;
   judged : (recording : List (List ℕ)) → IsIndexOf recording l.index → All (IsJudgedFrom l.fn.from recording) l.rows.items;
   common : (recording : List (List ℕ)) → IsIndexOf recording l.index → IsCommon recording l.common;

@@ -3,7 +3,7 @@ use Rattle.rtps_text.specs.AuditText.{ending_of, report_text}
 use Rattle.rtps_text.proofs.text.audit.audit_text.Goals as goal
 
 pub returns : goal.returns
-returns c =
+returns g c =
     record {
       report = c.in_ok-report.report;
       reports = c.in_ok-report.ensures;

@@ -1,9 +1,0 @@
-use Rattle.rtps_audit.proofs.DeliveredLemmas.{complete_where}
-use Rattle.rtps_audit.proofs.FullRuns.{full_run_where}
-use Rattle.rtps_audit.proofs.auditing.audit_from.Goals as goal
-
-pub returns-clause-complete : goal.returns-clause-complete
-returns-clause-complete c = λ k d lt last. complete_where _ _ (c.in_ok-rows.ensures.judged _ c.in_ok-index.ensures k d lt) last
-
-pub returns-clause-full_run : goal.returns-clause-full_run
-returns-clause-full_run c = λ k d lt. full_run_where _ _ _ _ _ (c.in_ok-rows.ensures.judged _ c.in_ok-index.ensures k d lt)

@@ -1,0 +1,93 @@
+-- Facts on texts that begin as a capture does.
+use Rattle.std.proofs.Common.{◌≡◌, ◌==◌, ℕ, zero, suc, ◌-◌, ◌<◌, true, false, Bool, List, [], ◌∷◌, length, take, map, None, Some, Err, refl, ap, ◌∙◌, ◌⊎◌, inl, inr, arith, subst, sym}
+use Rattle.std.specs.Prelude.{◌&&◌, ◌%◌, nat_lt, not, is_err, slice_index, if◌then◌else◌, Option, All}
+use Rattle.std.specs.Str.Lines.{strip_carriage_return}
+use Rattle.std.proofs.lemmas.Bool.Decides.{nat_tests}
+use Rattle.hex.specs.Hex.{decode_of, decode_pairs, hex_digit_value}
+use Rattle.hex.specs.declared.error.FromHexError.TheVariants.{OddLength}
+use Rattle.rtps_ids.specs.Octets.{number_of}
+use Rattle.rtps_ids.specs.declared.order.Order.{Order}
+use Rattle.rtps_capture.specs.Opening.{order_of}
+use Rattle.rtps_tool.specs.Lines.{is_line_feed, parts_of, onto_first_line, lines_of}
+use Rattle.rtps_tool.specs.RecordingText.{is_datagram_line, line_fault, recording_of_lines, recording_of_text, without_frames}
+use Rattle.rtps_tool.specs.declared.faults.RecFault.{RecFault}
+use Rattle.rtps_tool.specs.declared.faults.RecFault.TheVariants.{BadHex, TooLong}
+use Rattle.rtps_tool.proofs.RecordingLemmas.{recording_of_lines-faulty}
+
+-- an octet that ends no line, begins no comment and is no digit
+record IsStrange (a : ℕ) : Type 0 where
+  feed : is_line_feed a ≡ false
+  return : (a == 13) ≡ false
+  comment : (a == 35) ≡ false
+  digit : hex_digit_value a ≡ None
+
+-- the first octets of captures
+first_octet : (a b c d : ℕ) (rest : List ℕ) (order : Order) → a < 256 → b < 256 → c < 256 → d < 256
+    → order_of (a ∷ b ∷ c ∷ d ∷ rest) ≡ Some order → (a ≡ 161) ⊎ ((a ≡ 212) ⊎ (a ≡ 77))
+unfolding order_of number_of
+first_octet a b c d rest order a-small b-small c-small d-small is = grind (arith, nat_tests)
+
+strange : (a : ℕ) → (a ≡ 161) ⊎ ((a ≡ 212) ⊎ (a ≡ 77)) → IsStrange a
+strange a is =
+    elim is [
+      | inl e ↦ subst IsStrange (sym e) record { feed = refl; return = refl; comment = refl; digit = refl }
+      | inr (inl e) ↦ subst IsStrange (sym e) record { feed = refl; return = refl; comment = refl; digit = refl }
+      | inr (inr e) ↦ subst IsStrange (sym e) record { feed = refl; return = refl; comment = refl; digit = refl }
+    ]
+
+-- an octet that ends no line begins the first one
+onto_first : (a : ℕ) (parts : List (List ℕ)) → (x : List ℕ) × (others : List (List ℕ)) × (onto_first_line a parts ≡ (a ∷ x) ∷ others)
+onto_first a [] = ([], [], refl)
+onto_first a (part ∷ parts) = (part, parts, refl)
+
+first_part : (a : ℕ) (text : List ℕ) → is_line_feed a ≡ false → (x : List ℕ) × (others : List (List ℕ)) × (parts_of (a ∷ text) ≡ (a ∷ x) ∷ others)
+first_part a text plain = rw plain (onto_first a (parts_of text))
+
+-- a carriage return is taken from the end of a line alone
+by_end : (flag : Bool) (a b : ℕ) (x : List ℕ) → (y : List ℕ) × ((if flag then take (length (a ∷ b ∷ x) - 1) (a ∷ b ∷ x) else a ∷ b ∷ x) ≡ a ∷ y)
+by_end true a b x =
+    let size : length (a ∷ b ∷ x) - 1 ≡ suc (length x) = omega arith in
+    (take (length x) (b ∷ x), ap (λ (n : ℕ). take n (a ∷ b ∷ x)) size)
+by_end false a b x = (b ∷ x, refl)
+
+stripped : (a : ℕ) (x : List ℕ) → (a == 13) ≡ false → (y : List ℕ) × (strip_carriage_return (a ∷ x) ≡ a ∷ y)
+stripped a [] plain = ([], rw plain refl)
+stripped a (b ∷ x) plain = by_end (slice_index (a ∷ b ∷ x) (length (a ∷ b ∷ x) - 1) == 13) a b x
+
+-- a line that begins with such an octet is no row of digits
+by_parity : (odd : Bool) (a b : ℕ) (x : List ℕ) → hex_digit_value a ≡ None → is_err (if odd then Err OddLength else decode_pairs 0 (a ∷ b ∷ x)) ≡ true
+unfolding decode_pairs
+by_parity true a b x none = refl
+by_parity false a b x none = rw none refl
+
+no_digits : (a : ℕ) (x : List ℕ) → hex_digit_value a ≡ None → is_err (decode_of (a ∷ x)) ≡ true
+no_digits a [] none = refl
+no_digits a (b ∷ x) none = by_parity (length (a ∷ b ∷ x) % 2 == 1) a b x none
+
+by_length : (long bad : Bool) → bad ≡ true → (fault : RecFault) × ((if long then Some (TooLong 1) else if bad then Some (BadHex 1) else None) ≡ Some fault)
+by_length true bad is = (TooLong 1, refl)
+by_length false bad is = (BadHex 1, rw is refl)
+
+-- a text that begins with such an octet has a fault in its first line
+strange_text : (a : ℕ) (text : List ℕ) → IsStrange a → (fault : RecFault) × (recording_of_text (a ∷ text) ≡ Err fault)
+unfolding recording_of_text
+strange_text a text s =
+    let part = first_part a text s.feed in
+    let line = stripped a part.0 s.return in
+    let others : List (List ℕ) = map strip_carriage_return part.1 in
+    let lines : lines_of (a ∷ text) ≡ (a ∷ line.0) ∷ others = ap (map strip_carriage_return) part.2 ∙ ap (λ (l : List ℕ). l ∷ others) line.1 in
+    let taken : is_datagram_line (a ∷ line.0) ≡ true = rw s.comment (grind (arith, nat_tests)) in
+    let faulty = by_length (nat_lt 131070 (length (a ∷ line.0))) (is_err (decode_of (a ∷ line.0))) (no_digits a line.0 s.digit) in
+    (faulty.0, ap without_frames (ap (recording_of_lines 1 0) lines ∙ recording_of_lines-faulty 1 0 (a ∷ line.0) others faulty.0 taken faulty.1))
+
+-- octets that begin as a capture are no text
+pub capture_is_no_text : (input : List ℕ) (order : Order) → All (λ octet. octet < 256) input → order_of input ≡ Some order
+    → (fault : RecFault) × (recording_of_text input ≡ Err fault)
+unfolding order_of
+capture_is_no_text [] order small is = absurd (grind (arith, nat_tests))
+capture_is_no_text (a ∷ []) order small is = absurd (grind (arith, nat_tests))
+capture_is_no_text (a ∷ b ∷ []) order small is = absurd (grind (arith, nat_tests))
+capture_is_no_text (a ∷ b ∷ c ∷ []) order small is = absurd (grind (arith, nat_tests))
+capture_is_no_text (a ∷ b ∷ c ∷ d ∷ rest) order small is =
+    strange_text a (b ∷ c ∷ d ∷ rest)
+    (strange a (first_octet a b c d rest order (small 0 0 (omega arith)) (small 1 0 (omega arith)) (small 2 0 (omega arith)) (small 3 0 (omega arith)) is))
