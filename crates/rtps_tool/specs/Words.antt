@@ -84,17 +84,21 @@ HasItsNumber (ListChoice file limits) rows = Unit {0}
 HasItsNumber (Audit file from limits) rows = IsNumberGiven (first_of (codes "N") rows) from
 HasItsNumber Sample rows = Unit {0}
 
+-- the limits that were chosen; `sample` has none
+abbrev pub limits_of : Choice → Option Limits
+limits_of (Show file limits) = Some limits
+limits_of (ListChoice file limits) = Some limits
+limits_of (Audit file from limits) = Some limits
+limits_of Sample = None
+
 -- the limits are those that were given, each the usual one where it was not
 pub record AreLimitsGiven (rows : List Row) (limits : Limits) : Type 0 where
   pub datagrams : IsGivenOr usual.datagrams (first_of (codes "DATAGRAMS") rows) limits.datagrams
   pub octets : IsGivenOr usual.octets (first_of (codes "OCTETS") rows) limits.octets
 
--- its limits are those that were given; `sample` has none
+-- its limits are those that were given
 abbrev pub HasItsLimits : Choice → List Row → Type 0
-HasItsLimits (Show file limits) rows = AreLimitsGiven rows limits
-HasItsLimits (ListChoice file limits) rows = AreLimitsGiven rows limits
-HasItsLimits (Audit file from limits) rows = AreLimitsGiven rows limits
-HasItsLimits Sample rows = Unit {0}
+HasItsLimits choice rows = IfSome (limits_of choice) (AreLimitsGiven rows)
 
 -- the choice has the name of the subcommand that was found, its FILE, its number and its limits
 abbrev pub IsChoice : Option (Text × List Row) → Choice → Type 0

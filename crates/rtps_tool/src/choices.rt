@@ -1,10 +1,11 @@
 ghost use Rattle.std.specs.Prelude.{◌≡◌};
 ghost use Rattle.std.specs.Option.{option_map};
 ghost use Rattle.rtps_tool.specs.Choices.{RunsChoice};
-ghost use Rattle.rtps_tool.specs.Words.{file_name};
+ghost use Rattle.rtps_tool.specs.Words.{file_name, limits_of};
 
 use crate::command::Choice;
 use crate::faults::RunFault;
+use crate::limits::Limits;
 use crate::run::{run_audit_within, run_list_within, run_sample, run_show_within};
 use rtps_text::Ending;
 use std::alloc::Global;
@@ -19,6 +20,18 @@ impl Choice {
             Choice::Show { file, .. } | Choice::List { file, .. } | Choice::Audit { file, .. } => {
                 Some(file.as_str())
             }
+            Choice::Sample => None,
+        }
+    }
+
+    /// The limits of the recording. None where the choice reads nothing.
+    pub fn limits(&self) -> Option<Limits>
+        ensures { result ≡ limits_of self.now }
+    {
+        match self {
+            Choice::Show { limits, .. }
+            | Choice::List { limits, .. }
+            | Choice::Audit { limits, .. } => Some(*limits),
             Choice::Sample => None,
         }
     }
