@@ -2,7 +2,8 @@
 #![tactic(auto)]
 
 use rtps_tool::{
-    Choice, Ending, RunFault, WordFault, link_type, read_words, run_choice, status, write_fault,
+    Choice, Ending, RecFault, RunFault, WordFault, link_type, read_words, run_choice, status,
+    write_fault,
 };
 use std::alloc::AllocError;
 use std::fs::File;
@@ -16,12 +17,13 @@ const START: usize = 24;
 // The octets that a pcapng file begins with.
 const PCAPNG: &[u8] = b"\x0a\x0d\x0d\x0a";
 
-// An input that remembers how it began, and why its last read failed.
+// An input that remembers how it began, how many octets were read of it, and why its last read failed.
 #[derive(Drop)]
 struct Remembering<R> {
     input: R,
     start: [u8; START],
     known: usize,
+    octets: u64,
     failure: Option<io::Error>,
 }
 
@@ -29,7 +31,10 @@ impl<R: Read> Read for Remembering<R> {
     fn read(&mut self, buf: &mut [u8]) -> io::Result<usize> {
         let outcome = self.input.read(buf);
         match &outcome {
-            Ok(got) => self.known = remember(&mut self.start, self.known, &buf[..*got]),
+            Ok(got) => {
+                self.known = remember(&mut self.start, self.known, &buf[..*got]);
+                self.octets = self.octets.saturating_add(*got as u64);
+            }
             Err(failure) => self.failure = Some(same_error(failure)),
         }
         outcome
@@ -133,16 +138,37 @@ fn run_on_input<R: Read + Drop>(
         input,
         start: [0; START],
         known: 0,
+        octets: 0,
         failure: None,
     };
     let outcome = run_choice(rt.alloc(), choice, &mut input, &mut rt.stdout());
     if let Some(failure) = &input.failure {
         tell_reason(rt, file, failure);
     }
-    if let Err(RunFault::Recording(_)) = &outcome {
+    if let Err(RunFault::Recording(fault)) = &outcome {
         tell_form(rt, file, input.start.get(..input.known).unwrap_or(&[]));
+        if matches!(fault, RecFault::TooMany) {
+            tell_limit(rt, choice, file, input.octets);
+        }
     }
     outcome
+}
+
+// Says which of the limits an input passes of which so many octets were read, and what raises it. Octets are looked at
+// before datagrams.
+fn tell_limit(rt: &HostRuntime, choice: &Choice, file: &str, octets: u64) {
+    let Some(limits) = choice.limits() else {
+        return;
+    };
+    let (most, what, option) = if octets > limits.octets {
+        (limits.octets, "octets", "--max-octets")
+    } else {
+        (limits.datagrams, "datagrams", "--max-datagrams")
+    };
+    let _ = writeln!(
+        rt.stderr(),
+        "rtps-audit: {file}: more than {most} {what}; {option} N raises this limit"
+    );
 }
 
 // Says of an input that is refused what it is, by its first octets, where it is a capture of a kind that is not read, and

@@ -69,7 +69,7 @@ impl DatagramList {
             return None;
         }
         let place = self.places[i];
-        Some(&self.octets[place.from as usize..place.to as usize])
+        Some(&self.octets[place.start()..place.end()])
     }
 
     /// The datagrams, in their order. There are no more than a `usize` counts.
@@ -84,20 +84,22 @@ impl DatagramList {
     }
 
     /// Appends the datagram that these hexadecimal digits stand for, and answers whether they stand for one. Nothing
-    /// changes where they do not, and after an `Err`: that is want of memory, or of places, which go up to 4 GiB of
-    /// octets.
+    /// changes where they do not, and after an `Err`: that is want of memory, or of a place ([`Place::new`]), where the
+    /// datagram would have more than 65,535 octets or begin behind 2^48 of them.
     pub fn push_hex(&mut self, digits: &[u8]) -> Result<bool, AllocError>
         ensures found { IfOk result (λ found. found ≡ is_ok (decode_of digits.now)) }
         ensures pushed { IfOk result (λ found. self.new ≡ (if found then self.old ++ octets_of digits.now ∷ [] else self.old)) }
         ensures err { OnErr result (self.new ≡ self.old) }
     {
-        let from = place_of(self.octets.len())?;
-        let to = place_of(self.octets.len() + digits.len() / 2)?;
+        let from = self.octets.len();
+        let Some(place) = Place::new(from, from + digits.len() / 2) else {
+            return Err(AllocError);
+        };
         make_room(&mut self.places, 1)?;
         if !append_hex(&mut self.octets, digits)? {
             return Ok(false);
         }
-        self.places.push_reserved(Place { from, to });
+        self.places.push_reserved(place);
         Ok(true)
     }
 }
@@ -135,18 +137,8 @@ impl<'a> Iterator for Datagrams<'a> {
         }
         let place = self.places[0];
         self.places = &self.places[1..];
-        Some(&self.octets[place.from as usize..place.to as usize])
+        Some(&self.octets[place.start()..place.end()])
     }
-}
-
-// A size as a place, if it is one.
-fn place_of(size: usize) -> Result<u32, AllocError>
-    ensures { IfOk result (λ place. place ≡ size) }
-{
-    if size > u32::MAX as usize {
-        return Err(AllocError);
-    }
-    Ok(size as u32)
 }
 
 // Appends the octets that these digits stand for, and answers whether they stand for any. Nothing is appended where

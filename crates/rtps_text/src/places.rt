@@ -1,4 +1,5 @@
-ghost use Rattle.std.specs.Prelude.{◌≡◌, ◌++◌, ◌∷◌, [], ◌+◌, ◌≤◌, max, vec_len, vec_capacity, OnOk, OnErr};
+ghost use Rattle.std.specs.Prelude.{◌≡◌, ◌++◌, ◌∷◌, [], ◌+◌, ◌≤◌, max, true, false, vec_len, vec_capacity, MatchOption, OnOk, OnErr};
+ghost use Rattle.rtps_text.specs.Places.{end_of as end_of_lem, has_place, start_of as start_of_lem};
 ghost use Rattle.rtps_text.specs.Room.{roomy_size};
 
 use std::alloc::AllocError;
@@ -6,11 +7,58 @@ use std::alloc::AllocError;
 // The least that room is asked for besides what is needed, in octets or places.
 const ROOM_MIN: usize = 1 << 16;
 
-/// Where a datagram stands in octets: from the place of its first octet on, up to the place behind its last.
+// How many sizes a datagram may have: 0 to 65,535 octets.
+const SIZES: u64 = 1 << 16;
+
+// How many places there are where a datagram may begin.
+const STARTS: usize = 1 << 48;
+
+/// Where a datagram stands in octets: from the place of its first octet on, up to the place behind its last. It takes 8
+/// octets: 48 bits say where the datagram begins, and 16 how many octets it has.
 #[derive(Clone, Copy, PartialEq, Eq, Debug)]
 pub struct Place {
-    pub from: u32,
-    pub to: u32,
+    // The place of the first octet times 2^16, and how many octets there are.
+    bits: u64,
+}
+
+impl Place {
+    /// The place from `from` up to `to`, in octets. None where it would end before it begins, have more than 65,535
+    /// octets, or begin at 2^48 or behind.
+    #[tactic(auto, unfolding(crate::specs::Places::start_of, crate::specs::Places::end_of))]
+    pub fn new(from: usize, to: usize) -> Option<Place>
+        ensures { MatchOption result
+            (has_place from to ≡ false)
+            (λ place. (has_place from to ≡ true) × (start_of_lem place ≡ from) × (end_of_lem place ≡ to)) }
+    {
+        if from > to || from >= STARTS {
+            return None;
+        }
+        let size = (to - from) as u64;
+        if size >= SIZES {
+            return None;
+        }
+        Some(Place {
+            bits: from as u64 * SIZES + size,
+        })
+    }
+
+    /// The place of the first octet.
+    #[inline]
+    #[tactic(auto, unfolding(crate::specs::Places::start_of))]
+    pub fn start(self) -> usize
+        ensures { result ≡ start_of_lem self }
+    {
+        (self.bits / SIZES) as usize
+    }
+
+    /// The place behind the last octet.
+    #[inline]
+    #[tactic(auto, unfolding(crate::specs::Places::end_of))]
+    pub fn end(self) -> usize
+        ensures { result ≡ end_of_lem self }
+    {
+        (self.bits / SIZES + self.bits % SIZES) as usize
+    }
 }
 
 /// Appends a place. The room for places grows sparingly: it is never much more than what they need. They stay as they

@@ -7,7 +7,7 @@ use Rattle.std.proofs.lemmas.List.Elements.{All-nil, All-push}
 use Rattle.rtps_capture.specs.declared.frames.Frame.{Frame}
 use Rattle.rtps_capture.specs.declared.frames.Frame.TheVariants.{Datagram, Ignored, Cut}
 use Rattle.rtps_capture.specs.declared.place.Place.{Place as FilePlace}
-use Rattle.rtps_text.specs.Places.{ArePlaces, StandsWithin, piece, pieces}
+use Rattle.rtps_text.specs.Places.{ArePlaces, StandsWithin, end_of, piece, pieces, start_of}
 use Rattle.rtps_text.specs.Recording.{RecordingValue}
 use Rattle.rtps_text.specs.declared.places.Place.{Place}
 use Rattle.rtps_tool.specs.Outcomes.{IsFaultOf}
@@ -22,8 +22,8 @@ IsReadFrom octets defined places result = MatchResult result
     (IsFaultOf defined)
 
 -- of all frames so many were read, which gave these places and so many that are ignored, and the others are left
-pub record HasPushed (octets : List ℕ) (all : List Frame) (places : List Place) (number ignored : ℕ) (left : List Frame) : Type 0 where
-  pub few : length places ≤ 1000000
+pub record HasPushed (most : ℕ) (octets : List ℕ) (all : List Frame) (places : List Place) (number ignored : ℕ) (left : List Frame) : Type 0 where
+  pub few : length places ≤ most
   pub within : ArePlaces octets places
   pub counted : number + length left ≡ length all
   pub least : ignored ≤ number
@@ -31,9 +31,9 @@ pub record HasPushed (octets : List ℕ) (all : List Frame) (places : List Place
   pub passed : ignored + ignored_among left ≡ ignored_among all
   pub cut : cut_among (number + 1) left ≡ cut_among 1 all
 
-pub HasPushed-start : (octets : List ℕ) (all : List Frame) (places : List Place) → places ≡ [] → HasPushed octets all places 0 0 all
-HasPushed-start octets all places none =
-    subst (λ (start : List Place). HasPushed octets all start 0 0 all) (sym none) record {
+pub HasPushed-start : (most : ℕ) (octets : List ℕ) (all : List Frame) (places : List Place) → places ≡ [] → HasPushed most octets all places 0 0 all
+HasPushed-start most octets all places none =
+    subst (λ (start : List Place). HasPushed most octets all start 0 0 all) (sym none) record {
       few = omega arith;
       within = All-nil (StandsWithin (length octets));
       counted = omega arith;
@@ -44,9 +44,9 @@ HasPushed-start octets all places none =
     }
 
 -- a frame that gives nothing
-pub HasPushed-ignored : (octets : List ℕ) (all : List Frame) (places : List Place) (number ignored : ℕ) (left later : List Frame)
-    → HasPushed octets all places number ignored left → left ≡ Ignored ∷ later → HasPushed octets all places (number + 1) (ignored + 1) later
-HasPushed-ignored octets all places number ignored left later h is = record {
+pub HasPushed-ignored : (most : ℕ) (octets : List ℕ) (all : List Frame) (places : List Place) (number ignored : ℕ) (left later : List Frame)
+    → HasPushed most octets all places number ignored left → left ≡ Ignored ∷ later → HasPushed most octets all places (number + 1) (ignored + 1) later
+HasPushed-ignored most octets all places number ignored left later h is = record {
   few = h.few;
   within = h.within;
   counted = omega (arith, h.counted, ap length is);
@@ -57,12 +57,12 @@ HasPushed-ignored octets all places number ignored left later h is = record {
 }
 
 -- a frame that gives a datagram
-pub HasPushed-datagram : (octets : List ℕ) (all : List Frame) (places pushed : List Place) (number ignored : ℕ) (left later : List Frame) (place : FilePlace) (one : Place)
-    → HasPushed octets all places number ignored left → left ≡ Datagram place ∷ later → pushed ≡ places ++ one ∷ []
-    → one.from ≡ place.from → one.to ≡ place.to → place.from ≤ place.to → place.to ≤ length octets → length places < 1000000
-    → HasPushed octets all pushed (number + 1) ignored later
-HasPushed-datagram octets all places pushed number ignored left later place one h is push from to ordered within few =
-    subst (λ (now : List Place). HasPushed octets all now (number + 1) ignored later) (sym push) record {
+pub HasPushed-datagram : (most : ℕ) (octets : List ℕ) (all : List Frame) (places pushed : List Place) (number ignored : ℕ) (left later : List Frame) (place : FilePlace) (one : Place)
+    → HasPushed most octets all places number ignored left → left ≡ Datagram place ∷ later → pushed ≡ places ++ one ∷ []
+    → start_of one ≡ place.from → end_of one ≡ place.to → place.from ≤ place.to → place.to ≤ length octets → length places < most
+    → HasPushed most octets all pushed (number + 1) ignored later
+HasPushed-datagram most octets all places pushed number ignored left later place one h is push from to ordered within few =
+    subst (λ (now : List Place). HasPushed most octets all now (number + 1) ignored later) (sym push) record {
       few = omega (arith, length-append places (one ∷ []));
       within = All-push (StandsWithin (length octets)) places one h.within (omega (arith, from, to, ordered), omega (arith, to, within));
       counted = omega (arith, h.counted, ap length is);
@@ -75,41 +75,41 @@ HasPushed-datagram octets all places pushed number ignored left later place one 
       cut = ap (cut_among (number + 1)) (sym is) ∙ h.cut;
     }
 
-by_fault : (octets : List ℕ) (all : List Frame) (datagrams : List (List ℕ)) → datagrams_among octets all ≡ datagrams → length datagrams ≤ 1000000
-    → recording_of_frames octets all ≡ unless_cut (cut_among 1 all) (record { datagrams = datagrams; ignored = Some (ignored_among all) })
+by_fault : (most : ℕ) (octets : List ℕ) (all : List Frame) (datagrams : List (List ℕ)) → datagrams_among octets all ≡ datagrams → length datagrams ≤ most
+    → recording_of_frames most octets all ≡ unless_cut (cut_among 1 all) (record { datagrams = datagrams; ignored = Some (ignored_among all) })
 unfolding recording_of_frames
-by_fault octets all datagrams is few = let fits : nat_lt 1000000 (length datagrams) ≡ false = grind (arith, nat_tests) in rw is (rw fits refl)
+by_fault most octets all datagrams is few = let fits : nat_lt most (length datagrams) ≡ false = grind (arith, nat_tests) in rw is (rw fits refl)
 
 -- no frame is left
-pub recording_of_frames-done : (octets : List ℕ) (all : List Frame) (places : List Place) (number ignored : ℕ) (left : List Frame)
-    → HasPushed octets all places number ignored left → left ≡ []
-    → recording_of_frames octets all ≡ Ok (record { datagrams = pieces octets places; ignored = Some ignored })
-recording_of_frames-done octets all places number ignored left h none =
+pub recording_of_frames-done : (most : ℕ) (octets : List ℕ) (all : List Frame) (places : List Place) (number ignored : ℕ) (left : List Frame)
+    → HasPushed most octets all places number ignored left → left ≡ []
+    → recording_of_frames most octets all ≡ Ok (record { datagrams = pieces octets places; ignored = Some ignored })
+recording_of_frames-done most octets all places number ignored left h none =
     let given : datagrams_among octets all ≡ pieces octets places =
     sym h.given ∙ ap (λ (l : List Frame). pieces octets places ++ datagrams_among octets l) none ∙ append-nil (pieces octets places) in
     let passed : ignored_among all ≡ ignored = omega (arith, h.passed, ap ignored_among none) in
     let whole : cut_among 1 all ≡ None = sym h.cut ∙ ap (cut_among (number + 1)) none in
-    by_fault octets all (pieces octets places) given (omega (arith, length-map places (piece octets), h.few))
+    by_fault most octets all (pieces octets places) given (omega (arith, length-map places (piece octets), h.few))
     ∙ ap (λ cut. unless_cut cut (record { datagrams = pieces octets places; ignored = Some (ignored_among all) })) whole
     ∙ ap (λ n. Ok (record { datagrams = pieces octets places; ignored = Some n })) passed
 
 -- a frame is cut
-pub recording_of_frames-cut : (octets : List ℕ) (all : List Frame) (places : List Place) (number ignored : ℕ) (left later : List Frame)
-    → HasPushed octets all places number ignored left → left ≡ Cut ∷ later → recording_of_frames octets all ≡ Err (CutCapture (number + 1))
-recording_of_frames-cut octets all places number ignored left later h is =
+pub recording_of_frames-cut : (most : ℕ) (octets : List ℕ) (all : List Frame) (places : List Place) (number ignored : ℕ) (left later : List Frame)
+    → HasPushed most octets all places number ignored left → left ≡ Cut ∷ later → recording_of_frames most octets all ≡ Err (CutCapture (number + 1))
+recording_of_frames-cut most octets all places number ignored left later h is =
     let given : datagrams_among octets all ≡ pieces octets places =
     sym h.given ∙ ap (λ (l : List Frame). pieces octets places ++ datagrams_among octets l) is ∙ append-nil (pieces octets places) in
     let cut : cut_among 1 all ≡ Some (number + 1) = sym h.cut ∙ ap (cut_among (number + 1)) is in
-    by_fault octets all (pieces octets places) given (omega (arith, length-map places (piece octets), h.few))
+    by_fault most octets all (pieces octets places) given (omega (arith, length-map places (piece octets), h.few))
     ∙ ap (λ cut. unless_cut cut (record { datagrams = pieces octets places; ignored = Some (ignored_among all) })) cut
 
 -- there are too many datagrams
-pub recording_of_frames-many : (octets : List ℕ) (all : List Frame) (places : List Place) (number ignored : ℕ) (left later : List Frame) (place : FilePlace)
-    → HasPushed octets all places number ignored left → left ≡ Datagram place ∷ later → 1000000 ≤ length places → recording_of_frames octets all ≡ Err TooMany
+pub recording_of_frames-many : (most : ℕ) (octets : List ℕ) (all : List Frame) (places : List Place) (number ignored : ℕ) (left later : List Frame) (place : FilePlace)
+    → HasPushed most octets all places number ignored left → left ≡ Datagram place ∷ later → most ≤ length places → recording_of_frames most octets all ≡ Err TooMany
 unfolding recording_of_frames
-recording_of_frames-many octets all places number ignored left later place h is many =
+recording_of_frames-many most octets all places number ignored left later place h is many =
     let size : length (datagrams_among octets all) ≡ length (pieces octets places) + length (datagrams_among octets left) =
     ap length (sym h.given) ∙ length-append (pieces octets places) (datagrams_among octets left) in
     let more : length (datagrams_among octets left) ≡ suc (length (datagrams_among octets later)) = ap (λ (l : List Frame). length (datagrams_among octets l)) is in
-    let past : nat_lt 1000000 (length (datagrams_among octets all)) ≡ true = grind (arith, nat_tests, length-map places (piece octets)) in
+    let past : nat_lt most (length (datagrams_among octets all)) ≡ true = grind (arith, nat_tests, length-map places (piece octets)) in
     rw past refl

@@ -1,4 +1,5 @@
 pub mod CaptureLemmas
+pub mod LimitsLemmas
 pub mod LinesLemmas
 pub mod OpeningLemmas
 pub mod ReadingLemmas

@@ -1,6 +1,6 @@
 -- Facts on texts that begin as a capture does.
 use Rattle.std.proofs.Common.{◌≡◌, ◌==◌, ℕ, zero, suc, ◌-◌, ◌<◌, true, false, Bool, List, [], ◌∷◌, length, take, map, None, Some, Err, refl, ap, ◌∙◌, ◌⊎◌, inl, inr, arith, subst, sym}
-use Rattle.std.specs.Prelude.{◌&&◌, ◌%◌, nat_lt, not, is_err, slice_index, if◌then◌else◌, Option, All}
+use Rattle.std.specs.Prelude.{◌&&◌, ◌%◌, nat_le, nat_lt, not, is_err, slice_index, if◌then◌else◌, Option, All}
 use Rattle.std.specs.Str.Lines.{strip_carriage_return}
 use Rattle.std.proofs.lemmas.Bool.Decides.{nat_tests}
 use Rattle.hex.specs.Hex.{decode_of, decode_pairs, hex_digit_value}
@@ -11,7 +11,7 @@ use Rattle.rtps_capture.specs.Opening.{order_of}
 use Rattle.rtps_tool.specs.Lines.{is_line_feed, parts_of, onto_first_line, lines_of}
 use Rattle.rtps_tool.specs.RecordingText.{is_datagram_line, line_fault, recording_of_lines, recording_of_text, without_frames}
 use Rattle.rtps_tool.specs.declared.faults.RecFault.{RecFault}
-use Rattle.rtps_tool.specs.declared.faults.RecFault.TheVariants.{BadHex, TooLong}
+use Rattle.rtps_tool.specs.declared.faults.RecFault.TheVariants.{BadHex, TooLong, TooMany}
 use Rattle.rtps_tool.proofs.RecordingLemmas.{recording_of_lines-faulty}
 
 -- an octet that ends no line, begins no comment and is no digit
@@ -64,30 +64,32 @@ no_digits : (a : ℕ) (x : List ℕ) → hex_digit_value a ≡ None → is_err (
 no_digits a [] none = refl
 no_digits a (b ∷ x) none = by_parity (length (a ∷ b ∷ x) % 2 == 1) a b x none
 
-by_length : (long bad : Bool) → bad ≡ true → (fault : RecFault) × ((if long then Some (TooLong 1) else if bad then Some (BadHex 1) else None) ≡ Some fault)
-by_length true bad is = (TooLong 1, refl)
-by_length false bad is = (BadHex 1, rw is refl)
+by_tests : (many long bad : Bool) → bad ≡ true
+    → (fault : RecFault) × ((if many then Some TooMany else if long then Some (TooLong 1) else if bad then Some (BadHex 1) else None) ≡ Some fault)
+by_tests true long bad is = (TooMany, refl)
+by_tests false true bad is = (TooLong 1, refl)
+by_tests false false bad is = (BadHex 1, rw is refl)
 
 -- a text that begins with such an octet has a fault in its first line
-strange_text : (a : ℕ) (text : List ℕ) → IsStrange a → (fault : RecFault) × (recording_of_text (a ∷ text) ≡ Err fault)
+strange_text : (most a : ℕ) (text : List ℕ) → IsStrange a → (fault : RecFault) × (recording_of_text most (a ∷ text) ≡ Err fault)
 unfolding recording_of_text
-strange_text a text s =
+strange_text most a text s =
     let part = first_part a text s.feed in
     let line = stripped a part.0 s.return in
     let others : List (List ℕ) = map strip_carriage_return part.1 in
     let lines : lines_of (a ∷ text) ≡ (a ∷ line.0) ∷ others = ap (map strip_carriage_return) part.2 ∙ ap (λ (l : List ℕ). l ∷ others) line.1 in
     let taken : is_datagram_line (a ∷ line.0) ≡ true = rw s.comment (grind (arith, nat_tests)) in
-    let faulty = by_length (nat_lt 131070 (length (a ∷ line.0))) (is_err (decode_of (a ∷ line.0))) (no_digits a line.0 s.digit) in
-    (faulty.0, ap without_frames (ap (recording_of_lines 1 0) lines ∙ recording_of_lines-faulty 1 0 (a ∷ line.0) others faulty.0 taken faulty.1))
+    let faulty = by_tests (nat_le most 0) (nat_lt 131070 (length (a ∷ line.0))) (is_err (decode_of (a ∷ line.0))) (no_digits a line.0 s.digit) in
+    (faulty.0, ap without_frames (ap (recording_of_lines most 1 0) lines ∙ recording_of_lines-faulty most 1 0 (a ∷ line.0) others faulty.0 taken faulty.1))
 
 -- octets that begin as a capture are no text
-pub capture_is_no_text : (input : List ℕ) (order : Order) → All (λ octet. octet < 256) input → order_of input ≡ Some order
-    → (fault : RecFault) × (recording_of_text input ≡ Err fault)
+pub capture_is_no_text : (most : ℕ) (input : List ℕ) (order : Order) → All (λ octet. octet < 256) input → order_of input ≡ Some order
+    → (fault : RecFault) × (recording_of_text most input ≡ Err fault)
 unfolding order_of
-capture_is_no_text [] order small is = absurd (grind (arith, nat_tests))
-capture_is_no_text (a ∷ []) order small is = absurd (grind (arith, nat_tests))
-capture_is_no_text (a ∷ b ∷ []) order small is = absurd (grind (arith, nat_tests))
-capture_is_no_text (a ∷ b ∷ c ∷ []) order small is = absurd (grind (arith, nat_tests))
-capture_is_no_text (a ∷ b ∷ c ∷ d ∷ rest) order small is =
-    strange_text a (b ∷ c ∷ d ∷ rest)
+capture_is_no_text most [] order small is = absurd (grind (arith, nat_tests))
+capture_is_no_text most (a ∷ []) order small is = absurd (grind (arith, nat_tests))
+capture_is_no_text most (a ∷ b ∷ []) order small is = absurd (grind (arith, nat_tests))
+capture_is_no_text most (a ∷ b ∷ c ∷ []) order small is = absurd (grind (arith, nat_tests))
+capture_is_no_text most (a ∷ b ∷ c ∷ d ∷ rest) order small is =
+    strange_text most a (b ∷ c ∷ d ∷ rest)
     (strange a (first_octet a b c d rest order (small 0 0 (omega arith)) (small 1 0 (omega arith)) (small 2 0 (omega arith)) (small 3 0 (omega arith)) is))

@@ -32,95 +32,95 @@ unless_faulty-cons [] datagram datagrams = refl
 unless_faulty-cons (fault ∷ faults) datagram datagrams = refl
 
 -- no line stands for no datagram
-pub recording_of_lines-nil : (number before : ℕ) → recording_of_lines number before [] ≡ Ok []
+pub recording_of_lines-nil : (most : ℕ) (number before : ℕ) → recording_of_lines most number before [] ≡ Ok []
 unfolding recording_of_lines
-recording_of_lines-nil number before = refl
+recording_of_lines-nil most number before = refl
 
 -- a line that is skipped
-pub recording_of_lines-skipped : (number before : ℕ) (line : List ℕ) (lines : List (List ℕ)) → is_datagram_line line ≡ false
-    → recording_of_lines number before (line ∷ lines) ≡ recording_of_lines (number + 1) before lines
+pub recording_of_lines-skipped : (most : ℕ) (number before : ℕ) (line : List ℕ) (lines : List (List ℕ)) → is_datagram_line line ≡ false
+    → recording_of_lines most number before (line ∷ lines) ≡ recording_of_lines most (number + 1) before lines
 unfolding recording_of_lines
-recording_of_lines-skipped number before line lines skipped = rw skipped refl
+recording_of_lines-skipped most number before line lines skipped = rw skipped refl
 
 -- a line with a fault
-pub recording_of_lines-faulty : (number before : ℕ) (line : List ℕ) (lines : List (List ℕ)) (fault : RecFault) → is_datagram_line line ≡ true
-    → line_fault before number line ≡ Some fault → recording_of_lines number before (line ∷ lines) ≡ Err fault
+pub recording_of_lines-faulty : (most : ℕ) (number before : ℕ) (line : List ℕ) (lines : List (List ℕ)) (fault : RecFault) → is_datagram_line line ≡ true
+    → line_fault most before number line ≡ Some fault → recording_of_lines most number before (line ∷ lines) ≡ Err fault
 unfolding recording_of_lines
-recording_of_lines-faulty number before line lines fault taken faulty = rw (taken, faulty) refl
+recording_of_lines-faulty most number before line lines fault taken faulty = rw (taken, faulty) refl
 
 -- a line that stands for a datagram
-pub recording_of_lines-taken : (number before : ℕ) (line : List ℕ) (lines : List (List ℕ)) → is_datagram_line line ≡ true
-    → line_fault before number line ≡ None
-    → recording_of_lines number before (line ∷ lines) ≡ with_front (octets_of line ∷ []) (recording_of_lines (number + 1) (before + 1) lines)
+pub recording_of_lines-taken : (most : ℕ) (number before : ℕ) (line : List ℕ) (lines : List (List ℕ)) → is_datagram_line line ≡ true
+    → line_fault most before number line ≡ None
+    → recording_of_lines most number before (line ∷ lines) ≡ with_front (octets_of line ∷ []) (recording_of_lines most (number + 1) (before + 1) lines)
 unfolding recording_of_lines
-recording_of_lines-taken number before line lines taken fine = rw (taken, fine) (unless_faulty-cons _ _ _)
+recording_of_lines-taken most number before line lines taken fine = rw (taken, fine) (unless_faulty-cons _ _ _)
 
 -- the three kinds of lines
-abbrev LineKind : ℕ → ℕ → List ℕ → Type 0
-LineKind number before line =
-    (is_datagram_line line ≡ false) ⊎ (((fault : RecFault) × (is_datagram_line line ≡ true) × (line_fault before number line ≡ Some fault)) ⊎ ((is_datagram_line line ≡ true) × (line_fault before number line ≡ None)))
+abbrev pub LineKind : (most : ℕ) → ℕ → ℕ → List ℕ → Type 0
+LineKind most number before line =
+    (is_datagram_line line ≡ false) ⊎ (((fault : RecFault) × (is_datagram_line line ≡ true) × (line_fault most before number line ≡ Some fault)) ⊎ ((is_datagram_line line ≡ true) × (line_fault most before number line ≡ None)))
 
 kind_by : (b : Bool) (o : Option RecFault) → (b ≡ false) ⊎ (((fault : RecFault) × (b ≡ true) × (o ≡ Some fault)) ⊎ ((b ≡ true) × (o ≡ None)))
 kind_by false o = inl refl
 kind_by true (Some fault) = inr (inl (fault, refl, refl))
 kind_by true None = inr (inr (refl, refl))
 
-kind_of : (number before : ℕ) (line : List ℕ) → LineKind number before line
-kind_of number before line = kind_by (is_datagram_line line) (line_fault before number line)
+pub kind_of : (most : ℕ) (number before : ℕ) (line : List ℕ) → LineKind most number before line
+kind_of most number before line = kind_by (is_datagram_line line) (line_fault most before number line)
 
 -- a first line with no fault, in front of the others
-pub recording_of_lines-ok : (number before : ℕ) (line : List ℕ) (lines found : List (List ℕ)) → recording_of_lines number before (line ∷ []) ≡ Ok found
-    → recording_of_lines number before (line ∷ lines) ≡ with_front found (recording_of_lines (number + 1) (before + length found) lines)
-recording_of_lines-ok number before line lines found fine =
-    elim (kind_of number before line) [
+pub recording_of_lines-ok : (most : ℕ) (number before : ℕ) (line : List ℕ) (lines found : List (List ℕ)) → recording_of_lines most number before (line ∷ []) ≡ Ok found
+    → recording_of_lines most number before (line ∷ lines) ≡ with_front found (recording_of_lines most (number + 1) (before + length found) lines)
+recording_of_lines-ok most number before line lines found fine =
+    elim (kind_of most number before line) [
       | inl skipped ↦
-          let alone = recording_of_lines-skipped number before line [] skipped ∙ recording_of_lines-nil (number + 1) before in
+          let alone = recording_of_lines-skipped most number before line [] skipped ∙ recording_of_lines-nil most (number + 1) before in
           let none : found ≡ [] = cc in
-          rw (none, add-zero, with_front-none) (recording_of_lines-skipped number before line lines skipped)
-      | inr (inl faulty) ↦ let alone = recording_of_lines-faulty number before line [] faulty.0 faulty.1 faulty.2 in cc
+          rw (none, add-zero, with_front-none) (recording_of_lines-skipped most number before line lines skipped)
+      | inr (inl faulty) ↦ let alone = recording_of_lines-faulty most number before line [] faulty.0 faulty.1 faulty.2 in cc
       | inr (inr taken) ↦
-          let alone = recording_of_lines-taken number before line [] taken.0 taken.1 ∙ ap (with_front (octets_of line ∷ [])) (recording_of_lines-nil (number + 1) (before + 1)) in
+          let alone = recording_of_lines-taken most number before line [] taken.0 taken.1 ∙ ap (with_front (octets_of line ∷ [])) (recording_of_lines-nil most (number + 1) (before + 1)) in
           let one : found ≡ octets_of line ∷ [] = cc in
-          rw one (recording_of_lines-taken number before line lines taken.0 taken.1)
+          rw one (recording_of_lines-taken most number before line lines taken.0 taken.1)
     ]
 
 -- a fault of the first line, whatever follows
-pub recording_of_lines-err : (number before : ℕ) (line : List ℕ) (lines : List (List ℕ)) (fault : RecFault) → recording_of_lines number before (line ∷ []) ≡ Err fault
-    → recording_of_lines number before (line ∷ lines) ≡ Err fault
-recording_of_lines-err number before line lines fault faulty =
-    elim (kind_of number before line) [
-      | inl skipped ↦ let alone = recording_of_lines-skipped number before line [] skipped ∙ recording_of_lines-nil (number + 1) before in cc
+pub recording_of_lines-err : (most : ℕ) (number before : ℕ) (line : List ℕ) (lines : List (List ℕ)) (fault : RecFault) → recording_of_lines most number before (line ∷ []) ≡ Err fault
+    → recording_of_lines most number before (line ∷ lines) ≡ Err fault
+recording_of_lines-err most number before line lines fault faulty =
+    elim (kind_of most number before line) [
+      | inl skipped ↦ let alone = recording_of_lines-skipped most number before line [] skipped ∙ recording_of_lines-nil most (number + 1) before in cc
       | inr (inl found) ↦
-          let alone = recording_of_lines-faulty number before line [] found.0 found.1 found.2 in
+          let alone = recording_of_lines-faulty most number before line [] found.0 found.1 found.2 in
           let same : found.0 ≡ fault = cc in
-          rw (← same) (recording_of_lines-faulty number before line lines found.0 found.1 found.2)
+          rw (← same) (recording_of_lines-faulty most number before line lines found.0 found.1 found.2)
       | inr (inr taken) ↦
-          let alone = recording_of_lines-taken number before line [] taken.0 taken.1 ∙ ap (with_front (octets_of line ∷ [])) (recording_of_lines-nil (number + 1) (before + 1)) in
+          let alone = recording_of_lines-taken most number before line [] taken.0 taken.1 ∙ ap (with_front (octets_of line ∷ [])) (recording_of_lines-nil most (number + 1) (before + 1)) in
           cc
     ]
 
 -- a line with no fault joins what was read before it
-pub with_front-ok : (number : ℕ) (done found new : List (List ℕ)) (line : List ℕ) (lines : List (List ℕ))
-    → recording_of_lines number (length done) (line ∷ []) ≡ Ok found → new ≡ done ++ found
-    → with_front new (recording_of_lines (number + 1) (length new) lines) ≡ with_front done (recording_of_lines number (length done) (line ∷ lines))
-with_front-ok number done found new line lines fine joined =
+pub with_front-ok : (most : ℕ) (number : ℕ) (done found new : List (List ℕ)) (line : List ℕ) (lines : List (List ℕ))
+    → recording_of_lines most number (length done) (line ∷ []) ≡ Ok found → new ≡ done ++ found
+    → with_front new (recording_of_lines most (number + 1) (length new) lines) ≡ with_front done (recording_of_lines most number (length done) (line ∷ lines))
+with_front-ok most number done found new line lines fine joined =
     let size : length new ≡ length done + length found = ap length joined ∙ length-append done found in
-    rw (size, joined, with_front-append) (ap (with_front done) (sym (recording_of_lines-ok number (length done) line lines found fine)))
+    rw (size, joined, with_front-append) (ap (with_front done) (sym (recording_of_lines-ok most number (length done) line lines found fine)))
 
 -- a fault of a line is that of the whole
-pub IsFaultOf-with_front : (number : ℕ) (done : List (List ℕ)) (line : List ℕ) (lines : List (List ℕ)) (fault : RecFault)
-    → IsFaultOf (recording_of_lines number (length done) (line ∷ [])) fault
-    → IsFaultOf (with_front done (recording_of_lines number (length done) (line ∷ lines))) fault
-IsFaultOf-with_front number done line lines (BadHex n) h = ap (with_front done) (recording_of_lines-err number (length done) line lines (BadHex n) h)
-IsFaultOf-with_front number done line lines (TooLong n) h = ap (with_front done) (recording_of_lines-err number (length done) line lines (TooLong n) h)
-IsFaultOf-with_front number done line lines TooMany h = ap (with_front done) (recording_of_lines-err number (length done) line lines TooMany h)
-IsFaultOf-with_front number done line lines Memory h = tt
-IsFaultOf-with_front number done line lines BadCapture h = ap (with_front done) (recording_of_lines-err number (length done) line lines BadCapture h)
-IsFaultOf-with_front number done line lines (CutCapture n) h = ap (with_front done) (recording_of_lines-err number (length done) line lines (CutCapture n) h)
+pub IsFaultOf-with_front : (most : ℕ) (number : ℕ) (done : List (List ℕ)) (line : List ℕ) (lines : List (List ℕ)) (fault : RecFault)
+    → IsFaultOf (recording_of_lines most number (length done) (line ∷ [])) fault
+    → IsFaultOf (with_front done (recording_of_lines most number (length done) (line ∷ lines))) fault
+IsFaultOf-with_front most number done line lines (BadHex n) h = ap (with_front done) (recording_of_lines-err most number (length done) line lines (BadHex n) h)
+IsFaultOf-with_front most number done line lines (TooLong n) h = ap (with_front done) (recording_of_lines-err most number (length done) line lines (TooLong n) h)
+IsFaultOf-with_front most number done line lines TooMany h = ap (with_front done) (recording_of_lines-err most number (length done) line lines TooMany h)
+IsFaultOf-with_front most number done line lines Memory h = tt
+IsFaultOf-with_front most number done line lines BadCapture h = ap (with_front done) (recording_of_lines-err most number (length done) line lines BadCapture h)
+IsFaultOf-with_front most number done line lines (CutCapture n) h = ap (with_front done) (recording_of_lines-err most number (length done) line lines (CutCapture n) h)
 
 -- nothing is left to read
-pub with_front-all : (number before : ℕ) (done : List (List ℕ)) (rest : List ℕ) → length rest ≡ 0
-    → with_front done (recording_of_lines number before (lines_of rest)) ≡ Ok done
-with_front-all number before done rest none =
+pub with_front-all : (most : ℕ) (number before : ℕ) (done : List (List ℕ)) (rest : List ℕ) → length rest ≡ 0
+    → with_front done (recording_of_lines most number before (lines_of rest)) ≡ Ok done
+with_front-all most number before done rest none =
     let empty : rest ≡ [] = nil_from_length rest none in
     rw (empty, recording_of_lines-nil) (ap Ok (append-nil done))

@@ -1,27 +1,51 @@
 -- Runs over one input.
-use Rattle.std.proofs.Common.{◌≡◌, ℕ, List, ◌++◌, Option, Some, None, sym, ◌∙◌, ap, subst, append-nil}
+use Rattle.std.proofs.Common.{◌≡◌, ℕ, List, ◌++◌, Option, Some, None, Ok, sym, ◌∙◌, ap, subst, append-nil, arith}
+use Rattle.std.specs.Prelude.{max}
 use Rattle.std.specs.Io.KnownBytes.{Appends, Consumes, IsAtEnd}
 use Rattle.rtps_text.specs.Laws.{HasOneText}
 use Rattle.rtps_text.specs.Recording.{RecordingValue}
 use Rattle.rtps_text.specs.declared.ending.Ending.{Ending}
-use Rattle.rtps_tool.specs.Laws.{RunsAgree}
-use Rattle.rtps_tool.specs.Forms.{recording_of}
+use Rattle.rtps_tool.specs.Laws.{AreWithin, RunsAgree, RunsAgreeWithin}
+use Rattle.rtps_tool.specs.Forms.{recording_within}
+use Rattle.rtps_tool.specs.Limits.{usual}
 use Rattle.rtps_tool.specs.Runs.{ReadsRecording}
+use Rattle.rtps_tool.specs.declared.limits.Limits.{Limits}
+use Rattle.rtps_tool.proofs.LimitsLemmas.{stays_within}
 
 -- where nothing is left, all was read
 all_read : (input : List ℕ) (left : Option (List ℕ)) (text : List ℕ) → Consumes (Some input) left text → IsAtEnd left → text ≡ input
 all_read input None text taken end = absurd taken
 all_read input (Some rest) text taken end = sym (taken ∙ ap (λ xs. text ++ xs) end ∙ append-nil text)
 
-one_recording : (input : List ℕ) (left left' : Option (List ℕ)) (recording recording' : RecordingValue)
-    → ReadsRecording (Some input) left recording → ReadsRecording (Some input) left' recording' → recording ≡ recording'
-one_recording input left left' recording recording' one other =
-    let same : one.text ≡ other.text = all_read input left one.text one.taken one.whole ∙ sym (all_read input left' other.text other.taken other.whole) in
-    let both = sym one.is_read ∙ ap recording_of same ∙ other.is_read in
+-- limits that have room for both
+abbrev both : Limits → Limits → Limits
+both limits limits' = record { datagrams = max limits.datagrams limits'.datagrams; octets = max limits.octets limits'.octets }
+
+first_within : (limits limits' : Limits) → AreWithin limits (both limits limits')
+first_within limits limits' = record { datagrams = omega arith; octets = omega arith }
+
+second_within : (limits limits' : Limits) → AreWithin limits' (both limits limits')
+second_within limits limits' = record { datagrams = omega arith; octets = omega arith }
+
+-- what was read within some limits, within greater ones
+within_both : (limits greater : Limits) (input : List ℕ) (left : Option (List ℕ)) (recording : RecordingValue) → AreWithin limits greater
+    → ReadsRecording limits (Some input) left recording → recording_within greater input ≡ Ok recording
+within_both limits greater input left recording within reads =
+    ap (recording_within greater) (sym (all_read input left reads.text reads.taken reads.whole)) ∙ stays_within limits greater reads.text recording within reads.is_read
+
+one_recording : (limits limits' : Limits) (input : List ℕ) (left left' : Option (List ℕ)) (recording recording' : RecordingValue)
+    → ReadsRecording limits (Some input) left recording → ReadsRecording limits' (Some input) left' recording' → recording ≡ recording'
+one_recording limits limits' input left left' recording recording' one other =
+    let greater = both limits limits' in
+    let first = within_both limits greater input left recording (first_within limits limits') one in
+    let second = within_both limits' greater input left' recording' (second_within limits limits') other in
     cc
 
-pub runs_agree : (Answers : RecordingValue → List ℕ → Ending → Type 0) → HasOneText Answers → RunsAgree Answers
-runs_agree Answers one_text input left held holds left' held' holds' ending ending' (datagrams, text, reads, answers, wrote) (datagrams', text', reads', answers', wrote') =
-    let recording : datagrams' ≡ datagrams = sym (one_recording input left left' datagrams datagrams' reads reads') in
+pub runs_agree_within : (Answers : RecordingValue → List ℕ → Ending → Type 0) → HasOneText Answers → RunsAgreeWithin Answers
+runs_agree_within Answers one_text limits limits' input left held holds left' held' holds' ending ending' (datagrams, text, reads, answers, wrote) (datagrams', text', reads', answers', wrote') =
+    let recording : datagrams' ≡ datagrams = sym (one_recording limits limits' input left left' datagrams datagrams' reads reads') in
     let same = one_text datagrams text text' ending ending' answers (subst (λ ds. Answers ds text' ending') recording answers') in
     (same.1, (text, wrote, subst (Appends held' holds') (sym same.0) wrote'))
+
+pub runs_agree : (Answers : RecordingValue → List ℕ → Ending → Type 0) → HasOneText Answers → RunsAgree Answers
+runs_agree Answers one_text = runs_agree_within Answers one_text usual usual

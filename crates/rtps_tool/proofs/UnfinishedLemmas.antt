@@ -1,59 +1,60 @@
 -- Facts on a text of which a part was read.
 use Rattle.std.proofs.Common.{◌≡◌, ◌≢◌, ℕ, suc, ◌+◌, ◌-◌, ◌<◌, ◌≤◌, true, false, Bool, List, [], ◌∷◌, ◌++◌, length, take, drop, get_or, None, Some, Ok, Err, refl, sym, ap, ◌∙◌, subst, arith}
-use Rattle.std.specs.Prelude.{if◌then◌else◌, ◌^◌, nat_lt, MatchResult, Result}
+use Rattle.std.specs.Prelude.{if◌then◌else◌, nat_lt, MatchResult, Result}
 use Rattle.std.specs.List.{position}
 use Rattle.std.specs.Str.Lines.{strip_carriage_return}
 use Rattle.std.proofs.lemmas.List.{append-nil, length-append, length-take, get_or-take, drop-drop}
 use Rattle.std.proofs.lemmas.Bool.Decides.{nat_tests}
 use Rattle.rtps_capture.specs.Opening.{order_of}
 use Rattle.rtps_tool.specs.Outcomes.{IsFaultOf}
-use Rattle.rtps_tool.specs.Forms.{recording_in_form, recording_of}
+use Rattle.rtps_tool.specs.Forms.{recording_in_form, recording_within}
 use Rattle.rtps_tool.specs.Lines.{lines_of, is_line_feed, parts_of}
 use Rattle.rtps_tool.specs.RecordingText.{recording_of_lines, recording_of_text, is_datagram_line, line_fault, without_frames}
 use Rattle.rtps_tool.specs.Unfinished.{with_front, recording_behind}
 use Rattle.rtps_tool.specs.declared.faults.RecFault.{RecFault}
 use Rattle.rtps_tool.specs.declared.faults.RecFault.TheVariants.{TooLong, TooMany}
+use Rattle.rtps_tool.specs.declared.limits.Limits.{Limits}
 use Rattle.rtps_tool.proofs.LinesLemmas.{lines_of-append, lines_of-unfinished, first_part, later_parts}
 use Rattle.rtps_tool.proofs.RecordingLemmas.{with_front-ok, with_front-all, with_front-none, IsFaultOf-with_front, recording_of_lines-skipped, recording_of_lines-faulty}
 
 -- nothing was read yet
-pub recording_behind-start : (text : List ℕ) → recording_behind [] 0 text ≡ recording_of_lines 1 0 (lines_of text)
+pub recording_behind-start : (most : ℕ) (text : List ℕ) → recording_behind most [] 0 text ≡ recording_of_lines most 1 0 (lines_of text)
 unfolding recording_behind
-recording_behind-start text = with_front-none _
+recording_behind-start most text = with_front-none _
 
 -- nothing is left
-pub recording_behind-end : (done : List (List ℕ)) (lines : ℕ) (left : List ℕ) → length left ≡ 0 → recording_behind done lines left ≡ Ok done
+pub recording_behind-end : (most : ℕ) (done : List (List ℕ)) (lines : ℕ) (left : List ℕ) → length left ≡ 0 → recording_behind most done lines left ≡ Ok done
 unfolding recording_behind
-recording_behind-end done lines left none = with_front-all _ _ done left none
+recording_behind-end most done lines left none = with_front-all most _ _ done left none
 
 -- a line with no fault was read
-pub recording_behind-line : (done found new : List (List ℕ)) (lines : ℕ) (line text left : List ℕ) → lines_of text ≡ line ∷ lines_of left
-    → recording_of_lines (lines + 1) (length done) (line ∷ []) ≡ Ok found → new ≡ done ++ found
-    → recording_behind new (lines + 1) left ≡ recording_behind done lines text
+pub recording_behind-line : (most : ℕ) (done found new : List (List ℕ)) (lines : ℕ) (line text left : List ℕ) → lines_of text ≡ line ∷ lines_of left
+    → recording_of_lines most (lines + 1) (length done) (line ∷ []) ≡ Ok found → new ≡ done ++ found
+    → recording_behind most new (lines + 1) left ≡ recording_behind most done lines text
 unfolding recording_behind
-recording_behind-line done found new lines line text left cut fine joined =
-    with_front-ok (lines + 1) done found new line (lines_of left) fine joined
-    ∙ ap (λ (all : List (List ℕ)). with_front done (recording_of_lines (lines + 1) (length done) all)) (sym cut)
+recording_behind-line most done found new lines line text left cut fine joined =
+    with_front-ok most (lines + 1) done found new line (lines_of left) fine joined
+    ∙ ap (λ (all : List (List ℕ)). with_front done (recording_of_lines most (lines + 1) (length done) all)) (sym cut)
 
 -- a line with a fault was read
-pub recording_behind-fault : (done : List (List ℕ)) (lines : ℕ) (line text left : List ℕ) (fault : RecFault) → lines_of text ≡ line ∷ lines_of left
-    → IsFaultOf (recording_of_lines (lines + 1) (length done) (line ∷ [])) fault → IsFaultOf (recording_behind done lines text) fault
+pub recording_behind-fault : (most : ℕ) (done : List (List ℕ)) (lines : ℕ) (line text left : List ℕ) (fault : RecFault) → lines_of text ≡ line ∷ lines_of left
+    → IsFaultOf (recording_of_lines most (lines + 1) (length done) (line ∷ [])) fault → IsFaultOf (recording_behind most done lines text) fault
 unfolding recording_behind
-recording_behind-fault done lines line text left fault cut faulty =
-    subst (λ (all : List (List ℕ)). IsFaultOf (with_front done (recording_of_lines (lines + 1) (length done) all)) fault) (sym cut)
-    (IsFaultOf-with_front (lines + 1) done line (lines_of left) fault faulty)
+recording_behind-fault most done lines line text left fault cut faulty =
+    subst (λ (all : List (List ℕ)). IsFaultOf (with_front done (recording_of_lines most (lines + 1) (length done) all)) fault) (sym cut)
+    (IsFaultOf-with_front most (lines + 1) done line (lines_of left) fault faulty)
 
 -- the last line was read, which no end follows
-pub recording_behind-last : (done new : List (List ℕ)) (lines : ℕ) (line text : List ℕ) (read : Result Unit RecFault) → lines_of text ≡ strip_carriage_return text ∷ []
+pub recording_behind-last : (most : ℕ) (done new : List (List ℕ)) (lines : ℕ) (line text : List ℕ) (read : Result Unit RecFault) → lines_of text ≡ strip_carriage_return text ∷ []
     → line ≡ strip_carriage_return text
     → MatchResult read
-    (λ _. (found : List (List ℕ)) × (recording_of_lines (lines + 1) (length done) (line ∷ []) ≡ Ok found) × (new ≡ done ++ found))
-    (IsFaultOf (recording_of_lines (lines + 1) (length done) (line ∷ [])))
-    → MatchResult read (λ _. recording_behind done lines text ≡ Ok new) (IsFaultOf (recording_behind done lines text))
-recording_behind-last done new lines line text (Ok u) cut is fine =
-    sym (recording_behind-line done fine.0 new lines line text [] (cut ∙ ap (λ (first : List ℕ). first ∷ []) (sym is)) fine.1 fine.2) ∙ recording_behind-end new (lines + 1) [] refl
-recording_behind-last done new lines line text (Err fault) cut is faulty =
-    recording_behind-fault done lines line text [] fault (cut ∙ ap (λ (first : List ℕ). first ∷ []) (sym is)) faulty
+    (λ _. (found : List (List ℕ)) × (recording_of_lines most (lines + 1) (length done) (line ∷ []) ≡ Ok found) × (new ≡ done ++ found))
+    (IsFaultOf (recording_of_lines most (lines + 1) (length done) (line ∷ [])))
+    → MatchResult read (λ _. recording_behind most done lines text ≡ Ok new) (IsFaultOf (recording_behind most done lines text))
+recording_behind-last most done new lines line text (Ok u) cut is fine =
+    sym (recording_behind-line most done fine.0 new lines line text [] (cut ∙ ap (λ (first : List ℕ). first ∷ []) (sym is)) fine.1 fine.2) ∙ recording_behind-end most new (lines + 1) [] refl
+recording_behind-last most done new lines line text (Err fault) cut is faulty =
+    recording_behind-fault most done lines line text [] fault (cut ∙ ap (λ (first : List ℕ). first ∷ []) (sym is)) faulty
 
 -- a line without the carriage return at its end begins as before, and is shorter by one octet at most
 shorter_by_one : (line : List ℕ) (b : Bool) → length line ≤ suc (length (if b then take (length line - 1) line else line))
@@ -82,15 +83,15 @@ comment_is_skipped [] = refl
 comment_is_skipped (c ∷ text) = comment_line (strip_carriage_return (35 ∷ c ∷ text)) (strip_begins (35 ∷ c ∷ text) (omega arith))
 
 -- of a comment that goes on its first octet tells all
-pub recording_behind-comment : (done : List (List ℕ)) (lines : ℕ) (text later : List ℕ) → position is_line_feed (35 ∷ text) ≡ None
-    → recording_behind done lines (35 ∷ later) ≡ recording_behind done lines (35 ∷ text ++ later)
+pub recording_behind-comment : (most : ℕ) (done : List (List ℕ)) (lines : ℕ) (text later : List ℕ) → position is_line_feed (35 ∷ text) ≡ None
+    → recording_behind most done lines (35 ∷ later) ≡ recording_behind most done lines (35 ∷ text ++ later)
 unfolding recording_behind
-recording_behind-comment done lines text later none =
+recording_behind-comment most done lines text later none =
     let rest = later_parts (parts_of later) in
     let short = lines_of-unfinished 35 [] later refl in
     let long = lines_of-unfinished 35 text later none in
-    let one = ap (recording_of_lines (lines + 1) (length done)) short ∙ recording_of_lines-skipped (lines + 1) (length done) _ _ (comment_is_skipped (first_part (parts_of later))) in
-    let other = ap (recording_of_lines (lines + 1) (length done)) long ∙ recording_of_lines-skipped (lines + 1) (length done) _ _ (comment_is_skipped (text ++ first_part (parts_of later))) in
+    let one = ap (recording_of_lines most (lines + 1) (length done)) short ∙ recording_of_lines-skipped most (lines + 1) (length done) _ _ (comment_is_skipped (first_part (parts_of later))) in
+    let other = ap (recording_of_lines most (lines + 1) (length done)) long ∙ recording_of_lines-skipped most (lines + 1) (length done) _ _ (comment_is_skipped (text ++ first_part (parts_of later))) in
     ap (with_front done) (one ∙ sym other)
 
 long_line : (line : List ℕ) → 131071 < length line → 131070 < length (strip_carriage_return line)
@@ -99,63 +100,65 @@ long_line line long = omega (arith, strip_shorter line)
 plain_line : (line : List ℕ) → 131071 < length line → get_or line 0 0 ≢ 35 → get_or (strip_carriage_return line) 0 0 ≢ 35
 plain_line line long plain = λ comment. plain (sym (strip_begins line (omega arith)) ∙ comment)
 
-long_fault_first : (before number : ℕ) (line : List ℕ) → 1000000 ≤ before → line_fault before number line ≡ Some TooMany
-long_fault_first before number line many = grind (arith, nat_tests)
+long_fault_first : (most : ℕ) (before number : ℕ) (line : List ℕ) → most ≤ before → line_fault most before number line ≡ Some TooMany
+long_fault_first most before number line many = grind (arith, nat_tests)
 
-long_fault : (before number : ℕ) (line : List ℕ) → before < 1000000 → 131070 < length line → line_fault before number line ≡ Some (TooLong number)
-long_fault before number line few long = grind (arith, nat_tests)
+long_fault : (most : ℕ) (before number : ℕ) (line : List ℕ) → before < most → 131070 < length line → line_fault most before number line ≡ Some (TooLong number)
+long_fault most before number line few long = grind (arith, nat_tests)
 
 -- a line that goes on and is too long, whatever comes later
-recording_behind-faulty : (done : List (List ℕ)) (lines b : ℕ) (text later : List ℕ) (fault : RecFault) → position is_line_feed (b ∷ text) ≡ None
+recording_behind-faulty : (most : ℕ) (done : List (List ℕ)) (lines b : ℕ) (text later : List ℕ) (fault : RecFault) → position is_line_feed (b ∷ text) ≡ None
     → 131071 < length (b ∷ text) → b ≢ 35
-    → ((line : List ℕ) → 131070 < length line → line_fault (length done) (lines + 1) line ≡ Some fault)
-    → recording_behind done lines (b ∷ text ++ later) ≡ Err fault
+    → ((line : List ℕ) → 131070 < length line → line_fault most (length done) (lines + 1) line ≡ Some fault)
+    → recording_behind most done lines (b ∷ text ++ later) ≡ Err fault
 unfolding recording_behind
-recording_behind-faulty done lines b text later fault none long plain faulty =
+recording_behind-faulty most done lines b text later fault none long plain faulty =
     let line : List ℕ = b ∷ text ++ first_part (parts_of later) in
     let cut = lines_of-unfinished b text later none in
     let size : 131071 < length line = omega (arith, length-append text (first_part (parts_of later))) in
     let far = long_line line size in
-    ap (λ (all : List (List ℕ)). with_front done (recording_of_lines (lines + 1) (length done) all)) cut
-    ∙ ap (with_front done) (recording_of_lines-faulty (lines + 1) (length done) (strip_carriage_return line) _ fault
+    ap (λ (all : List (List ℕ)). with_front done (recording_of_lines most (lines + 1) (length done) all)) cut
+    ∙ ap (with_front done) (recording_of_lines-faulty most (lines + 1) (length done) (strip_carriage_return line) _ fault
     (long_is_datagram (strip_carriage_return line) far (plain_line line size plain)) (faulty (strip_carriage_return line) far))
 
-pub recording_behind-many : (done : List (List ℕ)) (lines : ℕ) (text later : List ℕ) → position is_line_feed text ≡ None
-    → 131071 < length text → get_or text 0 0 ≢ 35 → 1000000 ≤ length done → recording_behind done lines (text ++ later) ≡ Err TooMany
-recording_behind-many done lines [] later none long plain many = absurd (omega arith)
-recording_behind-many done lines (b ∷ text) later none long plain many =
-    recording_behind-faulty done lines b text later TooMany none long plain (λ line _. long_fault_first (length done) (lines + 1) line many)
+pub recording_behind-many : (most : ℕ) (done : List (List ℕ)) (lines : ℕ) (text later : List ℕ) → position is_line_feed text ≡ None
+    → 131071 < length text → get_or text 0 0 ≢ 35 → most ≤ length done → recording_behind most done lines (text ++ later) ≡ Err TooMany
+recording_behind-many most done lines [] later none long plain many = absurd (omega arith)
+recording_behind-many most done lines (b ∷ text) later none long plain many =
+    recording_behind-faulty most done lines b text later TooMany none long plain (λ line _. long_fault_first most (length done) (lines + 1) line many)
 
-pub recording_behind-long : (done : List (List ℕ)) (lines : ℕ) (text later : List ℕ) → position is_line_feed text ≡ None
-    → 131071 < length text → get_or text 0 0 ≢ 35 → length done < 1000000 → recording_behind done lines (text ++ later) ≡ Err (TooLong (lines + 1))
-recording_behind-long done lines [] later none long plain few = absurd (omega arith)
-recording_behind-long done lines (b ∷ text) later none long plain few =
-    recording_behind-faulty done lines b text later (TooLong (lines + 1)) none long plain (λ line far. long_fault (length done) (lines + 1) line few far)
+pub recording_behind-long : (most : ℕ) (done : List (List ℕ)) (lines : ℕ) (text later : List ℕ) → position is_line_feed text ≡ None
+    → 131071 < length text → get_or text 0 0 ≢ 35 → length done < most → recording_behind most done lines (text ++ later) ≡ Err (TooLong (lines + 1))
+recording_behind-long most done lines [] later none long plain few = absurd (omega arith)
+recording_behind-long most done lines (b ∷ text) later none long plain few =
+    recording_behind-faulty most done lines b text later (TooLong (lines + 1)) none long plain (λ line far. long_fault most (length done) (lines + 1) line few far)
 
-pub recording_behind-comment-at : (done : List (List ℕ)) (lines : ℕ) (text later : List ℕ) → position is_line_feed text ≡ None
-    → 0 < length text → get_or text 0 0 ≡ 35 → recording_behind done lines (take 1 text ++ later) ≡ recording_behind done lines (text ++ later)
-recording_behind-comment-at done lines [] later none some first = absurd (omega arith)
-recording_behind-comment-at done lines (b ∷ text) later none some first =
-    subst (λ (c : ℕ). position is_line_feed (c ∷ text) ≡ None → recording_behind done lines (c ∷ later) ≡ recording_behind done lines (c ∷ text ++ later))
-    (sym first) (recording_behind-comment done lines text later) none
+pub recording_behind-comment-at : (most : ℕ) (done : List (List ℕ)) (lines : ℕ) (text later : List ℕ) → position is_line_feed text ≡ None
+    → 0 < length text → get_or text 0 0 ≡ 35 → recording_behind most done lines (take 1 text ++ later) ≡ recording_behind most done lines (text ++ later)
+recording_behind-comment-at most done lines [] later none some first = absurd (omega arith)
+recording_behind-comment-at most done lines (b ∷ text) later none some first =
+    subst (λ (c : ℕ). position is_line_feed (c ∷ text) ≡ None → recording_behind most done lines (c ∷ later) ≡ recording_behind most done lines (c ∷ text ++ later))
+    (sym first) (recording_behind-comment most done lines text later) none
 
 -- an input that is too long
-pub recording_of-past : (input : List ℕ) → 2 ^ 30 < length input → recording_of input ≡ Err TooMany
-recording_of-past input past = grind (arith, nat_tests)
+pub recording_of-past : (limits : Limits) (input : List ℕ) → limits.octets < length input → recording_within limits input ≡ Err TooMany
+recording_of-past limits input past = grind (arith, nat_tests)
 
 -- an input that is not too long stands for what it is in its form
-pub recording_of-within : (input : List ℕ) → length input ≤ 2 ^ 30 → recording_of input ≡ recording_in_form (order_of input) input
-recording_of-within input within = let few : nat_lt (2 ^ 30) (length input) ≡ false = grind (arith, nat_tests) in rw few refl
+pub recording_of-within : (limits : Limits) (input : List ℕ) → length input ≤ limits.octets
+    → recording_within limits input ≡ recording_in_form limits.datagrams (order_of input) input
+recording_of-within limits input within = let few : nat_lt limits.octets (length input) ≡ false = grind (arith, nat_tests) in rw few refl
 
 -- a text stands for what its lines stand for
-pub recording_of-text : (text : List ℕ) → length text ≤ 2 ^ 30 → order_of text ≡ None → recording_of text ≡ without_frames (recording_of_lines 1 0 (lines_of text))
+pub recording_of-text : (limits : Limits) (text : List ℕ) → length text ≤ limits.octets → order_of text ≡ None
+    → recording_within limits text ≡ without_frames (recording_of_lines limits.datagrams 1 0 (lines_of text))
 unfolding recording_of_text
-recording_of-text text within plain = recording_of-within text within ∙ ap (λ form. recording_in_form form text) plain
+recording_of-text limits text within plain = recording_of-within limits text within ∙ ap (λ form. recording_in_form limits.datagrams form text) plain
 
 -- a text of which nothing was read
-pub recording_behind-whole : (done : List (List ℕ)) (lines : ℕ) (text : List ℕ) → done ≡ [] → lines ≡ 0
-    → recording_behind done lines (text ++ []) ≡ recording_of_lines 1 0 (lines_of text)
-recording_behind-whole done lines text none first = rw (append-nil text, none, first) (recording_behind-start text)
+pub recording_behind-whole : (most : ℕ) (done : List (List ℕ)) (lines : ℕ) (text : List ℕ) → done ≡ [] → lines ≡ 0
+    → recording_behind most done lines (text ++ []) ≡ recording_of_lines most 1 0 (lines_of text)
+recording_behind-whole most done lines text none first = rw (append-nil text, none, first) (recording_behind-start most text)
 
 -- a line that ends within what is left of a text, whatever comes later
 pub line_within : (text later line : List ℕ) (from end : ℕ) → position is_line_feed (drop from text) ≡ Some end → line ≡ strip_carriage_return (take end (drop from text))

@@ -3,6 +3,7 @@ pub mod Choices
 pub mod FaultText
 pub mod Forms
 pub mod Laws
+pub mod Limits
 pub mod Lines
 pub mod RecordingCapture
 pub mod RecordingText

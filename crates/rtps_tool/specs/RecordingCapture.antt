@@ -1,6 +1,6 @@
 -- The recording that a capture stands for, or its first fault.
 -- own: the datagrams are numbered without the frames that give none, since a verdict speaks of datagrams, and those frames
--- are counted; the limit on datagrams is that of a text.
+-- are counted.
 use Rattle.std.specs.Prelude.{ℕ, ◌+◌, nat_lt, if◌then◌else◌, List, [], ◌∷◌, length, slice_range, Option, Some, None, Result, Ok, Err}
 use Rattle.rtps_capture.specs.Frames.{Unread, frames_left, opened}
 use Rattle.rtps_capture.specs.declared.frames.Frame.{Frame}
@@ -34,16 +34,16 @@ abbrev pub unless_cut : Option ℕ → RecordingValue → Result RecordingValue 
 unless_cut None recording = Ok recording
 unless_cut (Some frame) recording = Err (CutCapture frame)
 
--- The recording of these frames. A frame that is cut is the last one, so datagrams that are too many stand before it.
-unfoldable pub recording_of_frames : List ℕ → List Frame → Result RecordingValue RecFault
-recording_of_frames file frames =
-    if nat_lt 1000000 (length (datagrams_among file frames)) then Err TooMany
+-- The recording of these frames, of so many datagrams at most. A frame that is cut is the last one, so datagrams that are too many stand before it.
+unfoldable pub recording_of_frames : (most : ℕ) → List ℕ → List Frame → Result RecordingValue RecFault
+recording_of_frames most file frames =
+    if nat_lt most (length (datagrams_among file frames)) then Err TooMany
     else unless_cut (cut_among 1 frames) (record { datagrams = datagrams_among file frames; ignored = Some (ignored_among frames) })
 
-abbrev pub recording_opened : List ℕ → Option Unread → Result RecordingValue RecFault
-recording_opened file None = Err BadCapture
-recording_opened file (Some unread) = recording_of_frames file (frames_left unread)
+abbrev pub recording_opened : (most : ℕ) → List ℕ → Option Unread → Result RecordingValue RecFault
+recording_opened most file None = Err BadCapture
+recording_opened most file (Some unread) = recording_of_frames most file (frames_left unread)
 
--- the datagrams of a capture in their order, or its first fault
-unfoldable pub recording_of_capture : List ℕ → Result RecordingValue RecFault
-recording_of_capture file = recording_opened file (opened file)
+-- the datagrams of a capture in their order, so many at most, or its first fault
+unfoldable pub recording_of_capture : (most : ℕ) → List ℕ → Result RecordingValue RecFault
+recording_of_capture most file = recording_opened most file (opened file)

@@ -1,5 +1,5 @@
 -- The recording that a text stands for, or its first fault.
--- own: one datagram a line, in hexadecimal digits of either case, with comments; the limits are this project's.
+-- own: one datagram a line, in hexadecimal digits of either case, with comments.
 use Rattle.std.specs.Prelude.{ℕ, ◌==◌, ◌&&◌, nat_le, nat_lt, not, Bool, if◌then◌else◌, List, [], ◌∷◌, length, slice_index, map, filter, Option, Some, None, Result, Ok, Err, is_err}
 use Rattle.std.specs.List.{enumerate_from, filter_map}
 use Rattle.hex.specs.Hex.{decode_of}
@@ -17,34 +17,35 @@ is_datagram_line line = nat_lt 0 (length line) && not (slice_index line 0 == 35)
 abbrev pub datagram_lines : ℕ → List (List ℕ) → List (ℕ × List ℕ)
 datagram_lines number lines = filter (λ line. is_datagram_line line.1) (enumerate_from number lines)
 
--- what is wrong with a datagram line of this number that comes after so many others: a recording has at most
--- 1,000,000 datagrams, and a datagram at most 65,535 octets of two digits each
-abbrev pub line_fault : ℕ → ℕ → List ℕ → Option RecFault
-line_fault before number digits =
-    if nat_le 1000000 before then Some TooMany
+-- what is wrong with a datagram line of this number that comes after so many others: a recording has at most as many
+-- datagrams as it may, and a datagram at most 65,535 octets of two digits each
+abbrev pub line_fault : (most before number : ℕ) → List ℕ → Option RecFault
+line_fault most before number digits =
+    if nat_le most before then Some TooMany
     else if nat_lt 131070 (length digits) then Some (TooLong number)
     else if is_err (decode_of digits) then Some (BadHex number)
     else None
 
 -- all that is wrong with datagram lines that come after so many others, in their order
-abbrev pub line_faults : ℕ → List (ℕ × List ℕ) → List RecFault
-line_faults before lines = filter_map (λ row. line_fault row.0 row.1.0 row.1.1) (enumerate_from before lines)
+abbrev pub line_faults : (most before : ℕ) → List (ℕ × List ℕ) → List RecFault
+line_faults most before lines = filter_map (λ row. line_fault most row.0 row.1.0 row.1.1) (enumerate_from before lines)
 
 -- the first of these faults, or the datagrams where there is none
 abbrev pub unless_faulty : List RecFault → List (List ℕ) → Result (List (List ℕ)) RecFault
 unless_faulty [] datagrams = Ok datagrams
 unless_faulty (fault ∷ later) datagrams = Err fault
 
--- the datagrams of lines, of which the first has this number and so many datagrams come before; or their first fault
-unfoldable pub recording_of_lines : ℕ → ℕ → List (List ℕ) → Result (List (List ℕ)) RecFault
-recording_of_lines number before lines =
-    unless_faulty (line_faults before (datagram_lines number lines)) (map (λ line. octets_of line.1) (datagram_lines number lines))
+-- the datagrams of lines, of which the first has this number and so many datagrams come before; or their first fault,
+-- where there may be so many datagrams in all
+unfoldable pub recording_of_lines : (most number before : ℕ) → List (List ℕ) → Result (List (List ℕ)) RecFault
+recording_of_lines most number before lines =
+    unless_faulty (line_faults most before (datagram_lines number lines)) (map (λ line. octets_of line.1) (datagram_lines number lines))
 
 -- a recording of which these are the datagrams, which no frames carry
 abbrev pub without_frames : Result (List (List ℕ)) RecFault → Result RecordingValue RecFault
 without_frames (Ok datagrams) = Ok (record { datagrams = datagrams; ignored = None })
 without_frames (Err fault) = Err fault
 
--- the datagrams of a text in their order, or its first fault
-unfoldable pub recording_of_text : List ℕ → Result RecordingValue RecFault
-recording_of_text text = without_frames (recording_of_lines 1 0 (lines_of text))
+-- the datagrams of a text in their order, so many at most, or its first fault
+unfoldable pub recording_of_text : (most : ℕ) → List ℕ → Result RecordingValue RecFault
+recording_of_text most text = without_frames (recording_of_lines most 1 0 (lines_of text))

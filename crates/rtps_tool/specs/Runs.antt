@@ -1,41 +1,43 @@
 -- What a run does to the reader and the writer that it is given, where their octets are known.
 -- own: all is read before anything is written, so that a text never stands for a part of the input.
-use Rattle.std.specs.Prelude.{ℕ, ◌≡◌, ◌≢◌, ◌^◌, ◌<◌, ◌≤◌, List, length, take, Option, Result, Ok, Err}
+use Rattle.std.specs.Prelude.{ℕ, ◌≡◌, ◌≢◌, ◌<◌, ◌≤◌, List, length, take, Option, Result, Ok, Err}
 use Rattle.std.specs.Io.KnownBytes.{Appends, Consumes, Keeps, IsAtEnd}
 use Rattle.rtps_text.specs.Recording.{RecordingValue}
-use Rattle.rtps_tool.specs.Forms.{recording_of}
+use Rattle.rtps_tool.specs.Forms.{recording_within}
+use Rattle.rtps_tool.specs.Limits.{usual}
 use Rattle.rtps_tool.specs.declared.faults.RecFault.{RecFault}
 use Rattle.rtps_tool.specs.declared.faults.RecFault.TheVariants.{Memory as RecMemory}
 use Rattle.rtps_tool.specs.declared.faults.RunFault.{RunFault}
 use Rattle.rtps_tool.specs.declared.faults.RunFault.TheVariants.{Recording, Input, Output, Memory}
+use Rattle.rtps_tool.specs.declared.limits.Limits.{Limits}
 use Rattle.rtps_text.specs.declared.ending.Ending.{Ending}
 use Rattle.rtps_text.specs.declared.ending.Ending.TheVariants.{Clean}
 
 -- these octets were read: all that the reader had, or more of it than a recording may have
-pub record Reads (old new : Option (List ℕ)) (text : List ℕ) : Type 0 where
+pub record Reads (limits : Limits) (old new : Option (List ℕ)) (text : List ℕ) : Type 0 where
   pub taken : Consumes old new text
-  pub whole : length text ≤ 2 ^ 30 → IsAtEnd new
+  pub whole : length text ≤ limits.octets → IsAtEnd new
 
--- this is the recording of all that the reader had
-pub record ReadsRecording (old new : Option (List ℕ)) (recording : RecordingValue) : Type 0 where
+-- this is the recording of all that the reader had, within these limits
+pub record ReadsRecording (limits : Limits) (old new : Option (List ℕ)) (recording : RecordingValue) : Type 0 where
   pub text : List ℕ
   pub taken : Consumes old new text
   pub whole : IsAtEnd new
-  pub is_read : recording_of text ≡ Ok recording
+  pub is_read : recording_within limits text ≡ Ok recording
 
 -- this is the fault of what was read: never want of memory, which is a fault of the run
-pub record ReadsFault (old new : Option (List ℕ)) (fault : RecFault) : Type 0 where
+pub record ReadsFault (limits : Limits) (old new : Option (List ℕ)) (fault : RecFault) : Type 0 where
   pub text : List ℕ
-  pub reads : Reads old new text
-  pub faulty : recording_of text ≡ Err fault
+  pub reads : Reads limits old new text
+  pub faulty : recording_within limits text ≡ Err fault
   pub readable : fault ≢ RecMemory
 
 -- a run fails so before it writes anything
-abbrev pub FailsReading : (old new : Option (List ℕ)) → RunFault → Type 0
-FailsReading old new (Recording fault) = ReadsFault old new fault
-FailsReading old new Input = Unit {0}
-FailsReading old new (Output written) = ⊥
-FailsReading old new Memory = Unit {0}
+abbrev pub FailsReading : Limits → (old new : Option (List ℕ)) → RunFault → Type 0
+FailsReading limits old new (Recording fault) = ReadsFault limits old new fault
+FailsReading limits old new Input = Unit {0}
+FailsReading limits old new (Output written) = ⊥
+FailsReading limits old new Memory = Unit {0}
 
 -- so many octets of this text were written, and the rest was not
 abbrev pub FailsWriting : (old new : Option (List ℕ)) → List ℕ → RunFault → Type 0
@@ -44,17 +46,21 @@ FailsWriting old new text Input = ⊥
 FailsWriting old new text (Output written) = (written < length text) × Appends old new (take written text)
 FailsWriting old new text Memory = ⊥
 
--- A run that writes a text of the recording that it reads, and ends as it tells; `Answers` says which texts and ends
--- those are. The reader before and after it, the writer before and after it, and what the run answers.
-abbrev pub Runs : (RecordingValue → List ℕ → Ending → Type 0) → (unread left held holds : Option (List ℕ)) → Result Ending RunFault → Type 0
-Runs Answers unread left held holds (Ok ending) =
-    (recording : RecordingValue) × (text : List ℕ) × ReadsRecording unread left recording × Answers recording text ending × Appends held holds text
-Runs Answers unread left held holds (Err (Recording fault)) = ReadsFault unread left fault × Keeps held holds
-Runs Answers unread left held holds (Err Input) = Keeps held holds
-Runs Answers unread left held holds (Err (Output written)) =
-    (recording : RecordingValue) × (text : List ℕ) × (ending : Ending) × ReadsRecording unread left recording × Answers recording text ending
+-- A run that writes a text of the recording that it reads within these limits, and ends as it tells; `Answers` says which
+-- texts and ends those are. The reader before and after it, the writer before and after it, and what the run answers.
+abbrev pub RunsWithin : Limits → (RecordingValue → List ℕ → Ending → Type 0) → (unread left held holds : Option (List ℕ)) → Result Ending RunFault → Type 0
+RunsWithin limits Answers unread left held holds (Ok ending) =
+    (recording : RecordingValue) × (text : List ℕ) × ReadsRecording limits unread left recording × Answers recording text ending × Appends held holds text
+RunsWithin limits Answers unread left held holds (Err (Recording fault)) = ReadsFault limits unread left fault × Keeps held holds
+RunsWithin limits Answers unread left held holds (Err Input) = Keeps held holds
+RunsWithin limits Answers unread left held holds (Err (Output written)) =
+    (recording : RecordingValue) × (text : List ℕ) × (ending : Ending) × ReadsRecording limits unread left recording × Answers recording text ending
     × FailsWriting held holds text (Output written)
-Runs Answers unread left held holds (Err Memory) = Keeps held holds
+RunsWithin limits Answers unread left held holds (Err Memory) = Keeps held holds
+
+-- within the usual limits
+abbrev pub Runs : (RecordingValue → List ℕ → Ending → Type 0) → (unread left held holds : Option (List ℕ)) → Result Ending RunFault → Type 0
+Runs Answers unread left held holds result = RunsWithin usual Answers unread left held holds result
 
 -- A run that reads nothing and writes this text: the writer before and after it, and what the run answers.
 abbrev pub Writes : List ℕ → (held holds : Option (List ℕ)) → Result Ending RunFault → Type 0

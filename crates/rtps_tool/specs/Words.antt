@@ -1,6 +1,6 @@
 -- The words of the command line, as `clap` reads them.
 -- own: a subcommand and one FILE; `sample` reads none. No option changes what a text means, but for that of `audit`,
--- which says from which number on its verdicts ask.
+-- which says from which number on its verdicts ask; two options say how large a recording may be.
 use Rattle.std.specs.Prelude.{ℕ, ◌≡◌, ◌≢◌, ◌-◌, ◌^◌, codes, true, List, [], ◌∷◌, IfSome, Option, None, Some, unwrap_or}
 use Rattle.std.specs.Str.Parse.{digits_value, without_leading_plus}
 use Rattle.clap.specs.Words.{App, IsAmong, IsUnsignedIn, Kinds, Row, Rule, Text, fault_of, first_of, kind_of, new_app, new_rule, with_rule, with_subcommand}
@@ -10,22 +10,30 @@ use Rattle.clap.specs.declared.error.Error.{Error}
 use Rattle.clap.specs.declared.error.kind.ErrorKind.{ErrorKind}
 use Rattle.clap.specs.declared.error.kind.ErrorKind.TheVariants.{DisplayHelp, DisplayVersion, MissingRequiredArgument, MissingSubcommand, OutOfMemory, UnknownArgument, ValueValidation}
 use Rattle.std.specs.String.{string_bytes}
+use Rattle.rtps_tool.specs.Limits.{usual}
 use Rattle.rtps_tool.specs.declared.command.Choice.{Choice}
 use Rattle.rtps_tool.specs.declared.command.Choice.TheVariants.{Show, List as ListChoice, Audit, Sample}
 use Rattle.rtps_tool.specs.declared.command.WordFault.{WordFault}
 use Rattle.rtps_tool.specs.declared.command.WordFault.TheVariants.{Refused, Help, Version, Memory}
+use Rattle.rtps_tool.specs.declared.limits.Limits.{Limits}
 
 -- a file's name, or `-` for standard input, must be given
 abbrev pub file_rule : Rule
 file_rule = record (new_rule (codes "FILE")) { action = Some Set; required = true }
 
--- a subcommand that reads a file
+-- an option of this name that takes a number, which is called so
+abbrev pub number_rule : (called name : Text) → Rule
+number_rule called name = record (new_rule called) { long = Some name; action = Some Set; parser = Some (Unsigned 1 (2 ^ 63 - 1)) }
+
+-- a subcommand that reads a file, within two limits
 abbrev pub reading_app : Text → App
-reading_app name = with_rule (new_app name) file_rule
+reading_app name =
+    with_rule (with_rule (with_rule (new_app name) file_rule) (number_rule (codes "DATAGRAMS") (codes "max-datagrams")))
+    (number_rule (codes "OCTETS") (codes "max-octets"))
 
 -- the number from which on `audit` asks: a sequence number
 abbrev pub from_rule : Rule
-from_rule = record (new_rule (codes "N")) { long = Some (codes "from"); action = Some Set; parser = Some (Unsigned 1 (2 ^ 63 - 1)) }
+from_rule = number_rule (codes "N") (codes "from")
 
 abbrev pub audit_app : App
 audit_app = with_rule (reading_app (codes "audit")) from_rule
@@ -42,39 +50,60 @@ program =
 
 -- the subcommand that was chosen
 abbrev pub subcommand_name : Choice → Text
-subcommand_name (Show file) = codes "show"
-subcommand_name (ListChoice file) = codes "list"
-subcommand_name (Audit file from) = codes "audit"
+subcommand_name (Show file limits) = codes "show"
+subcommand_name (ListChoice file limits) = codes "list"
+subcommand_name (Audit file from limits) = codes "audit"
 subcommand_name Sample = codes "sample"
 
 -- the file that was chosen; `sample` has none
 abbrev pub file_name : Choice → Option Text
-file_name (Show file) = Some (string_bytes file)
-file_name (ListChoice file) = Some (string_bytes file)
-file_name (Audit file from) = Some (string_bytes file)
+file_name (Show file limits) = Some (string_bytes file)
+file_name (ListChoice file limits) = Some (string_bytes file)
+file_name (Audit file from limits) = Some (string_bytes file)
 file_name Sample = None
 
 -- its FILE is the one that was given, and empty where none was
 abbrev pub HasItsFile : Choice → List Row → Type 0
 HasItsFile choice rows = IfSome (file_name choice) (λ name. name ≡ unwrap_or (first_of (codes "FILE") rows) [])
 
--- The number is the one that was given, and 1 where none was. `clap` takes no text that is none from 1 to 2^63 - 1; such
--- a text would be as none.
+-- The number is the one that was given, and the usual one where none was. `clap` takes no text that is none from 1 to
+-- 2^63 - 1; such a text would be as none.
+abbrev pub IsGivenOr : (usually : ℕ) → Option Text → ℕ → Type 0
+IsGivenOr usually None n = n ≡ usually
+IsGivenOr usually (Some text) n =
+    (IsUnsignedIn 1 (2 ^ 63 - 1) text → n ≡ digits_value 10 (without_leading_plus text)) × (¬ IsUnsignedIn 1 (2 ^ 63 - 1) text → n ≡ usually)
+
+-- of a number of `audit` that is 1
 abbrev pub IsNumberGiven : Option Text → ℕ → Type 0
-IsNumberGiven None n = n ≡ 1
-IsNumberGiven (Some text) n =
-    (IsUnsignedIn 1 (2 ^ 63 - 1) text → n ≡ digits_value 10 (without_leading_plus text)) × (¬ IsUnsignedIn 1 (2 ^ 63 - 1) text → n ≡ 1)
+IsNumberGiven text n = IsGivenOr 1 text n
 
 -- its number is the one that was given; only `audit` has one
 abbrev pub HasItsNumber : Choice → List Row → Type 0
-HasItsNumber (Show file) rows = Unit {0}
-HasItsNumber (ListChoice file) rows = Unit {0}
-HasItsNumber (Audit file from) rows = IsNumberGiven (first_of (codes "N") rows) from
+HasItsNumber (Show file limits) rows = Unit {0}
+HasItsNumber (ListChoice file limits) rows = Unit {0}
+HasItsNumber (Audit file from limits) rows = IsNumberGiven (first_of (codes "N") rows) from
 HasItsNumber Sample rows = Unit {0}
 
--- the choice has the name of the subcommand that was found, its FILE and its number
+-- the limits that were chosen; `sample` has none
+abbrev pub limits_of : Choice → Option Limits
+limits_of (Show file limits) = Some limits
+limits_of (ListChoice file limits) = Some limits
+limits_of (Audit file from limits) = Some limits
+limits_of Sample = None
+
+-- the limits are those that were given, each the usual one where it was not
+pub record AreLimitsGiven (rows : List Row) (limits : Limits) : Type 0 where
+  pub datagrams : IsGivenOr usual.datagrams (first_of (codes "DATAGRAMS") rows) limits.datagrams
+  pub octets : IsGivenOr usual.octets (first_of (codes "OCTETS") rows) limits.octets
+
+-- its limits are those that were given
+abbrev pub HasItsLimits : Choice → List Row → Type 0
+HasItsLimits choice rows = IfSome (limits_of choice) (AreLimitsGiven rows)
+
+-- the choice has the name of the subcommand that was found, its FILE, its number and its limits
 abbrev pub IsChoice : Option (Text × List Row) → Choice → Type 0
-IsChoice found choice = (rows : List Row) × (found ≡ Some (subcommand_name choice, rows)) × HasItsFile choice rows × HasItsNumber choice rows
+IsChoice found choice =
+    (rows : List Row) × (found ≡ Some (subcommand_name choice, rows)) × HasItsFile choice rows × HasItsNumber choice rows × HasItsLimits choice rows
 
 -- help and the version are answers, want of memory has no text, and any other error of `clap` refuses the words
 abbrev pub word_fault_by : ErrorKind → Error → WordFault
@@ -104,8 +133,8 @@ IsOneOf kinds Memory = Unit {0}
 abbrev pub faults_of_words : List Text → Kinds
 faults_of_words words = fault_of program (codes "rtps-audit" ∷ words)
 
--- Without a subcommand, and without its FILE, words are refused, and so is a FILE of `sample`, and a number that is none
--- from 1 to 2^63 - 1, or of a subcommand that asks for none; `--help` and `--version` are answered.
+-- Without a subcommand, and without its FILE, words are refused, and so is a FILE of `sample`, and a number or a limit that
+-- is none from 1 to 2^63 - 1, or of a subcommand that asks for none; `--help` and `--version` are answered.
 pub record WordsAreWanted : Type 0 where
   pub no_subcommand : faults_of_words [] ≡ MissingSubcommand ∷ []
   pub no_file_to_show : faults_of_words (codes "show" ∷ []) ≡ MissingRequiredArgument ∷ []
@@ -123,3 +152,11 @@ pub record WordsAreWanted : Type 0 where
   pub no_number : faults_of_words (codes "audit" ∷ codes "--from" ∷ codes "1x" ∷ codes "a.rec" ∷ []) ≡ ValueValidation ∷ []
   pub from_of_show : faults_of_words (codes "show" ∷ codes "--from" ∷ codes "1" ∷ codes "a.rec" ∷ []) ≡ UnknownArgument ∷ []
   pub from_of_list : faults_of_words (codes "list" ∷ codes "--from" ∷ codes "1" ∷ codes "a.rec" ∷ []) ≡ UnknownArgument ∷ []
+  pub least_limits : faults_of_words (codes "show" ∷ codes "--max-datagrams" ∷ codes "1" ∷ codes "--max-octets" ∷ codes "1" ∷ codes "a.rec" ∷ []) ≡ []
+  pub greatest_datagrams : faults_of_words (codes "list" ∷ codes "--max-datagrams" ∷ codes "9223372036854775807" ∷ codes "a.rec" ∷ []) ≡ []
+  pub greatest_octets : faults_of_words (codes "audit" ∷ codes "--max-octets" ∷ codes "9223372036854775807" ∷ codes "a.rec" ∷ []) ≡ []
+  pub no_datagrams : faults_of_words (codes "show" ∷ codes "--max-datagrams" ∷ codes "0" ∷ codes "a.rec" ∷ []) ≡ ValueValidation ∷ []
+  pub no_octets : faults_of_words (codes "list" ∷ codes "--max-octets" ∷ codes "0" ∷ codes "a.rec" ∷ []) ≡ ValueValidation ∷ []
+  pub too_many_datagrams : faults_of_words (codes "audit" ∷ codes "--max-datagrams" ∷ codes "9223372036854775808" ∷ codes "a.rec" ∷ []) ≡ ValueValidation ∷ []
+  pub too_many_octets : faults_of_words (codes "audit" ∷ codes "--max-octets" ∷ codes "9223372036854775808" ∷ codes "a.rec" ∷ []) ≡ ValueValidation ∷ []
+  pub limit_of_sample : faults_of_words (codes "sample" ∷ codes "--max-octets" ∷ codes "1" ∷ []) ≡ UnknownArgument ∷ []

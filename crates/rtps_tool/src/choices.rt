@@ -1,11 +1,12 @@
 ghost use Rattle.std.specs.Prelude.{◌≡◌};
 ghost use Rattle.std.specs.Option.{option_map};
 ghost use Rattle.rtps_tool.specs.Choices.{RunsChoice};
-ghost use Rattle.rtps_tool.specs.Words.{file_name};
+ghost use Rattle.rtps_tool.specs.Words.{file_name, limits_of};
 
 use crate::command::Choice;
 use crate::faults::RunFault;
-use crate::run::{run_audit_from, run_list, run_sample, run_show};
+use crate::limits::Limits;
+use crate::run::{run_audit_within, run_list_within, run_sample, run_show_within};
 use rtps_text::Ending;
 use std::alloc::Global;
 use std::io::{Read, Write};
@@ -16,16 +17,28 @@ impl Choice {
         ensures { option_map (λ name. name.now) result ≡ file_name self.now }
     {
         match self {
-            Choice::Show { file } | Choice::List { file } | Choice::Audit { file, from: _ } => {
+            Choice::Show { file, .. } | Choice::List { file, .. } | Choice::Audit { file, .. } => {
                 Some(file.as_str())
             }
             Choice::Sample => None,
         }
     }
+
+    /// The limits of the recording. None where the choice reads nothing.
+    pub fn limits(&self) -> Option<Limits>
+        ensures { result ≡ limits_of self.now }
+    {
+        match self {
+            Choice::Show { limits, .. }
+            | Choice::List { limits, .. }
+            | Choice::Audit { limits, .. } => Some(*limits),
+            Choice::Sample => None,
+        }
+    }
 }
 
-/// Runs what the words chose: [`crate::run_show`], [`crate::run_list`] or [`crate::run_audit_from`] on an input, to its end,
-/// or [`crate::run_sample`], which leaves the input as it is.
+/// Runs what the words chose: [`crate::run_show_within`], [`crate::run_list_within`] or [`crate::run_audit_within`] on an
+/// input, or [`crate::run_sample`], which leaves the input as it is.
 pub fn run_choice<R: Read, W: Write>(
     alloc: Global,
     choice: &Choice,
@@ -36,9 +49,13 @@ pub fn run_choice<R: Read, W: Write>(
         (R.remaining input.old) (R.remaining input.new) (W.contents output.old) (W.contents output.new) result }
 {
     match choice {
-        Choice::Show { file: _ } => run_show(alloc, input, output),
-        Choice::List { file: _ } => run_list(alloc, input, output),
-        Choice::Audit { file: _, from } => run_audit_from(alloc, input, output, *from),
+        Choice::Show { file: _, limits } => run_show_within(alloc, *limits, input, output),
+        Choice::List { file: _, limits } => run_list_within(alloc, *limits, input, output),
+        Choice::Audit {
+            file: _,
+            from,
+            limits,
+        } => run_audit_within(alloc, *limits, input, output, *from),
         Choice::Sample => run_sample(output),
     }
 }

@@ -1,25 +1,36 @@
 ghost use Rattle.std.specs.Prelude.{◌≡◌, ◌⊎◌, true, false, codes, Some, IfOk, IfErr, OnOk, List, [], MatchOption, map, unwrap_or};
 ghost use Rattle.std.specs.String.{string_bytes};
-ghost use Rattle.clap.specs.Words.{app_of, fault_of, first_of, found_of, new_app, rows_of, subcommand_of, subcommand_rows_of, takes};
+ghost use Rattle.clap.specs.Words.{app_of, fault_of, first_of, found_of, new_app, rows_of, rule_of, subcommand_of, subcommand_rows_of, takes};
 ghost use Rattle.clap.specs.declared.builder.command.Command.TheViews.{out-Command};
-ghost use Rattle.rtps_tool.specs.Words.{audit_app, bare_program as bare_app, program as program_app, reading_app, IsChoice, IsNumberGiven, IsOneOf, HasItsKind};
+ghost use Rattle.rtps_tool.specs.Words.{audit_app, bare_program as bare_app, number_rule, program as program_app, reading_app, AreLimitsGiven, IsChoice, IsGivenOr, IsNumberGiven, IsOneOf, HasItsKind};
 
+use crate::limits::Limits;
 use clap::builder::ValueParser;
 use clap::error::ErrorKind;
 use clap::{Arg, ArgAction, ArgMatches, Command};
 use rtps_ids::SeqNum;
 use std::alloc::{AllocError, Global};
 
-/// What the words ask for. A FILE of `-` is standard input.
+/// What the words ask for. A FILE of `-` is standard input; the limits are those of its recording.
 #[derive(Debug, Drop)]
 pub enum Choice {
     /// Show each datagram and its submessages.
-    Show { file: String },
+    Show {
+        file: String,
+        limits: Limits,
+    },
     /// List participants, endpoints and the pairs that match.
-    List { file: String },
+    List {
+        file: String,
+        limits: Limits,
+    },
     /// Judge for each reliable writer and reader that match whether the reader got all data, of the writer's numbers from
     /// `from` on.
-    Audit { file: String, from: SeqNum },
+    Audit {
+        file: String,
+        from: SeqNum,
+        limits: Limits,
+    },
     /// Write a recording to try.
     Sample,
 }
@@ -62,7 +73,7 @@ impl From<clap::Error> for WordFault {
     }
 }
 
-// The greatest sequence number.
+// The greatest number that an option takes, which is the greatest sequence number.
 const GREATEST: u64 = 9_223_372_036_854_775_807;
 
 // The version of the program.
@@ -73,6 +84,12 @@ const FILE_HELP: &str =
 
 const FROM_HELP: &str = "The first number that a reader is owed, 1 to 9223372036854775807; \
     1 where it is not given";
+
+const DATAGRAMS_HELP: &str = "The most datagrams of the recording, 1 to 9223372036854775807; \
+    1000000 where it is not given";
+
+const OCTETS_HELP: &str = "The most octets of FILE, 1 to 9223372036854775807; \
+    1073741824 where it is not given";
 
 const STATUSES: &str =
     "Status: 0 clean, 1 not every pair is complete, 2 the arguments or the recording are refused, \
@@ -87,7 +104,19 @@ const AUDITS: &str =
 
 const SAMPLES: &str = "Writes a recording to try, which audit finds complete";
 
-// A subcommand that reads a FILE.
+// An option of this name that takes a number from 1 to 2^63 - 1, which is called so.
+fn number_option<'a>(alloc: Global, called: &'a str, name: &'a str, help: &'a str) -> Arg<'a>
+    ensures rule { rule_of result ≡ number_rule called.now name.now }
+    ensures local { result.global ≡ false }
+{
+    Arg::new(alloc, called)
+        .long(name)
+        .action(ArgAction::Set)
+        .value_parser(ValueParser::unsigned(1, GREATEST))
+        .help(help)
+}
+
+// A subcommand that reads a FILE, within two limits.
 fn reading_subcommand<'a>(
     alloc: Global,
     name: &'a str,
@@ -100,10 +129,11 @@ fn reading_subcommand<'a>(
         .required(true)
         .action(ArgAction::Set)
         .help(FILE_HELP);
-    Command::new(alloc, name)
-        .about(about)
-        .after_help(STATUSES)
-        .arg(file)
+    let bare = Command::new(alloc, name).about(about).after_help(STATUSES);
+    let one = bare.arg(file)?;
+    let datagrams = number_option(alloc, "DATAGRAMS", "max-datagrams", DATAGRAMS_HELP);
+    let two = one.arg(datagrams)?;
+    two.arg(number_option(alloc, "OCTETS", "max-octets", OCTETS_HELP))
 }
 
 // The subcommand that judges: it reads a FILE, and asks for numbers from some number on.
@@ -111,11 +141,7 @@ fn audit_subcommand<'a>(alloc: Global, about: &'a str) -> Result<Command<'a>, Al
     ensures app { IfOk result (λ command. app_of command ≡ audit_app) }
     ensures local { IfOk result (λ command. (out-Command command).has_globals ≡ false) }
 {
-    let from = Arg::new(alloc, "N")
-        .long("from")
-        .action(ArgAction::Set)
-        .value_parser(ValueParser::unsigned(1, GREATEST))
-        .help(FROM_HELP);
+    let from = number_option(alloc, "N", "from", FROM_HELP);
     let reading = reading_subcommand(alloc, "audit", about)?;
     reading.arg(from)
 }
@@ -181,6 +207,37 @@ fn number_of(found: &ArgMatches) -> SeqNum
     }
 }
 
+// The number that a text is; the usual one where it is none from 1 to 2^63 - 1.
+fn count_in(text: &str, usually: u64) -> u64
+    ensures { IsGivenOr usually (Some text.now) result }
+{
+    match text.parse::<u64>() {
+        Ok(number) if 1 <= number && number <= GREATEST => number,
+        _ => usually,
+    }
+}
+
+// The number that is called so; the usual one where none is given.
+fn count_of(found: &ArgMatches, called: &str, usually: u64) -> u64
+    ensures { IsGivenOr usually (first_of called.now (rows_of (found_of found.now))) result }
+{
+    match found.get_str(called) {
+        Some(text) => count_in(text, usually),
+        None => usually,
+    }
+}
+
+// The limits that are given, each the usual one where it is not.
+fn limits_of(found: &ArgMatches) -> Limits
+    ensures { AreLimitsGiven (rows_of (found_of found.now)) result }
+{
+    let usual = Limits::usual();
+    Limits {
+        datagrams: count_of(found, "DATAGRAMS", usual.datagrams),
+        octets: count_of(found, "OCTETS", usual.octets),
+    }
+}
+
 // What the matches choose; None where they have no subcommand that can be chosen.
 fn choice_of(alloc: Global, matches: &ArgMatches) -> Result<Option<Choice>, AllocError>
     ensures { IfOk result (λ choice. MatchOption choice
@@ -189,16 +246,19 @@ fn choice_of(alloc: Global, matches: &ArgMatches) -> Result<Option<Choice>, Allo
 {
     if let Some(show) = matches.subcommand_matches("show") {
         let file = file_of(alloc, show)?;
-        return Ok(Some(Choice::Show { file }));
+        let limits = limits_of(show);
+        return Ok(Some(Choice::Show { file, limits }));
     }
     if let Some(list) = matches.subcommand_matches("list") {
         let file = file_of(alloc, list)?;
-        return Ok(Some(Choice::List { file }));
+        let limits = limits_of(list);
+        return Ok(Some(Choice::List { file, limits }));
     }
     if let Some(audit) = matches.subcommand_matches("audit") {
         let file = file_of(alloc, audit)?;
         let from = number_of(audit);
-        return Ok(Some(Choice::Audit { file, from }));
+        let limits = limits_of(audit);
+        return Ok(Some(Choice::Audit { file, from, limits }));
     }
     if matches.subcommand_matches("sample").is_some() {
         return Ok(Some(Choice::Sample));
@@ -208,7 +268,7 @@ fn choice_of(alloc: Global, matches: &ArgMatches) -> Result<Option<Choice>, Allo
 
 /// Reads the words of the command line, of which the first is the program's name.
 pub fn read_words<'a>(alloc: Global, words: &'a [&'a str]) -> Result<Choice, WordFault>
-    // The subcommand, the FILE and the number are those of the matches that `clap` defines for the words.
+    // The subcommand, the FILE, the number and the limits are those of the matches that `clap` defines for the words.
     ensures chosen { IfOk result (IsChoice (subcommand_of program_app (map (λ word. word.now) words.now))) }
 
     // Words with a fault are refused, and the refusal is of its kind.

@@ -13,9 +13,10 @@ pub enum RecFault {
     BadHex { line: u64 },
     /// A datagram line has more than 131,070 digits.
     TooLong { line: u64 },
-    /// There are more than 1,000,000 datagrams, or more than 1,073,741,824 octets.
+    /// There are more datagrams, or more octets of the input, than the limits allow ([`crate::Limits`]).
     TooMany,
-    /// There was no memory for the recording.
+    /// There was no memory for the recording, or no place for a datagram ([`rtps_text::Place`]): one that begins at 2^48
+    /// octets or behind has none.
     Memory,
     /// A capture's header is cut, its major version is not 2, or its link type is neither Ethernet nor raw IP.
     BadCapture,

@@ -4,14 +4,14 @@ ghost use Rattle.std.specs.Prelude.{ℕ};
 ghost use Rattle.rtps_text.specs.AuditText.{IsAuditedFrom};
 ghost use Rattle.rtps_text.specs.ListText.{IsListed};
 ghost use Rattle.rtps_text.specs.ShowText.{IsShown};
-ghost use Rattle.rtps_tool.specs.Laws.{NoTextBeginsAsACapture, RunsAgree};
+ghost use Rattle.rtps_tool.specs.Laws.{NoTextBeginsAsACapture, RunsAgree, RunsAgreeWithin, StaysWithin};
 ghost use Rattle.rtps_tool.specs.Words.{WordsAreWanted};
 
 use rtps_text::laws::one_text;
 
 /// Which words are refused, as `clap` defines it of this command line: those without a subcommand, and a subcommand
-/// without its FILE, and an option `--from` whose value is no number from 1 to 9223372036854775807; `--help` and
-/// `--version` are answered, and a subcommand with its FILE is taken; `sample` has none.
+/// without its FILE, and an option `--from`, `--max-datagrams` or `--max-octets` whose value is no number from 1 to
+/// 9223372036854775807; `--help` and `--version` are answered, and a subcommand with its FILE is taken; `sample` has none.
 pub fn words_are_wanted()
     ensures { WordsAreWanted }
 {}
@@ -23,6 +23,18 @@ pub fn runs_agree()
     ensures show { RunsAgree IsShown }
     ensures list { RunsAgree IsListed }
     ensures audit { (from : ℕ) → RunsAgree (IsAuditedFrom from) }
+{
+    one_text();
+}
+
+/// Limits decide whether a recording is taken, and nothing else: what is a recording within some limits is the same
+/// recording within greater ones, and two runs over the same octets that both end well, within whatever limits, end in the
+/// same way and write the same text.
+pub fn limits_change_nothing()
+    ensures stays { StaysWithin }
+    ensures show { RunsAgreeWithin IsShown }
+    ensures list { RunsAgreeWithin IsListed }
+    ensures audit { (from : ℕ) → RunsAgreeWithin (IsAuditedFrom from) }
 {
     one_text();
 }

@@ -7,6 +7,7 @@ mod command;
 mod faults;
 mod form;
 pub mod laws;
+mod limits;
 mod outcome;
 mod run;
 mod streams;
@@ -14,8 +15,13 @@ mod streams;
 pub use choices::run_choice;
 pub use command::{Choice, WordFault, read_words};
 pub use faults::{RecFault, RunFault};
-pub use form::either::read_recording;
+pub use form::either::{read_recording, read_recording_within};
+pub use limits::Limits;
 pub use outcome::{status, write_fault};
 pub use rtps_capture::link_type;
 pub use rtps_text::{Datagrams, Ending, Recording};
-pub use run::{run_audit, run_audit_from, run_list, run_sample, run_show};
+pub use run::{
+    run_audit, run_audit_from, run_audit_within, run_list, run_list_within, run_sample, run_show,
+    run_show_within,
+};
+pub use streams::read_input;

@@ -4,10 +4,11 @@ ghost use Rattle.rtps_text.specs.AuditText.{IsAudited, IsAuditedFrom};
 ghost use Rattle.rtps_text.specs.ListText.{IsListed};
 ghost use Rattle.rtps_text.specs.SampleText.{sample};
 ghost use Rattle.rtps_text.specs.ShowText.{IsShown};
-ghost use Rattle.rtps_tool.specs.Runs.{Runs, Writes};
+ghost use Rattle.rtps_tool.specs.Runs.{Runs, RunsWithin, Writes};
 ghost use Rattle.rtps_tool.specs.Subcommands.{IsTextOf};
 
 use crate::faults::RunFault;
+use crate::limits::Limits;
 use crate::streams::{read_input, write_text};
 use rtps_ids::{Memory, SeqNum};
 use rtps_text::{Ending, Recording, Unwatched, audit_text, list_text, sample_text, show_text};
@@ -23,7 +24,8 @@ pub(crate) enum Subcommand {
     Audit(SeqNum),
 }
 
-/// Reads a recording, to the end of the input, and writes what `show` prints of it; it ends [`Ending::Clean`].
+/// Reads a recording, to the end of the input, and writes what `show` prints of it; it ends [`Ending::Clean`]. It is
+/// [`run_show_within`] at the usual limits.
 ///
 /// The whole input is read and the whole text made before anything is written. An `Err` says what was written: nothing,
 /// but for [`RunFault::Output`].
@@ -35,7 +37,21 @@ pub fn run_show<R: Read, W: Write>(
     ensures { Runs IsShown
         (R.remaining input.old) (R.remaining input.new) (W.contents output.old) (W.contents output.new) result }
 {
-    run(alloc, Subcommand::Show, input, output)
+    run_show_within(alloc, Limits::usual(), input, output)
+}
+
+/// Reads a recording within limits, to the end of the input or past the most octets that it may have. Else it is
+/// [`run_show`].
+pub fn run_show_within<R: Read, W: Write>(
+    alloc: Global,
+    limits: Limits,
+    input: &mut R,
+    output: &mut W,
+) -> Result<Ending, RunFault>
+    ensures { RunsWithin limits IsShown
+        (R.remaining input.old) (R.remaining input.new) (W.contents output.old) (W.contents output.new) result }
+{
+    run(alloc, limits, Subcommand::Show, input, output)
 }
 
 /// Reads a recording, to the end of the input, and writes what `list` prints of it: participants, endpoints whose
@@ -48,7 +64,21 @@ pub fn run_list<R: Read, W: Write>(
     ensures { Runs IsListed
         (R.remaining input.old) (R.remaining input.new) (W.contents output.old) (W.contents output.new) result }
 {
-    run(alloc, Subcommand::List, input, output)
+    run_list_within(alloc, Limits::usual(), input, output)
+}
+
+/// Reads a recording within limits, to the end of the input or past the most octets that it may have. Else it is
+/// [`run_list`].
+pub fn run_list_within<R: Read, W: Write>(
+    alloc: Global,
+    limits: Limits,
+    input: &mut R,
+    output: &mut W,
+) -> Result<Ending, RunFault>
+    ensures { RunsWithin limits IsListed
+        (R.remaining input.old) (R.remaining input.new) (W.contents output.old) (W.contents output.new) result }
+{
+    run(alloc, limits, Subcommand::List, input, output)
 }
 
 /// Reads a recording, to the end of the input, and writes what `audit` prints of it by the numbers from `from` on:
@@ -62,7 +92,22 @@ pub fn run_audit_from<R: Read, W: Write>(
     ensures { Runs (IsAuditedFrom from)
         (R.remaining input.old) (R.remaining input.new) (W.contents output.old) (W.contents output.new) result }
 {
-    run(alloc, Subcommand::Audit(from), input, output)
+    run_audit_within(alloc, Limits::usual(), input, output, from)
+}
+
+/// Reads a recording within limits, to the end of the input or past the most octets that it may have. Else it is
+/// [`run_audit_from`].
+pub fn run_audit_within<R: Read, W: Write>(
+    alloc: Global,
+    limits: Limits,
+    input: &mut R,
+    output: &mut W,
+    from: SeqNum,
+) -> Result<Ending, RunFault>
+    ensures { RunsWithin limits (IsAuditedFrom from)
+        (R.remaining input.old) (R.remaining input.new) (W.contents output.old) (W.contents output.new) result }
+{
+    run(alloc, limits, Subcommand::Audit(from), input, output)
 }
 
 /// Reads a recording, to the end of the input, and writes what `audit` prints of it: the verdict on each pair of a
@@ -88,17 +133,18 @@ pub fn run_sample<W: Write>(output: &mut W) -> Result<Ending, RunFault>
     Ok(Ending::Clean)
 }
 
-// Reads a recording, to the end of the input, and writes what a subcommand prints of it.
+// Reads a recording within limits, and writes what a subcommand prints of it.
 fn run<R: Read, W: Write>(
     alloc: Global,
+    limits: Limits,
     subcommand: Subcommand,
     input: &mut R,
     output: &mut W,
 ) -> Result<Ending, RunFault>
-    ensures { Runs (IsTextOf subcommand)
+    ensures { RunsWithin limits (IsTextOf subcommand)
         (R.remaining input.old) (R.remaining input.new) (W.contents output.old) (W.contents output.new) result }
 {
-    let recording = read_input(alloc, input)?;
+    let recording = read_input(alloc, limits, input)?;
     let (text, ending) = text_of(alloc, subcommand, &recording)?;
     write_text(text.as_bytes(), output)?;
     Ok(ending)

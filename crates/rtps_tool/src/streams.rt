@@ -1,4 +1,4 @@
-ghost use Rattle.std.specs.Prelude.{◌≡◌, ◌≢◌, [], ◌+◌, ◌≤◌, ◌<◌, ◌^◌, ℕ, List, Option, None, length, take, vec_len, MatchResult, IfOk};
+ghost use Rattle.std.specs.Prelude.{◌≡◌, ◌≢◌, [], ◌+◌, ◌≤◌, ◌<◌, ℕ, List, Option, None, length, take, vec_len, MatchResult, IfOk};
 ghost use Rattle.std.specs.Io.KnownBytes.{Appends, Consumes, IsAtEnd};
 ghost use Rattle.rtps_capture.specs.Opening.{order_of};
 ghost use Rattle.rtps_tool.specs.Runs.{ReadsRecording, FailsReading, FailsWriting};
@@ -7,8 +7,9 @@ ghost use Rattle.rtps_tool.specs.declared.faults.RunFault.TheVariants.{Input};
 
 use crate::faults::{RecFault, RunFault};
 use crate::form::capture::read_capture;
-use crate::form::either::{INPUT_MAX, read_recording};
+use crate::form::either::read_recording_within;
 use crate::form::line_reader::{KEPT_MAX, LineReader};
+use crate::limits::Limits;
 use rtps_capture::capture_order;
 use rtps_text::{Recording, push_octets};
 use std::alloc::{AllocError, Global};
@@ -23,20 +24,27 @@ const HELD: usize = KEPT_MAX + PIECE;
 // How many octets tell the form of an input.
 const FORM: usize = 4;
 
-/// Reads the recording that is all the input, in either form.
-pub(crate) fn read_input<R: Read>(alloc: Global, input: &mut R) -> Result<Recording, RunFault>
+/// Reads the recording that is all the input, in either form, within limits. The input is read to its end, or past the
+/// most octets that it may have.
+///
+/// An `Err` is the first fault of the input, or [`RunFault::Input`] where a read failed, or [`RunFault::Memory`].
+pub fn read_input<R: Read>(
+    alloc: Global,
+    limits: Limits,
+    input: &mut R,
+) -> Result<Recording, RunFault>
     ensures { MatchResult result
-        (ReadsRecording (R.remaining input.old) (R.remaining input.new))
-        (FailsReading (R.remaining input.old) (R.remaining input.new)) }
+        (ReadsRecording limits (R.remaining input.old) (R.remaining input.new))
+        (FailsReading limits (R.remaining input.old) (R.remaining input.new)) }
 {
     let mut held = zeros(alloc, HELD)?;
     let start = read_start(input, &mut held)?;
     if start < FORM {
-        return read_short(alloc, &held[..start]);
+        return read_short(alloc, limits, &held[..start]);
     }
     match capture_order(&held[..start]) {
-        None => read_text_input(alloc, input, &mut held, start),
-        Some(_) => read_capture_input(alloc, input, &mut held, start),
+        None => read_text_input(alloc, limits, input, &mut held, start),
+        Some(_) => read_capture_input(alloc, limits, input, &mut held, start),
     }
 }
 
@@ -68,17 +76,17 @@ fn read_start<R: Read>(input: &mut R, held: &mut [u8]) -> Result<usize, RunFault
 }
 
 // Reads the recording that is these octets, which are all the input.
-fn read_short(alloc: Global, octets: &[u8]) -> Result<Recording, RunFault>
-    requires { length octets.now ≤ 2 ^ 30 }
+fn read_short(alloc: Global, limits: Limits, octets: &[u8]) -> Result<Recording, RunFault>
     ensures { (old new : Option (List ℕ)) → Consumes old new octets.now → IsAtEnd new
-        → MatchResult result (ReadsRecording old new) (FailsReading old new) }
+        → MatchResult result (ReadsRecording limits old new) (FailsReading limits old new) }
 {
-    Ok(read_recording(alloc, octets)?)
+    Ok(read_recording_within(alloc, limits, octets)?)
 }
 
 // Reads the recording that is a text, of which so many octets were read.
 fn read_text_input<R: Read>(
     alloc: Global,
+    limits: Limits,
     input: &mut R,
     held: &mut [u8],
     start: usize,
@@ -87,15 +95,16 @@ fn read_text_input<R: Read>(
     requires begun { (4 ≤ start) × (start ≤ 65539) }
     requires plain { order_of (take start held.old) ≡ None }
     ensures { (before : Option (List ℕ)) → Consumes before (R.remaining input.old) (take start held.old)
-        → MatchResult result (ReadsRecording before (R.remaining input.new)) (FailsReading before (R.remaining input.new)) }
+        → MatchResult result (ReadsRecording limits before (R.remaining input.new)) (FailsReading limits before (R.remaining input.new)) }
 {
     let mut reader = LineReader::new(alloc);
-    read_pieces(input, &mut reader, held, start)?;
+    read_pieces(limits, input, &mut reader, held, start)?;
     Ok(Recording::of_text(reader.into_datagrams()))
 }
 
 // Reads the lines that are a text, by way of what is held of it: so many octets were read.
 fn read_pieces<R: Read>(
+    limits: Limits,
     input: &mut R,
     reader: &mut LineReader,
     held: &mut [u8],
@@ -106,19 +115,19 @@ fn read_pieces<R: Read>(
     requires begun { (4 ≤ start) × (start ≤ 65539) }
     requires plain { order_of (take start held.old) ≡ None }
     ensures { (before : Option (List ℕ)) → Consumes before (R.remaining input.old) (take start held.old) → MatchResult result
-        (λ _. ReadsRecording before (R.remaining input.new) record { datagrams = reader.new.datagrams; ignored = None })
-        (FailsReading before (R.remaining input.new)) }
+        (λ _. ReadsRecording limits before (R.remaining input.new) record { datagrams = reader.new.datagrams; ignored = None })
+        (FailsReading limits before (R.remaining input.new)) }
 {
-    let mut total = start;
+    let mut total = start as u128;
     let mut kept = 0;
     let mut got = start;
-    'pieces: while total <= INPUT_MAX {
-        match reader.feed(&mut held[..kept + got], kept) {
+    'pieces: while total <= limits.octets as u128 {
+        match reader.feed(limits.datagrams, &mut held[..kept + got], kept) {
             Ok(left) => kept = left,
             Err(RecFault::Memory) => return Err(RunFault::Memory),
             Err(fault) => {
-                let total = read_on(input, held, total)?;
-                let first = if total > INPUT_MAX {
+                let total = read_on(limits, input, held, total)?;
+                let first = if total > limits.octets as u128 {
                     RecFault::TooMany
                 } else {
                     fault
@@ -131,30 +140,36 @@ fn read_pieces<R: Read>(
             Err(_) => return Err(RunFault::Input),
         };
         if got == 0 {
-            reader.finish(&held[..kept])?;
+            reader.finish(limits.datagrams, &held[..kept])?;
             return Ok(());
         }
-        total += got;
+        total += got as u128;
     }
     Err(RunFault::Recording(RecFault::TooMany))
 }
 
 // Reads on from so many octets, and answers how many there are then.
-fn read_on<R: Read>(input: &mut R, piece: &mut [u8], from: usize) -> Result<usize, RunFault>
-    requires { 0 < length piece.old }
+fn read_on<R: Read>(
+    limits: Limits,
+    input: &mut R,
+    piece: &mut [u8],
+    from: u128,
+) -> Result<u128, RunFault>
+    requires room { 0 < length piece.old }
+    requires within { from ≤ limits.octets }
     ensures { MatchResult result
-        (ReadsOn (R.remaining input.old) (R.remaining input.new) from)
+        (ReadsOn limits.octets (R.remaining input.old) (R.remaining input.new) from)
         (λ fault. fault ≡ Input) }
 {
     let mut total = from;
-    'rest: while total <= INPUT_MAX {
+    'rest: while total <= limits.octets as u128 {
         let Ok(got) = input.read(piece) else {
             return Err(RunFault::Input);
         };
         if got == 0 {
             return Ok(total);
         }
-        total += got;
+        total += got as u128;
     }
     Ok(total)
 }
@@ -162,6 +177,7 @@ fn read_on<R: Read>(input: &mut R, piece: &mut [u8], from: usize) -> Result<usiz
 // Reads the recording that is a capture, of which so many octets were read.
 fn read_capture_input<R: Read>(
     alloc: Global,
+    limits: Limits,
     input: &mut R,
     held: &mut [u8],
     start: usize,
@@ -169,29 +185,30 @@ fn read_capture_input<R: Read>(
     requires begun { (4 ≤ start) × (start ≤ length held.old) }
     requires form { order_of (take start held.old) ≢ None }
     ensures { (before : Option (List ℕ)) → Consumes before (R.remaining input.old) (take start held.old)
-        → MatchResult result (ReadsRecording before (R.remaining input.new)) (FailsReading before (R.remaining input.new)) }
+        → MatchResult result (ReadsRecording limits before (R.remaining input.new)) (FailsReading limits before (R.remaining input.new)) }
 {
-    let octets = read_whole(alloc, input, held, start)?;
-    Ok(read_capture(alloc, octets)?)
+    let octets = read_whole(alloc, limits, input, held, start)?;
+    Ok(read_capture(alloc, limits.datagrams, octets)?)
 }
 
 // Reads all the input, of which so many octets were read. It has the form of these.
 fn read_whole<R: Read>(
     alloc: Global,
+    limits: Limits,
     input: &mut R,
     piece: &mut [u8],
     start: usize,
 ) -> Result<Vec<u8>, RunFault>
     requires { (4 ≤ start) × (start ≤ length piece.old) }
     ensures form { IfOk result (λ octets. order_of octets.items ≡ order_of (take start piece.old)) }
-    ensures small { IfOk result (λ octets. length octets.items ≤ 2 ^ 30) }
+    ensures small { IfOk result (λ octets. length octets.items ≤ limits.octets) }
     ensures read { (before : Option (List ℕ)) → Consumes before (R.remaining input.old) (take start piece.old) → MatchResult result
         (λ octets. Consumes before (R.remaining input.new) octets.items × IsAtEnd (R.remaining input.new))
-        (FailsReading before (R.remaining input.new)) }
+        (FailsReading limits before (R.remaining input.new)) }
 {
     let mut octets = Vec::new(alloc);
     let mut got = start;
-    'pieces: while octets.len() + got <= INPUT_MAX {
+    'pieces: while octets.len() as u128 + got as u128 <= limits.octets as u128 {
         push_octets(&mut octets, &piece[..got])?;
         got = match input.read(piece) {
             Ok(got) => got,

@@ -59,9 +59,13 @@ fn are_words_refused(alloc: Global, words: &[&str]) -> Result<bool, Fault> {
 // What words choose, or the text that answers them; None for want of memory.
 fn answer_of(alloc: Global, read: Result<Choice, WordFault>) -> Result<Option<String>, Fault> {
     Ok(Some(match read {
-        Ok(Choice::Show { file }) => format!(in alloc; "show {file}")?,
-        Ok(Choice::List { file }) => format!(in alloc; "list {file}")?,
-        Ok(Choice::Audit { file, from: _ }) => format!(in alloc; "audit {file}")?,
+        Ok(Choice::Show { file, limits: _ }) => format!(in alloc; "show {file}")?,
+        Ok(Choice::List { file, limits: _ }) => format!(in alloc; "list {file}")?,
+        Ok(Choice::Audit {
+            file,
+            from: _,
+            limits: _,
+        }) => format!(in alloc; "audit {file}")?,
         Ok(Choice::Sample) => format!(in alloc; "sample")?,
         Err(WordFault::Refused(refusal)) => format!(in alloc; "refused {refusal}")?,
         Err(WordFault::Help(help)) => format!(in alloc; "help {help}")?,

@@ -1,18 +1,17 @@
 ghost use Rattle.std.specs.Prelude.{◌≡◌, Ok, MatchResult};
 ghost use Rattle.rtps_tool.specs.Outcomes.{IsFaultOf};
-ghost use Rattle.rtps_tool.specs.Forms.{recording_of};
+ghost use Rattle.rtps_tool.specs.Forms.{recording_of, recording_within};
 
 use crate::faults::RecFault;
 use crate::form::capture::read_capture;
 use crate::form::hex_lines::read_text;
+use crate::limits::Limits;
 use rtps_capture::capture_order;
 use rtps_text::Recording;
 use std::alloc::Global;
 
-// The most octets of an input.
-pub(crate) const INPUT_MAX: usize = 1 << 30;
-
-/// Reads a recording in one of two forms, which the first four octets tell apart.
+/// Reads a recording in one of two forms, which the first four octets tell apart, within the usual limits
+/// ([`Limits::usual`]).
 ///
 /// A text has one datagram a line, in hexadecimal digits of either case. Lines end at LF, the last LF may lack, and one CR
 /// at the end of a line is dropped. Empty lines and lines that begin with `#` are skipped. A capture is a file as
@@ -23,15 +22,29 @@ pub(crate) const INPUT_MAX: usize = 1 << 30;
 pub fn read_recording(alloc: Global, input: &[u8]) -> Result<Recording, RecFault>
     ensures { MatchResult result (λ recording. recording_of input.now ≡ Ok recording) (IsFaultOf (recording_of input.now)) }
 {
-    if input.len() > INPUT_MAX {
+    read_recording_within(alloc, Limits::usual(), input)
+}
+
+/// Reads a recording within limits. One that has more octets or datagrams is refused as [`RecFault::TooMany`], octets
+/// before any other fault. Else it is [`read_recording`].
+pub fn read_recording_within(
+    alloc: Global,
+    limits: Limits,
+    input: &[u8],
+) -> Result<Recording, RecFault>
+    ensures { MatchResult result
+        (λ recording. recording_within limits input.now ≡ Ok recording)
+        (IsFaultOf (recording_within limits input.now)) }
+{
+    if input.len() as u64 > limits.octets {
         return Err(RecFault::TooMany);
     }
     match capture_order(input) {
-        None => read_text(alloc, input),
+        None => read_text(alloc, limits.datagrams, input),
         Some(_) => {
             let mut octets = Vec::with_capacity(alloc, input.len())?;
             octets.extend_from_slice(input)?;
-            read_capture(alloc, octets)
+            read_capture(alloc, limits.datagrams, octets)
         }
     }
 }

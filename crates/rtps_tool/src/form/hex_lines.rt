@@ -10,9 +10,6 @@ use crate::form::line_reader::LineReader;
 use rtps_text::{DatagramList, Recording};
 use std::alloc::Global;
 
-// The most datagrams of a recording.
-pub(crate) const DATAGRAMS_MAX: usize = 1_000_000;
-
 // The most digits of a datagram: two for each of 65,535 octets, as UDP carries no more.
 pub(crate) const DIGITS_MAX: usize = 131_070;
 
@@ -42,30 +39,33 @@ pub(crate) fn without_return(line: &[u8]) -> &[u8]
     }
 }
 
-/// Reads a recording from a text: one datagram a line, in hexadecimal digits of either case.
-pub(crate) fn read_text(alloc: Global, text: &[u8]) -> Result<Recording, RecFault>
-    ensures { MatchResult result (λ recording. recording_of_text text.now ≡ Ok recording) (IsFaultOf (recording_of_text text.now)) }
+/// Reads a recording of so many datagrams at most from a text: one datagram a line, in hexadecimal digits of either case.
+pub(crate) fn read_text(alloc: Global, most: u64, text: &[u8]) -> Result<Recording, RecFault>
+    ensures { MatchResult result
+        (λ recording. recording_of_text most text.now ≡ Ok recording)
+        (IsFaultOf (recording_of_text most text.now)) }
 {
     let mut reader = LineReader::new(alloc);
-    let from = reader.read_complete(text, 0)?;
-    reader.finish(&text[from..])?;
+    let from = reader.read_complete(most, text, 0)?;
+    reader.finish(most, &text[from..])?;
     Ok(Recording::of_text(reader.into_datagrams()))
 }
 
-// Appends the datagram that a line stands for, if it stands for one.
+// Appends the datagram that a line stands for, if it stands for one. There may be so many in all.
 pub(crate) fn read_line(
     datagrams: &mut DatagramList,
+    most: u64,
     number: u64,
     line: &[u8],
 ) -> Result<(), RecFault>
-    ensures { let defined = recording_of_lines number (length datagrams.old) (line.now ∷ []) in MatchResult result
+    ensures { let defined = recording_of_lines most number (length datagrams.old) (line.now ∷ []) in MatchResult result
         (λ _. (found : List (List ℕ)) × (defined ≡ Ok found) × (datagrams.new ≡ datagrams.old ++ found))
         (IsFaultOf defined) }
 {
     if !is_datagram_line(line) {
         return Ok(());
     }
-    if datagrams.len() >= DATAGRAMS_MAX {
+    if datagrams.len() as u64 >= most {
         return Err(RecFault::TooMany);
     }
     if line.len() > DIGITS_MAX {

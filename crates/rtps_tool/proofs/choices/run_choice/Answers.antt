@@ -1,4 +1,4 @@
 use Rattle.rtps_tool.proofs.choices.run_choice.Goals as goal
 
 pub returns-in-Audit : goal.returns-in-Audit
-returns-in-Audit g c = rw c.in-Audit.is c.run_audit_from.ensures
+returns-in-Audit g c = rw c.in-Audit.is c.run_audit_within.ensures

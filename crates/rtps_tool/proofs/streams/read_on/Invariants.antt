@@ -1,4 +1,4 @@
-use Rattle.std.proofs.Common.{◌≡◌, ◌+◌, ◌-◌, ◌^◌, ℕ, List, length}
+use Rattle.std.proofs.Common.{◌≡◌, ◌+◌, ◌-◌, ℕ, List, length}
 use Rattle.std.specs.Io.KnownBytes.{Consumes}
 use Rattle.rtps_tool.proofs.streams.read_on.Given as goal
 
@@ -8,4 +8,4 @@ invariant-rest g l = (text : List ℕ) × Consumes (g.R.Read.remaining l.initial
 
 -- the octets that may still come
 abbrev pub decreases-rest : goal.decreases-rest
-decreases-rest g l = 2 ^ 30 + 1 - l.total
+decreases-rest g l = l.limits.octets + 1 - l.total

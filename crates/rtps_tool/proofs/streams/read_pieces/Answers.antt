@@ -9,7 +9,7 @@ use Rattle.rtps_tool.specs.Unfinished.{recording_behind}
 use Rattle.rtps_tool.specs.declared.faults.RecFault.{RecFault}
 use Rattle.rtps_tool.proofs.ReadingLemmas.{HasRead, take_front, HasRead-start, HasRead-read, HasRead-last, HasRead-told, ReadsRecording-last, FailsReading-last, FailsReading-on, FailsReading-on-past}
 use Rattle.rtps_tool.proofs.streams.read_pieces.Goals as goal
-use Rattle.rtps_tool.proofs.streams.read_pieces.Goals.{then-total-gt-INPUT_MAX, else-total-gt-INPUT_MAX}
+use Rattle.rtps_tool.proofs.streams.read_pieces.Goals.{then-total-limits, else-total-limits}
 
 pub pieces-init : goal.pieces-init
 pieces-init g c =
@@ -21,8 +21,8 @@ pieces-init g c =
       omega (arith, c.requires.begun.1),
       omega (arith, c.requires.empty.1),
       refl,
-      λ before taken. subst (λ (n : ℕ). HasRead before (g.R.Read.remaining c.args.input.now) start (λ later. recording_behind reader.datagrams reader.lines (take n held ++ later))) front
-          (HasRead-start before (g.R.Read.remaining c.args.input.now) reader.datagrams reader.lines start held c.requires.empty.0 c.requires.empty.1 taken (omega (arith, c.requires.room, c.requires.begun.1)) c.requires.begun.0 c.requires.plain),
+      λ before taken. subst (λ (n : ℕ). HasRead c.args.limits before (g.R.Read.remaining c.args.input.now) start (λ later. recording_behind c.args.limits.datagrams reader.datagrams reader.lines (take n held ++ later))) front
+          (HasRead-start c.args.limits before (g.R.Read.remaining c.args.input.now) reader.datagrams reader.lines start held c.requires.empty.0 c.requires.empty.1 taken (omega (arith, c.requires.room, c.requires.begun.1)) c.requires.begun.0 c.requires.plain),
     )
 
 pub slice_bounds-feed-end : goal.slice_bounds-feed-end
@@ -35,10 +35,10 @@ pub returns-in-Err : goal.returns-in-Err
 returns-in-Err g c = λ before taken.
     let grown = c.pieces.invariant.4 before taken in
     let more = c.in_ok-total-in-Err.ensures in
-    let F = λ (fault : RecFault). FailsReading before (g.R.Read.remaining c.read_on.new.input) (run_fault_of fault) in
-    let failed : F c.if-total-gt-INPUT_MAX.first = elim c.if-total-gt-INPUT_MAX.branch [
-      | then-total-gt-INPUT_MAX w ↦ subst F (sym w.first-is) (FailsReading-on-past _ _ _ _ _ _ grown more w.if-total-gt-INPUT_MAX.true)
-      | else-total-gt-INPUT_MAX w ↦ subst F (sym w.first-is) (FailsReading-on _ _ _ _ _ _ c.in-Err.fault grown more w.if-total-gt-INPUT_MAX.false c.in-Err.ensures)
+    let F = λ (fault : RecFault). FailsReading c.args.limits before (g.R.Read.remaining c.read_on.new.input) (run_fault_of fault) in
+    let failed : F c.if-total-limits.first = elim c.if-total-limits.branch [
+      | then-total-limits w ↦ subst F (sym w.first-is) (FailsReading-on-past _ _ _ _ _ _ _ grown more w.if-total-limits.true)
+      | else-total-limits w ↦ subst F (sym w.first-is) (FailsReading-on _ _ _ _ _ _ _ c.in-Err.fault grown more w.if-total-limits.false c.in-Err.ensures)
     ] in
     rw c.from.ensures failed
 
@@ -59,9 +59,9 @@ pieces-preserved g c =
       omega (arith, fed.1, fed.2.counted, c.pieces.invariant.2, length-take (c.pieces.kept + c.pieces.got) c.pieces.held, length-take left c.feed.new.text),
       ap (position is_line_feed) (take_front left size held buf within ∙ front) ∙ fed.2.goes_on,
       λ before taken.
-          let told = HasRead-told before _ _ _ _ (c.pieces.invariant.4 before taken)
-          (λ later. ap (λ (text : List ℕ). recording_behind new.datagrams new.lines (text ++ later)) front ∙ fed.2.stands later) in
-          HasRead-read before _ _ c.pieces.total left got size new.lines new.datagrams held buf told c.in-Ok-read.ensures.bytes.0 (sym c.in-Ok-read.ensures.bound.1) within c.in-Ok-read.ensures.bound.0,
+          let told = HasRead-told c.args.limits before _ _ _ _ (c.pieces.invariant.4 before taken)
+          (λ later. ap (λ (text : List ℕ). recording_behind c.args.limits.datagrams new.datagrams new.lines (text ++ later)) front ∙ fed.2.stands later) in
+          HasRead-read c.args.limits before _ _ c.pieces.total left got size new.lines new.datagrams held buf told c.in-Ok-read.ensures.bytes.0 (sym c.in-Ok-read.ensures.bound.1) within c.in-Ok-read.ensures.bound.0,
     )
 
 pub returns-then-got-eq0 : goal.returns-then-got-eq0
@@ -76,10 +76,10 @@ returns-then-got-eq0 g c = λ before taken.
     let held = c.feed.new.text ++ rest in
     let front : take left held ≡ take left c.feed.new.text = take-append-le left c.feed.new.text rest fed.1 in
     let within : left ≤ length held = omega (arith, length-append c.feed.new.text rest, fed.1) in
-    let told = HasRead-told before _ _ _ _ (c.pieces.invariant.4 before taken)
-    (λ later. ap (λ (text : List ℕ). recording_behind new.datagrams new.lines (text ++ later)) front ∙ fed.2.stands later) in
-    let last = HasRead-last before _ _ c.pieces.total left got size new.lines new.datagrams held buf told c.in-Ok-read.ensures.bytes.0 (sym c.in-Ok-read.ensures.bound.1) within c.in-Ok-read.ensures.bound.0 c.if-got-eq0.true in
-    ReadsRecording-last before _ c.pieces.total _ _ _ _ last (c.in-Ok-read.ensures.bytes.1 c.if-got-eq0.true (omega arith)) (omega arith) c.in_ok-finish.ensures
+    let told = HasRead-told c.args.limits before _ _ _ _ (c.pieces.invariant.4 before taken)
+    (λ later. ap (λ (text : List ℕ). recording_behind c.args.limits.datagrams new.datagrams new.lines (text ++ later)) front ∙ fed.2.stands later) in
+    let last = HasRead-last c.args.limits before _ _ c.pieces.total left got size new.lines new.datagrams held buf told c.in-Ok-read.ensures.bytes.0 (sym c.in-Ok-read.ensures.bound.1) within c.in-Ok-read.ensures.bound.0 c.if-got-eq0.true in
+    ReadsRecording-last c.args.limits before _ c.pieces.total _ _ _ _ last (c.in-Ok-read.ensures.bytes.1 c.if-got-eq0.true (omega arith)) (omega arith) c.in_ok-finish.ensures
 
 pub returns-in_err-finish : goal.returns-in_err-finish
 returns-in_err-finish g c = λ before taken.
@@ -94,7 +94,7 @@ returns-in_err-finish g c = λ before taken.
     let held = c.feed.new.text ++ rest in
     let front : take left held ≡ take left c.feed.new.text = take-append-le left c.feed.new.text rest fed.1 in
     let within : left ≤ length held = omega (arith, length-append c.feed.new.text rest, fed.1) in
-    let told = HasRead-told before _ _ _ _ (c.pieces.invariant.4 before taken)
-    (λ later. ap (λ (text : List ℕ). recording_behind new.datagrams new.lines (text ++ later)) front ∙ fed.2.stands later) in
-    let last = HasRead-last before _ _ c.pieces.total left got size new.lines new.datagrams held buf told c.in-Ok-read.ensures.bytes.0 (sym c.in-Ok-read.ensures.bound.1) within c.in-Ok-read.ensures.bound.0 c.if-got-eq0.true in
-    rw (p.1, p.2) (FailsReading-last before _ c.pieces.total _ _ _ c.in_err-finish.field-0.0 last (c.in-Ok-read.ensures.bytes.1 c.if-got-eq0.true (omega arith)) (omega arith) c.in_err-finish.ensures)
+    let told = HasRead-told c.args.limits before _ _ _ _ (c.pieces.invariant.4 before taken)
+    (λ later. ap (λ (text : List ℕ). recording_behind c.args.limits.datagrams new.datagrams new.lines (text ++ later)) front ∙ fed.2.stands later) in
+    let last = HasRead-last c.args.limits before _ _ c.pieces.total left got size new.lines new.datagrams held buf told c.in-Ok-read.ensures.bytes.0 (sym c.in-Ok-read.ensures.bound.1) within c.in-Ok-read.ensures.bound.0 c.if-got-eq0.true in
+    rw (p.1, p.2) (FailsReading-last c.args.limits before _ c.pieces.total _ _ _ c.in_err-finish.field-0.0 last (c.in-Ok-read.ensures.bytes.1 c.if-got-eq0.true (omega arith)) (omega arith) c.in_err-finish.ensures)

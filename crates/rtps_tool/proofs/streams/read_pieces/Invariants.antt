@@ -1,4 +1,4 @@
-use Rattle.std.proofs.Common.{◌≡◌, None, ◌+◌, ◌-◌, ◌≤◌, ◌^◌, ◌++◌, List, ℕ, Option, take}
+use Rattle.std.proofs.Common.{◌≡◌, None, ◌+◌, ◌-◌, ◌≤◌, ◌++◌, List, ℕ, Option, take}
 use Rattle.std.specs.Io.KnownBytes.{Consumes}
 use Rattle.std.specs.List.{position}
 use Rattle.rtps_tool.specs.Lines.{is_line_feed}
@@ -12,8 +12,8 @@ invariant-pieces g l =
     (l.kept ≤ 131071) × (l.kept + l.got ≤ 196607) × (l.reader.lines + (l.kept + l.got) ≤ l.total)
     × (position is_line_feed (take l.kept l.held) ≡ None)
     × ((before : Option (List ℕ)) → Consumes before (g.R.Read.remaining l.initial.input) (take l.start l.initial.held)
-    → HasRead before (g.R.Read.remaining l.input) l.total (λ later. recording_behind l.reader.datagrams l.reader.lines (take (l.kept + l.got) l.held ++ later)))
+    → HasRead l.limits before (g.R.Read.remaining l.input) l.total (λ later. recording_behind l.limits.datagrams l.reader.datagrams l.reader.lines (take (l.kept + l.got) l.held ++ later)))
 
 -- the octets that may still come
 abbrev pub decreases-pieces : goal.decreases-pieces
-decreases-pieces g l = 2 ^ 30 + 1 - l.total
+decreases-pieces g l = l.limits.octets + 1 - l.total

@@ -1,4 +1,4 @@
-use Rattle.std.proofs.Common.{◌≡◌, ◌+◌, ◌-◌, ◌≤◌, ◌^◌, ◌++◌, List, ℕ, Option, length, take}
+use Rattle.std.proofs.Common.{◌≡◌, ◌+◌, ◌-◌, ◌≤◌, ◌++◌, List, ℕ, Option, length, take}
 use Rattle.std.specs.Io.KnownBytes.{Consumes}
 use Rattle.rtps_capture.specs.Opening.{order_of}
 use Rattle.rtps_tool.proofs.streams.read_whole.Given as goal
@@ -12,4 +12,4 @@ invariant-pieces g l =
 
 -- the octets that may still come
 abbrev pub decreases-pieces : goal.decreases-pieces
-decreases-pieces g l = 2 ^ 30 + 1 - (length l.octets.items + l.got)
+decreases-pieces g l = l.limits.octets + 1 - (length l.octets.items + l.got)

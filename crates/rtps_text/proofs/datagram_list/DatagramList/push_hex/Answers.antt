@@ -9,9 +9,9 @@ returns-clause-pushed c =
     let octets = c.self.inside.octets.items in
     let places = c.self.inside.places.items in
     let digits = c.args.digits.now in
-    let place : Place = record { from = c.in_ok-from.from; to = c.in_ok-to.to } in
+    let place : Place = c.in-Some.place in
     let octets_now : c.append_hex.new.octets.items ≡ octets ++ octets_of digits = cc (c.in_ok-append_hex.ensures.appended) in
     let places_now : c.push_reserved.new.self.items ≡ places ++ place ∷ [] = cc (c.push_reserved.ensures.items, c.in_ok-make_room.ensures.items) in
     let size : length (octets_of digits) ≡ _ = c.in_ok-append_hex.ensures.size c.if-not-branch.false in
     rw (← c.self.view_is, octets_now, places_now)
-    (pieces-push octets (octets_of digits) places place c.self.invariant (omega (arith, c.in_ok-from.ensures, c.len.ensures)) (omega (arith, c.in_ok-to.ensures, c.len-2.ensures, size)))
+    (pieces-push octets (octets_of digits) places place c.self.invariant (omega (arith, c.in-Some.ensures.1, c.len-from.ensures)) (omega (arith, c.in-Some.ensures.2, c.len-from.ensures, size)))

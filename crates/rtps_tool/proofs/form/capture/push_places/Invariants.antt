@@ -9,4 +9,4 @@ invariant-loop-frame l =
     (goal.iterator-loop-frame).can_next l.frame-iterator
     × (goal.iterator-loop-frame).is_finite l.frame-iterator
     × (l.frame-iterator.octets ≡ l.fn.frames.octets)
-    × HasPushed l.fn.frames.octets (frames_left l.fn.frames) l.places.items l.number l.ignored (frames_left l.frame-iterator)
+    × HasPushed l.fn.most l.fn.frames.octets (frames_left l.fn.frames) l.places.items l.number l.ignored (frames_left l.frame-iterator)

@@ -10,8 +10,8 @@ returns-in-Some c =
     let file = c.args.octets.now in
     let frames = c.in-Some.frames in
     let is : opened file ≡ Some frames = sym c.in-Some.ensures.opened in
-    let read : IsReadFrom file (recording_of_frames file (frames_left frames)) c.push_places.new.places.items c.push_places.result =
-    subst (λ (octets : List ℕ). IsReadFrom octets (recording_of_frames octets (frames_left frames)) c.push_places.new.places.items c.push_places.result) c.in-Some.ensures.octets c.push_places.ensures in
+    let read : IsReadFrom file (recording_of_frames c.args.most file (frames_left frames)) c.push_places.new.places.items c.push_places.result =
+    subst (λ (octets : List ℕ). IsReadFrom octets (recording_of_frames c.args.most octets (frames_left frames)) c.push_places.new.places.items c.push_places.result) c.in-Some.ensures.octets c.push_places.ensures in
     rw is read
 
 pub returns-in-None : goal.returns-in-None

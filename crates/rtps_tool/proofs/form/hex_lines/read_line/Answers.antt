@@ -11,27 +11,27 @@ use Rattle.rtps_tool.proofs.form.hex_lines.read_line.Goals as goal
 pub returns-then-not-is_datagram_line : goal.returns-then-not-is_datagram_line
 returns-then-not-is_datagram_line c =
     let skipped : is_datagram_line c.args.line.now ≡ false = cc in
-    ([], recording_of_lines-skipped c.args.number _ c.args.line.now [] skipped ∙ recording_of_lines-nil _ _, sym (append-nil _))
+    ([], recording_of_lines-skipped _ c.args.number _ c.args.line.now [] skipped ∙ recording_of_lines-nil _ _ _, sym (append-nil _))
 
-pub returns-then-len-ge-DATAGRAMS_MAX : goal.returns-then-len-ge-DATAGRAMS_MAX
-returns-then-len-ge-DATAGRAMS_MAX c =
-    let found : line_fault (length c.args.datagrams.now) c.args.number c.args.line.now ≡ Some TooMany = grind (arith, nat_tests) in
-    recording_of_lines-faulty c.args.number _ c.args.line.now [] _ (cc) found
+pub returns-then-len-most : goal.returns-then-len-most
+returns-then-len-most c =
+    let found : line_fault c.args.most (length c.args.datagrams.now) c.args.number c.args.line.now ≡ Some TooMany = grind (arith, nat_tests) in
+    recording_of_lines-faulty _ c.args.number _ c.args.line.now [] _ (cc) found
 
 pub returns-then-line-gt-DIGITS_MAX : goal.returns-then-line-gt-DIGITS_MAX
 returns-then-line-gt-DIGITS_MAX c =
-    let found : line_fault (length c.args.datagrams.now) c.args.number c.args.line.now ≡ Some (TooLong c.args.number) = grind (arith, nat_tests) in
-    recording_of_lines-faulty c.args.number _ c.args.line.now [] _ (cc) found
+    let found : line_fault c.args.most (length c.args.datagrams.now) c.args.number c.args.line.now ≡ Some (TooLong c.args.number) = grind (arith, nat_tests) in
+    recording_of_lines-faulty _ c.args.number _ c.args.line.now [] _ (cc) found
 
 pub returns-then-not-branch : goal.returns-then-not-branch
 returns-then-not-branch c =
-    let found : line_fault (length c.args.datagrams.now) c.args.number c.args.line.now ≡ Some (BadHex c.args.number) = grind (arith, nat_tests, c.in_ok-push_hex.ensures.found) in
-    recording_of_lines-faulty c.args.number _ c.args.line.now [] _ (cc) found
+    let found : line_fault c.args.most (length c.args.datagrams.now) c.args.number c.args.line.now ≡ Some (BadHex c.args.number) = grind (arith, nat_tests, c.in_ok-push_hex.ensures.found) in
+    recording_of_lines-faulty _ c.args.number _ c.args.line.now [] _ (cc) found
 
 pub returns : goal.returns
 returns c =
-    let found : line_fault (length c.args.datagrams.now) c.args.number c.args.line.now ≡ None = grind (arith, nat_tests, c.in_ok-push_hex.ensures.found) in (
+    let found : line_fault c.args.most (length c.args.datagrams.now) c.args.number c.args.line.now ≡ None = grind (arith, nat_tests, c.in_ok-push_hex.ensures.found) in (
       octets_of c.args.line.now ∷ [],
-      recording_of_lines-taken c.args.number _ c.args.line.now [] (cc) found ∙ ap (with_front (octets_of c.args.line.now ∷ [])) (recording_of_lines-nil _ _),
+      recording_of_lines-taken _ c.args.number _ c.args.line.now [] (cc) found ∙ ap (with_front (octets_of c.args.line.now ∷ [])) (recording_of_lines-nil _ _ _),
       cc (c.in_ok-push_hex.ensures.pushed),
     )

@@ -13,5 +13,5 @@ returns-in_err-kept c =
     let read = c.read_complete.new.self in
     let rest = take_rest c.args.text.now c.in_ok-from.from in
     rw (p.1, p.2) (λ later.
-    let joined = ap (λ (line : List ℕ). recording_behind read.datagrams read.lines (line ++ later)) rest ∙ c.in_ok-from.ensures.1.stands later in
+    let joined = ap (λ (line : List ℕ). recording_behind c.args.most read.datagrams read.lines (line ++ later)) rest ∙ c.in_ok-from.ensures.1.stands later in
     subst (λ (whole : Result (List (List ℕ)) RecFault). IsFaultOf whole fault) joined (c.in_err-kept.ensures later))

@@ -11,13 +11,13 @@ returns-then-line-eq35 c = (
   record {
     goes_on = position-take c.args.line.now 1 c.requires.goes_on;
     counted = omega (arith, length-take 1 c.args.line.now);
-    stands = λ later. recording_behind-comment-at _ _ c.args.line.now later c.requires.goes_on (omega arith) c.if-line-eq35.true;
+    stands = λ later. recording_behind-comment-at _ _ _ c.args.line.now later c.requires.goes_on (omega arith) c.if-line-eq35.true;
   },
 )
 
-pub returns-then-len-ge-DATAGRAMS_MAX : goal.returns-then-len-ge-DATAGRAMS_MAX
-returns-then-len-ge-DATAGRAMS_MAX c =
-    λ later. recording_behind-many _ _ c.args.line.now later c.requires.goes_on (omega arith) c.if-line-eq35.false (omega arith)
+pub returns-then-len-most : goal.returns-then-len-most
+returns-then-len-most c =
+    λ later. recording_behind-many _ _ _ c.args.line.now later c.requires.goes_on (omega arith) c.if-line-eq35.false (omega arith)
 
 pub returns : goal.returns
-returns c = λ later. recording_behind-long _ _ c.args.line.now later c.requires.goes_on (omega arith) c.if-line-eq35.false (omega arith)
+returns c = λ later. recording_behind-long _ _ _ c.args.line.now later c.requires.goes_on (omega arith) c.if-line-eq35.false (omega arith)

@@ -26,7 +26,7 @@ lines-preserved c =
       refl,
       λ later.
           let cut = line_within text later c.without_return-line.result.now from end found is in
-          recording_behind-line _ _ _ _ _ _ _ cut line.1 line.2 ∙ c.lines.invariant.4 later,
+          recording_behind-line _ _ _ _ _ _ _ _ cut line.1 line.2 ∙ c.lines.invariant.4 later,
     )
 
 pub returns-in_err-read_line : goal.returns-in_err-read_line
@@ -41,7 +41,7 @@ returns-in_err-read_line c =
     let is = c.without_return-line.ensures ∙ ap (λ (n : ℕ). strip_carriage_return (take n (drop from text))) size in
     rw (p.1, p.2) (λ later.
     let cut = line_within text later c.without_return-line.result.now from end found is in
-    let faulty = recording_behind-fault _ _ _ _ (drop (from + (end + 1)) text ++ later) fault cut c.in_err-read_line.ensures in
+    let faulty = recording_behind-fault _ _ _ _ _ (drop (from + (end + 1)) text ++ later) fault cut c.in_err-read_line.ensures in
     subst (λ (whole : Result (List (List ℕ)) RecFault). IsFaultOf whole fault) (c.lines.invariant.4 later) faulty)
 
 pub line_end_behind-requires-clause-within : goal.line_end_behind-requires-clause-within

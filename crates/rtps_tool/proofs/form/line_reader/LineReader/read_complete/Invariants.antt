@@ -9,7 +9,7 @@ abbrev pub invariant-lines : goal.invariant-lines
 invariant-lines l =
     (l.from ≤ length l.text) × (l.self.lines ≤ l.initial.self.lines + l.from)
     × (l.from + l.known ≤ length l.text) × (position is_line_feed (take l.known (drop l.from l.text)) ≡ None)
-    × ((later : List ℕ) → recording_behind l.self.datagrams l.self.lines (drop l.from l.text ++ later) ≡ recording_behind l.initial.self.datagrams l.initial.self.lines (l.text ++ later))
+    × ((later : List ℕ) → recording_behind l.most l.self.datagrams l.self.lines (drop l.from l.text ++ later) ≡ recording_behind l.most l.initial.self.datagrams l.initial.self.lines (l.text ++ later))
 
 abbrev pub decreases-lines : goal.decreases-lines
 decreases-lines l = length l.text - l.from

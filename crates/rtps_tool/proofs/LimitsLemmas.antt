@@ -1,0 +1,103 @@
+-- Limits that are raised.
+use Rattle.std.proofs.Common.{◌≡◌, ℕ, ◌+◌, ◌≤◌, true, false, Bool, List, [], ◌∷◌, length, Option, Some, None, Result, Ok, Err, refl, sym, ap, ◌∙◌, inl, inr, arith}
+use Rattle.std.specs.Prelude.{if◌then◌else◌, nat_lt}
+use Rattle.std.proofs.lemmas.Bool.Decides.{nat_tests}
+use Rattle.rtps_ids.specs.declared.order.Order.{Order}
+use Rattle.rtps_capture.specs.Frames.{Unread, frames_left, opened}
+use Rattle.rtps_capture.specs.Opening.{order_of}
+use Rattle.rtps_capture.specs.declared.frames.Frame.{Frame}
+use Rattle.rtps_digits.specs.Pairs.{octets_of}
+use Rattle.rtps_text.specs.Recording.{RecordingValue}
+use Rattle.rtps_tool.specs.Forms.{recording_in_form, recording_within}
+use Rattle.rtps_tool.specs.Laws.{StaysWithin}
+use Rattle.rtps_tool.specs.Lines.{lines_of}
+use Rattle.rtps_tool.specs.RecordingCapture.{datagrams_among, recording_of_capture, recording_of_frames, recording_opened}
+use Rattle.rtps_tool.specs.RecordingText.{line_fault, recording_of_lines, recording_of_text, without_frames}
+use Rattle.rtps_tool.specs.Unfinished.{with_front}
+use Rattle.rtps_tool.specs.declared.faults.RecFault.{RecFault}
+use Rattle.rtps_tool.specs.declared.faults.RecFault.TheVariants.{TooMany}
+use Rattle.rtps_tool.specs.declared.limits.Limits.{Limits}
+use Rattle.rtps_tool.proofs.RecordingLemmas.{kind_of, recording_of_lines-faulty, recording_of_lines-nil, recording_of_lines-skipped, recording_of_lines-taken}
+use Rattle.rtps_tool.proofs.UnfinishedLemmas.{recording_of-within}
+
+-- a line with no fault has none where there may be more datagrams
+fine_within : (most more before number : ℕ) (line : List ℕ) → most ≤ more → line_fault most before number line ≡ None → line_fault more before number line ≡ None
+fine_within most more before number line within fine = grind (arith, nat_tests)
+
+-- what is behind the first datagram of a recording is one
+behind_first : (datagram : List ℕ) (r : Result (List (List ℕ)) RecFault) (datagrams : List (List ℕ)) → with_front (datagram ∷ []) r ≡ Ok datagrams
+    → (rest : List (List ℕ)) × (r ≡ Ok rest)
+behind_first datagram (Ok rest) datagrams is = (rest, refl)
+behind_first datagram (Err fault) datagrams is = absurd cc
+
+lines_within : (most more number before : ℕ) (lines datagrams : List (List ℕ)) → most ≤ more → recording_of_lines most number before lines ≡ Ok datagrams
+    → recording_of_lines more number before lines ≡ Ok datagrams
+lines_within most more number before [] datagrams within is =
+    recording_of_lines-nil more number before ∙ sym (recording_of_lines-nil most number before) ∙ is
+lines_within most more number before (line ∷ lines) datagrams within is =
+    elim (kind_of most number before line) [
+      | inl skipped ↦
+          recording_of_lines-skipped more number before line lines skipped
+          ∙ lines_within most more (number + 1) before lines datagrams within (sym (recording_of_lines-skipped most number before line lines skipped) ∙ is)
+      | inr (inl faulty) ↦ let alone = recording_of_lines-faulty most number before line lines faulty.0 faulty.1 faulty.2 in absurd cc
+      | inr (inr taken) ↦
+          let one = recording_of_lines-taken most number before line lines taken.0 taken.1 in
+          let rest = behind_first (octets_of line) (recording_of_lines most (number + 1) (before + 1) lines) datagrams (sym one ∙ is) in
+          let greater = lines_within most more (number + 1) (before + 1) lines rest.0 within rest.1 in
+          recording_of_lines-taken more number before line lines taken.0 (fine_within most more before number line within taken.1)
+          ∙ ap (with_front (octets_of line ∷ [])) (greater ∙ sym rest.1) ∙ sym one ∙ is
+    ]
+
+-- of a text
+taken_lines : (r : Result (List (List ℕ)) RecFault) (recording : RecordingValue) → without_frames r ≡ Ok recording → (datagrams : List (List ℕ)) × (r ≡ Ok datagrams)
+taken_lines (Ok datagrams) recording is = (datagrams, refl)
+taken_lines (Err fault) recording is = absurd cc
+
+text_within : (most more : ℕ) (text : List ℕ) (recording : RecordingValue) → most ≤ more → recording_of_text most text ≡ Ok recording
+    → recording_of_text more text ≡ Ok recording
+unfolding recording_of_text
+text_within most more text recording within is =
+    let taken = taken_lines (recording_of_lines most 1 0 (lines_of text)) recording is in
+    ap without_frames (lines_within most more 1 0 (lines_of text) taken.0 within taken.1 ∙ sym taken.1) ∙ is
+
+-- of a capture
+few_by : (past : Bool) (whole : Result RecordingValue RecFault) (recording : RecordingValue) → (if past then Err TooMany else whole) ≡ Ok recording
+    → (past ≡ false) × (whole ≡ Ok recording)
+few_by true whole recording is = absurd cc
+few_by false whole recording is = (refl, is)
+
+frames_within : (most more : ℕ) (file : List ℕ) (frames : List Frame) (recording : RecordingValue) → most ≤ more → recording_of_frames most file frames ≡ Ok recording
+    → recording_of_frames more file frames ≡ Ok recording
+unfolding recording_of_frames
+frames_within most more file frames recording within is =
+    let fine = few_by (nat_lt most (length (datagrams_among file frames))) _ recording is in
+    let size = fine.0 in
+    let few : nat_lt more (length (datagrams_among file frames)) ≡ false = grind (arith, nat_tests) in
+    rw few fine.1
+
+capture_within : (most more : ℕ) (file : List ℕ) (recording : RecordingValue) → most ≤ more → recording_of_capture most file ≡ Ok recording
+    → recording_of_capture more file ≡ Ok recording
+unfolding recording_of_capture
+capture_within most more file recording within is = by (opened file) is
+  where
+    by : (unread : Option Unread) → recording_opened most file unread ≡ Ok recording → recording_opened more file unread ≡ Ok recording
+    by None none = absurd cc
+    by (Some unread) some = frames_within most more file (frames_left unread) recording within some
+
+form_within : (most more : ℕ) (form : Option Order) (input : List ℕ) (recording : RecordingValue) → most ≤ more → recording_in_form most form input ≡ Ok recording
+    → recording_in_form more form input ≡ Ok recording
+form_within most more None input recording within is = text_within most more input recording within is
+form_within most more (Some order) input recording within is = capture_within most more input recording within is
+
+-- an input that is a recording has no more octets than it may
+few_octets : (limits : Limits) (input : List ℕ) (recording : RecordingValue) → recording_within limits input ≡ Ok recording → length input ≤ limits.octets
+few_octets limits input recording is =
+    let fits = (few_by (nat_lt limits.octets (length input)) _ recording is).0 in
+    grind (arith, nat_tests)
+
+pub stays_within : StaysWithin
+stays_within limits greater input recording within is =
+    let few = few_octets limits input recording is in
+    let fine = sym (recording_of-within limits input few) ∙ is in
+    recording_of-within greater input (omega (arith, within.octets, few))
+    ∙ form_within limits.datagrams greater.datagrams (order_of input) input recording within.datagrams fine

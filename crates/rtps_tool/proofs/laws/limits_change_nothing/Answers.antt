@@ -1,0 +1,18 @@
+use Rattle.rtps_text.specs.AuditText.{IsAuditedFrom}
+use Rattle.rtps_text.specs.ListText.{IsListed}
+use Rattle.rtps_text.specs.ShowText.{IsShown}
+use Rattle.rtps_tool.proofs.LimitsLemmas.{stays_within}
+use Rattle.rtps_tool.proofs.RunsLemmas.{runs_agree_within}
+use Rattle.rtps_tool.proofs.laws.limits_change_nothing.Goals as goal
+
+pub returns-clause-stays : goal.returns-clause-stays
+returns-clause-stays c = stays_within
+
+pub returns-clause-show : goal.returns-clause-show
+returns-clause-show c = runs_agree_within IsShown c.one_text.ensures.shown
+
+pub returns-clause-list : goal.returns-clause-list
+returns-clause-list c = runs_agree_within IsListed c.one_text.ensures.listed
+
+pub returns-clause-audit : goal.returns-clause-audit
+returns-clause-audit c = λ from. runs_agree_within (IsAuditedFrom from) (c.one_text.ensures.audited from)
