@@ -1,10 +1,10 @@
--- The matches of a writer are those among the readers of its topic.
+-- The matches of a writer are those among the readers of its topic and its type.
 use Rattle.std.proofs.Common.{◌≡◌, ◌≢◌, Bool, true, false, not, ◌&&◌, ℕ, ◌+◌, ◌<◌, List, [], ◌∷◌, ◌++◌, length, take, get_or, map, flat_map, filter, refl, sym, ◌∙◌, ap, cond, append-nil}
 use Rattle.std.proofs.lemmas.Grind.{flat_map-append}
 use Rattle.std.proofs.lemmas.List.{take_more}
 use Rattle.std.specs.Cmp.{eq_by_cmp_equiv}
 use Rattle.std.specs.Cmp.Lexicographic.{slice_cmp}
-use Rattle.std.specs.List.Sorted.{ties}
+use Rattle.std.specs.List.Sorted.{IsStableByKey, ties}
 use Rattle.std.specs.Ordering.{is_eq, is_lt, nat_cmp, ordering_reverse}
 use Rattle.std.specs.declared.cmp.Ordering.{Ordering}
 use Rattle.std.specs.declared.cmp.Ordering.TheVariants.{Less, Equal, Greater}
@@ -13,11 +13,14 @@ use Rattle.std.proofs.lemmas.Cmp.{nat_list_cmp_total}
 use Rattle.std.proofs.lemmas.List.Elements.{filter_agree}
 use Rattle.rtps_discovery.specs.Endpoint.{EndpointValue, endpoint_value}
 use Rattle.rtps_discovery.specs.Matching.{is_match, is_reader, match_of, matches_of}
-use Rattle.rtps_discovery.specs.TopicIndex.{KeepsTopics, has_topic, readers_among}
+use Rattle.rtps_discovery.specs.TopicIndex.{IsByType, IsByTypeInTopics, KeepsTypes, has_topic, has_type, readers_among}
 use Rattle.rtps_discovery.specs.declared.endpoint.Endpoint.{Endpoint}
 use Rattle.rtps_discovery.specs.declared.endpoint.Side.TheVariants.{Writer}
 use Rattle.rtps_discovery.specs.declared.matching.Match.{Match}
 use Rattle.rtps_discovery.proofs.Matched.{is_match_decides}
+use Rattle.rtps_discovery.proofs.Topics.{has_name}
+use Rattle.std.proofs.lemmas.List.Kept.{IsSortedBy-filter}
+use Rattle.std.proofs.lemmas.List.MinMax.{ranks_by}
 
 -- a filter of what another filter keeps
 within_first : {X : Type 0} (x : X) (a b : Bool) (once twice : List X) (p : X → Bool) → p x ≡ a → (a ≡ true → b ≡ true) → filter p twice ≡ once
@@ -45,14 +48,45 @@ ties_by o Less e = rw e refl
 ties_by o Equal e = rw e refl
 ties_by o Greater e = rw e refl
 
-topic_ties : (writer reader : Endpoint) → ties (λ (x y : Endpoint). is_lt (slice_cmp nat_cmp x.topic.now y.topic.now)) writer reader ≡ has_topic writer.topic.now reader
-topic_ties writer reader = ties_by _ _ (nat_list_cmp_total.antisymm writer.topic.now reader.topic.now)
+name_ties : (name : Endpoint → List ℕ) (writer reader : Endpoint)
+    → ties (λ (x y : Endpoint). is_lt (slice_cmp nat_cmp (name x) (name y))) writer reader ≡ has_name name (name writer) reader
+name_ties name writer reader = ties_by _ _ (nat_list_cmp_total.antisymm (name writer) (name reader))
 
--- the readers of a topic, before and after the sort
-readers_kept : (endpoints readers : List Endpoint) (writer : Endpoint) → KeepsTopics (readers_among endpoints) readers
-    → filter (has_topic writer.topic.now) readers ≡ filter (has_topic writer.topic.now) (readers_among endpoints)
-readers_kept endpoints readers writer kept =
-    filter_agree _ _ (λ reader. sym (topic_ties writer reader)) readers ∙ kept writer ∙ filter_agree _ _ (topic_ties writer) (readers_among endpoints)
+-- the readers of one name, before and after a sort by it
+name_kept : (name : Endpoint → List ℕ) (before after : List Endpoint) (writer : Endpoint) → IsStableByKey name (slice_cmp nat_cmp) before after
+    → filter (has_name name (name writer)) after ≡ filter (has_name name (name writer)) before
+name_kept name before after writer kept =
+    filter_agree _ _ (λ reader. sym (name_ties name writer reader)) after ∙ kept writer ∙ filter_agree _ _ (name_ties name writer) before
+
+-- two filters in either order
+swapped_first : {X : Type 0} (x : X) (a b : Bool) (p q : X → Bool) (ps qs : List X) → p x ≡ a → q x ≡ b → filter p qs ≡ filter q ps
+    → filter p (cond b (x ∷ qs) qs) ≡ filter q (cond a (x ∷ ps) ps)
+swapped_first x true true p q ps qs e f h = rw (e, f) (ap (λ ys. x ∷ ys) h)
+swapped_first x true false p q ps qs e f h = rw f h
+swapped_first x false true p q ps qs e f h = rw e h
+swapped_first x false false p q ps qs e f h = h
+
+filter_swap : {X : Type 0} (p q : X → Bool) (xs : List X) → filter p (filter q xs) ≡ filter q (filter p xs)
+filter_swap p q [] = refl
+filter_swap p q (x ∷ xs) = swapped_first x (p x) (q x) p q (filter p xs) (filter q xs) refl refl (filter_swap p q xs)
+
+-- two sorts, by type and then by topic, keep the readers of one topic and one type in their order
+pub types_kept : (before typed sorted : List Endpoint) → IsStableByKey (λ reader. reader.type_name.now) (slice_cmp nat_cmp) before typed
+    → IsStableByKey (λ reader. reader.topic.now) (slice_cmp nat_cmp) typed sorted → KeepsTypes before sorted
+types_kept before typed sorted by_type by_topic = λ writer.
+    let type_test = has_type writer.type_name.now in
+    let topic_test = has_topic writer.topic.now in
+    ap (filter type_test) (name_kept (λ reader. reader.topic.now) typed sorted writer by_topic)
+    ∙ filter_swap type_test topic_test typed
+    ∙ ap (filter topic_test) (name_kept (λ reader. reader.type_name.now) before typed writer by_type)
+    ∙ filter_swap topic_test type_test before
+
+-- and those of one topic are sorted by type
+pub typed_in_topics : (typed sorted : List Endpoint) → IsByType typed → IsStableByKey (λ reader. reader.topic.now) (slice_cmp nat_cmp) typed sorted
+    → IsByTypeInTopics sorted
+typed_in_topics typed sorted by_type by_topic = λ writer.
+    rw (name_kept (λ reader. reader.topic.now) typed sorted writer by_topic)
+    (IsSortedBy-filter _ (ranks_by nat_list_cmp_total (λ (reader : Endpoint). reader.type_name.now)) (has_topic writer.topic.now) typed by_type)
 
 match_is_reader : (writer : EndpointValue) (endpoint : Endpoint) → is_match writer (endpoint_value endpoint) ≡ true → is_reader endpoint.side ≡ true
 match_is_reader writer endpoint e = rw (((is_match_decides writer (endpoint_value endpoint)).0 e).is_reader) refl
@@ -61,14 +95,21 @@ match_has_topic : (writer endpoint : Endpoint) → is_match (endpoint_value writ
 match_has_topic writer endpoint e =
     rw (((is_match_decides (endpoint_value writer) (endpoint_value endpoint)).0 e).one_topic) ((eq_by_cmp_equiv nat_list_cmp_total).refl endpoint.topic.now)
 
-pub matches_of-readers : (endpoints readers : List Endpoint) (writer : Endpoint) → KeepsTopics (readers_among endpoints) readers
-    → matches_of (endpoint_value writer) (map endpoint_value (filter (has_topic writer.topic.now) readers)) ≡ matches_of (endpoint_value writer) (map endpoint_value endpoints)
+match_has_type : (writer endpoint : Endpoint) → is_match (endpoint_value writer) (endpoint_value endpoint) ≡ true → has_type writer.type_name.now endpoint ≡ true
+match_has_type writer endpoint e =
+    rw (((is_match_decides (endpoint_value writer) (endpoint_value endpoint)).0 e).one_type) ((eq_by_cmp_equiv nat_list_cmp_total).refl endpoint.type_name.now)
+
+pub matches_of-readers : (endpoints readers : List Endpoint) (writer : Endpoint) → KeepsTypes (readers_among endpoints) readers
+    → matches_of (endpoint_value writer) (map endpoint_value (filter (has_type writer.type_name.now) (filter (has_topic writer.topic.now) readers)))
+    ≡ matches_of (endpoint_value writer) (map endpoint_value endpoints)
 matches_of-readers endpoints readers writer kept =
     let test = λ (endpoint : Endpoint). is_match (endpoint_value writer) (endpoint_value endpoint) in
+    let among = readers_among endpoints in
     ap (map (match_of (endpoint_value writer)))
-    (filter-map (is_match (endpoint_value writer)) endpoint_value (filter (has_topic writer.topic.now) readers)
-    ∙ ap (map endpoint_value) (ap (filter test) (readers_kept endpoints readers writer kept)
-    ∙ filter_within test (has_topic writer.topic.now) (match_has_topic writer) (readers_among endpoints)
+    (filter-map (is_match (endpoint_value writer)) endpoint_value (filter (has_type writer.type_name.now) (filter (has_topic writer.topic.now) readers))
+    ∙ ap (map endpoint_value) (ap (filter test) (kept writer)
+    ∙ filter_within test (has_type writer.type_name.now) (match_has_type writer) (filter (has_topic writer.topic.now) among)
+    ∙ filter_within test (has_topic writer.topic.now) (match_has_topic writer) among
     ∙ filter_within test (λ endpoint. is_reader endpoint.side) (match_is_reader (endpoint_value writer)) endpoints)
     ∙ sym (filter-map (is_match (endpoint_value writer)) endpoint_value endpoints))
 
@@ -97,11 +138,11 @@ listed_more endpoints i d lt =
     ∙ ap (λ found. listed endpoints (take i endpoints) ++ found) (append-nil _)
 
 -- a turn at a writer, and a turn at another endpoint
-pub listed_writer : (endpoints readers : List Endpoint) (i : ℕ) (d : Endpoint) (before after : List Match) (of_topic : List Endpoint) → i < length endpoints
-    → KeepsTopics (readers_among endpoints) readers → of_topic ≡ filter (has_topic (get_or endpoints i d).topic.now) readers
-    → before ≡ listed endpoints (take i endpoints) → after ≡ before ++ matches_of (endpoint_value (get_or endpoints i d)) (map endpoint_value of_topic)
+pub listed_writer : (endpoints readers : List Endpoint) (i : ℕ) (d : Endpoint) (before after : List Match) (found : List Endpoint) → i < length endpoints
+    → KeepsTypes (readers_among endpoints) readers → found ≡ filter (has_type (get_or endpoints i d).type_name.now) (filter (has_topic (get_or endpoints i d).topic.now) readers)
+    → before ≡ listed endpoints (take i endpoints) → after ≡ before ++ matches_of (endpoint_value (get_or endpoints i d)) (map endpoint_value found)
     → after ≡ listed endpoints (take (i + 1) endpoints)
-listed_writer endpoints readers i d before after of_topic lt kept topic was is =
+listed_writer endpoints readers i d before after found lt kept topic was is =
     rw (is, was, topic, matches_of-readers endpoints readers (get_or endpoints i d) kept) (sym (listed_more endpoints i d lt))
 
 pub listed_other : (endpoints : List Endpoint) (i : ℕ) (d : Endpoint) (before : List Match) → i < length endpoints → ((get_or endpoints i d).side ≢ Writer)

@@ -1,8 +1,8 @@
--- The readers of a topic stand together among readers that are sorted by topic.
+-- The readers of one name, a topic's or a type's, stand together among readers that are sorted by it.
 use Rattle.std.proofs.Common.{◌≡◌, ◌≤◌, ◌<◌, ◌+◌, ℕ, Bool, true, false, ltb, List, [], ◌∷◌, ◌++◌, length, take, drop, filter, get_or, refl, sym, ◌∙◌, ap, arith, append-nil}
 use Rattle.std.specs.Cmp.Lexicographic.{slice_cmp}
 use Rattle.std.specs.List.{All, AllWithin}
-use Rattle.std.specs.List.Sorted.{IsNonDecreasingBy, IsPartitionPoint, IsPartitionedBy}
+use Rattle.std.specs.List.Sorted.{IsNonDecreasingBy, IsPartitionPoint, IsPartitionedBy, IsSortedByKey}
 use Rattle.std.specs.Ordering.{is_eq, is_le, is_lt, nat_cmp, ordering_index}
 use Rattle.std.specs.declared.cmp.Ordering.{Ordering}
 use Rattle.std.specs.declared.cmp.Ordering.TheVariants.{Less, Equal, Greater}
@@ -10,7 +10,6 @@ use Rattle.std.proofs.lemmas.Cmp.{nat_list_cmp_total}
 use Rattle.std.proofs.lemmas.List.{get_or-drop, get_or-take, length-drop, take-append-drop, length-take}
 use Rattle.std.proofs.lemmas.List.Elements.{All-head, All-tail, All-take, All-weaker, filter-append}
 use Rattle.std.proofs.lemmas.List.Sorted.{IsNonDecreasingBy-drop, IsPartitionedBy-ltb, searchable_from_sorted}
-use Rattle.rtps_discovery.specs.TopicIndex.{IsByTopic, has_topic}
 use Rattle.rtps_discovery.specs.declared.endpoint.Endpoint.{Endpoint}
 
 pub filter_none : {X : Type 0} (test : X → Bool) (xs : List X) → All (λ x. test x ≡ false) xs → filter test xs ≡ []
@@ -35,15 +34,18 @@ All-front P xs i within h = λ k d lt. let below : k < i = omega (arith, length-
 All-rest : {X : Type 0} (P : X → Type 0) (xs : List X) (i : ℕ) → AllWithin P xs i (length xs) → All P (drop i xs)
 All-rest P xs i h = λ k d lt. rw (get_or-drop i xs k d) (h (i + k) d (omega arith) (omega (arith, length-drop i xs)))
 
--- how a reader's topic stands to another
-abbrev pub topic_cmp : List ℕ → Endpoint → Ordering
-topic_cmp topic reader = slice_cmp nat_cmp reader.topic.now topic
+-- how a reader's name stands to another
+abbrev pub name_cmp : (Endpoint → List ℕ) → List ℕ → Endpoint → Ordering
+name_cmp name given reader = slice_cmp nat_cmp (name reader) given
 
-abbrev pub below : List ℕ → Endpoint → Bool
-below topic reader = is_lt (topic_cmp topic reader)
+abbrev pub has_name : (Endpoint → List ℕ) → List ℕ → Endpoint → Bool
+has_name name given reader = is_eq (name_cmp name given reader)
 
-abbrev pub up_to : List ℕ → Endpoint → Bool
-up_to topic reader = is_le (topic_cmp topic reader)
+abbrev pub below : (Endpoint → List ℕ) → List ℕ → Endpoint → Bool
+below name given reader = is_lt (name_cmp name given reader)
+
+abbrev pub up_to : (Endpoint → List ℕ) → List ℕ → Endpoint → Bool
+up_to name given reader = is_le (name_cmp name given reader)
 
 by_rank : (p : Endpoint → Bool) (n : Endpoint → ℕ) (t : ℕ) (xs : List Endpoint) → ((x : Endpoint) → p x ≡ ltb (n x) t) → IsNonDecreasingBy n xs → IsPartitionedBy p xs
 by_rank p n t xs same h = λ i j d le lt e. same (get_or xs i d) ∙ IsPartitionedBy-ltb n xs t h i j d le lt (sym (same (get_or xs j d)) ∙ e)
@@ -58,15 +60,15 @@ le_rank Less = refl
 le_rank Equal = refl
 le_rank Greater = refl
 
-ranked : (topic : List ℕ) (readers : List Endpoint) → IsByTopic readers → IsNonDecreasingBy (λ reader. ordering_index (topic_cmp topic reader)) readers
-ranked topic readers h = searchable_from_sorted nat_list_cmp_total (λ reader. reader.topic.now) readers topic h
+ranked : (name : Endpoint → List ℕ) (given : List ℕ) (readers : List Endpoint) → IsSortedByKey name (slice_cmp nat_cmp) readers → IsNonDecreasingBy (λ reader. ordering_index (name_cmp name given reader)) readers
+ranked name given readers h = searchable_from_sorted nat_list_cmp_total name readers given h
 
-pub below_partitions : (topic : List ℕ) (readers : List Endpoint) → IsByTopic readers → IsPartitionedBy (below topic) readers
-below_partitions topic readers h = by_rank _ _ 1 readers (λ reader. lt_rank (topic_cmp topic reader)) (ranked topic readers h)
+pub below_partitions : (name : Endpoint → List ℕ) (given : List ℕ) (readers : List Endpoint) → IsSortedByKey name (slice_cmp nat_cmp) readers → IsPartitionedBy (below name given) readers
+below_partitions name given readers h = by_rank _ _ 1 readers (λ reader. lt_rank (name_cmp name given reader)) (ranked name given readers h)
 
-pub upto_partitions : (topic : List ℕ) (readers : List Endpoint) (start : ℕ) → IsByTopic readers → IsPartitionedBy (up_to topic) (drop start readers)
-upto_partitions topic readers start h =
-    by_rank _ _ 2 (drop start readers) (λ reader. le_rank (topic_cmp topic reader)) (IsNonDecreasingBy-drop (λ reader. ordering_index (topic_cmp topic reader)) start readers (ranked topic readers h))
+pub upto_partitions : (name : Endpoint → List ℕ) (given : List ℕ) (readers : List Endpoint) (start : ℕ) → IsSortedByKey name (slice_cmp nat_cmp) readers → IsPartitionedBy (up_to name given) (drop start readers)
+upto_partitions name given readers start h =
+    by_rank _ _ 2 (drop start readers) (λ reader. le_rank (name_cmp name given reader)) (IsNonDecreasingBy-drop (λ reader. ordering_index (name_cmp name given reader)) start readers (ranked name given readers h))
 
 lt_is_no_eq : (o : Ordering) → is_lt o ≡ true → is_eq o ≡ false
 lt_is_no_eq Less e = refl
@@ -87,16 +89,16 @@ All-both : {X : Type 0} (P Q R : X → Type 0) (xs : List X) → ((x : X) → P 
 All-both P Q R xs f p q = λ k d lt. f _ (p k d lt) (q k d lt)
 
 -- the readers between the two places
-pub one_topic : (topic : List ℕ) (readers : List Endpoint) (start size : ℕ) → start ≤ length readers → size ≤ length (drop start readers)
-    → IsPartitionPoint (λ reader. below topic reader ≡ true) (λ reader. below topic reader ≡ false) readers start
-    → IsPartitionPoint (λ reader. up_to topic reader ≡ true) (λ reader. up_to topic reader ≡ false) (drop start readers) size
-    → take size (drop start readers) ≡ filter (has_topic topic) readers
-one_topic topic readers start size within room first last =
+pub one_name : (name : Endpoint → List ℕ) (given : List ℕ) (readers : List Endpoint) (start size : ℕ) → start ≤ length readers → size ≤ length (drop start readers)
+    → IsPartitionPoint (λ reader. below name given reader ≡ true) (λ reader. below name given reader ≡ false) readers start
+    → IsPartitionPoint (λ reader. up_to name given reader ≡ true) (λ reader. up_to name given reader ≡ false) (drop start readers) size
+    → take size (drop start readers) ≡ filter (has_name name given) readers
+one_name name given readers start size within room first last =
     let behind = drop start readers in
-    let front = All-weaker _ (λ reader. has_topic topic reader ≡ false) (λ reader. lt_is_no_eq (topic_cmp topic reader)) (take start readers) (All-front (λ reader. below topic reader ≡ true) readers start within first.0) in
-    let upto = All-front (λ reader. up_to topic reader ≡ true) behind size room last.0 in
-    let not_below = All-take (λ reader. below topic reader ≡ false) size behind (All-rest (λ reader. below topic reader ≡ false) readers start first.1) in
-    let middle = All-both _ _ (λ reader. has_topic topic reader ≡ true) (take size behind) (λ reader. le_no_lt_is_eq (topic_cmp topic reader)) upto not_below in
-    let back = All-weaker _ (λ reader. has_topic topic reader ≡ false) (λ reader. no_le_is_no_eq (topic_cmp topic reader)) (drop size behind) (All-rest (λ reader. up_to topic reader ≡ false) behind size last.1) in
+    let front = All-weaker _ (λ reader. has_name name given reader ≡ false) (λ reader. lt_is_no_eq (name_cmp name given reader)) (take start readers) (All-front (λ reader. below name given reader ≡ true) readers start within first.0) in
+    let upto = All-front (λ reader. up_to name given reader ≡ true) behind size room last.0 in
+    let not_below = All-take (λ reader. below name given reader ≡ false) size behind (All-rest (λ reader. below name given reader ≡ false) readers start first.1) in
+    let middle = All-both _ _ (λ reader. has_name name given reader ≡ true) (take size behind) (λ reader. le_no_lt_is_eq (name_cmp name given reader)) upto not_below in
+    let back = All-weaker _ (λ reader. has_name name given reader ≡ false) (λ reader. no_le_is_no_eq (name_cmp name given reader)) (drop size behind) (All-rest (λ reader. up_to name given reader ≡ false) behind size last.1) in
     let whole : take start readers ++ (take size behind ++ drop size behind) ≡ readers = rw (take-append-drop size behind) (take-append-drop start readers) in
-    sym (ap (filter (has_topic topic)) (sym whole) ∙ filter_middle (has_topic topic) (take start readers) (take size behind) (drop size behind) front middle back ∙ append-nil _)
+    sym (ap (filter (has_name name given)) (sym whole) ∙ filter_middle (has_name name given) (take start readers) (take size behind) (drop size behind) front middle back ∙ append-nil _)

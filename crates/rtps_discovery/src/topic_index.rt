@@ -1,14 +1,15 @@
 ghost use Rattle.std.specs.Prelude.{◌≡◌, ◌++◌, IfOk, OnOk, filter, map};
 ghost use Rattle.rtps_discovery.specs.Endpoint.{endpoint_value};
 ghost use Rattle.rtps_discovery.specs.Matching.{matches_among as matches_among_lem, matches_of};
-ghost use Rattle.rtps_discovery.specs.TopicIndex.{IsByTopic, KeepsTopics, has_topic, readers_among as readers_among_lem};
+ghost use Rattle.rtps_discovery.specs.TopicIndex.{IsByTopic, IsByType, IsByTypeInTopics, KeepsTypes, has_topic, has_type, readers_among as readers_among_lem};
 
 use crate::endpoint::{Endpoint, Side};
 use crate::matching::{Match, match_of, matches};
 use rtps_ids::Memory;
 use std::alloc::Global;
 
-/// The matches among endpoints, each writer's in turn. A writer is compared with the readers of its topic alone.
+/// The matches among endpoints, each writer's in turn. A writer is compared with the readers of its topic and its type
+/// alone.
 pub(crate) fn matches_among(alloc: Global, endpoints: &[Endpoint<'_>]) -> Result<Vec<Match>, Memory>
     ensures { IfOk result (λ found. found.items ≡ matches_among_lem (map endpoint_value endpoints.now)) }
 {
@@ -16,21 +17,24 @@ pub(crate) fn matches_among(alloc: Global, endpoints: &[Endpoint<'_>]) -> Result
     let mut found = Vec::new(alloc);
     for writer in endpoints {
         if writer.side == Side::Writer {
-            push_matches(&mut found, writer, readers_of(&readers, writer.topic))?;
+            let of_topic = readers_of(&readers, writer.topic);
+            push_matches(&mut found, writer, of_one_type(of_topic, writer.type_name))?;
         }
     }
     Ok(found)
 }
 
-/// The readers among endpoints, sorted by topic, those of one topic in the order that they had.
+/// The readers among endpoints, sorted by topic, those of one topic by type, and those of both in the order that they had.
 fn readers_by_topic<'a>(
     alloc: Global,
     endpoints: &[Endpoint<'a>],
 ) -> Result<Vec<Endpoint<'a>>, Memory>
     ensures sorted { IfOk result (λ readers. IsByTopic readers.items) }
-    ensures stable { IfOk result (λ readers. KeepsTopics (readers_among_lem endpoints.now) readers.items) }
+    ensures typed { IfOk result (λ readers. IsByTypeInTopics readers.items) }
+    ensures stable { IfOk result (λ readers. KeepsTypes (readers_among_lem endpoints.now) readers.items) }
 {
     let mut readers = readers_among(alloc, endpoints)?;
+    readers.sort_by_key(|reader| reader.type_name)?;
     readers.sort_by_key(|reader| reader.topic)?;
     Ok(readers)
 }
@@ -56,6 +60,17 @@ fn readers_of<'r, 'a>(readers: &'r [Endpoint<'a>], topic: &[u8]) -> &'r [Endpoin
     let start = readers.partition_point(|reader| reader.topic.cmp(&topic).is_lt());
     let behind = &readers[start..];
     let end = behind.partition_point(|reader| reader.topic.cmp(&topic).is_le());
+    &behind[..end]
+}
+
+/// The readers of a type, among readers that are sorted by type.
+fn of_one_type<'r, 'a>(readers: &'r [Endpoint<'a>], type_name: &[u8]) -> &'r [Endpoint<'a>]
+    requires { IsByType readers.now }
+    ensures { result.now ≡ filter (has_type type_name.now) readers.now }
+{
+    let start = readers.partition_point(|reader| reader.type_name.cmp(&type_name).is_lt());
+    let behind = &readers[start..];
+    let end = behind.partition_point(|reader| reader.type_name.cmp(&type_name).is_le());
     &behind[..end]
 }
 

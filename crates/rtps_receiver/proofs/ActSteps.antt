@@ -3,6 +3,7 @@ use Rattle.std.proofs.Common.{◌≡◌, ℕ, Bool, true, false, List, [], ◌�
 use Rattle.std.proofs.lemmas.List.{length-append}
 use Rattle.rtps_wire.proofs.Offered.{refusal_is_last}
 use Rattle.rtps_wire.specs.Reading.{Outcome, Unread, items_among, outcomes_left, read_as, refusal_among, refused_with}
+use Rattle.rtps_wire.specs.Dataless.{is_dataless}
 use Rattle.rtps_wire.specs.Message.{Reading}
 use Rattle.rtps_wire.specs.Values.{BodyValue, ItemValue}
 use Rattle.rtps_wire.specs.Values.BodyValue.{Data, Heartbeat, AckNack, Gap, InfoTs, InfoDst, InfoSrc, Skipped}
@@ -224,7 +225,24 @@ data_behind-other state item items other = by_body item.body refl other
     by_body (InfoSrc version vendor prefix) is not = ap data_among (acts_behind-other state item items (ap act_body is))
     by_body (Skipped id) is not = ap data_among (acts_behind-other state item items (ap act_body is))
 
--- a skipped item first
-pub data_behind-skipped : (state : State) (item : ItemValue) (items : List ItemValue) (id : ℕ) → item.body ≡ Skipped id
+-- an item first that is passed over
+pub data_behind-dataless : (state : State) (item : ItemValue) (items : List ItemValue) → is_dataless item.body ≡ true
     → data_among (acts_behind state [] (item ∷ items)) ≡ data_among (acts_behind state [] items)
-data_behind-skipped state item items id is = ap data_among (acts_behind-skipped state item items id is)
+data_behind-dataless state item items is = by_body item.body refl is
+  where
+    said : (body : BodyValue) (act : ActBodyValue) → item.body ≡ body → act_body body ≡ Some act → is_data_item body ≡ false
+        → data_among (acts_behind state [] (item ∷ items)) ≡ data_among (acts_behind state [] items)
+    said body act what says none =
+        data_behind-other state item items (ap is_data_item what ∙ none)
+        ∙ ap (λ s. data_among (acts_behind s [] items)) (act_says_nothing state item body act what says)
+
+    by_body : (body : BodyValue) → item.body ≡ body → is_dataless body ≡ true
+        → data_among (acts_behind state [] (item ∷ items)) ≡ data_among (acts_behind state [] items)
+    by_body (Data value) what is = cc
+    by_body (InfoTs time) what is = cc
+    by_body (InfoDst prefix) what is = cc
+    by_body (InfoSrc version vendor prefix) what is = cc
+    by_body (Heartbeat value) what is = said (Heartbeat value) _ what refl refl
+    by_body (AckNack value) what is = said (AckNack value) _ what refl refl
+    by_body (Gap value) what is = said (Gap value) _ what refl refl
+    by_body (Skipped id) what is = ap data_among (acts_behind-skipped state item items id what)

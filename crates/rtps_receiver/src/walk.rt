@@ -119,7 +119,7 @@ fn push_data<'a>(acts: &mut Vec<Act<'a>>, start: State, items: Items<'a>) -> Res
     let mut state = start;
     let mut items = items;
     'items: loop {
-        if let Some(_) = items.take_skipped() {
+        if items.take_dataless() {
             continue;
         }
         match items.next() {

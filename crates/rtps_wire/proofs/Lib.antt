@@ -2,6 +2,7 @@ pub mod OneReading
 pub mod Readings
 pub mod SetFields
 pub mod Skips
+pub mod Dataless
 pub mod Submessages
 pub mod Offered
 pub mod WrittenFields

@@ -1,5 +1,6 @@
 -- Lemmas about the definitions of this crate, for the crates above it.
-use Rattle.std.proofs.Common.{◌≡◌, ℕ, List, [], ◌∷◌, Option, None, Some, Ok, Err, false, drop, arith, refl, sym, ◌∙◌}
+use Rattle.std.proofs.Common.{◌≡◌, ℕ, List, [], ◌∷◌, Option, None, Some, Ok, Err, true, false, drop, arith, refl, sym, ◌∙◌}
+use Rattle.rtps_wire.specs.Dataless.{dataless_next, is_dataless}
 use Rattle.rtps_wire.specs.Message.{item_at}
 use Rattle.rtps_wire.specs.Reading.{Outcome, Unread, outcomes, outcomes_left, outcomes_with}
 use Rattle.rtps_wire.specs.Skipped.{skipped_id, skipped_next}
@@ -65,3 +66,9 @@ not_counted (Gap value) none = (refl, refl)
 not_counted (InfoTs time) none = (refl, refl)
 not_counted (InfoDst prefix) none = (refl, refl)
 not_counted (InfoSrc version vendor prefix) none = (refl, refl)
+
+-- what is passed over next is an item without DATA that says nothing of the receiver's state
+pub dataless_first : (left : List Outcome) → true ≡ dataless_next left → (item : ItemValue) × (is_dataless item.body ≡ true) × (left ≡ Ok item ∷ drop 1 left)
+dataless_first [] is = cc
+dataless_first (Err refusal ∷ later) is = cc
+dataless_first (Ok item ∷ later) is = (item, sym is, refl)

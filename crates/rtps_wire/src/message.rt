@@ -1,5 +1,6 @@
-ghost use Rattle.std.specs.Prelude.{◌≡◌, ◌≤◌, ◌+◌, drop, length, IfOk, IfSome, MatchOption, MatchResult, None, Some};
+ghost use Rattle.std.specs.Prelude.{◌≡◌, ◌≤◌, ◌+◌, drop, false, length, true, IfOk, IfSome, MatchBool, MatchOption, MatchResult, None, Some};
 ghost use Rattle.std.specs.Iterator.{YieldsFirstBy, item_count};
+ghost use Rattle.rtps_wire.specs.Dataless.{dataless_next, is_dataless_at, is_dataless_with};
 ghost use Rattle.rtps_wire.specs.Fault.{Answers};
 ghost use Rattle.rtps_wire.specs.Message.{body_fault, body_length, body_of, extent_of, fault_at, item_at, octets_to_next_header, order_of as order_of_lem};
 ghost use Rattle.rtps_wire.specs.Reading.{outcome_value, outcomes_left, read_as, reading_of, refused_with};
@@ -86,6 +87,22 @@ impl<'a> Items<'a> {
         self.at += size;
         Some(id)
     }
+
+    /// Takes the next item where it is no DATA and says nothing of the receiver's state: an ACKNACK, a HEARTBEAT, a GAP, or
+    /// one that is skipped. Answers whether it did; else it takes nothing, as [`Items::take_skipped`]. It is faster than the
+    /// iterator for whom such items say nothing.
+    #[inline(always)]
+    pub fn take_dataless(&mut self) -> bool
+        ensures taken { result ≡ dataless_next (outcomes_left self.old) }
+        ensures left { MatchBool result (outcomes_left self.new ≡ drop 1 (outcomes_left self.old)) (self.new ≡ self.old) }
+    {
+        let Some(size) = dataless_size(self.rest) else {
+            return false;
+        };
+        self.rest = rest_at(self.rest, size);
+        self.at += size;
+        true
+    }
 }
 
 impl<'a> Iterator for Items<'a> {
@@ -140,6 +157,49 @@ fn is_read(id: u8) -> bool
         | id::INFO_DST
         | id::DATA => true,
         _ => false,
+    }
+}
+
+/// How many octets the submessage at the front has, where it has no fault, is no DATA and says nothing of the receiver's
+/// state.
+#[inline(always)]
+fn dataless_size(rest: &[u8]) -> Option<usize>
+    ensures { MatchOption result (is_dataless_at rest.now ≡ false)
+        (λ size. (is_dataless_at rest.now ≡ true) × (size ≡ 4 + body_length rest.now) × (size ≤ length rest.now)) }
+{
+    if rest.len() < submessage::SIZE {
+        return None;
+    }
+    let (id, flags, behind) = (
+        rest[submessage::ID],
+        rest[submessage::FLAGS],
+        rest_at(rest, submessage::SIZE),
+    );
+    let declared = declared_by(rest);
+    if declared > behind.len() {
+        return None;
+    }
+    let size = extent(id, declared, behind.len());
+    let (octets, _) = behind.split_at(size);
+    if is_dataless(id, flags, octets) {
+        Some(submessage::SIZE + size)
+    } else {
+        None
+    }
+}
+
+/// Whether the body of a submessage has no fault, is that of no DATA and says nothing of the receiver's state.
+#[inline(always)]
+fn is_dataless(id: u8, flags: u8, octets: &[u8]) -> bool
+    ensures { result ≡ is_dataless_with (body_fault id flags octets.now) (body_of id flags octets.now) }
+{
+    let order = order_of(flags);
+    match id {
+        id::ACKNACK => read::ack_nack(order, flags, octets).is_ok(),
+        id::HEARTBEAT => read::heartbeat(order, flags, octets).is_ok(),
+        id::GAP => read::gap(order, octets).is_ok(),
+        id::INFO_TS | id::INFO_SRC | id::INFO_DST | id::DATA => false,
+        _ => true,
     }
 }
 

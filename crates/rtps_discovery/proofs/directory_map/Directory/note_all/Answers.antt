@@ -1,4 +1,4 @@
-use Rattle.std.proofs.Common.{◌≡◌, ◌++◌, ap, subst, ◌∙◌}
+use Rattle.std.proofs.Common.{◌++◌, ap, subst, ◌∙◌}
 use Rattle.rtps_discovery.proofs.DataAlone.{faults_alone, map_alone}
 use Rattle.rtps_discovery.specs.Directory.{IsMapOf}
 use Rattle.rtps_discovery.specs.Notice.{faults_in}
