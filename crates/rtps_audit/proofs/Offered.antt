@@ -1,6 +1,6 @@
 -- Lemmas about the definitions of this crate, for the crates above it: who an act is from, and that what stands among the
 -- acts of a recording is what its speech has.
-use Rattle.std.proofs.Common.{◌≡◌, ℕ, ◌+◌, ◌-◌, ◌<◌, ◌∙◌, ap, Bool, true, false, ◌&&◌, max, filter, List, Option, Some, None, sym, refl, subst, arith}
+use Rattle.std.proofs.Common.{◌≡◌, ℕ, ◌+◌, ◌-◌, ◌<◌, ◌∙◌, Bool, true, false, ◌&&◌, max, filter, List, Option, Some, sym, refl, subst, arith}
 use Rattle.std.specs.Prelude.{Contains}
 use Rattle.rtps_ids.specs.declared.identity.Guid.{Guid}
 use Rattle.rtps_ids.specs.declared.identity.GuidPrefix.{GuidPrefix}
@@ -12,7 +12,7 @@ use Rattle.rtps_receiver.specs.Values.ActBodyValue.{Data, Heartbeat, AckNack, Ga
 use Rattle.rtps_audit.specs.Delivery.{Claims, Datagram, Gives, IsAsked, Word, last_announced_from}
 use Rattle.rtps_audit.specs.Hearing.{IsHeard, last_among}
 use Rattle.rtps_audit.specs.Placed.{PlacedValue, is_from, placed_in}
-use Rattle.rtps_audit.specs.Speech.{base_for, base_of_body, said_by, speech_of, word_for, word_of}
+use Rattle.rtps_audit.specs.Speech.{base_for, said_by, speech_of, word_for, word_of}
 use Rattle.rtps_audit.proofs.IndexSpeech.{get_mapped, gives_from, heard_from, if_some, last_from, mapped_get, spoken_is_from}
 use Rattle.rtps_audit.proofs.PlacedActs.{kept_if_passed, kept_is_there, made_from, makes, stands_there, stands_where}
 use Rattle.rtps_audit.proofs.PlacedLemmas.{both, bytes_eq-sym}
