@@ -31,12 +31,12 @@ use Rattle.rtps_audit.proofs.PlacedLemmas.{both, bytes_eq-sym}
 
 -- ---- places in lists
 
-get_mapped : {X Y : Type 0} (f : X → Y) (xs : List X) (i : ℕ) (x : X) → slice_get xs i ≡ Some x → slice_get (map f xs) i ≡ Some (f x)
+pub get_mapped : {X Y : Type 0} (f : X → Y) (xs : List X) (i : ℕ) (x : X) → slice_get xs i ≡ Some x → slice_get (map f xs) i ≡ Some (f x)
 get_mapped f [] i x e = cc
 get_mapped f (y ∷ xs) zero x e = let same : y ≡ x = (let h = e in cc) in ap Some (ap f same)
 get_mapped f (y ∷ xs) (suc i) x e = get_mapped f xs i x e
 
-mapped_get : {X Y : Type 0} (f : X → Y) (xs : List X) (i : ℕ) (y : Y) → slice_get (map f xs) i ≡ Some y → (x : X) × (slice_get xs i ≡ Some x) × (f x ≡ y)
+pub mapped_get : {X Y : Type 0} (f : X → Y) (xs : List X) (i : ℕ) (y : Y) → slice_get (map f xs) i ≡ Some y → (x : X) × (slice_get xs i ≡ Some x) × (f x ≡ y)
 mapped_get f [] i y e = cc
 mapped_get f (x ∷ xs) zero y e = let same : f x ≡ y = (let h = e in cc) in (x, refl, same)
 mapped_get f (x ∷ xs) (suc i) y e = mapped_get f xs i y e
@@ -59,7 +59,7 @@ contains_mapped f xs y among = let at = contained_at (map f xs) y among in let f
 mapped_contains : {X Y : Type 0} (f : X → Y) (xs : List X) (x : X) → Contains xs x → Contains (map f xs) (f x)
 mapped_contains f xs x among = let at = contained_at xs x among in at_contained (map f xs) at.0 (f x) (get_mapped f xs at.0 x at.1)
 
-if_some : {X : Type 0} (b : Bool) (o : Option X) (x : X) → (if b then o else None) ≡ Some x → (b ≡ true) × (o ≡ Some x)
+pub if_some : {X : Type 0} (b : Bool) (o : Option X) (x : X) → (if b then o else None) ≡ Some x → (b ≡ true) × (o ≡ Some x)
 if_some true o x e = (refl, e)
 if_some false o x e = cc
 
@@ -80,12 +80,12 @@ by_body writer source (Data value) e = both (bytes_eq-sym writer.prefix.0 source
 by_body writer source (Heartbeat value) e = both (bytes_eq-sym writer.prefix.0 source.0) (bytes_eq-sym writer.entity.0 value.writer.0) ∙ e
 by_body writer source (Gap value) e = both (bytes_eq-sym writer.prefix.0 source.0) (bytes_eq-sym writer.entity.0 value.writer.0) ∙ e
 
-spoken_is_from : (writer : Guid) (placed : PlacedValue) → is_spoken_by placed.act writer ≡ true → is_from writer placed ≡ true
+pub spoken_is_from : (writer : Guid) (placed : PlacedValue) → is_spoken_by placed.act writer ≡ true → is_from writer placed ≡ true
 spoken_is_from writer placed e = by_body writer placed.act.source placed.act.body e
 
 -- ---- words
 
-gives_from : {from : ℕ} (writer reader : Guid) (recording : List (List ℕ)) (n : ℕ) (word : Word) (heard : IsHeard writer reader (filter (is_from writer) (placed_in recording)) n word) → IsAsked from n
+pub gives_from : {from : ℕ} (writer reader : Guid) (recording : List (List ℕ)) (n : ℕ) (word : Word) (heard : IsHeard writer reader (filter (is_from writer) (placed_in recording)) n word) → IsAsked from n
     → (i : ℕ) × (k : ℕ) × Gives from (speech_of writer reader recording) i k n word × (heard.at.datagram ≡ i + 1)
 gives_from {from} writer reader recording n word heard asked =
     let stands = stands_where 0 recording heard.at (kept_is_there (is_from writer) (placed_in recording) heard.at heard.among) in
@@ -100,7 +100,7 @@ gives_from {from} writer reader recording n word heard asked =
     } in
     (stands.place, at.0, gives, stands.at ∙ omega arith)
 
-heard_from : {from : ℕ} (writer reader : Guid) (recording : List (List ℕ)) (i k n : ℕ) (word : Word) → Gives from (speech_of writer reader recording) i k n word
+pub heard_from : {from : ℕ} (writer reader : Guid) (recording : List (List ℕ)) (i k n : ℕ) (word : Word) → Gives from (speech_of writer reader recording) i k n word
     → (heard : IsHeard writer reader (filter (is_from writer) (placed_in recording)) n word) × (heard.at.datagram ≡ i + 1)
 heard_from writer reader recording i k n word gives =
     let octets = mapped_get (λ octets. said_by writer reader (acts_of (reading_of octets))) recording i gives.datagram gives.stands in

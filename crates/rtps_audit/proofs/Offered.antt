@@ -1,0 +1,94 @@
+-- Lemmas about the definitions of this crate, for the crates above it: who an act is from, and that what stands among the
+-- acts of a recording is what its speech has.
+use Rattle.std.proofs.Common.{◌≡◌, ℕ, ◌+◌, ◌-◌, ◌<◌, ◌∙◌, Bool, true, false, ◌&&◌, max, filter, List, Option, Some, sym, refl, subst, arith}
+use Rattle.std.specs.Prelude.{Contains}
+use Rattle.rtps_ids.specs.declared.identity.Guid.{Guid}
+use Rattle.rtps_ids.specs.declared.identity.GuidPrefix.{GuidPrefix}
+use Rattle.rtps_wire.specs.Reading.{reading_of}
+use Rattle.rtps_receiver.specs.Acts.{acts_of}
+use Rattle.rtps_receiver.specs.Speech.{entity_from, is_answer, is_entity, is_for, is_prefix, is_spoken_by, names_pair}
+use Rattle.rtps_receiver.specs.Values.{ActBodyValue}
+use Rattle.rtps_receiver.specs.Values.ActBodyValue.{Data, Heartbeat, AckNack, Gap}
+use Rattle.rtps_audit.specs.Delivery.{Claims, Datagram, Gives, IsAsked, Word, last_announced_from}
+use Rattle.rtps_audit.specs.Hearing.{IsHeard, last_among}
+use Rattle.rtps_audit.specs.Placed.{PlacedValue, is_from, placed_in}
+use Rattle.rtps_audit.specs.Speech.{base_for, said_by, speech_of, word_for, word_of}
+use Rattle.rtps_audit.proofs.IndexSpeech.{get_mapped, gives_from, heard_from, if_some, last_from, mapped_get, spoken_is_from}
+use Rattle.rtps_audit.proofs.PlacedActs.{kept_if_passed, kept_is_there, made_from, makes, stands_there, stands_where}
+use Rattle.rtps_audit.proofs.PlacedLemmas.{both, bytes_eq-sym}
+
+-- ---- who an act is from
+
+pub speaker_is_origin : (writer : Guid) (placed : PlacedValue) → is_spoken_by placed.act writer ≡ true → is_from writer placed ≡ true
+speaker_is_origin writer placed e = spoken_is_from writer placed e
+
+pub answerer_is_origin : (reader writer : Guid) (placed : PlacedValue) → is_answer placed.act reader writer ≡ true → is_from reader placed ≡ true
+answerer_is_origin reader writer placed e = by_body placed.act.source placed.act.dest placed.act.body e
+  where
+    parts : (a c b d : Bool) → (a && (c && (b && d))) ≡ true → (a && b) ≡ true
+    parts true true true d e = refl
+    parts true true false d e = cc
+    parts true false b d e = cc
+    parts false c b d e = cc
+
+    never : (a c : Bool) → (a && (c && false)) ≡ true → false ≡ true
+    never true true e = e
+    never true false e = e
+    never false c e = e
+
+    by_body : (source : GuidPrefix) (dest : Option GuidPrefix) (body : ActBodyValue) → (is_prefix source reader.prefix && (is_for dest writer.prefix && names_pair body reader.entity writer.entity)) ≡ true
+        → (is_prefix reader.prefix source && is_entity reader.entity (entity_from body)) ≡ true
+    by_body source dest (AckNack value) e =
+        both (bytes_eq-sym reader.prefix.0 source.0) (bytes_eq-sym reader.entity.0 value.reader.0)
+        ∙ parts (is_prefix source reader.prefix) (is_for dest writer.prefix) (is_entity value.reader reader.entity) (is_entity value.writer writer.entity) e
+    by_body source dest (Data value) e = let no = never _ _ e in cc
+    by_body source dest (Heartbeat value) e = let no = never _ _ e in cc
+    by_body source dest (Gap value) e = let no = never _ _ e in cc
+
+-- ---- what a speech has
+
+-- the last announced number is that of the writer's acts
+pub last_is_last : (from : ℕ) (writer reader : Guid) (recording : List (List ℕ)) → max (from - 1) (last_among writer (filter (is_from writer) (placed_in recording))) ≡ last_announced_from from (speech_of writer reader recording)
+last_is_last from writer reader recording = last_from from writer reader recording
+
+-- an act that has a word gives it, and the other way round
+pub word_is_given : (from : ℕ) (writer reader : Guid) (recording : List (List ℕ)) (n : ℕ) (word : Word) (placed : PlacedValue) → Contains (placed_in recording) placed → word_for writer reader placed.act n ≡ Some word → IsAsked from n
+    → (i : ℕ) × (k : ℕ) × Gives from (speech_of writer reader recording) i k n word × (placed.datagram ≡ i + 1)
+word_is_given from writer reader recording n word placed among says asked =
+    let spoken = spoken_is_from writer placed (first_of _ _ (if_some _ (word_of placed.act.body n) word says).0) in
+    let heard : IsHeard writer reader (filter (is_from writer) (placed_in recording)) n word = record { at = placed; among = kept_if_passed (is_from writer) (placed_in recording) placed among spoken; says = says } in
+    gives_from writer reader recording n word heard asked
+  where
+    first_of : (a b : Bool) → (a && b) ≡ true → a ≡ true
+    first_of true b e = refl
+    first_of false b e = cc
+
+pub given_is_word : (from : ℕ) (writer reader : Guid) (recording : List (List ℕ)) (i k n : ℕ) (word : Word) → Gives from (speech_of writer reader recording) i k n word
+    → (placed : PlacedValue) × Contains (placed_in recording) placed × (word_for writer reader placed.act n ≡ Some word) × (placed.datagram ≡ i + 1)
+given_is_word from writer reader recording i k n word gives =
+    let heard = heard_from writer reader recording i k n word gives in
+    (heard.0.at, kept_is_there (is_from writer) (placed_in recording) heard.0.at heard.0.among, heard.0.says, heard.1)
+
+-- an answer claims each number below its base that is asked for, and the other way round
+pub base_is_claim : (from : ℕ) (writer reader : Guid) (recording : List (List ℕ)) (n base : ℕ) (placed : PlacedValue) → Contains (placed_in recording) placed → base_for writer reader placed.act ≡ Some base → n < base → IsAsked from n
+    → (j : ℕ) × Claims from (speech_of writer reader recording) j n × (placed.datagram ≡ j + 1)
+base_is_claim from writer reader recording n base placed among answers below asked =
+    let stands = stands_where 0 recording placed among in
+    let claims : Claims from (speech_of writer reader recording) stands.place n = record {
+      datagram = said_by writer reader (acts_of (reading_of stands.octets));
+      base = base;
+      stands = get_mapped (λ octets. said_by writer reader (acts_of (reading_of octets))) recording stands.place stands.octets stands.stands;
+      answers = makes (base_for writer reader) (acts_of (reading_of stands.octets)) placed.act base stands.among answers;
+      asked = asked;
+      below = below;
+    } in
+    (stands.place, claims, stands.at ∙ omega arith)
+
+pub claim_is_base : (from : ℕ) (writer reader : Guid) (recording : List (List ℕ)) (j n : ℕ) → Claims from (speech_of writer reader recording) j n
+    → (placed : PlacedValue) × (base : ℕ) × Contains (placed_in recording) placed × (base_for writer reader placed.act ≡ Some base) × (n < base) × (placed.datagram ≡ j + 1)
+claim_is_base from writer reader recording j n claims =
+    let octets = mapped_get (λ octets. said_by writer reader (acts_of (reading_of octets))) recording j claims.datagram claims.stands in
+    let among = subst (λ (d : Datagram). Contains d.bases claims.base) (sym octets.2) claims.answers in
+    let act = made_from (base_for writer reader) (acts_of (reading_of octets.0)) claims.base among in
+    let there = stands_there 0 j recording octets.0 act.0 octets.1 act.1 in
+    (record { datagram = 0 + j + 1; act = act.0 }, claims.base, there, act.2, claims.below, omega arith)

@@ -1,0 +1,5 @@
+pub mod CountLemmas
+pub mod FindLemmas
+pub mod MadeLemmas
+pub mod StretchLemmas
+pub mod OriginLemmas

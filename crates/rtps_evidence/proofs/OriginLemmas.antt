@@ -1,0 +1,176 @@
+-- What the acts of one GUID say is what all acts say, of what it alone can say.
+use Rattle.std.proofs.Common.{◌≡◌, ◌∙◌, ◌+◌, ◌-◌, ◌≤◌, ◌==◌, ◌&&◌, ℕ, zero, suc, Bool, true, false, cond, nat_le, nat_lt, max, map, filter, List, [], ◌∷◌, Option, Some, None, refl, sym, ap, subst, arith, not}
+use Rattle.std.specs.Prelude.{if◌then◌else◌, is_some, unwrap_or}
+use Rattle.std.specs.List.{cons_option, filter_map, find}
+use Rattle.std.specs.Option.{option_map}
+use Rattle.std.proofs.lemmas.Bool.Decides.{nat_tests}
+use Rattle.rtps_ids.specs.declared.identity.Guid.{Guid}
+use Rattle.rtps_wire.specs.Values.{PayloadValue}
+use Rattle.rtps_receiver.specs.Speech.{is_answer, is_heard_by, is_spoken_by}
+use Rattle.rtps_audit.specs.Delivery.{Word, greatest, last_announced_from}
+use Rattle.rtps_audit.specs.Hearing.{last_among}
+use Rattle.rtps_audit.specs.Placed.{PlacedValue, is_from, placed_in}
+use Rattle.rtps_audit.specs.Speech.{announced_for, announced_of_body, base_of_body, speech_of, word_for, word_of}
+use Rattle.rtps_audit.specs.declared.verdict.Verdict.{Verdict}
+use Rattle.rtps_audit.specs.declared.verdict.Verdict.TheVariants.{Unfounded, Conflict, Open, Complete}
+use Rattle.rtps_audit.proofs.Offered.{answerer_is_origin, last_is_last, speaker_is_origin}
+use Rattle.rtps_evidence.specs.Acting.{acknowledgement_of, announcement_at, announcement_of, base_said, claim_at, claim_of, differs, first_sending, first_sent, greatest_base, number_said, other_sending, other_sent, payload_at, payload_for, payload_in, sends, sent_at, teller_at, teller_of, tells}
+use Rattle.rtps_evidence.specs.Counted.{AreAmounts, is_sent, is_told}
+use Rattle.rtps_evidence.specs.Evidence.{claim_by, first_by, other_by, teller_by}
+use Rattle.rtps_evidence.specs.declared.counting.Amounts.{Amounts}
+use Rattle.rtps_evidence.proofs.CountLemmas.{count_same}
+use Rattle.rtps_evidence.proofs.FindLemmas.{any_filter, find_filter}
+
+-- ---- who says it
+
+some_if : {X : Type 0} (b : Bool) (o : Option X) → is_some (if b then o else None) ≡ true → b ≡ true
+some_if true o e = refl
+some_if false o e = cc
+
+positive_if : (b : Bool) (o : Option ℕ) (n : ℕ) → unwrap_or (if b then o else None) 0 ≡ n → 1 ≤ n → b ≡ true
+positive_if true o n e low = refl
+positive_if false o n e low = absurd (omega arith)
+
+first_of : (a b : Bool) → (a && b) ≡ true → a ≡ true
+first_of true b e = refl
+first_of false b e = cc
+
+tells_from : (writer reader : Guid) (n : ℕ) (placed : PlacedValue) → tells writer reader n placed ≡ true → is_from writer placed ≡ true
+tells_from writer reader n placed e = speaker_is_origin writer placed (first_of _ _ (some_if (is_spoken_by placed.act writer && is_heard_by placed.act reader) (word_of placed.act.body n) e))
+
+some_word : (word : Option Word) → is_some (payload_in word) ≡ true → is_some word ≡ true
+some_word None e = e
+some_word (Some word) e = refl
+
+sends_from : (writer reader : Guid) (n : ℕ) (placed : PlacedValue) → sends writer reader n placed ≡ true → is_from writer placed ≡ true
+sends_from writer reader n placed e = tells_from writer reader n placed (some_word (word_for writer reader placed.act n) e)
+
+differs_some : (payload : PayloadValue) (other : Option PayloadValue) → differs payload other ≡ true → is_some other ≡ true
+differs_some payload None e = cc
+differs_some payload (Some other) e = refl
+
+differs_from : (writer reader : Guid) (n : ℕ) (payload : PayloadValue) (placed : PlacedValue) → differs payload (payload_for writer reader n placed) ≡ true → is_from writer placed ≡ true
+differs_from writer reader n payload placed e = sends_from writer reader n placed (differs_some payload (payload_for writer reader n placed) e)
+
+number_from : (writer : Guid) (n : ℕ) (placed : PlacedValue) → 1 ≤ n → number_said writer placed ≡ n → is_from writer placed ≡ true
+number_from writer n placed low e = speaker_is_origin writer placed (positive_if (is_spoken_by placed.act writer) (announced_of_body placed.act.body) n e low)
+
+base_from : (writer reader : Guid) (placed : PlacedValue) → 1 ≤ base_said writer reader placed → is_from reader placed ≡ true
+base_from writer reader placed low = answerer_is_origin reader writer placed (positive_if (is_answer placed.act reader writer) (base_of_body placed.act.body) _ refl low)
+
+-- ---- so the first is the same
+
+equal_numbers : (a b : ℕ) → (a == b) ≡ true → a ≡ b
+equal_numbers a b e = grind (arith, nat_tests)
+
+less_number : (a b n base : ℕ) → ((a == b) && nat_lt n base) ≡ true → 1 ≤ base
+less_number a b n base e = grind (arith, nat_tests)
+
+pub teller_same : (writer reader : Guid) (n : ℕ) (acts : List PlacedValue) → teller_of writer reader n (filter (is_from writer) acts) ≡ teller_of writer reader n acts
+teller_same writer reader n acts = ap (option_map teller_at) (find_filter (tells writer reader n) (is_from writer) (tells_from writer reader n) acts)
+
+pub announcement_same : (from : ℕ) (writer : Guid) (number : ℕ) (acts : List PlacedValue) → 1 ≤ from → announcement_of from writer number (filter (is_from writer) acts) ≡ announcement_of from writer number acts
+announcement_same from writer number acts low = by_order (nat_le from number) refl
+  where
+    by_order : (b : Bool) → nat_le from number ≡ b
+        → (if b then option_map (announcement_at number) (find (λ placed. number_said writer placed == number) (filter (is_from writer) acts)) else None) ≡ (if b then option_map (announcement_at number) (find (λ placed. number_said writer placed == number) acts) else None)
+    by_order true e =
+        let reached : 1 ≤ number = grind (arith, nat_tests) in
+        ap (option_map (announcement_at number)) (find_filter (λ placed. number_said writer placed == number) (is_from writer) (λ placed is. number_from writer number placed reached (equal_numbers _ _ is)) acts)
+    by_order false e = refl
+
+pub claim_same : (writer reader : Guid) (datagram n : ℕ) (acts : List PlacedValue) → claim_of writer reader datagram n (filter (is_from reader) acts) ≡ claim_of writer reader datagram n acts
+claim_same writer reader datagram n acts =
+    ap (option_map (claim_at writer reader)) (find_filter (λ placed. (placed.datagram == datagram) && nat_lt n (base_said writer reader placed)) (is_from reader) (λ placed is. base_from writer reader placed (less_number placed.datagram datagram n (base_said writer reader placed) is)) acts)
+
+zero_of : (n m : ℕ) → (1 ≤ n → false ≡ true) → m ≡ max n m
+zero_of zero m f = omega arith
+zero_of (suc n) m f = let bad = f (omega arith) in cc
+
+greatest_past_one : {X : Type 0} (number : X → ℕ) (x : X) (keeps : Bool) (xs : List X) → (1 ≤ number x → keeps ≡ true) → greatest (map number (cond keeps (x ∷ xs) xs)) ≡ max (number x) (greatest (map number xs))
+greatest_past_one number x true xs h = refl
+greatest_past_one number x false xs h = zero_of (number x) (greatest (map number xs)) h
+
+greatest_kept : {X : Type 0} (number : X → ℕ) (keeps : X → Bool) → ((x : X) → 1 ≤ number x → keeps x ≡ true) → (xs : List X) → greatest (map number (filter keeps xs)) ≡ greatest (map number xs)
+greatest_kept number keeps h [] = refl
+greatest_kept number keeps h (x ∷ xs) = greatest_past_one number x (keeps x) (filter keeps xs) (h x) ∙ ap (max (number x)) (greatest_kept number keeps h xs)
+
+pub base_same : (writer reader : Guid) (acts : List PlacedValue) → greatest_base writer reader (filter (is_from reader) acts) ≡ greatest_base writer reader acts
+base_same writer reader acts = greatest_kept (base_said writer reader) (is_from reader) (base_from writer reader) acts
+
+pub acknowledgement_same : (from : ℕ) (writer reader : Guid) (acts : List PlacedValue) → acknowledgement_of from writer reader (filter (is_from reader) acts) ≡ acknowledgement_of from writer reader acts
+acknowledgement_same from writer reader acts =
+    ap (λ base. if nat_lt from base then option_map (claim_at writer reader) (find (λ placed. base_said writer reader placed == base) (filter (is_from reader) acts)) else None) (base_same writer reader acts)
+    ∙ by_order (greatest_base writer reader acts) (nat_lt from (greatest_base writer reader acts)) refl
+  where
+    by_order : (base : ℕ) (b : Bool) → nat_lt from base ≡ b
+        → (if b then option_map (claim_at writer reader) (find (λ placed. base_said writer reader placed == base) (filter (is_from reader) acts)) else None) ≡ (if b then option_map (claim_at writer reader) (find (λ placed. base_said writer reader placed == base) acts) else None)
+    by_order base true e =
+        ap (option_map (claim_at writer reader)) (find_filter (λ placed. base_said writer reader placed == base) (is_from reader)
+        (λ placed is. base_from writer reader placed (let same = equal_numbers (base_said writer reader placed) base is in let above : 1 ≤ base = grind (arith, nat_tests) in subst (λ n. 1 ≤ n) (sym same) above)) acts)
+    by_order base false e = refl
+
+pub first_same : (writer reader : Guid) (n : ℕ) (acts : List PlacedValue) → first_sent writer reader n (filter (is_from writer) acts) ≡ first_sent writer reader n acts
+first_same writer reader n acts = ap (option_map (sent_at writer reader n)) (find_filter (sends writer reader n) (is_from writer) (sends_from writer reader n) acts)
+
+pub other_same : (writer reader : Guid) (n : ℕ) (acts : List PlacedValue) → other_sent writer reader n (filter (is_from writer) acts) ≡ other_sent writer reader n acts
+other_same writer reader n acts =
+    ap (λ o. option_map (sent_at writer reader n) (other_sending writer reader n (payload_at writer reader n o) (filter (is_from writer) acts))) (find_filter (sends writer reader n) (is_from writer) (sends_from writer reader n) acts)
+    ∙ ap (option_map (sent_at writer reader n)) (by_payload (payload_at writer reader n (first_sending writer reader n acts)))
+  where
+    by_payload : (payload : Option PayloadValue) → other_sending writer reader n payload (filter (is_from writer) acts) ≡ other_sending writer reader n payload acts
+    by_payload None = refl
+    by_payload (Some payload) = find_filter (λ placed. differs payload (payload_for writer reader n placed)) (is_from writer) (differs_from writer reader n payload) acts
+
+pub amounts_same : (from last : ℕ) (writer reader : Guid) (acts : List PlacedValue) (amounts : Amounts) → AreAmounts from last writer reader (filter (is_from writer) acts) amounts → AreAmounts from last writer reader acts amounts
+amounts_same from last writer reader acts amounts are =
+    let told = λ (n : ℕ). any_filter (tells writer reader n) (is_from writer) (tells_from writer reader n) acts in
+    let sent = λ (n : ℕ). any_filter (sends writer reader n) (is_from writer) (sends_from writer reader n) acts in
+    record {
+      payloads = are.payloads ∙ count_same (is_sent writer reader (filter (is_from writer) acts)) (is_sent writer reader acts) from (last + 1) (λ n a b. sent n);
+      gone = are.gone ∙ count_same (λ n. is_told writer reader (filter (is_from writer) acts) n && not (is_sent writer reader (filter (is_from writer) acts) n)) (λ n. is_told writer reader acts n && not (is_sent writer reader acts n)) from (last + 1) (λ n a b. rw (told n, sent n) refl);
+      untold = are.untold ∙ count_same (λ n. not (is_told writer reader (filter (is_from writer) acts) n)) (λ n. not (is_told writer reader acts n)) from (last + 1) (λ n a b. ap not (told n));
+    }
+
+-- ---- the last announced number
+
+greatest_made : {X : Type 0} (h : X → Option ℕ) (xs : List X) → greatest (map (λ x. unwrap_or (h x) 0) xs) ≡ greatest (filter_map h xs)
+greatest_made h [] = refl
+greatest_made h (x ∷ xs) = by (h x) (greatest_made h xs)
+  where
+    by : (o : Option ℕ) → greatest (map (λ x. unwrap_or (h x) 0) xs) ≡ greatest (filter_map h xs) → max (unwrap_or o 0) (greatest (map (λ x. unwrap_or (h x) 0) xs)) ≡ greatest (cons_option o (filter_map h xs))
+    by None e = omega arith
+    by (Some n) e = ap (max n) e
+
+pub last_same : (from : ℕ) (writer reader : Guid) (recording : List (List ℕ)) (greatest_one last : ℕ) → greatest_one ≡ greatest (map (number_said writer) (filter (is_from writer) (placed_in recording))) → last ≡ max greatest_one (from - 1) → last ≡ last_announced_from from (speech_of writer reader recording)
+last_same from writer reader recording greatest_one last a b =
+    let made = greatest_made (λ (placed : PlacedValue). announced_for writer placed.act) (filter (is_from writer) (placed_in recording)) in
+    let is : max (from - 1) (last_among writer (filter (is_from writer) (placed_in recording))) ≡ last_announced_from from (speech_of writer reader recording) = last_is_last from writer reader recording in
+    let same : greatest_one ≡ last_among writer (filter (is_from writer) (placed_in recording)) = a ∙ made in
+    omega arith
+
+-- ---- by verdict
+
+pub teller_by_same : (verdict : Verdict) (writer reader : Guid) (acts : List PlacedValue) → teller_by verdict writer reader (filter (is_from writer) acts) ≡ teller_by verdict writer reader acts
+teller_by_same (Unfounded datagram number) writer reader acts = teller_same writer reader _ acts
+teller_by_same (Conflict number) writer reader acts = refl
+teller_by_same (Open number) writer reader acts = teller_same writer reader _ acts
+teller_by_same (Complete last) writer reader acts = refl
+
+pub claim_by_same : (verdict : Verdict) (writer reader : Guid) (acts : List PlacedValue) → claim_by verdict writer reader (filter (is_from reader) acts) ≡ claim_by verdict writer reader acts
+claim_by_same (Unfounded datagram number) writer reader acts = claim_same writer reader datagram _ acts
+claim_by_same (Conflict number) writer reader acts = refl
+claim_by_same (Open number) writer reader acts = refl
+claim_by_same (Complete last) writer reader acts = refl
+
+pub first_by_same : (verdict : Verdict) (writer reader : Guid) (acts : List PlacedValue) → first_by verdict writer reader (filter (is_from writer) acts) ≡ first_by verdict writer reader acts
+first_by_same (Unfounded datagram number) writer reader acts = refl
+first_by_same (Conflict number) writer reader acts = first_same writer reader _ acts
+first_by_same (Open number) writer reader acts = refl
+first_by_same (Complete last) writer reader acts = refl
+
+pub other_by_same : (verdict : Verdict) (writer reader : Guid) (acts : List PlacedValue) → other_by verdict writer reader (filter (is_from writer) acts) ≡ other_by verdict writer reader acts
+other_by_same (Unfounded datagram number) writer reader acts = refl
+other_by_same (Conflict number) writer reader acts = other_same writer reader _ acts
+other_by_same (Open number) writer reader acts = refl
+other_by_same (Complete last) writer reader acts = refl

@@ -1,0 +1,59 @@
+-- Why a pair has its verdict. own: each verdict can be checked by hand at the places that are named.
+use Rattle.std.specs.Prelude.{ℕ, ◌≡◌, List, Option, None}
+use Rattle.std.specs.Option.{option_map}
+use Rattle.rtps_ids.specs.declared.identity.Guid.{Guid}
+use Rattle.rtps_discovery.specs.declared.matching.Pair.{Pair}
+use Rattle.rtps_audit.specs.Delivery.{last_announced_from}
+use Rattle.rtps_audit.specs.Placed.{PlacedValue, placed_in}
+use Rattle.rtps_audit.specs.RunVerdict.{IsVerdictFrom}
+use Rattle.rtps_audit.specs.Speech.{natural, speech_of}
+use Rattle.rtps_audit.specs.declared.verdict.Verdict.{Verdict}
+use Rattle.rtps_audit.specs.declared.verdict.Verdict.TheVariants.{Unfounded, Conflict, Open, Complete}
+use Rattle.rtps_evidence.specs.Acting.{SentValue, acknowledgement_of, announcement_of, claim_of, first_sent, other_sent, sent_value, teller_of}
+use Rattle.rtps_evidence.specs.Counted.{AreAmounts}
+use Rattle.rtps_evidence.specs.declared.answering.Claim.{Claim}
+use Rattle.rtps_evidence.specs.declared.telling.Teller.{Teller}
+use Rattle.rtps_evidence.specs.declared.why.Evidence.{Evidence}
+
+-- the teller of the number, where the verdict is open or unfounded
+abbrev pub teller_by : Verdict → Guid → Guid → List PlacedValue → Option Teller
+teller_by (Unfounded datagram number) writer reader acts = teller_of writer reader (natural number) acts
+teller_by (Conflict number) writer reader acts = None
+teller_by (Open number) writer reader acts = teller_of writer reader (natural number) acts
+teller_by (Complete last) writer reader acts = None
+
+-- the claim of the number in the datagram, where the verdict is unfounded
+abbrev pub claim_by : Verdict → Guid → Guid → List PlacedValue → Option Claim
+claim_by (Unfounded datagram number) writer reader acts = claim_of writer reader datagram (natural number) acts
+claim_by (Conflict number) writer reader acts = None
+claim_by (Open number) writer reader acts = None
+claim_by (Complete last) writer reader acts = None
+
+-- the first payload for the number, and the first other one, where the verdict is conflict
+abbrev pub first_by : Verdict → Guid → Guid → List PlacedValue → Option SentValue
+first_by (Unfounded datagram number) writer reader acts = None
+first_by (Conflict number) writer reader acts = first_sent writer reader (natural number) acts
+first_by (Open number) writer reader acts = None
+first_by (Complete last) writer reader acts = None
+
+abbrev pub other_by : Verdict → Guid → Guid → List PlacedValue → Option SentValue
+other_by (Unfounded datagram number) writer reader acts = None
+other_by (Conflict number) writer reader acts = other_sent writer reader (natural number) acts
+other_by (Open number) writer reader acts = None
+other_by (Complete last) writer reader acts = None
+
+-- It is the evidence of this recording for a writer and a reader, by the numbers from `from` on: the verdict, and what it
+-- rests on.
+pub record IsEvidenceFrom (from : ℕ) (pair : Pair) (recording : List (List ℕ)) (evidence : Evidence) : Type 0 where
+  pub verdict : IsVerdictFrom from (speech_of pair.writer pair.reader recording) evidence.verdict
+  pub announcement : evidence.announcement ≡ announcement_of from pair.writer (last_announced_from from (speech_of pair.writer pair.reader recording)) (placed_in recording)
+  pub acknowledgement : evidence.acknowledgement ≡ acknowledgement_of from pair.writer pair.reader (placed_in recording)
+  pub amounts : AreAmounts from (last_announced_from from (speech_of pair.writer pair.reader recording)) pair.writer pair.reader (placed_in recording) (record { payloads = evidence.payloads; gone = evidence.gone; untold = evidence.untold })
+  pub teller : evidence.teller ≡ teller_by evidence.verdict pair.writer pair.reader (placed_in recording)
+  pub claim : evidence.claim ≡ claim_by evidence.verdict pair.writer pair.reader (placed_in recording)
+  pub first : option_map sent_value evidence.first_sent ≡ first_by evidence.verdict pair.writer pair.reader (placed_in recording)
+  pub other : option_map sent_value evidence.other_sent ≡ other_by evidence.verdict pair.writer pair.reader (placed_in recording)
+
+-- by all numbers
+abbrev pub IsEvidence : Pair → List (List ℕ) → Evidence → Type 0
+IsEvidence pair recording evidence = IsEvidenceFrom 1 pair recording evidence

@@ -1,0 +1,106 @@
+ghost use Rattle.std.specs.Prelude.{ℕ, ◌≡◌, ◌-◌, ◌<◌, ◌≤◌, ◌||◌, ◌^◌, map, IfOk, OnOk};
+ghost use Rattle.rtps_audit.specs.Placed.{placed_value};
+ghost use Rattle.rtps_evidence.specs.Acting.{sends, tells};
+ghost use Rattle.rtps_evidence.specs.Counted.{AreAmounts, is_sent, is_told, stretches_have};
+
+use crate::stretches::{Stretch, count_of, push_gap};
+use rtps_audit::Placed;
+use rtps_discovery::Pair;
+use rtps_ids::{Memory, SeqNum};
+use rtps_receiver::ActBody;
+use std::alloc::Global;
+
+/// Of the numbers from one to another: how many have a payload, are gone without one, and have no word.
+#[derive(Clone, Copy, Debug)]
+pub(crate) struct Amounts {
+    pub(crate) payloads: u64,
+    pub(crate) gone: u64,
+    pub(crate) untold: u64,
+}
+
+/// Appends the numbers that have a word by an act which the pair's reader hears from its writer.
+fn push_told(stretches: &mut Vec<Stretch>, placed: &Placed<'_>, pair: Pair) -> Result<(), Memory>
+    ensures { OnOk result ((n : ℕ) → stretches_have stretches.new.items n
+        ≡ (stretches_have stretches.old.items n || tells pair.writer pair.reader n (placed_value placed.now))) }
+{
+    if !placed.act.spoken_by(pair.writer) || !placed.act.heard_by(pair.reader) {
+        return Ok(());
+    }
+    match &placed.act.body {
+        ActBody::Data(data) => {
+            let lo = data.number.get().cast_unsigned();
+            stretches.push(Stretch { lo, hi: lo + 1 })?;
+            Ok(())
+        }
+        ActBody::Heartbeat(heartbeat) => {
+            let hi = heartbeat.first.get().cast_unsigned();
+            stretches.push(Stretch { lo: 0, hi })?;
+            Ok(())
+        }
+        ActBody::Gap(gap) => push_gap(stretches, gap),
+        ActBody::AckNack(_) => Ok(()),
+    }
+}
+
+/// Appends the number that has a payload by an act which the pair's reader hears from its writer.
+fn push_sent(stretches: &mut Vec<Stretch>, placed: &Placed<'_>, pair: Pair) -> Result<(), Memory>
+    ensures { OnOk result ((n : ℕ) → stretches_have stretches.new.items n
+        ≡ (stretches_have stretches.old.items n || sends pair.writer pair.reader n (placed_value placed.now))) }
+{
+    if !placed.act.spoken_by(pair.writer) || !placed.act.heard_by(pair.reader) {
+        return Ok(());
+    }
+    if let ActBody::Data(data) = &placed.act.body {
+        let lo = data.number.get().cast_unsigned();
+        stretches.push(Stretch { lo, hi: lo + 1 })?;
+    }
+    Ok(())
+}
+
+/// The numbers that have a word by these acts.
+fn told_by(alloc: Global, acts: &[Placed<'_>], pair: Pair) -> Result<Vec<Stretch>, Memory>
+    ensures { IfOk result (λ stretches. (n : ℕ)
+        → stretches_have stretches.items n ≡ is_told pair.writer pair.reader (map placed_value acts.now) n) }
+{
+    let mut stretches = Vec::new(alloc);
+    for placed in acts {
+        push_told(&mut stretches, placed, pair)?;
+    }
+    Ok(stretches)
+}
+
+/// The numbers that have a payload by these acts.
+fn sent_by(alloc: Global, acts: &[Placed<'_>], pair: Pair) -> Result<Vec<Stretch>, Memory>
+    ensures { IfOk result (λ stretches. (n : ℕ)
+        → stretches_have stretches.items n ≡ is_sent pair.writer pair.reader (map placed_value acts.now) n) }
+{
+    let mut stretches = Vec::new(alloc);
+    for placed in acts {
+        push_sent(&mut stretches, placed, pair)?;
+    }
+    Ok(stretches)
+}
+
+/// The amounts of the numbers from `from` to `last`, which is `from` - 1 or above, by these acts.
+pub(crate) fn count_amounts(
+    alloc: Global,
+    acts: &[Placed<'_>],
+    pair: Pair,
+    from: SeqNum,
+    last: u64,
+) -> Result<Amounts, Memory>
+    requires reached { from - 1 ≤ last }
+    requires in_range { last < 2 ^ 63 }
+    ensures { IfOk result (AreAmounts from last pair.writer pair.reader (map placed_value acts.now)) }
+{
+    let first = from.get().cast_unsigned();
+    let mut told = told_by(alloc, acts, pair)?;
+    let mut sent = sent_by(alloc, acts, pair)?;
+    let told = count_of(&mut told, first, last + 1)?;
+    let payloads = count_of(&mut sent, first, last + 1)?;
+    Ok(Amounts {
+        payloads,
+        gone: told - payloads,
+        untold: last + 1 - first - told,
+    })
+}

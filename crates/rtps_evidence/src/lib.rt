@@ -1,0 +1,19 @@
+//! Why a recording gives a pair its verdict, place by place, so that each verdict can be checked by hand
+//! (DDSI-RTPS 2.5, 8.4 "Behavior Module").
+#![tactic(auto)]
+
+mod announcing;
+mod answering;
+mod counting;
+mod places;
+mod sending;
+mod stretches;
+mod telling;
+mod why;
+
+pub use announcing::Announcement;
+pub use answering::Claim;
+pub use places::{Kind, Place};
+pub use sending::Sent;
+pub use telling::Teller;
+pub use why::Evidence;

@@ -1,0 +1,47 @@
+ghost use Rattle.std.specs.Prelude.{◌≡◌};
+ghost use Rattle.rtps_receiver.specs.Values.{act_body_value};
+ghost use Rattle.rtps_audit.specs.Placed.{placed_value};
+ghost use Rattle.rtps_evidence.specs.Acting.{kind_of as kind_of_lem, place_of as place_of_lem};
+
+use rtps_audit::Placed;
+use rtps_receiver::ActBody;
+
+/// Where a submessage stands in a recording.
+#[derive(Clone, Copy, PartialEq, Eq, PartialOrd, Ord, Debug)]
+pub struct Place {
+    /// Its datagram, counted from 1.
+    pub datagram: u64,
+    /// The place of its first octet in the datagram, from 0.
+    pub at: usize,
+}
+
+/// Which submessage it is.
+#[derive(Clone, Copy, PartialEq, Eq, Debug)]
+pub enum Kind {
+    Data,
+    Heartbeat,
+    AckNack,
+    Gap,
+}
+
+/// Where an act stands.
+pub(crate) fn place_of(placed: &Placed<'_>) -> Place
+    ensures { result ≡ place_of_lem (placed_value placed.now) }
+{
+    Place {
+        datagram: placed.datagram as u64,
+        at: placed.act.at,
+    }
+}
+
+/// Which submessage an act is.
+pub(crate) fn kind_of(body: &ActBody<'_>) -> Kind
+    ensures { result ≡ kind_of_lem (act_body_value body.now) }
+{
+    match body {
+        ActBody::Data(_) => Kind::Data,
+        ActBody::Heartbeat(_) => Kind::Heartbeat,
+        ActBody::AckNack(_) => Kind::AckNack,
+        ActBody::Gap(_) => Kind::Gap,
+    }
+}
