@@ -192,9 +192,13 @@ def acts_of(d):
     return acts
 
 
-def recording_of(text):
-    """datagrams of a text, or the line that is written to standard error"""
-    if len(text) > 1073741824:
+# The most datagrams and the most octets of an input where no others are chosen.
+USUAL = 1000000, 1073741824
+
+
+def recording_of(text, limits=USUAL):
+    """datagrams of a text within limits, or the last line that is written to standard error"""
+    if len(text) > limits[1]:
         return 'too many datagrams'
     datagrams = []
     lines = text.split(b'\n')
@@ -205,7 +209,7 @@ def recording_of(text):
             line = line[:-1]
         if not line or line.startswith(b'#'):
             continue
-        if len(datagrams) == 1000000:
+        if len(datagrams) == limits[0]:
             return 'too many datagrams'
         if len(line) > 131070:
             return f'line {n}: too long'
@@ -238,8 +242,8 @@ def payload_of(link, frame):
     return udp[8:size] if 8 <= size <= len(udp) else None
 
 
-def capture_of(file):
-    """datagrams of a capture and how many frames were ignored, or the line that is written to standard error"""
+def capture_of(file, limits=USUAL):
+    """datagrams of a capture and how many frames were ignored, or the last line that is written to standard error"""
     order = CAPTURES[file[:4].hex()]
     if len(file) < 24 or int.from_bytes(file[4:6], order) != 2:
         return 'bad capture'
@@ -254,18 +258,18 @@ def capture_of(file):
             return f'frame {frame}: cut'
         payload = payload_of(link, file[at + 16:at + 16 + size])
         if payload is not None:
-            if len(datagrams) == 1000000:
+            if len(datagrams) == limits[0]:
                 return 'too many datagrams'
             datagrams.append(payload)
         at += 16 + size
     return datagrams, frame - len(datagrams)
 
 
-def input_of(octets):
-    """datagrams of an input, and of a capture how many frames were ignored, or the line that is written to standard error"""
-    if len(octets) <= 1073741824 and octets[:4].hex() in CAPTURES:
-        return capture_of(octets)
-    datagrams = recording_of(octets)
+def input_of(octets, limits=USUAL):
+    """datagrams of an input, and of a capture how many frames were ignored, or the last line on standard error"""
+    if len(octets) <= limits[1] and octets[:4].hex() in CAPTURES:
+        return capture_of(octets, limits)
+    datagrams = recording_of(octets, limits)
     return datagrams if isinstance(datagrams, str) else (datagrams, None)
 
 
@@ -552,9 +556,9 @@ def audit(datagrams, first=1):
 VIEWS = {'show': show, 'list': list_text, 'audit': audit}
 
 
-def answer(view, text, first=1):
+def answer(view, text, first=1, limits=USUAL):
     """text and status of the program; `first` is for audit alone"""
-    read = input_of(text)
+    read = input_of(text, limits)
     if isinstance(read, str):
         return '', 2
     datagrams, ignored = read
@@ -781,6 +785,12 @@ def some_lines(rng, long):
     return text[:-1] if text and rng.random() < 0.4 else text
 
 
+def passed_limit(octets, limits):
+    """the line that tells of standard input which limit it passes"""
+    most, what = (limits[1], 'octets') if len(octets) > limits[1] else (limits[0], 'datagrams')
+    return f'rtps-audit: -: more than {most} {what}; --max-{what} N raises this limit\n'
+
+
 def in_pieces(rng, program, words, text):
     child = subprocess.Popen(program.split() + words, stdin=subprocess.PIPE, stdout=subprocess.PIPE, stderr=subprocess.PIPE, bufsize=0)
     at, most = 0, rng.choice([1, 3, 50, 1 << 16, 1 << 20]) if len(text) < 2000 else rng.choice([30000, 65536, 131071, 1 << 20])
@@ -796,13 +806,17 @@ def texts(program, count, seed):
     rng, differing, faulty = random.Random(seed), 0, 0
     for k in range(count):
         text = some_lines(rng, rng.random() < 0.5)
-        found = recording_of(text)
+        limits = USUAL if rng.random() < 0.5 else (rng.randrange(1, 5), max(1, len(text) + rng.randrange(-2, 3)))
+        words = ['--max-datagrams', str(limits[0]), '--max-octets', str(limits[1])] if limits != USUAL else []
+        found = recording_of(text, limits)
         faulty += isinstance(found, str)
         told = f'rtps-audit: {found}\n' if isinstance(found, str) else ''
-        want, status = answer('show', text)
-        if in_pieces(rng, program, ['show', '-'], text) != (want, told, status):
+        if found == 'too many datagrams':
+            told = passed_limit(text, limits) + told
+        want, status = answer('show', text, limits=limits)
+        if in_pieces(rng, program, ['show', *words, '-'], text) != (want, told, status):
             differing += 1
-            print(f'text {k} differs, kept in {kept(text)}')
+            print(f'text {k} differs within {limits}, kept in {kept(text)}')
     print(f'{count} texts, {faulty} of them no recordings, {differing} differences')
     return int(differing > 0)
 

@@ -74,13 +74,13 @@ class Tests:
         self.program, self.passed, self.failed = program, 0, 0
         self.file = tempfile.NamedTemporaryFile()
 
-    def run(self, view, octets):
-        """standard output, the last line of standard error and the status of the program"""
+    def run(self, view, octets, words=()):
+        """standard output, standard error and the status of the program"""
         self.file.seek(0)
         self.file.truncate()
         self.file.write(octets)
         self.file.flush()
-        done = subprocess.run([self.program, view, self.file.name], capture_output=True)
+        done = subprocess.run([self.program, view, *words, self.file.name], capture_output=True)
         return done.stdout.decode(), done.stderr.decode(), done.returncode
 
     def holds(self, name, wanted, got):
@@ -90,14 +90,18 @@ class Tests:
         self.failed += 1
         print(f'FAILED: {name}\n-- wanted {wanted}\n-- got    {got}'[:900])
 
-    def answers(self, name, view, octets, wanted, status=0):
-        self.holds(f'{view}: {name}', (wanted, '', status), self.run(view, octets))
+    def answers(self, name, view, octets, wanted, status=0, words=()):
+        self.holds(f'{view}: {name}', (wanted, '', status), self.run(view, octets, words))
 
-    def refuses(self, name, octets, fault, reason=''):
+    def refuses(self, name, octets, fault, reason='', words=()):
         """in each view, with the reason in front, if there is one"""
         told = reason.replace('FILE', self.file.name)
         for view in ('show', 'list', 'audit'):
-            self.holds(f'{view}: {name}', ('', f'{told}rtps-audit: {fault}\n', 2), self.run(view, octets))
+            self.holds(f'{view}: {name}', ('', f'{told}rtps-audit: {fault}\n', 2), self.run(view, octets, words))
+
+    def passes(self, name, octets, most, what, words=()):
+        """in each view, the most octets or datagrams"""
+        self.refuses(name, octets, 'too many datagrams', f'rtps-audit: FILE: more than {most} {what}; --max-{what} N raises this limit\n', words)
 
     def agrees(self, name, octets, views=('audit',)):
         """each view is what the second implementation says"""
@@ -297,9 +301,10 @@ def pipes(tests):
 def limits(tests):
     empty = record(packet(b''))
     tests.answers('1,000,000 datagrams', 'audit', start() + empty * 1000000, audited(1000000, 1000000, 0))
-    tests.refuses('1,000,001 datagrams', start() + empty * 1000001, 'too many datagrams')
+    tests.passes('1,000,001 datagrams', start() + empty * 1000001, 1000000, 'datagrams')
+    tests.answers('1,000,001 datagrams', 'audit', start() + empty * 1000001, audited(1000001, 1000001, 0), words=('--max-datagrams', '1000001'))
     tests.refuses('1,000,000 datagrams and a frame that is cut', start() + empty * 1000000 + empty[:-1], 'frame 1000001: cut')
-    tests.refuses('1,000,001 datagrams and a frame that is cut', start() + empty * 1000001 + empty[:-1], 'too many datagrams')
+    tests.passes('1,000,001 datagrams and a frame that is cut', start() + empty * 1000001 + empty[:-1], 1000000, 'datagrams')
     tests.answers('2,000,000 ignored frames', 'audit', start() + record(b'') * 2000000, audited(0, 0, 2000000))
     most = 2 ** 30
     frame = record(bytes(65535 * 16))
@@ -308,16 +313,38 @@ def limits(tests):
     whole = start() + frame * count + record(bytes(rest - 16))
     assert len(whole) == most
     tests.answers('1,073,741,824 octets', 'audit', whole, audited(0, 0, count + 1))
-    tests.refuses('1,073,741,825 octets', whole + b'\0', 'too many datagrams')
-    tests.refuses('1,073,741,825 octets of another version', whole[:4] + b'\3' + whole[5:] + b'\0', 'too many datagrams')
-    print('limits: 8')
+    tests.passes('1,073,741,825 octets', whole + b'\0', most, 'octets')
+    tests.passes('1,073,741,825 octets of another version', whole[:4] + b'\3' + whole[5:] + b'\0', most, 'octets')
+    tests.refuses('1,073,741,825 octets', whole + b'\0', f'frame {count + 2}: cut', words=('--max-octets', str(most + 1)))
+    print('limits: 10')
+
+
+# ---- limits that are chosen: three datagrams with a frame between that gives none
+
+def chosen_limits(tests):
+    ignored = record(b'')
+    octets = start() + record(packet(b'')) + ignored + record(packet(b'')) * 2
+    size = len(octets)
+    for most in (3, 4, 2 ** 63 - 1):
+        tests.answers(f'at most {most} datagrams', 'audit', octets, audited(3, 3, 1), words=('--max-datagrams', str(most)))
+    for most in (1, 2):
+        tests.passes(f'at most {most} datagrams', octets, most, 'datagrams', ('--max-datagrams', str(most)))
+    tests.answers('ignored frames behind the last datagram', 'audit', octets + ignored, audited(3, 3, 2), words=('--max-datagrams', '3'))
+    tests.refuses('a frame that is cut behind the last datagram', octets + ignored[:-1], 'frame 5: cut', words=('--max-datagrams', '3'))
+    for most in (size, size + 1, 2 ** 63 - 1):
+        tests.answers(f'at most {most} octets', 'audit', octets, audited(3, 3, 1), words=('--max-octets', str(most)))
+    for most in (1, 3, 4, 24, size - 1):
+        tests.passes(f'at most {most} octets', octets, most, 'octets', ('--max-octets', str(most)))
+    tests.passes('too many of both', octets, size - 1, 'octets', ('--max-datagrams', '2', '--max-octets', str(size - 1)))
+    tests.passes('too many octets of no capture', octets[:4] + b'\3' + octets[5:], size - 1, 'octets', ('--max-octets', str(size - 1)))
+    print('limits that are chosen: 16')
 
 
 def main():
     if len(sys.argv) != 2:
         raise SystemExit(__doc__)
     tests = Tests(os.path.realpath(sys.argv[1]))
-    for group in (rows, cut_and_changed, kinds, random_captures, pipes, limits):
+    for group in (rows, cut_and_changed, kinds, random_captures, pipes, limits, chosen_limits):
         group(tests)
     print(f'{tests.passed} passed, {tests.failed} failed')
     return 0 if tests.passed and not tests.failed else 1

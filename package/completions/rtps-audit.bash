@@ -8,7 +8,7 @@ _rtps_audit() {
     fi
     case $command in
     show | list | audit)
-        local options='-h --help'
+        local options='--max-datagrams --max-octets -h --help'
         if [ "$command" = audit ]; then options="--from $options"; fi
         case $word in
         -*) mapfile -t COMPREPLY < <(compgen -W "$options" -- "$word") ;;

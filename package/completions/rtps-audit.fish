@@ -9,4 +9,6 @@ complete -c rtps-audit -n __fish_use_subcommand -s V -l version -d 'Print versio
 complete -c rtps-audit -s h -l help -d 'Print help'
 complete -c rtps-audit -n '__fish_seen_subcommand_from show list audit' -F
 complete -c rtps-audit -n '__fish_seen_subcommand_from audit' -x -l from -d 'The first number that the readers are owed'
+complete -c rtps-audit -n '__fish_seen_subcommand_from show list audit' -x -l max-datagrams -d 'The most datagrams of the recording'
+complete -c rtps-audit -n '__fish_seen_subcommand_from show list audit' -x -l max-octets -d 'The most octets of FILE'
 complete -c rtps-audit -n '__fish_seen_subcommand_from help' -a 'show list audit sample help'

@@ -1,5 +1,5 @@
 use rtps_ids::SeqNum;
-use rtps_tool::{Choice, RunFault, WordFault, read_words, write_fault};
+use rtps_tool::{Choice, Limits, RunFault, WordFault, read_words, write_fault};
 use std::alloc::Global;
 use std::test::Fail;
 
@@ -12,9 +12,13 @@ fn a_line_that_cannot_be_written_is_told(rt: HostRuntime) {
 // The subcommand and the FILE that the words choose, or why they choose none.
 fn chosen_of(alloc: Global, words: &[&str]) -> Result<(&'static str, String), WordFault> {
     Ok(match read_words(alloc, words)? {
-        Choice::Show { file } => ("show", file),
-        Choice::List { file } => ("list", file),
-        Choice::Audit { file, from: _ } => ("audit", file),
+        Choice::Show { file, limits: _ } => ("show", file),
+        Choice::List { file, limits: _ } => ("list", file),
+        Choice::Audit {
+            file,
+            from: _,
+            limits: _,
+        } => ("audit", file),
         Choice::Sample => ("sample", String::new(alloc)),
     })
 }
@@ -46,8 +50,12 @@ fn a_subcommand_is_chosen_with_its_file(rt: HostRuntime) -> Result<(), Fail> {
 // The number from which on the words ask `audit`; None where they choose something else.
 fn number_of(alloc: Global, words: &[&str]) -> Result<Option<SeqNum>, WordFault> {
     Ok(match read_words(alloc, words)? {
-        Choice::Audit { file: _, from } => Some(from),
-        Choice::Show { file: _ } | Choice::List { file: _ } | Choice::Sample => None,
+        Choice::Audit {
+            file: _,
+            from,
+            limits: _,
+        } => Some(from),
+        Choice::Show { .. } | Choice::List { .. } | Choice::Sample => None,
     })
 }
 
@@ -72,6 +80,43 @@ fn a_number_is_chosen(rt: HostRuntime) {
     }
 }
 
+#[test]
+fn limits_are_chosen(rt: HostRuntime) {
+    let alloc = rt.alloc();
+    for (words, datagrams, octets) in [
+        (["rtps-audit", "show", "-"].as_slice(), 1_000_000, 1 << 30),
+        (
+            ["rtps-audit", "list", "-", "--max-datagrams=1"].as_slice(),
+            1,
+            1 << 30,
+        ),
+        (
+            ["rtps-audit", "audit", "--max-octets", "0017", "-"].as_slice(),
+            1_000_000,
+            17,
+        ),
+        (
+            [
+                "rtps-audit",
+                "audit",
+                "--max-octets=5",
+                "--from=3",
+                "-",
+                "--max-datagrams",
+                "9223372036854775807",
+            ]
+            .as_slice(),
+            9_223_372_036_854_775_807,
+            5,
+        ),
+    ] {
+        let choice = read_words(alloc, words).expect(&rt, "a choice");
+        assert_eq!(rt; choice.limits(), Some(Limits { datagrams, octets }));
+    }
+    let sample = read_words(alloc, &["rtps-audit", "sample"]).expect(&rt, "a choice");
+    assert_eq!(rt; sample.limits(), None);
+}
+
 // Whether the words are refused.
 fn are_refused(alloc: Global, words: &[&str]) -> bool {
     matches!(&read_words(alloc, words), Err(WordFault::Refused(_)))
@@ -87,6 +132,12 @@ fn what_is_no_number_is_refused(rt: HostRuntime) {
     assert!(rt; are_refused(alloc, &["rtps-audit", "show", "--from", "1", "-"]));
     let twice = ["rtps-audit", "audit", "--from", "1", "--from", "1", "-"];
     assert!(rt; are_refused(alloc, &twice));
+    for option in ["--max-datagrams", "--max-octets"] {
+        for number in ["0", "9223372036854775808", "-1", "1x", ""] {
+            assert!(rt; are_refused(alloc, &["rtps-audit", "show", option, number, "-"]));
+        }
+        assert!(rt; are_refused(alloc, &["rtps-audit", "sample", option, "1"]));
+    }
 }
 
 // Whether the words ask for help.
