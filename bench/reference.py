@@ -3,6 +3,7 @@
 
     reference.py show|list|audit FILE      prints what `rtps-audit` should print
     reference.py audit --from N FILE       the same, of the numbers from N on
+    reference.py why [--from N] FILE       the report, with what each row rests on
     reference.py compare PROGRAM [COUNT [SEED]]
                                            runs PROGRAM on COUNT random recordings, and says where it differs
     reference.py texts PROGRAM [COUNT [SEED]]
@@ -553,19 +554,102 @@ def audit(datagrams, first=1):
     return out
 
 
+# ---- the evidence
+
+def covered(spans, lo, hi):
+    """how many numbers from `lo` on and below `hi` lie in these spans"""
+    count, at = 0, lo
+    for start, end in sorted(spans):
+        start, end = max(start, at), min(end, hi)
+        if start < end:
+            count, at = count + end - start, end
+    return count
+
+
+def last_number(act):
+    """the number that an act of a writer announces"""
+    return act['number'] if act['kind'] == 'data' else act['last'] if act['kind'] == 'heartbeat' else 0
+
+
+def payload_words(payload):
+    return 'absent' if payload[0] == 'absent' else f'{payload[0]} {len(payload[1])}'
+
+
+def evidence(recording, w, r, first=1):
+    """the lines of a pair behind its names: what the verdict rests on, of the numbers from `first` on"""
+    placed = [(i, act) for i, acts in enumerate(recording, 1) for act in acts]
+    said = [(i, act) for i, act in placed if spoken(act, w)]
+    told = [(i, act, Words(act)) for i, act in said if heard(act, r)]
+    answers = [(i, act['set'][0], act['at']) for i, act in placed if answered(act, w, r)]
+
+    def teller(n):
+        for i, act, words in told:
+            if any(lo <= n < hi for lo, hi in words.spans):
+                return f'number {n} told by {act["kind"]} in datagram {i} at {act["at"]}'
+        return f'number {n} told nowhere'
+
+    lines = []
+    last = max([first - 1] + [last_number(act) for _, act in said])
+    if last >= first:
+        i, act = next((i, act) for i, act in said if last_number(act) == last)
+        lines.append(f'announced {last} by {act["kind"]} in datagram {i} at {act["at"]}')
+    else:
+        lines.append('announced nothing')
+    base = max([0] + [base for _, base, _ in answers])
+    if base > first:
+        i, at = next((i, at) for i, b, at in answers if b == base)
+        lines.append(f'acknowledged below {base} in datagram {i} at {at}')
+    else:
+        lines.append('acknowledged nothing')
+    all_told = covered([span for _, _, words in told for span in words.spans], first, last + 1)
+    payloads = covered([span for _, _, words in told if words.payload is not None for span in words.spans], first, last + 1)
+    lines.append(f'payloads {payloads} gone {all_told - payloads} untold {last + 1 - first - all_told}')
+    verdict, *numbers = judge(recording, w, r, first).split()
+    if verdict == 'open':
+        lines.append(teller(int(numbers[0])))
+    elif verdict == 'conflict':
+        n = int(numbers[0])
+        sent = [(i, act) for i, act, _ in told if act['kind'] == 'data' and act['number'] == n]
+        other = next(one for one in sent if one[1]['payload'] != sent[0][1]['payload'])
+        for i, act in (sent[0], other):
+            lines.append(f'number {n} payload {payload_words(act["payload"])} in datagram {i} at {act["at"]}')
+    elif verdict == 'unfounded':
+        datagram, n = map(int, numbers)
+        base, at = next((b, at) for i, b, at in answers if i == datagram and b > n)
+        lines.append(f'claimed below {base} in datagram {datagram} at {at}')
+        lines.append(teller(n))
+    return lines
+
+
+def why(datagrams, first=1):
+    """the report, with what each row rests on"""
+    report = audit(datagrams, first)
+    named = {guid: (topic, kind) for guid, _, topic, kind, _, _ in discovery(datagrams)[1]}
+    recording = [acts_of(d) for d in datagrams]
+    out = report[:1]
+    for row in report[1:-1]:
+        w, r = (bytes.fromhex(guid.replace('.', '')) for guid in row.split()[:2])
+        topic, kind = named[w]
+        out += [f'pair {row}', f'  topic "{name_text(topic)}" type "{name_text(kind)}"']
+        out += ['  ' + line for line in evidence(recording, w, r, first)]
+    return out + report[-1:]
+
+
 VIEWS = {'show': show, 'list': list_text, 'audit': audit}
+# those that take the number from which on numbers are asked for
+REPORTS = {'audit': audit, 'why': why}
 
 
 def answer(view, text, first=1, limits=USUAL):
-    """text and status of the program; `first` is for audit alone"""
+    """text and status of the program; `first` is for reports alone"""
     read = input_of(text, limits)
     if isinstance(read, str):
         return '', 2
     datagrams, ignored = read
-    lines = audit(datagrams, first) if view == 'audit' else VIEWS[view](datagrams)
-    if view == 'audit' and ignored is not None:
+    lines = REPORTS[view](datagrams, first) if view in REPORTS else VIEWS[view](datagrams)
+    if view in REPORTS and ignored is not None:
         lines[-1] += f' ignored {ignored}'
-    unclean = view == 'audit' and any(' complete ' not in line for line in lines[1:-1])
+    unclean = view in REPORTS and any(' complete ' not in line for line in audit(datagrams, first)[1:-1])
     return ''.join(line + '\n' for line in lines), int(unclean)
 
 

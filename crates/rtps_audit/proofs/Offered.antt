@@ -1,6 +1,6 @@
 -- Lemmas about the definitions of this crate, for the crates above it: who an act is from, and that what stands among the
 -- acts of a recording is what its speech has.
-use Rattle.std.proofs.Common.{◌≡◌, ℕ, ◌+◌, ◌-◌, ◌<◌, ◌∙◌, Bool, true, false, ◌&&◌, max, filter, List, Option, Some, sym, refl, subst, arith}
+use Rattle.std.proofs.Common.{◌≡◌, ℕ, ◌+◌, ◌-◌, ◌<◌, ◌∙◌, Bool, true, false, ◌&&◌, max, filter, List, Option, Some, sym, refl, subst, arith, ◌≤◌, zero, suc}
 use Rattle.std.specs.Prelude.{Contains}
 use Rattle.rtps_ids.specs.declared.identity.Guid.{Guid}
 use Rattle.rtps_ids.specs.declared.identity.GuidPrefix.{GuidPrefix}
@@ -9,10 +9,17 @@ use Rattle.rtps_receiver.specs.Acts.{acts_of}
 use Rattle.rtps_receiver.specs.Speech.{entity_from, is_answer, is_entity, is_for, is_prefix, is_spoken_by, names_pair}
 use Rattle.rtps_receiver.specs.Values.{ActBodyValue}
 use Rattle.rtps_receiver.specs.Values.ActBodyValue.{Data, Heartbeat, AckNack, Gap}
-use Rattle.rtps_audit.specs.Delivery.{Claims, Datagram, Gives, IsAsked, Word, last_announced_from}
+use Rattle.rtps_audit.specs.Delivery.{Claims, Datagram, DeliveryState, Ends, Gives, HasRun, Holds, IsAsked, Speech, Word, greatest, last_announced_from}
+use Rattle.rtps_audit.specs.PlainVerdict.{IsFounded, IsSpoken, IsUnclaimed}
+use Rattle.rtps_audit.specs.RunVerdict.{EndsWithout}
+use Rattle.rtps_audit.proofs.Greatest.{greatest_below}
+use Rattle.rtps_audit.proofs.Sound.{founded_from_run, held_from_claim, spoken_from_held}
+use Rattle.rtps_audit.proofs.Verdicts.{ends_without}
+use Rattle.rtps_audit.proofs.DeliveryRuns.{Ends-took, took}
+use Rattle.std.proofs.lemmas.List.Elements.{Contains-append_left, Contains-push}
 use Rattle.rtps_audit.specs.Hearing.{IsHeard, last_among}
 use Rattle.rtps_audit.specs.Placed.{PlacedValue, is_from, placed_in}
-use Rattle.rtps_audit.specs.Speech.{base_for, said_by, speech_of, word_for, word_of}
+use Rattle.rtps_audit.specs.Speech.{announced_for, announced_of_body, base_for, said_by, speech_of, word_for, word_of}
 use Rattle.rtps_audit.proofs.IndexSpeech.{get_mapped, gives_from, heard_from, if_some, last_from, mapped_get, spoken_is_from}
 use Rattle.rtps_audit.proofs.PlacedActs.{kept_if_passed, kept_is_there, made_from, makes, stands_there, stands_where}
 use Rattle.rtps_audit.proofs.PlacedLemmas.{both, bytes_eq-sym}
@@ -92,3 +99,47 @@ claim_is_base from writer reader recording j n claims =
     let act = made_from (base_for writer reader) (acts_of (reading_of octets.0)) claims.base among in
     let there = stands_there 0 j recording octets.0 act.0 octets.1 act.1 in
     (record { datagram = 0 + j + 1; act = act.0 }, claims.base, there, act.2, claims.below, omega arith)
+
+-- a number that the writer announces is at most the last one
+pub announced_is_reached : (from : ℕ) (writer reader : Guid) (recording : List (List ℕ)) (n : ℕ) (placed : PlacedValue) → Contains (placed_in recording) placed → announced_for writer placed.act ≡ Some n
+    → n ≤ last_announced_from from (speech_of writer reader recording)
+announced_is_reached from writer reader recording n placed among announces =
+    let spoken = spoken_is_from writer placed (if_some _ (announced_of_body placed.act.body) n announces).0 in
+    let kept = kept_if_passed (is_from writer) (placed_in recording) placed among spoken in
+    let number = makes (λ (at : PlacedValue). announced_for writer at.act) (filter (is_from writer) (placed_in recording)) placed n kept announces in
+    let below : n ≤ last_among writer (filter (is_from writer) (placed_in recording)) = at_most n _ number in
+    let is = last_from from writer reader recording in
+    omega arith
+  where
+    at_most : (n : ℕ) (ns : List ℕ) → Contains ns n → n ≤ greatest ns
+    at_most zero ns among = omega arith
+    at_most (suc n) ns among = let lt = greatest_below n (suc n) ns among (omega arith) in omega arith
+
+-- ---- what runs end with
+
+-- where a run exists, each number that is claimed is told before
+pub run_is_founded : (from : ℕ) (speech : Speech) → HasRun from speech → IsFounded from speech
+run_is_founded from speech run = founded_from_run speech run.0 run.1
+
+-- some run ends without a word for a number that no answer claims
+pub unclaimed_is_missed : (from : ℕ) (speech : Speech) (n : ℕ) → HasRun from speech → IsUnclaimed from speech n → EndsWithout from speech n
+unclaimed_is_missed from speech n run unclaimed = ends_without speech (run_is_founded from speech run) n unclaimed
+
+-- some run ends with both of two words that are spoken
+pub two_are_held : (from : ℕ) (speech : Speech) (n : ℕ) (one other : Word) → HasRun from speech → IsSpoken from speech n one → IsSpoken from speech n other
+    → (end : DeliveryState) × Ends from speech end × Contains end.held (n, one) × Contains end.held (n, other)
+two_are_held from speech n one other (end, ends) first second =
+    let once : DeliveryState = took end n one in
+    let twice : DeliveryState = took once n other in (
+      twice,
+      Ends-took speech once n other (Ends-took speech end n one ends first) second,
+      Contains-append_left once.held _ _ (Contains-push end.held (n, one)),
+      Contains-push once.held (n, other),
+    )
+
+-- each run ends with a word for each number that is claimed, and with no word that is not spoken
+pub claimed_is_held : (from : ℕ) (speech : Speech) (end : DeliveryState) (j n : ℕ) → Ends from speech end → Claims from speech j n → Holds end n
+claimed_is_held from speech end j n ends claims = held_from_claim speech end j n ends claims
+
+pub held_is_spoken : (from : ℕ) (speech : Speech) (end : DeliveryState) (n : ℕ) (word : Word) → Ends from speech end → Contains end.held (n, word) → IsSpoken from speech n word
+held_is_spoken from speech end n word ends held = spoken_from_held speech end n word ends held

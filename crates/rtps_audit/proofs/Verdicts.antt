@@ -117,7 +117,7 @@ unclaimed : {from : ℕ} (speech : Speech) (n : ℕ) → EndsWithout from speech
 unclaimed speech n (asked, announced, (end, ends, none)) =
     (asked, announced, λ claimed. none (held_from_claim speech end claimed.0 n ends claimed.1))
 
-ends_without : {from : ℕ} (speech : Speech) → IsFounded from speech → (n : ℕ) → IsUnclaimed from speech n → EndsWithout from speech n
+pub ends_without : {from : ℕ} (speech : Speech) → IsFounded from speech → (n : ℕ) → IsUnclaimed from speech n → EndsWithout from speech n
 ends_without speech founded n (asked, announced, none) =
     let run = frugal_run speech founded in
     (asked, announced, (run.0, run.1, λ held. none (run.2 n held)))

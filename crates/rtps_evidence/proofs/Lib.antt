@@ -3,3 +3,4 @@ pub mod FindLemmas
 pub mod MadeLemmas
 pub mod StretchLemmas
 pub mod OriginLemmas
+pub mod Shown

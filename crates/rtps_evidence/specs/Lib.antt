@@ -1,3 +1,4 @@
 pub mod Acting
 pub mod Counted
 pub mod Evidence
+pub mod Certificates

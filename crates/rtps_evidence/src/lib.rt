@@ -5,6 +5,7 @@
 mod announcing;
 mod answering;
 mod counting;
+pub mod laws;
 mod places;
 mod sending;
 mod stretches;

@@ -7,7 +7,7 @@ use crate::command::Choice;
 use crate::faults::RunFault;
 use crate::limits::Limits;
 use crate::run::{run_audit_within, run_list_within, run_sample, run_show_within};
-use rtps_text::Ending;
+use rtps_text::{Ending, Watch};
 use std::alloc::Global;
 use std::io::{Read, Write};
 
@@ -38,12 +38,13 @@ impl Choice {
 }
 
 /// Runs what the words chose: [`crate::run_show_within`], [`crate::run_list_within`] or [`crate::run_audit_within`] on an
-/// input, or [`crate::run_sample`], which leaves the input as it is.
-pub fn run_choice<R: Read, W: Write>(
+/// input, or [`crate::run_sample`], which leaves the input as it is. It tells how far an audit is.
+pub fn run_choice<R: Read, W: Write, P: Watch>(
     alloc: Global,
     choice: &Choice,
     input: &mut R,
     output: &mut W,
+    watch: &mut P,
 ) -> Result<Ending, RunFault>
     ensures { RunsChoice choice.now
         (R.remaining input.old) (R.remaining input.new) (W.contents output.old) (W.contents output.new) result }
@@ -55,7 +56,7 @@ pub fn run_choice<R: Read, W: Write>(
             file: _,
             from,
             limits,
-        } => run_audit_within(alloc, *limits, input, output, *from),
+        } => run_audit_within(alloc, *limits, input, output, *from, watch),
         Choice::Sample => run_sample(output),
     }
 }

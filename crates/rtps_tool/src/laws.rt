@@ -41,7 +41,6 @@ pub fn limits_change_nothing()
 
 /// Octets that begin as a capture begin no text: as a text they would have a fault in their first line. So which form an
 /// input has is never in doubt.
-#[tactic(auto, using(crate::proofs::OpeningLemmas::capture_is_no_text))]
 pub fn no_text_begins_as_a_capture()
     ensures { NoTextBeginsAsACapture }
 {}

@@ -19,7 +19,7 @@ pub use form::either::{read_recording, read_recording_within};
 pub use limits::Limits;
 pub use outcome::{status, write_fault};
 pub use rtps_capture::link_type;
-pub use rtps_text::{Datagrams, Ending, Recording};
+pub use rtps_text::{Datagrams, Ending, Recording, Unwatched, Watch};
 pub use run::{
     run_audit, run_audit_from, run_audit_within, run_list, run_list_within, run_sample, run_show,
     run_show_within,

@@ -11,7 +11,9 @@ use crate::faults::RunFault;
 use crate::limits::Limits;
 use crate::streams::{read_input, write_text};
 use rtps_ids::{Memory, SeqNum};
-use rtps_text::{Ending, Recording, Unwatched, audit_text, list_text, sample_text, show_text};
+use rtps_text::{
+    Ending, Recording, Unwatched, Watch, audit_text, list_text, sample_text, show_text,
+};
 use std::alloc::Global;
 use std::io::{Read, Write};
 
@@ -51,7 +53,8 @@ pub fn run_show_within<R: Read, W: Write>(
     ensures { RunsWithin limits IsShown
         (R.remaining input.old) (R.remaining input.new) (W.contents output.old) (W.contents output.new) result }
 {
-    run(alloc, limits, Subcommand::Show, input, output)
+    let mut watch = Unwatched;
+    run(alloc, limits, Subcommand::Show, input, output, &mut watch)
 }
 
 /// Reads a recording, to the end of the input, and writes what `list` prints of it: participants, endpoints whose
@@ -78,7 +81,8 @@ pub fn run_list_within<R: Read, W: Write>(
     ensures { RunsWithin limits IsListed
         (R.remaining input.old) (R.remaining input.new) (W.contents output.old) (W.contents output.new) result }
 {
-    run(alloc, limits, Subcommand::List, input, output)
+    let mut watch = Unwatched;
+    run(alloc, limits, Subcommand::List, input, output, &mut watch)
 }
 
 /// Reads a recording, to the end of the input, and writes what `audit` prints of it by the numbers from `from` on:
@@ -92,22 +96,24 @@ pub fn run_audit_from<R: Read, W: Write>(
     ensures { Runs (IsAuditedFrom from)
         (R.remaining input.old) (R.remaining input.new) (W.contents output.old) (W.contents output.new) result }
 {
-    run_audit_within(alloc, Limits::usual(), input, output, from)
+    let mut watch = Unwatched;
+    run_audit_within(alloc, Limits::usual(), input, output, from, &mut watch)
 }
 
-/// Reads a recording within limits, to the end of the input or past the most octets that it may have. Else it is
-/// [`run_audit_from`].
-pub fn run_audit_within<R: Read, W: Write>(
+/// Reads a recording within limits, to the end of the input or past the most octets that it may have, and tells how far
+/// its audit is. Else it is [`run_audit_from`].
+pub fn run_audit_within<R: Read, W: Write, P: Watch>(
     alloc: Global,
     limits: Limits,
     input: &mut R,
     output: &mut W,
     from: SeqNum,
+    watch: &mut P,
 ) -> Result<Ending, RunFault>
     ensures { RunsWithin limits (IsAuditedFrom from)
         (R.remaining input.old) (R.remaining input.new) (W.contents output.old) (W.contents output.new) result }
 {
-    run(alloc, limits, Subcommand::Audit(from), input, output)
+    run(alloc, limits, Subcommand::Audit(from), input, output, watch)
 }
 
 /// Reads a recording, to the end of the input, and writes what `audit` prints of it: the verdict on each pair of a
@@ -133,34 +139,36 @@ pub fn run_sample<W: Write>(output: &mut W) -> Result<Ending, RunFault>
     Ok(Ending::Clean)
 }
 
-// Reads a recording within limits, and writes what a subcommand prints of it.
-fn run<R: Read, W: Write>(
+// Reads a recording within limits, and writes what a subcommand prints of it. It tells how far an audit is.
+fn run<R: Read, W: Write, P: Watch>(
     alloc: Global,
     limits: Limits,
     subcommand: Subcommand,
     input: &mut R,
     output: &mut W,
+    watch: &mut P,
 ) -> Result<Ending, RunFault>
     ensures { RunsWithin limits (IsTextOf subcommand)
         (R.remaining input.old) (R.remaining input.new) (W.contents output.old) (W.contents output.new) result }
 {
     let recording = read_input(alloc, limits, input)?;
-    let (text, ending) = text_of(alloc, subcommand, &recording)?;
+    let (text, ending) = text_of(alloc, subcommand, &recording, watch)?;
     write_text(text.as_bytes(), output)?;
     Ok(ending)
 }
 
 // What a subcommand prints of a recording, and how it ends.
-fn text_of(
+fn text_of<P: Watch>(
     alloc: Global,
     subcommand: Subcommand,
     recording: &Recording,
+    watch: &mut P,
 ) -> Result<(String, Ending), Memory>
     ensures { IfOk result (λ answer. IsTextOf subcommand recording.now (string_bytes answer.0) answer.1) }
 {
     match subcommand {
         Subcommand::Show => show_text(alloc, recording),
         Subcommand::List => list_text(alloc, recording),
-        Subcommand::Audit(from) => audit_text(alloc, recording, from, &mut Unwatched),
+        Subcommand::Audit(from) => audit_text(alloc, recording, from, watch),
     }
 }

@@ -1,4 +1,4 @@
 use Rattle.rtps_tool.proofs.run.text_of.Goals as goal
 
 pub returns-in-Audit : goal.returns-in-Audit
-returns-in-Audit c = rw c.in-Audit.is c.audit_text.ensures
+returns-in-Audit g c = rw c.in-Audit.is c.audit_text.ensures

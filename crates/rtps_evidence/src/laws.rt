@@ -1,0 +1,26 @@
+//! Laws over definitions alone, each from what can be seen at a few places of a recording. Each function does nothing: its
+//! clause is the law, and its proof the law's proof.
+
+ghost use Rattle.rtps_evidence.specs.Certificates.{CompleteIsShown, ConflictIsShown, OpenIsShown, UnfoundedIsShown};
+
+/// Where a claim of a number stands at its place, and no act of an earlier datagram has a word for that number, there is no
+/// run.
+pub fn unfounded_is_shown()
+    ensures { UnfoundedIsShown }
+{}
+
+/// Where a number is announced, and no answer's base is above it, some run ends without a word for it, if there is a run.
+pub fn open_is_shown()
+    ensures { OpenIsShown }
+{}
+
+/// Where two places give two payloads for a number, some run ends with both, if there is a run.
+pub fn conflict_is_shown()
+    ensures { ConflictIsShown }
+{}
+
+/// Where each number that is asked for, up to the last announced one, is claimed by an answer, and none has two payloads,
+/// every run ends with a word for each of them, and with one payload at most.
+pub fn complete_is_shown()
+    ensures { CompleteIsShown }
+{}
