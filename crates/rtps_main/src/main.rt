@@ -1,9 +1,12 @@
 //! The program `rtps-audit`: opens what its words name, runs, and ends with the status of the run.
 #![tactic(auto)]
 
+mod progress;
+
+use progress::{Progress, Wiping};
 use rtps_tool::{
-    Choice, Ending, RecFault, RunFault, WordFault, link_type, read_words, run_choice, status,
-    write_fault,
+    Choice, Ending, RecFault, RunFault, Unwatched, WordFault, link_type, read_words, run_choice,
+    status, write_fault,
 };
 use std::alloc::AllocError;
 use std::fs::File;
@@ -17,23 +20,26 @@ const START: usize = 24;
 // The octets that a pcapng file begins with.
 const PCAPNG: &[u8] = b"\x0a\x0d\x0d\x0a";
 
-// An input that remembers how it began, how many octets were read of it, and why its last read failed.
+// An input that remembers how it began, how many octets were read of it, and why its last read failed, and tells of what
+// was read.
 #[derive(Drop)]
-struct Remembering<R> {
+struct Remembering<'a, R> {
     input: R,
+    progress: Progress<'a>,
     start: [u8; START],
     known: usize,
     octets: u64,
     failure: Option<io::Error>,
 }
 
-impl<R: Read> Read for Remembering<R> {
+impl<R: Read> Read for Remembering<'_, R> {
     fn read(&mut self, buf: &mut [u8]) -> io::Result<usize> {
         let outcome = self.input.read(buf);
         match &outcome {
             Ok(got) => {
                 self.known = remember(&mut self.start, self.known, &buf[..*got]);
                 self.octets = self.octets.saturating_add(*got as u64);
+                self.progress.read(self.octets);
             }
             Err(failure) => self.failure = Some(same_error(failure)),
         }
@@ -113,7 +119,14 @@ fn run_args(rt: &HostRuntime, args: &[String]) -> Result<u8, AllocError> {
 // Runs what was chosen on its FILE, if it has one. Where that cannot be opened or read, it is named with the reason.
 fn run_on_file(rt: &HostRuntime, choice: &Choice) -> Result<Ending, RunFault> {
     let Some(file) = choice.file() else {
-        return run_choice(rt.alloc(), choice, &mut io::empty(), &mut rt.stdout());
+        let mut watch = Unwatched;
+        return run_choice(
+            rt.alloc(),
+            choice,
+            &mut io::empty(),
+            &mut rt.stdout(),
+            &mut watch,
+        );
     };
     if file == "-" {
         return run_on_input(rt, choice, file, rt.stdin());
@@ -134,14 +147,18 @@ fn run_on_input<R: Read + Drop>(
     file: &str,
     input: R,
 ) -> Result<Ending, RunFault> {
+    let mut progress = Progress::new(rt);
     let mut input = Remembering {
         input,
+        progress,
         start: [0; START],
         known: 0,
         octets: 0,
         failure: None,
     };
-    let outcome = run_choice(rt.alloc(), choice, &mut input, &mut rt.stdout());
+    let mut output = Wiping::new(rt.stdout(), progress);
+    let outcome = run_choice(rt.alloc(), choice, &mut input, &mut output, &mut progress);
+    output.wipe();
     if let Some(failure) = &input.failure {
         tell_reason(rt, file, failure);
     }

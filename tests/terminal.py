@@ -1,0 +1,83 @@
+#!/usr/bin/env python3
+"""Tests what the program tells on a terminal of a run that takes longer than a second, and that it wipes it.
+
+    tests/terminal.py PROGRAM
+
+The last line is 'N passed, M failed'.
+"""
+import os
+import pty
+import subprocess
+import sys
+import threading
+import time
+import tty
+
+sys.dont_write_bytecode = True
+from program import Counts
+
+WIPE = b'\r\x1b[K'
+READING = WIPE + b'rtps-audit: reading, 0 MiB'
+JUDGING = WIPE + b'rtps-audit: judging, 1 of 1 pairs'
+
+
+def run(program, recording, wait, words=('audit', '-'), both=False):
+    """Runs the program on this recording, of which the second half comes after so many seconds: its status, what it wrote
+    on standard output, and what it wrote on the terminal that standard error is, and standard output too if asked"""
+    terminal, end = pty.openpty()
+    tty.setraw(end)
+    told = []
+
+    def listen():
+        try:
+            while octets := os.read(terminal, 65536):
+                told.append(octets)
+        except OSError:
+            pass
+
+    listener = threading.Thread(target=listen)
+    listener.start()
+    output = end if both else subprocess.PIPE
+    with subprocess.Popen([program, *words], stdin=subprocess.PIPE, stdout=output, stderr=end) as running:
+        os.close(end)
+        half = len(recording) // 2
+        running.stdin.write(recording[:half])
+        running.stdin.flush()
+        time.sleep(wait)
+        running.stdin.write(recording[half:])
+        running.stdin.close()
+        written = b'' if both else running.stdout.read()
+        status = running.wait()
+    listener.join()
+    os.close(terminal)
+    return status, written, b''.join(told)
+
+
+def main():
+    program = os.path.realpath(sys.argv[1])
+    tests = Counts()
+    sample = subprocess.run([program, 'sample'], stdout=subprocess.PIPE, check=True).stdout
+    report = subprocess.run([program, 'audit', '-'], input=sample, stdout=subprocess.PIPE, check=True).stdout
+
+    status, written, told = run(program, sample, 0)
+    tests.holds('a short run', (0, report, b''), (status, written, told))
+    status, written, told = run(program, sample, 1.3)
+    tests.holds('a long run: its status and its text', (0, report), (status, written))
+    tests.holds('a long run: that it reads is told', True, told.startswith(READING))
+    tests.holds('a long run: then that it judges, and all is wiped', True, told.endswith(JUDGING + WIPE))
+    status, _, told = run(program, sample, 1.3, both=True)
+    tests.holds('a long run whose text goes to the terminal', (0, True), (status, told.endswith(JUDGING + WIPE + report)))
+    status, written, told = run(program, sample + b'0', 1.3)
+    tests.holds('a long run with a fault: its status and its text', (2, b''), (status, written))
+    tests.holds('a long run with a fault: all is wiped before that is told', True,
+                told.startswith(READING) and told.endswith(WIPE + b'rtps-audit: line 7: bad hex\n'))
+    status, _, told = run(program, sample, 1.3, ('list', '-'))
+    tests.holds('a long run of list', (0, True), (status, told.startswith(READING) and told.endswith(WIPE)))
+    slow = f'"$1" sample | (head -c 100; sleep 1.3; cat) | "$1" audit - 2>&1 >/dev/null'
+    told = subprocess.run(['sh', '-c', slow, 'sh', program], stdout=subprocess.PIPE, check=True).stdout
+    tests.holds('a long run with no terminal', b'', told)
+    return tests.told()
+
+
+if __name__ == '__main__':
+    sys.exit(main())
