@@ -796,7 +796,10 @@ def in_pieces(rng, program, words, text):
     at, most = 0, rng.choice([1, 3, 50, 1 << 16, 1 << 20]) if len(text) < 2000 else rng.choice([30000, 65536, 131071, 1 << 20])
     while at < len(text):
         size = rng.randrange(1, most + 1)
-        child.stdin.write(text[at:at + size])
+        try:
+            child.stdin.write(text[at:at + size])
+        except BrokenPipeError:  # past the most octets nothing more is read
+            break
         at += size
     out, err = child.communicate()
     return out.decode(), err.decode(), child.returncode
