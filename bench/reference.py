@@ -816,6 +816,8 @@ def texts(program, count, seed):
         told = f'rtps-audit: {found}\n' if isinstance(found, str) else ''
         if found == 'too many datagrams':
             told = passed_limit(text, limits) + told
+        if told and text.startswith(b'\n\r\r\n'):
+            told = 'rtps-audit: -: a pcapng file; editcap -F pcap IN OUT makes a capture of it\n' + told
         want, status = answer('show', text, limits=limits)
         if in_pieces(rng, program, ['show', *words, '-'], text) != (want, told, status):
             differing += 1
