@@ -880,7 +880,10 @@ def in_pieces(rng, program, words, text):
     at, most = 0, rng.choice([1, 3, 50, 1 << 16, 1 << 20]) if len(text) < 2000 else rng.choice([30000, 65536, 131071, 1 << 20])
     while at < len(text):
         size = rng.randrange(1, most + 1)
-        child.stdin.write(text[at:at + size])
+        try:
+            child.stdin.write(text[at:at + size])
+        except BrokenPipeError:  # past the most octets nothing more is read
+            break
         at += size
     out, err = child.communicate()
     return out.decode(), err.decode(), child.returncode
@@ -897,6 +900,8 @@ def texts(program, count, seed):
         told = f'rtps-audit: {found}\n' if isinstance(found, str) else ''
         if found == 'too many datagrams':
             told = passed_limit(text, limits) + told
+        if told and text.startswith(b'\n\r\r\n'):
+            told = 'rtps-audit: -: a pcapng file; editcap -F pcap IN OUT makes a capture of it\n' + told
         want, status = answer('show', text, limits=limits)
         if in_pieces(rng, program, ['show', *words, '-'], text) != (want, told, status):
             differing += 1

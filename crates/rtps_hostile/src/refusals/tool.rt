@@ -61,11 +61,13 @@ fn answer_of(alloc: Global, read: Result<Choice, WordFault>) -> Result<Option<St
     Ok(Some(match read {
         Ok(Choice::Show { file, limits: _ }) => format!(in alloc; "show {file}")?,
         Ok(Choice::List { file, limits: _ }) => format!(in alloc; "list {file}")?,
-        Ok(Choice::Audit {
-            file,
-            from: _,
-            limits: _,
-        }) => format!(in alloc; "audit {file}")?,
+        Ok(
+            Choice::Audit {
+                file,
+                from: _,
+                limits: _,
+            },
+        ) => format!(in alloc; "audit {file}")?,
         Ok(Choice::Sample) => format!(in alloc; "sample")?,
         Err(WordFault::Refused(refusal)) => format!(in alloc; "refused {refusal}")?,
         Err(WordFault::Help(help)) => format!(in alloc; "help {help}")?,
