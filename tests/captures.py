@@ -10,12 +10,11 @@ import os
 import random
 import subprocess
 import sys
-import tempfile
 
-ROOT = os.path.dirname(os.path.dirname(os.path.realpath(__file__)))
 sys.dont_write_bytecode = True
-sys.path.insert(0, os.path.join(ROOT, 'bench'))
+import program
 import reference
+from program import VIEWS, file_of
 
 A, B = b'\xaa' * 12, b'\xbb' * 12
 HEADER = b'RTPS\2\5\0\0' + A
@@ -67,50 +66,6 @@ def last_line(datagrams, refused, ignored):
 
 def audited(datagrams, refused, ignored):
     return 'pairs 0\n' + last_line(datagrams, refused, ignored)
-
-
-class Tests:
-    def __init__(self, program):
-        self.program, self.passed, self.failed = program, 0, 0
-        self.file = tempfile.NamedTemporaryFile()
-
-    def run(self, view, octets, words=()):
-        """standard output, standard error and the status of the program"""
-        self.file.seek(0)
-        self.file.truncate()
-        self.file.write(octets)
-        self.file.flush()
-        done = subprocess.run([self.program, view, *words, self.file.name], capture_output=True)
-        return done.stdout.decode(), done.stderr.decode(), done.returncode
-
-    def holds(self, name, wanted, got):
-        if wanted == got:
-            self.passed += 1
-            return
-        self.failed += 1
-        print(f'FAILED: {name}\n-- wanted {wanted}\n-- got    {got}'[:900])
-
-    def answers(self, name, view, octets, wanted, status=0, words=()):
-        self.holds(f'{view}: {name}', (wanted, '', status), self.run(view, octets, words))
-
-    def refuses(self, name, octets, fault, reason='', words=()):
-        """in each view, with the reason in front, if there is one"""
-        told = reason.replace('FILE', self.file.name)
-        for view in ('show', 'list', 'audit'):
-            self.holds(f'{view}: {name}', ('', f'{told}rtps-audit: {fault}\n', 2), self.run(view, octets, words))
-
-    def passes(self, name, octets, most, what, words=()):
-        """in each view, the most octets or datagrams"""
-        self.refuses(name, octets, 'too many datagrams', f'rtps-audit: FILE: more than {most} {what}; --max-{what} N raises this limit\n', words)
-
-    def agrees(self, name, octets, views=('audit',)):
-        """each view is what the second implementation says"""
-        read = reference.input_of(octets)
-        for view in views:
-            output, error, status = self.run(view, octets)
-            wanted, ended = reference.answer(view, octets)
-            told = f'rtps-audit: {read}\n' if isinstance(read, str) else ''
-            self.holds(f'{view}: {name}', (wanted, told, ended), (output, error[-len(told):] if told else error, status))
 
 
 # ---- what was worked out by hand
@@ -165,14 +120,14 @@ def rows(tests):
     tests.answers('three octets of a magic are text', 'audit', b'', audited(0, 0, 0).replace(' ignored 0', ''))
     for size in range(1, 4):
         tests.refuses(f'{size} octets of a magic are text', BASE[:size], 'line 1: bad hex')
-    with open(os.path.join(ROOT, 'examples', 'pose.rec'), 'rb') as f:
-        pose = reference.recording_of(f.read())
-    for view in ('show', 'list', 'audit'):
-        with open(os.path.join(ROOT, 'tests', 'examples', f'pose.{view}')) as f:
-            wanted = f.read()
+    pose = reference.recording_of(file_of('examples', 'pose.rec'))
+    for view in VIEWS:
+        wanted = file_of('tests', 'examples', f'pose.{view}').decode()
+        packets = capture([packet(d) for d in pose])
         if view == 'audit':
             wanted = wanted[:-1] + ' ignored 0\n'
-        tests.answers('the datagrams of pose.rec as raw IP', view, capture([packet(d) for d in pose]), wanted)
+            tests.answers('the datagrams of pose.rec as raw IP, from 3 on', view, packets, wanted, words=('--from', '3'))
+        tests.answers('the datagrams of pose.rec as raw IP', view, packets, wanted)
         framed = [ethernet(packet(d)) for d in pose]
         tests.answers('the same in Ethernet frames', view, capture(framed, ETHERNET), wanted)
         mixed = [f for frame in framed for f in (ethernet(b'', 0x0806), frame, b'')]
@@ -198,7 +153,7 @@ def cut_and_changed(tests):
             cuts += 1
         for at in range(len(whole)):
             for value in {0, 0xff, whole[at] ^ 1} - {whole[at]}:
-                tests.agrees(f'octet {at} is {value}', whole[:at] + bytes([value]) + whole[at + 1:])
+                tests.agrees(f'octet {at} is {value}', whole[:at] + bytes([value]) + whole[at + 1:], ('audit',))
                 changes += 1
     print(f'cuts: {cuts}; changed octets: {changes}')
 
@@ -228,12 +183,12 @@ def kinds(tests):
         for link, octets in ((RAW_IP, frame), (ETHERNET, ethernet(frame))):
             for order in ('little', 'big'):
                 for magic in (MICROSECONDS, NANOSECONDS):
-                    tests.agrees(f'{name}, {order}, link {link}', capture([octets, octets], link, order, magic), ('show', 'list', 'audit'))
+                    tests.agrees(f'{name}, {order}, link {link}', capture([octets, octets], link, order, magic))
                     count += 1
     others = {'VLAN': ethernet(b'\0\1\x08\0' + good, 0x8100), 'IPv6': ethernet(six, 0x86dd), 'ARP': ethernet(bytes(28), 0x0806),
               'the length of an LLC frame': ethernet(good, 0x0040), '13 octets': ethernet(b'')[:13], '14 octets': ethernet(b'')}
     for name, frame in others.items():
-        tests.agrees(name, capture([frame], ETHERNET), ('show', 'list', 'audit'))
+        tests.agrees(name, capture([frame], ETHERNET))
         count += 1
     for snap in (0, 14, 28, 34, 42, 60, 93):
         whole = ethernet(good)
@@ -266,7 +221,7 @@ def random_captures(tests):
         if rng.random() < 0.2 and octets:
             at = rng.randrange(len(octets))
             octets = octets[:at] + rng.randbytes(1) + octets[at + 1:]
-        tests.agrees(f'random capture {i}', octets, ('show', 'list', 'audit'))
+        tests.agrees(f'random capture {i}', octets)
     print('random captures: 300')
 
 
@@ -340,15 +295,5 @@ def chosen_limits(tests):
     print('limits that are chosen: 16')
 
 
-def main():
-    if len(sys.argv) != 2:
-        raise SystemExit(__doc__)
-    tests = Tests(os.path.realpath(sys.argv[1]))
-    for group in (rows, cut_and_changed, kinds, random_captures, pipes, limits, chosen_limits):
-        group(tests)
-    print(f'{tests.passed} passed, {tests.failed} failed')
-    return 0 if tests.passed and not tests.failed else 1
-
-
 if __name__ == '__main__':
-    sys.exit(main())
+    sys.exit(program.main(__doc__, (rows, cut_and_changed, kinds, random_captures, pipes, limits, chosen_limits)))

@@ -7,15 +7,13 @@ Each group prints a line with what was counted. What is wanted was worked out, o
 bench/reference.py, says. The last line is 'N passed, M failed'.
 """
 import os
-import subprocess
 import sys
-import tempfile
 
-ROOT = os.path.dirname(os.path.dirname(os.path.realpath(__file__)))
 sys.dont_write_bytecode = True
-sys.path.insert(0, os.path.join(ROOT, 'bench'))
+import program
 import make
 import reference
+from program import ROOT, file_of, text_of
 
 A, B, WRITER, READER = make.A, make.B, make.WRITER, make.READER
 MOST = 65535
@@ -23,52 +21,12 @@ GUID_W, GUID_R = b'\0\x5a\0\x10' + A + WRITER, b'\0\x5a\0\x10' + B + READER
 END = b'\0\1\0\0'
 
 
-class Tests:
-    def __init__(self, program):
-        self.program, self.passed, self.failed = program, 0, 0
-        self.text = tempfile.NamedTemporaryFile()
-
-    def run(self, view, text):
-        """standard output, standard error and status of the program"""
-        self.text.seek(0)
-        self.text.truncate()
-        self.text.write(text)
-        self.text.flush()
-        done = subprocess.run([self.program, view, self.text.name], capture_output=True)
-        return done.stdout.decode(), done.stderr.decode(), done.returncode
-
-    def holds(self, name, wanted, got):
-        if wanted == got:
-            self.passed += 1
-            return
-        self.failed += 1
-        print(f'FAILED: {name}')
-        for one, other in zip(f'{wanted}'.split('\\n'), f'{got}'.split('\\n')):
-            if one != other:
-                print(f'-- wanted {one[:200]}\n-- got    {other[:200]}')
-                break
-
-    def answers(self, name, view, text, wanted, status=0):
-        self.holds(f'{view}: {name}', (wanted, '', status), self.run(view, text))
-
-    def agrees(self, name, datagrams, views=('show', 'list', 'audit')):
-        """each view is what the second implementation says"""
-        text = text_of(datagrams)
-        for view in views:
-            self.answers(name, view, text, *reference.answer(view, text))
-
-
-def text_of(datagrams):
-    return b''.join(datagram.hex().encode() + b'\n' for datagram in datagrams)
-
-
 def recordings():
     """the recordings with a stored audit, each as datagrams"""
     folder = os.path.join(ROOT, 'tests', 'rows')
     for name in sorted(os.listdir(folder)):
         if name.endswith('.audit'):
-            with open(os.path.join(folder, name[:-6] + '.rec'), 'rb') as f:
-                yield name[:-6], reference.recording_of(f.read())
+            yield name[:-6], reference.recording_of(file_of(folder, name[:-6] + '.rec'))
 
 
 def changed(datagram):
@@ -109,8 +67,8 @@ def cut_and_changed(tests):
     datagrams = sorted({datagram for _, recording in recordings() for datagram in recording})
     cuts = [datagram[:length] for datagram in datagrams for length in range(1, len(datagram))]
     changes = [one for datagram in datagrams for one in changed(datagram)]
-    tests.agrees('datagrams that are cut', cuts, ('show',))
-    tests.agrees('datagrams with a changed octet', changes, ('show', 'list'))
+    tests.agrees('datagrams that are cut', text_of(cuts), ('show',))
+    tests.agrees('datagrams with a changed octet', text_of(changes), ('show', 'list'))
     print(f'cuts: {len(cuts)} of {len(datagrams)} datagrams; changed octets: {len(changes)}')
 
 
@@ -155,7 +113,7 @@ def empty_submessages(tests):
     tests.answers('empty submessages', 'show', text, '\n'.join(lines) + '\n')
     wanted = 'pairs 0\ndatagrams 1 refused 1 skipped 16378 fragments 0 undirected 0 unsettled 0\n'
     tests.answers('empty submessages', 'audit', text, wanted)
-    tests.agrees('ACKNACK headers up to the end', [make.header(B) + b'\6\0\0\0' * 16378 + bytes(3)])
+    tests.agrees('ACKNACK headers up to the end', text_of([make.header(B) + b'\6\0\0\0' * 16378 + bytes(3)]))
     print('empty submessages: 16378 in one datagram')
 
 
@@ -172,12 +130,12 @@ def parameter_lists(tests):
              parameter(0x8001, bytes(room - 8)) + END, parameter(0x8001, bytes(room - 7))[:room], b'\x80\1\xff\xff' + bytes(room - 4)]
     datagrams = [make.header(A) + with_list(octets) for octets in lists]
     little = make.header(A) + bytes([0x15, 7]) + bytes(2) + b'\0\0\x10\0' + bytes(4) + WRITER + bytes(4) + b'\1\0\0\0' + b'\x70\0\0\0' * 16000 + b'\1\0\0\0'
-    tests.agrees('inline lists', [*datagrams, little])
+    tests.agrees('inline lists', text_of([*datagrams, little]))
     assert max(map(len, datagrams)) == MOST
     names = make.NAMES * 1000
     announced = [make.announced(b'\0\0\3\xc2', A, WRITER, names + nested[:8000]), make.announced(b'\0\0\4\xc2', B, READER, make.RELIABLE * 4000)]
     announced += [make.announced(b'\0\0\4\xc2', B, b'\0\0\2\4', names + make.RELIABLE), make.announced(b'\0\1\0\xc2', A, WRITER, b'\0\x50\0\x10' + A + b'\0\0\1\xc1')]
-    tests.agrees('announcements with lists that repeat', announced)
+    tests.agrees('announcements with lists that repeat', text_of(announced))
     print(f'parameter lists: {len(lists) + 1} of up to {room} octets, one {depth} lists deep; 4 in announcements')
 
 
@@ -185,9 +143,9 @@ def endpoints_that_disagree(tests):
     names = [b'\0\5\0\x0c\0\0\0\5' + b'%04d' % i + bytes(4) + make.NAMES[16:] for i in range(1000)]
     writers = [announcement(b'\0\0\3\xc2', GUID_W + name) for name in names]
     reader = announcement(b'\0\0\4\xc2', GUID_R + make.NAMES + make.RELIABLE)
-    tests.agrees('one GUID with 1000 topics', [*writers, reader])
+    tests.agrees('one GUID with 1000 topics', text_of([*writers, reader]))
     other = [announcement(built_in, GUID_W + name) for built_in in (b'\0\0\3\xc2', b'\0\0\4\xc2') for name in names[:500]]
-    tests.agrees('one GUID as writer and reader', [*other, reader, *other])
+    tests.agrees('one GUID as writer and reader', text_of([*other, reader, *other]))
     print('endpoints that disagree: 1000 of one GUID')
 
 
@@ -208,7 +166,7 @@ def topics_of_every_octet(tests):
         for built_in, prefix in ((b'\0\0\3\xc2', A), (b'\0\0\4\xc2', B)):
             guid = b'\0\x5a\0\x10' + prefix + place.to_bytes(4, 'big')
             datagrams.append(announcement(built_in, guid + names + make.RELIABLE))
-    tests.agrees('topics of every octet', datagrams)
+    tests.agrees('topics of every octet', text_of(datagrams))
     print(f'topics: {len(topics)} of every octet')
 
 
@@ -217,7 +175,7 @@ def acknowledgements(tests):
     samples = [*make.announcements(1), *(make.header(A) + make.data(WRITER, n, bytes(4)) for n in range(1, 11))]
     for name, bases in (('ascending', [min(i, 11) for i in range(most)]), ('descending', [most - i for i in range(most)]), ('one too many', [11] * (most - 1) + [12])):
         many = b''.join(make.ack_nack(READER, WRITER, base) for base in bases)
-        tests.agrees(f'ACKNACKs, {name}', [*samples, make.header(B) + make.to(A) + many, make.header(B) + many], ('audit',))
+        tests.agrees(f'ACKNACKs, {name}', text_of([*samples, make.header(B) + make.to(A) + many, make.header(B) + many]), ('audit',))
     print(f'acknowledgements: {most} in one datagram, in 3 orders, and as many to everyone')
 
 
@@ -230,16 +188,6 @@ def many_datagrams(tests):
     print(f'datagrams with nothing in them: {count}')
 
 
-def main():
-    if len(sys.argv) != 2:
-        raise SystemExit(__doc__)
-    tests = Tests(os.path.realpath(sys.argv[1]))
-    for group in (cut_by_table, cut_and_changed, audits_of_changed, empty_submessages, parameter_lists,
-                  endpoints_that_disagree, topics_of_every_octet, acknowledgements, many_datagrams):
-        group(tests)
-    print(f'{tests.passed} passed, {tests.failed} failed')
-    return 0 if tests.passed and not tests.failed else 1
-
-
 if __name__ == '__main__':
-    sys.exit(main())
+    sys.exit(program.main(__doc__, (cut_by_table, cut_and_changed, audits_of_changed, empty_submessages, parameter_lists,
+                                    endpoints_that_disagree, topics_of_every_octet, acknowledgements, many_datagrams)))

@@ -14,6 +14,9 @@ import random
 import subprocess
 import sys
 
+sys.dont_write_bytecode = True
+from program import Counts
+
 COUNT = 10000
 SEED = 20250
 
@@ -137,9 +140,9 @@ class Maker:
         return found
 
 
-def counted(program, text):
-    """what the program counts, by name, and its status"""
-    done = subprocess.run([program], input=text, capture_output=True)
+def counted(rewrite, text):
+    """what it counts, by name, and its status"""
+    done = subprocess.run([rewrite], input=text, capture_output=True)
     lines = [line.rpartition(': ') for line in done.stdout.decode().splitlines()]
     return {name: int(count) for name, _, count in lines}, done.returncode
 
@@ -148,31 +151,35 @@ def told(name, counts):
     return f'written again, {name}: ' + '; '.join(f'{what} {count}' for what, count in counts.items())
 
 
-def main():
-    if len(sys.argv) < 3:
-        raise SystemExit(__doc__)
-    program = os.path.realpath(sys.argv[1])
-    passed = failed = 0
-    for path in sys.argv[2:]:
+def recordings(tests, rewrite, paths):
+    for path in paths:
         with open(path, 'rb') as f:
-            counts, status = counted(program, f.read())
-        print(told(os.path.basename(path), counts))
-        good = status == 0 and counts.get('other items') == 0 and counts.get('the same octets', 0) > 0
-        passed, failed = passed + good, failed + (not good)
+            counts, status = counted(rewrite, f.read())
+        name = os.path.basename(path)
+        print(told(name, counts))
+        tests.holds(f'{name}: nothing else is read back', (0, 0), (status, counts.get('other items')))
+        tests.holds(f'{name}: some are the same', True, counts.get('the same octets', 0) > 0)
+
+
+def random_messages(tests, rewrite):
     maker = Maker()
     text, wanted = [], {'the same octets': 0, 'other octets, the same items': 0, 'not written, Unaligned': 0}
     for _ in range(COUNT):
         text.append(maker.message().hex())
         found = 'not written, Unaligned' if not maker.aligned else 'the same octets' if maker.plain else 'other octets, the same items'
         wanted[found] += 1
-    counts, status = counted(program, '\n'.join(text).encode())
+    counts, status = counted(rewrite, '\n'.join(text).encode())
     print(told(f'{COUNT} random messages', counts))
-    good = status == 0 and {name: count for name, count in counts.items() if count} == wanted
-    if not good:
-        print(f'FAILED: status {status}, wanted {wanted}')
-    passed, failed = passed + good, failed + (not good)
-    print(f'{passed} passed, {failed} failed')
-    return 0 if passed and not failed else 1
+    tests.holds('random messages', (0, wanted), (status, {name: count for name, count in counts.items() if count}))
+
+
+def main():
+    if len(sys.argv) < 3:
+        raise SystemExit(__doc__)
+    tests, rewrite = Counts(), os.path.realpath(sys.argv[1])
+    recordings(tests, rewrite, sys.argv[2:])
+    random_messages(tests, rewrite)
+    return tests.told()
 
 
 if __name__ == '__main__':

@@ -1,0 +1,103 @@
+"""What the tests of this folder share: counts of what holds, and the program run on a file."""
+import os
+import subprocess
+import sys
+import tempfile
+
+ROOT = os.path.dirname(os.path.dirname(os.path.realpath(__file__)))
+sys.dont_write_bytecode = True
+sys.path.insert(0, os.path.join(ROOT, 'bench'))
+import reference
+
+VIEWS = ('show', 'list', 'audit')
+
+
+def file_of(*names):
+    """the octets of a file of the repository"""
+    with open(os.path.join(ROOT, *names), 'rb') as f:
+        return f.read()
+
+
+def text_of(datagrams):
+    """a recording of these datagrams, as text"""
+    return b''.join(datagram.hex().encode() + b'\n' for datagram in datagrams)
+
+
+def first_difference(wanted, got):
+    """the first line in which two answers differ, of both"""
+    for one, other in zip(f'{wanted}'.split('\\n'), f'{got}'.split('\\n')):
+        if one != other:
+            return f'-- wanted {one[:400]}\n-- got    {other[:400]}'
+    return f'-- wanted {len(f"{wanted}")} characters, got {len(f"{got}")}'
+
+
+class Counts:
+    """how many tests passed, and how many failed"""
+
+    def __init__(self):
+        self.passed = self.failed = 0
+
+    def count(self, passed, failed):
+        self.passed += passed
+        self.failed += failed
+
+    def holds(self, name, wanted, got):
+        self.count(wanted == got, wanted != got)
+        if wanted != got:
+            print(f'FAILED: {name}\n{first_difference(wanted, got)}')
+
+    def told(self):
+        """prints the last line, and answers the status"""
+        print(f'{self.passed} passed, {self.failed} failed')
+        return 0 if self.passed and not self.failed else 1
+
+
+class Tests(Counts):
+    """tests of the program, which is run on one file whose octets are changed"""
+
+    def __init__(self, program):
+        super().__init__()
+        self.program = os.path.realpath(program)
+        self.file = tempfile.NamedTemporaryFile()
+
+    def run(self, view, octets, words=()):
+        """standard output, standard error and the status of the program, which is given these words before the FILE"""
+        self.file.seek(0)
+        self.file.truncate()
+        self.file.write(octets)
+        self.file.flush()
+        done = subprocess.run([self.program, view, *words, self.file.name], capture_output=True)
+        return done.stdout.decode(), done.stderr.decode(), done.returncode
+
+    def answers(self, name, view, octets, wanted, status=0, words=()):
+        self.holds(f'{view}: {name}', (wanted, '', status), self.run(view, octets, words))
+
+    def refuses(self, name, octets, fault, reason='', words=()):
+        """in each view, with the reason in front, if there is one"""
+        told = reason.replace('FILE', self.file.name)
+        for view in VIEWS:
+            self.holds(f'{view}: {name}', ('', f'{told}rtps-audit: {fault}\n', 2), self.run(view, octets, words))
+
+    def passes(self, name, octets, most, what, words=()):
+        """in each view, the most octets or datagrams"""
+        told = f'rtps-audit: FILE: more than {most} {what}; --max-{what} N raises this limit\n'
+        self.refuses(name, octets, 'too many datagrams', told, words)
+
+    def agrees(self, name, octets, views=VIEWS):
+        """each view is what the second implementation says; of standard error the last line is compared"""
+        read = reference.input_of(octets)
+        told = f'rtps-audit: {read}\n' if isinstance(read, str) else ''
+        for view in views:
+            output, error, status = self.run(view, octets)
+            wanted, ended = reference.answer(view, octets)
+            self.holds(f'{view}: {name}', (wanted, told, ended), (output, error[-len(told):] if told else error, status))
+
+
+def main(document, groups):
+    """runs groups of tests of the program that the one word names"""
+    if len(sys.argv) != 2:
+        raise SystemExit(document)
+    tests = Tests(sys.argv[1])
+    for group in groups:
+        group(tests)
+    return tests.told()
