@@ -29,3 +29,4 @@ pub mod OneFullRun
 pub mod OneReport
 pub mod DeliveredLemmas
 pub mod RecordingActs
+pub mod SetWords
