@@ -30,3 +30,4 @@ pub mod OneReport
 pub mod DeliveredLemmas
 pub mod RecordingActs
 pub mod Offered
+pub mod SetWords

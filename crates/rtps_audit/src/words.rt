@@ -1,18 +1,23 @@
-ghost use Rattle.std.specs.Prelude.{ℕ, ◌≡◌, ◌-◌, ◌<◌, ◌≤◌, ◌^◌, ◌&&◌, [], nat_le, nat_lt, ◌==◌, if◌then◌else◌, is_some, Some, None, OnOk, All, IfOk, IfSome, MatchOption};
+ghost use Rattle.std.specs.Prelude.{ℕ, ◌≡◌, ◌-◌, ◌+◌, ◌<◌, ◌≤◌, ◌^◌, ◌&&◌, [], nat_le, nat_lt, ◌==◌, if◌then◌else◌, is_some, Some, None, OnOk, All, IsTrue, IfOk, IfSome, MatchOption};
 ghost use Rattle.rtps_receiver.specs.Values.{act_body_value};
 ghost use Rattle.rtps_coverage.specs.Coverage.{TellsMore};
 ghost use Rattle.rtps_wire.specs.Values.{payload_value};
 ghost use Rattle.rtps_audit.specs.Delivery.{IsAsked, Word};
 ghost use Rattle.rtps_audit.specs.RunVerdict.{IsLeast};
 ghost use Rattle.rtps_audit.specs.KeptPayloads.{IsNumbered, KeepsMore, KeepsTwo};
+ghost use Rattle.rtps_ids.specs.NumberSet.{is_member};
 ghost use Rattle.rtps_audit.specs.Speech.{is_in_gap, is_in_gap_below, word_of};
 
 use crate::payloads::{KeptPayload, least_conflict, put_in_order};
 use rtps_coverage::Coverage;
-use rtps_ids::{Memory, SeqNum};
+use rtps_ids::laws::bits_up_to_the_count_are_kept;
+use rtps_ids::{Memory, NumberSet, SeqNum};
 use rtps_receiver::ActBody;
 use rtps_wire::{GapBody, Payload};
 use std::alloc::Global;
+
+/// A set of more ranges than this is joined word by word.
+const SCATTERED: u32 = 8;
 
 /// The words so far for the numbers that are asked for: which of them have one, and each payload.
 #[derive(Drop)]
@@ -121,12 +126,49 @@ fn row_end(gap: &GapBody) -> u64
     }
 }
 
-/// Joins the numbers of a GAP: a row, and then the ranges of its list that are apart from it.
+/// Whether a set has its numbers in so many ranges that they are joined faster word by word. No set of numbers near the
+/// greatest one has.
+fn is_scattered(set: &NumberSet) -> bool
+    ensures { IsTrue result → (1 ≤ set.now.base) × (set.now.base + 320 < 2 ^ 63) }
+{
+    let base = set.base().cast_unsigned();
+    if base < 1 || base >= 1 << 62 {
+        return false;
+    }
+    let mut ranges = 0;
+    for i in 0..8usize {
+        let word = set.word(i);
+        ranges += (word & !(word >> 1)).count_ones();
+    }
+    ranges > SCATTERED
+}
+
+/// Joins the numbers of a set, word by word.
+fn add_words<C: Coverage>(told: &mut C, set: &NumberSet) -> Result<(), Memory>
+    requires positive { 1 ≤ set.now.base }
+    requires bounded { set.now.base + 320 < 2 ^ 63 }
+    ensures { OnOk result (TellsMore (C.covered told.old) (C.covered told.new) (is_member set.now)) }
+{
+    // Bits past the count are clear.
+    bits_up_to_the_count_are_kept();
+    let base = set.base().cast_unsigned();
+    let words = set.count().div_ceil(32);
+    for i in 0..words {
+        let bits = u64::from(set.word(i as usize).reverse_bits());
+        told.add_bits(base + 32 * u64::from(i), bits)?;
+    }
+    Ok(())
+}
+
+/// Joins the numbers of a GAP: a row, and then the ranges of its list that are apart from it, or its words.
 fn add_gap<C: Coverage>(told: &mut C, gap: &GapBody) -> Result<(), Memory>
     ensures { OnOk result (TellsMore (C.covered told.old) (C.covered told.new) (is_in_gap gap.now)) }
 {
     let mut at = row_end(gap);
     add_row(told, gap.start.get().cast_unsigned(), at)?;
+    if is_scattered(&gap.list) {
+        return add_words(told, &gap.list);
+    }
     'apart: while let Some(members) = gap.list.range_from(at) {
         add_row(told, members.start, members.end)?;
         at = members.end;

@@ -26,6 +26,18 @@ more_beyond passed lo hi last n old new a b c f =
       | inr ge ↦ let e = f ge in grind (arith, nat_tests)
     ]
 
+pub more_with : (passed last n : ℕ) (old new more : Bool) → 1 ≤ passed → (n < passed → more ≡ false) → (last ≤ n → more ≡ false)
+    → (passed ≤ n → new ≡ (old || more))
+    → is_in passed n (nat_lt n last && new) ≡ (is_in passed n (nat_lt n last && old) || more)
+more_with passed last n old new more positive early late f =
+    elim (cases_lt n passed) [
+      | inl lt ↦ let none = early lt in grind (arith, nat_tests)
+      | inr ge ↦ let e = f ge in elim (cases_lt n last) [
+        | inl within ↦ grind (arith, nat_tests)
+        | inr far ↦ let none = late far in grind (arith, nat_tests)
+      ]
+    ]
+
 -- the same numbers are beyond the front
 pub same_beyond : (passed last n : ℕ) (old new : Bool) → (passed ≤ n → new ≡ old) → is_in passed n (nat_lt n last && new) ≡ is_in passed n (nat_lt n last && old)
 same_beyond passed last n old new f =

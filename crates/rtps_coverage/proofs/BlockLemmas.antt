@@ -1,18 +1,19 @@
 -- Sets of numbers as bits, 64 to a block.
 use Rattle.std.specs.BTreeMap as tree
 use Rattle.std.proofs.Common.{ℕ, zero, Bool, true, false, ◌≡◌, ◌≢◌, ◌≤◌, ◌<◌, ◌+◌, ◌-◌, ◌*◌, ◌/◌, ◌%◌, ◌^◌, ◌||◌, ◌&&◌, max, bit_or, nat_le, nat_lt, nat_eq, refl, ◌∙◌, sym, ap, subst, inl, inr, arith, w64}
-use Rattle.std.specs.Prelude.{if◌then◌else◌}
+use Rattle.std.specs.Prelude.{if◌then◌else◌, OnOk, OnErr, Result, Ok, Err}
 use Rattle.std.specs.Option.{unwrap_or}
 use Rattle.std.specs.Int.{bit_at, trailing_ones}
 use Rattle.std.specs.Int.Count.{trailing_of_zero}
 use Rattle.std.specs.Ordering.{nat_cmp}
 use Rattle.std.proofs.Math.Nat.{div-add-mod', div-le_self, mod-lt}
 use Rattle.std.proofs.Math.Pow.{pow_pos, pow_mono}
-use Rattle.std.proofs.lemmas.Bool.{cases_lt}
+use Rattle.std.proofs.lemmas.Bool.{cases_lt, false≢true}
 use Rattle.std.proofs.lemmas.Bool.Decides.{nat_tests}
 use Rattle.std.proofs.lemmas.Nat.{one_shl}
-use Rattle.std.proofs.lemmas.Nat.Bits.{bit_at-lt, bit_at_or, bit_at_ones, bit_at_above, bit_at_cat_high, bit_at_mask_inside, bit_at_mask_below, bit_at_mask_above, bit_at-trailing_ones, ones_shr}
-use Rattle.rtps_coverage.specs.Blocks.{block_at, has_bit}
+use Rattle.std.proofs.lemmas.Nat.Bits.{bit_at-lt, bit_at_or, bit_at_ones, bit_at_above, bit_at_cat_high, bit_at_cat_low, bit_at-zero, bit_at_mask_inside, bit_at_mask_below, bit_at_mask_above, bit_at-trailing_ones, ones_shr}
+use Rattle.rtps_coverage.specs.Bits.{is_bit_from}
+use Rattle.rtps_coverage.specs.Blocks.{block_at, blocks_have, has_bit, IsSameAs}
 use Rattle.rtps_coverage.specs.declared.blocks.Blocks.{Blocks}
 
 -- ---- a run of ones
@@ -195,3 +196,158 @@ run_from block n given count same fits is =
           let zero_bit : bit_at (block (n / 64)) (n % 64) ≡ 0 = ap (λ w. bit_at w (n % 64)) (sym same) ∙ run.stops none in
           ap (λ b. nat_eq b 1) zero_bit;
     }
+
+-- ---- bits that are joined
+
+max_or : (b x : ℕ) → b < 2 → x < 2 → nat_eq (max b x) 1 ≡ (nat_eq b 1 || nat_eq x 1)
+max_or b x h k = grind (arith, nat_tests)
+
+-- whether a number is one of the bits of a block
+abbrev pub is_in_block : ℕ → ℕ → ℕ → Bool
+is_in_block key bits n = nat_eq (n / 64) key && nat_eq (bit_at bits (n % 64)) 1
+
+pub elsewhere_none : (key bits n : ℕ) → n / 64 ≢ key → is_in_block key bits n ≡ false
+elsewhere_none key bits n other =
+    let test : nat_eq (n / 64) key ≡ false = grind (arith, nat_tests) in
+    rw test refl
+
+pub here_bit : (key bits n : ℕ) → n / 64 ≡ key → is_in_block key bits n ≡ nat_eq (bit_at bits (n % 64)) 1
+here_bit key bits n same =
+    let test : nat_eq (n / 64) key ≡ true = grind (arith, nat_tests) in
+    rw test refl
+
+pub no_bits : (key n : ℕ) → is_in_block key 0 n ≡ false
+no_bits key n = rw (bit_at-zero (n % 64)) (and_false (nat_eq (n / 64) key))
+  where
+    and_false : (a : Bool) → (a && false) ≡ false
+    and_false true = refl
+    and_false false = refl
+
+-- the set after one of its blocks has these bits, too
+pub joins_word : (old new : ℕ → ℕ) (key bits passed : ℕ) → new key ≡ bit_or (old key) bits
+    → ((other : ℕ) → passed / 64 ≤ other → other ≢ key → new other ≡ old other)
+    → (n : ℕ) → passed ≤ n → has_bit new n ≡ (has_bit old n || is_in_block key bits n)
+joins_word old new key bits passed at others n past =
+    elim (cases_lt (n / 64) key) [
+      | inl lt ↦ elsewhere (λ same. omega arith)
+      | inr ge ↦ elim (cases_lt key (n / 64)) [
+        | inl lt ↦ elsewhere (λ same. omega arith)
+        | inr le ↦
+            let same : n / 64 ≡ key = omega arith in
+            ap (λ k. nat_eq (bit_at (new k) (n % 64)) 1) same
+            ∙ ap (λ w. nat_eq (bit_at w (n % 64)) 1) at
+            ∙ ap (λ b. nat_eq b 1) (bit_at_or (old key) bits (n % 64))
+            ∙ max_or (bit_at (old key) (n % 64)) (bit_at bits (n % 64)) (bit_at-lt (old key) (n % 64)) (bit_at-lt bits (n % 64))
+            ∙ ap (λ k. nat_eq (bit_at (old k) (n % 64)) 1 || nat_eq (bit_at bits (n % 64)) 1) (sym same)
+            ∙ ap (λ t. has_bit old n || t) (sym (here_bit key bits n same))
+      ]
+    ]
+  where
+    elsewhere : n / 64 ≢ key → has_bit new n ≡ (has_bit old n || is_in_block key bits n)
+    elsewhere other =
+        ap (λ w. nat_eq (bit_at w (n % 64)) 1) (others (n / 64) (omega arith) other)
+        ∙ or_false (has_bit old n)
+        ∙ ap (λ t. has_bit old n || t) (sym (elsewhere_none key bits n other))
+
+-- the bits below a place, and from it on
+low_bit : (x k : ℕ) → k < 64 → bit_at (x % 2 ^ 64) k ≡ bit_at x k
+low_bit x k lt =
+    let parts : x / 2 ^ 64 * 2 ^ 64 + x % 2 ^ 64 ≡ x = div-add-mod' x (2 ^ 64) in
+    sym (bit_at_cat_low (x / 2 ^ 64) 64 (x % 2 ^ 64) k lt) ∙ ap (λ w. bit_at w k) parts
+
+raised_low : (bits s k : ℕ) → k < s → bit_at (bits * 2 ^ s) k ≡ 0
+raised_low bits s k lt =
+    let whole : bits * 2 ^ s + 0 ≡ bits * 2 ^ s = omega arith in
+    ap (λ w. bit_at w k) (sym whole) ∙ bit_at_cat_low bits s 0 k lt ∙ bit_at-zero k
+
+raised_high : (bits s k : ℕ) → s ≤ k → bit_at (bits * 2 ^ s) k ≡ bit_at bits (k - s)
+raised_high bits s k le =
+    let whole : bits * 2 ^ s + 0 ≡ bits * 2 ^ s = omega arith in
+    ap (λ w. bit_at w k) (sym whole) ∙ bit_at_cat_high bits s 0 k (pow_pos s) le
+
+-- a number below those of the bits
+pub none_below : (lo bits n : ℕ) → n < lo → is_bit_from lo bits n ≡ false
+none_below lo bits n lt =
+    let early : nat_le lo n ≡ false = grind (arith, nat_tests) in
+    rw early refl
+
+pub one_from : (lo bits n : ℕ) → lo ≤ n → is_bit_from lo bits n ≡ nat_eq (bit_at bits (n - lo)) 1
+one_from lo bits n le =
+    let late : nat_le lo n ≡ true = grind (arith, nat_tests) in
+    rw late refl
+
+pub none_far : (lo bits n : ℕ) → bits < 2 ^ 64 → lo + 64 ≤ n → is_bit_from lo bits n ≡ false
+none_far lo bits n fits far =
+    one_from lo bits n (omega arith) ∙ ap (λ b. nat_eq b 1) (bit_at_above bits 64 (n - lo) fits (omega arith))
+
+-- the bits that stand in the first of two blocks
+pub first_block : (lo bits n : ℕ) → n / 64 ≡ lo / 64 → nat_eq (bit_at (bits * 2 ^ (lo % 64) % 2 ^ 64) (n % 64)) 1 ≡ is_bit_from lo bits n
+first_block lo bits n same =
+    ap (λ b. nat_eq b 1) (low_bit (bits * 2 ^ (lo % 64)) (n % 64) (omega arith))
+    ∙ elim (cases_lt (n % 64) (lo % 64)) [
+      | inl lt ↦ ap (λ b. nat_eq b 1) (raised_low bits (lo % 64) (n % 64) lt) ∙ sym (none_below lo bits n (omega arith))
+      | inr le ↦
+          let place : n % 64 - lo % 64 ≡ n - lo = omega arith in
+          ap (λ b. nat_eq b 1) (raised_high bits (lo % 64) (n % 64) le ∙ ap (bit_at bits) place) ∙ sym (one_from lo bits n (omega arith))
+    ]
+
+-- and in the second
+pub second_block : (lo bits n : ℕ) → n / 64 ≡ lo / 64 + 1 → nat_eq (bit_at (bits / 2 ^ (64 - lo % 64)) (n % 64)) 1 ≡ is_bit_from lo bits n
+second_block lo bits n next =
+    let place : 64 - lo % 64 + n % 64 ≡ n - lo = omega arith in
+    ap (λ b. nat_eq b 1) (shifted_bit bits (64 - lo % 64) (n % 64) ∙ ap (bit_at bits) place) ∙ sym (one_from lo bits n (omega arith))
+
+or_none : (a b : Bool) → b ≡ false → (a || b) ≡ a
+or_none true b e = refl
+or_none false b e = e
+
+-- the bits at the beginning of a block
+pub in_one : (lo bits n : ℕ) → bits < 2 ^ 64 → lo % 64 ≡ 0 → is_in_block (lo / 64) (bits * 2 ^ (lo % 64) % 2 ^ 64) n ≡ is_bit_from lo bits n
+in_one lo bits n fits begins = elim (cases_lt (n / 64) (lo / 64)) [
+  | inl lt ↦ elsewhere_none _ _ n (λ same. omega arith) ∙ sym (none_below lo bits n (omega arith))
+  | inr ge ↦ elim (cases_lt (lo / 64) (n / 64)) [
+    | inl gt ↦ elsewhere_none _ _ n (λ same. omega arith) ∙ sym (none_far lo bits n fits (omega arith))
+    | inr le ↦ let same : n / 64 ≡ lo / 64 = omega arith in here_bit _ _ n same ∙ first_block lo bits n same
+  ]
+]
+
+-- and in two blocks
+pub in_two : (lo bits n : ℕ) → bits < 2 ^ 64
+    → (is_in_block (lo / 64) (bits * 2 ^ (lo % 64) % 2 ^ 64) n || is_in_block (lo / 64 + 1) (bits / 2 ^ (64 - lo % 64)) n) ≡ is_bit_from lo bits n
+in_two lo bits n fits = elim (cases_lt (n / 64) (lo / 64)) [
+  | inl lt ↦
+      ap (λ b. b || is_in_block (lo / 64 + 1) (bits / 2 ^ (64 - lo % 64)) n) (elsewhere_none _ _ n (λ same. omega arith))
+      ∙ elsewhere_none _ _ n (λ same. omega arith) ∙ sym (none_below lo bits n (omega arith))
+  | inr ge ↦ elim (cases_lt (lo / 64) (n / 64)) [
+    | inl gt ↦
+        ap (λ b. b || is_in_block (lo / 64 + 1) (bits / 2 ^ (64 - lo % 64)) n) (elsewhere_none _ _ n (λ same. omega arith))
+        ∙ elim (cases_lt (lo / 64 + 1) (n / 64)) [
+          | inl far ↦ elsewhere_none _ _ n (λ same. omega arith) ∙ sym (none_far lo bits n fits (omega arith))
+          | inr near ↦ let next : n / 64 ≡ lo / 64 + 1 = omega arith in here_bit _ _ n next ∙ second_block lo bits n next
+        ]
+    | inr le ↦
+        let same : n / 64 ≡ lo / 64 = omega arith in
+        or_none _ _ (elsewhere_none _ _ n (λ next. omega arith)) ∙ here_bit _ _ n same ∙ first_block lo bits n same
+  ]
+]
+
+-- a set that is the same has the same numbers
+pub same_numbers : (old new : Blocks) → IsSameAs old new → (n : ℕ) → blocks_have new n ≡ blocks_have old n
+same_numbers old new same n = rw (same.key, same.block, same.kept) refl
+
+or_neither : (a b : Bool) → (a || b) ≡ false → (a ≡ false) × (b ≡ false)
+or_neither true b e = absurd (false≢true (sym e))
+or_neither false b e = (refl, e)
+
+-- below the bits the set is the same, whether or not they were all joined
+pub same_below : {T E : Type 0} (r : Result T E) (old mid new : Blocks) (first second : Bool) (n : ℕ) → (first || second) ≡ false
+    → blocks_have mid n ≡ (blocks_have old n || first) → OnOk r (blocks_have new n ≡ (blocks_have mid n || second)) → OnErr r (IsSameAs mid new)
+    → blocks_have new n ≡ blocks_have old n
+same_below r old mid new first second n none begun ok err =
+    let neither = or_neither first second none in
+    rest r ok err neither.1 ∙ begun ∙ or_none (blocks_have old n) first neither.0
+  where
+    rest : {T E : Type 0} (r : Result T E) → OnOk r (blocks_have new n ≡ (blocks_have mid n || second)) → OnErr r (IsSameAs mid new) → second ≡ false
+        → blocks_have new n ≡ blocks_have mid n
+    rest (Ok x) ok err out = ok ∙ or_none (blocks_have mid n) second out
+    rest (Err e) ok err out = same_numbers mid new err n

@@ -3,4 +3,5 @@ pub mod KeptLemmas
 pub mod NowLemmas
 pub mod CoverageLemmas
 pub mod BlockLemmas
+pub mod EachBit
 pub mod BeyondLemmas

@@ -6,4 +6,5 @@ pub mod MergedRanges
 pub mod Blocks
 pub mod Beyond
 pub mod BitRanges
+pub mod Bits
 pub mod Laws

@@ -105,6 +105,19 @@ impl Coverage for BitRanges {
         self.ranges.add(lo, hi)
     }
 
+    fn add_bits(&mut self, lo: u64, bits: u64) -> Result<(), Memory> {
+        if lo > self.passed {
+            return self.blocks.add_bits(lo, bits, self.passed);
+        }
+        for i in 0..64u32 {
+            if (bits >> i) % 2 == 1 {
+                let number = (lo + u64::from(i)).cast_signed();
+                self.add(number, number + 1)?;
+            }
+        }
+        Ok(())
+    }
+
     fn front(&self) -> i64 {
         self.passed.cast_signed()
     }

@@ -1,4 +1,6 @@
-ghost use Rattle.std.specs.Prelude.{ℕ, ◌≡◌, ◌≢◌, ◌≤◌, ◌<◌, ◌+◌, ◌-◌, ◌*◌, ◌/◌, ◌%◌, ◌^◌, ◌||◌, ◌&&◌, nat_le, nat_lt, true, false, OnOk, OnErr};
+ghost use Rattle.std.specs.Prelude.{ℕ, ◌≡◌, ◌≢◌, ◌≤◌, ◌<◌, ◌+◌, ◌-◌, ◌*◌, ◌/◌, ◌%◌, ◌^◌, ◌||◌, ◌&&◌, nat_eq, nat_le, nat_lt, true, false, OnOk, OnErr};
+ghost use Rattle.std.specs.Int.{bit_at};
+ghost use Rattle.rtps_coverage.specs.Bits.{is_bit_from};
 ghost use Rattle.std.specs.BTreeMap as tree;
 ghost use Rattle.std.specs.Ordering.{nat_cmp};
 
@@ -138,5 +140,36 @@ impl Blocks {
             self.block = before;
         }
         second
+    }
+
+    /// Joins the numbers of the bits of one block; those below `passed` are of no account. The set is the same after `Memory`.
+    fn put_bits(&mut self, key: u64, bits: u64, passed: u64) -> Result<(), Memory>
+        requires passed { passed / 64 ≤ key }
+        ensures ok { OnOk result ((n : ℕ) → passed ≤ n → blocks_have self.new n
+            ≡ (blocks_have self.old n || (nat_eq (n / 64) key && nat_eq (bit_at bits (n % 64)) 1))) }
+        ensures err { OnErr result (IsSameAs self.old self.new) }
+    {
+        if bits == 0 {
+            return Ok(());
+        }
+        self.turn(key, passed)?;
+        self.block |= bits;
+        Ok(())
+    }
+
+    /// Joins the number `lo` + i for each bit i that is set, the lowest being bit 0; numbers below `passed` are of no account.
+    /// After `Memory` some of them may be joined.
+    pub(crate) fn add_bits(&mut self, lo: u64, bits: u64, passed: u64) -> Result<(), Memory>
+        requires passed { passed ≤ lo }
+        requires bounded { lo + 64 < 2 ^ 63 }
+        ensures ok { OnOk result ((n : ℕ) → passed ≤ n → blocks_have self.new n ≡ (blocks_have self.old n || is_bit_from lo bits n)) }
+        ensures below { (n : ℕ) → passed ≤ n → n < lo → blocks_have self.new n ≡ blocks_have self.old n }
+    {
+        let place = lo % 64;
+        self.put_bits(lo / 64, bits << place, passed)?;
+        if place == 0 {
+            return Ok(());
+        }
+        self.put_bits(lo / 64 + 1, bits >> (64 - place), passed)
     }
 }

@@ -1,4 +1,5 @@
-ghost use Rattle.std.specs.Prelude.{ℕ, Bool, true, false, ◌≡◌, ◌≤◌, ◌<◌, ◌-◌, ◌^◌, ◌≤ℤ◌, pos, ◌||◌, OnOk, OnErr};
+ghost use Rattle.std.specs.Prelude.{ℕ, Bool, true, false, ◌≡◌, ◌≤◌, ◌<◌, ◌+◌, ◌-◌, ◌^◌, ◌≤ℤ◌, pos, ◌||◌, OnOk, OnErr};
+ghost use Rattle.rtps_coverage.specs.Bits.{JoinsBits};
 ghost use Rattle.rtps_coverage.specs.Coverage.{JoinsRange, IsSameSet, has, IsFront};
 
 use rtps_ids::Memory;
@@ -22,6 +23,13 @@ pub trait Coverage: Sized + Drop {
         requires ordered { lo ≤ℤ hi }
         ensures ok { OnOk result (JoinsRange (covered self.old) (covered self.new) lo hi) }
         ensures err { OnErr result (IsSameSet (covered self.old) (covered self.new)) };
+
+    /// Joins the number `lo` + i for each bit i that is set, the lowest being bit 0. After `Memory`, which is answered only
+    /// where a growth was refused, some of them may be joined.
+    fn add_bits(&mut self, lo: u64, bits: u64) -> Result<(), Memory>
+        requires positive { 1 ≤ lo }
+        requires bounded { lo + 64 < 2 ^ 63 }
+        ensures { OnOk result (JoinsBits (covered self.old) (covered self.new) lo bits) };
 
     /// The least positive number that is not in the set.
     fn front(&self) -> i64

@@ -352,6 +352,16 @@ impl Coverage for MergedRanges {
         Ok(())
     }
 
+    fn add_bits(&mut self, lo: u64, bits: u64) -> Result<(), Memory> {
+        for i in 0..64u32 {
+            if (bits >> i) % 2 == 1 {
+                let number = (lo + u64::from(i)).cast_signed();
+                self.add(number, number + 1)?;
+            }
+        }
+        Ok(())
+    }
+
     fn front(&self) -> i64 {
         match first_range(&self.kept, self.recent) {
             Some(span) if span.lo == 1 => span.hi.cast_signed(),

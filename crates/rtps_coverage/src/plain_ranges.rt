@@ -91,6 +91,16 @@ impl Coverage for PlainRanges {
         Ok(())
     }
 
+    fn add_bits(&mut self, lo: u64, bits: u64) -> Result<(), Memory> {
+        for i in 0..64u32 {
+            if (bits >> i) % 2 == 1 {
+                let number = (lo + u64::from(i)).cast_signed();
+                self.add(number, number + 1)?;
+            }
+        }
+        Ok(())
+    }
+
     fn front(&self) -> i64 {
         self.front.cast_signed()
     }

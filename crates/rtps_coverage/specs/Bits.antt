@@ -1,0 +1,11 @@
+-- Numbers as bits. own: a set of many numbers in short ranges is joined word by word, so that it costs little.
+use Rattle.std.specs.Prelude.{ℕ, Bool, ◌≡◌, ◌-◌, ◌&&◌, ◌||◌, nat_le, nat_eq}
+use Rattle.std.specs.Int.{bit_at}
+
+-- a number is lo + i for a bit i that is set, the lowest being bit 0
+abbrev pub is_bit_from : ℕ → ℕ → ℕ → Bool
+is_bit_from lo bits n = nat_le lo n && nat_eq (bit_at bits (n - lo)) 1
+
+-- the new set is the old one with the numbers of these bits
+abbrev pub JoinsBits : (ℕ → Bool) → (ℕ → Bool) → ℕ → ℕ → Type 0
+JoinsBits old new lo bits = (n : ℕ) → new n ≡ (old n || is_bit_from lo bits n)
