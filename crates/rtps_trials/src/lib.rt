@@ -12,6 +12,8 @@ mod discovery;
 #[cfg(test)]
 mod every_event;
 #[cfg(test)]
+mod evidence;
+#[cfg(test)]
 mod ids;
 #[cfg(test)]
 mod messages;

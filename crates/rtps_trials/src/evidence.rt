@@ -1,0 +1,197 @@
+use rtps_audit::{Index, Verdict};
+use rtps_discovery::Pair;
+use rtps_evidence::{Announcement, Claim, Evidence, Kind, Place, Sent, Teller};
+use rtps_ids::{EntityId, Guid, GuidPrefix, SeqNum};
+use rtps_text::DatagramList;
+use std::alloc::Global;
+use std::test::Fail;
+
+// Two numbers, each with a payload.
+const DATA_1_AND_2: &str =
+    "5254505302050000aaaaaaaaaaaaaaaaaaaaaaaa1504001c000000100000000000000103000000000000000100000000000000011504001c00000010000000000000010300000000000000020000000000000002";
+
+// Number 1 with another payload.
+const DATA_1_AGAIN: &str =
+    "5254505302050000aaaaaaaaaaaaaaaaaaaaaaaa1504001c00000010000000000000010300000000000000010000000000000009";
+
+// A HEARTBEAT of the numbers from 3 to 5.
+const HEARTBEAT_3_TO_5: &str =
+    "5254505302050000aaaaaaaaaaaaaaaaaaaaaaaa0700001c00000000000001030000000000000003000000000000000500000001";
+
+// Answers that claim the numbers below 2, 3 and 6.
+const ACK_NACK_2: &str =
+    "5254505302050000bbbbbbbbbbbbbbbbbbbbbbbb0e00000caaaaaaaaaaaaaaaaaaaaaaaa06000018000001040000010300000000000000020000000000000001";
+
+const ACK_NACK_3: &str =
+    "5254505302050000bbbbbbbbbbbbbbbbbbbbbbbb0e00000caaaaaaaaaaaaaaaaaaaaaaaa06000018000001040000010300000000000000030000000000000002";
+
+const ACK_NACK_6: &str =
+    "5254505302050000bbbbbbbbbbbbbbbbbbbbbbbb0e00000caaaaaaaaaaaaaaaaaaaaaaaa06000018000001040000010300000000000000060000000000000003";
+
+/// The evidence that is wanted, of payloads their places alone.
+#[derive(Clone, Copy)]
+struct Wanted {
+    verdict: Verdict,
+    announcement: Option<Announcement>,
+    acknowledgement: Option<Claim>,
+    amounts: [u64; 3],
+    teller: Option<Teller>,
+    claim: Option<Claim>,
+    first_sent: Option<Place>,
+    other_sent: Option<Place>,
+}
+
+fn pair() -> Pair {
+    Pair {
+        writer: Guid {
+            prefix: GuidPrefix([0xaa; 12]),
+            entity: EntityId([0, 0, 1, 3]),
+        },
+        reader: Guid {
+            prefix: GuidPrefix([0xbb; 12]),
+            entity: EntityId([0, 0, 1, 4]),
+        },
+    }
+}
+
+fn at(datagram: u64, at: usize) -> Place {
+    Place { datagram, at }
+}
+
+fn announced(number: i64, kind: Kind, datagram: u64, place: usize) -> Option<Announcement> {
+    Some(Announcement {
+        number,
+        kind,
+        place: at(datagram, place),
+    })
+}
+
+fn told(kind: Kind, datagram: u64, place: usize) -> Option<Teller> {
+    Some(Teller {
+        kind,
+        place: at(datagram, place),
+    })
+}
+
+/// Answers stand behind an INFO_DST.
+fn claimed(below: i64, datagram: u64) -> Option<Claim> {
+    Some(Claim {
+        below,
+        place: at(datagram, 36),
+    })
+}
+
+fn place_of(sent: Option<Sent<'_>>) -> Option<Place> {
+    Some(sent?.place)
+}
+
+/// Whether the evidence of these datagrams, from this number on, is as wanted.
+fn shows(alloc: Global, lines: &[&str], from: SeqNum, wanted: Wanted) -> Result<bool, Fail> {
+    let mut list = DatagramList::new(alloc);
+    for line in lines {
+        list.push_hex(line.as_bytes())?;
+    }
+    let mut slices: Vec<&[u8]> = Vec::new(alloc);
+    for datagram in list.datagrams() {
+        slices.push(datagram)?;
+    }
+    let index = Index::build(alloc, &slices)?;
+    let found = Evidence::of_from(alloc, &index, pair(), from)?;
+    let amounts = [found.payloads, found.gone, found.untold];
+    let same_verdict = found.verdict == wanted.verdict && amounts == wanted.amounts;
+    let same_said = found.announcement == wanted.announcement
+        && found.acknowledgement == wanted.acknowledgement;
+    let same_shown = found.teller == wanted.teller && found.claim == wanted.claim;
+    let same_sent = place_of(found.first_sent) == wanted.first_sent
+        && place_of(found.other_sent) == wanted.other_sent;
+    Ok(same_verdict && same_said && same_shown && same_sent)
+}
+
+#[test]
+fn a_complete_pair_has_its_announcement_and_its_answer(rt: HostRuntime) -> Result<(), Fail> {
+    let wanted = Wanted {
+        verdict: Verdict::Complete { last: 2 },
+        announcement: announced(2, Kind::Data, 1, 52),
+        acknowledgement: claimed(3, 3),
+        amounts: [2, 0, 0],
+        teller: None,
+        claim: None,
+        first_sent: None,
+        other_sent: None,
+    };
+    let lines = [DATA_1_AND_2, ACK_NACK_2, ACK_NACK_3, ACK_NACK_3];
+    assert!(rt; shows(rt.alloc(), &lines, SeqNum::first(), wanted)?);
+    Ok(())
+}
+
+#[test]
+fn an_open_number_has_its_teller_or_none(rt: HostRuntime) -> Result<(), Fail> {
+    let alloc = rt.alloc();
+    let wanted = Wanted {
+        verdict: Verdict::Open { number: 2 },
+        announcement: announced(2, Kind::Data, 1, 52),
+        acknowledgement: claimed(2, 2),
+        amounts: [2, 0, 0],
+        teller: told(Kind::Data, 1, 52),
+        claim: None,
+        first_sent: None,
+        other_sent: None,
+    };
+    assert!(rt; shows(alloc, &[DATA_1_AND_2, ACK_NACK_2], SeqNum::first(), wanted)?);
+    let wanted = Wanted {
+        verdict: Verdict::Open { number: 3 },
+        announcement: announced(5, Kind::Heartbeat, 1, 20),
+        acknowledgement: claimed(3, 3),
+        amounts: [1, 1, 3],
+        teller: None,
+        claim: None,
+        first_sent: None,
+        other_sent: None,
+    };
+    let lines = [HEARTBEAT_3_TO_5, DATA_1_AGAIN, ACK_NACK_3];
+    assert!(rt; shows(alloc, &lines, SeqNum::first(), wanted)?);
+    Ok(())
+}
+
+#[test]
+fn an_unfounded_number_has_its_claim_and_its_teller(rt: HostRuntime) -> Result<(), Fail> {
+    let wanted = Wanted {
+        verdict: Verdict::Unfounded {
+            datagram: 1,
+            number: 1,
+        },
+        announcement: announced(2, Kind::Data, 2, 52),
+        acknowledgement: claimed(6, 1),
+        amounts: [2, 0, 0],
+        teller: told(Kind::Data, 2, 20),
+        claim: claimed(6, 1),
+        first_sent: None,
+        other_sent: None,
+    };
+    assert!(rt;
+        shows(
+            rt.alloc(),
+            &[ACK_NACK_6, DATA_1_AND_2],
+            SeqNum::first(),
+            wanted
+        )?
+    );
+    Ok(())
+}
+
+#[test]
+fn a_conflict_has_its_two_payloads(rt: HostRuntime) -> Result<(), Fail> {
+    let wanted = Wanted {
+        verdict: Verdict::Conflict { number: 1 },
+        announcement: announced(2, Kind::Data, 1, 52),
+        acknowledgement: None,
+        amounts: [2, 0, 0],
+        teller: None,
+        claim: None,
+        first_sent: Some(at(1, 20)),
+        other_sent: Some(at(3, 20)),
+    };
+    let lines = [DATA_1_AND_2, DATA_1_AND_2, DATA_1_AGAIN];
+    assert!(rt; shows(rt.alloc(), &lines, SeqNum::first(), wanted)?);
+    Ok(())
+}
