@@ -17,15 +17,16 @@ import subprocess
 import sys
 import tempfile
 
-TESTS = os.path.dirname(os.path.realpath(__file__))
-ROOT = os.path.dirname(TESTS)
 sys.dont_write_bytecode = True
-sys.path.insert(0, os.path.join(ROOT, 'bench'))
+from program import ROOT, VIEWS, Counts, file_of, text_of
 import make
 
+# The calls on a recording, those that take a capture of it too, and those on words.
 CALLS = ['note', 'participants', 'endpoints', 'matched', 'pairs', 'walk', 'add_plain', 'add_merged', 'add_bits', 'judge',
-         'judge_by_plain', 'build', 'index_judge', 'audit', 'write_list', 'write_message', 'read_recording', 'show', 'list', 'audit_run']
-WORDS = ['read_words', 'read_help', 'read_refused_words']
+         'judge_by_plain', 'judge_from_plain', 'judge_from_merged', 'judge_from_bits', 'build', 'index_judge',
+         'index_judge_from', 'audit', 'audit_from', 'write_list', 'write_message']
+OF_INPUT = ['read_recording', 'show', 'list', 'audit_run', 'audit_from_run']
+WORDS = ['read_words', 'read_words_from', 'read_help', 'read_refused_words']
 
 # The size of the requests between which CALLS has its requests counted, as in its source.
 MARK = 7654321
@@ -37,7 +38,7 @@ def built(folder):
     kit = os.path.join(os.path.dirname(os.path.dirname(os.path.realpath(rt))), 'toolchain', 'bin', 'clang') if rt else ''
     compiler = [kit, '-nostdlib', '-fuse-ld=lld'] if os.path.exists(kit) else ['cc']
     library = os.path.join(folder, 'refuse_requests.so')
-    subprocess.run([*compiler, '-O2', '-shared', '-fPIC', '-o', library, os.path.join(TESTS, 'refuse_requests.c')], check=True)
+    subprocess.run([*compiler, '-O2', '-shared', '-fPIC', '-o', library, os.path.join(ROOT, 'tests', 'refuse_requests.c')], check=True)
     return library
 
 
@@ -79,37 +80,42 @@ def many_endpoints():
         payload = b'\0\2\0\0\0\x50\0\x10' + prefixes[0] + b'\0\0\1\xc1\0\1\0\0'
         datagrams.append(make.header(prefixes[0]) + make.data(b'\0\1\0\xc2', 1, payload))
     datagrams += make.samples([*range(1, 40, 2), *range(2, 40, 2)], 39)
-    return b''.join(datagram.hex().encode() + b'\n' for datagram in datagrams)
+    return text_of(datagrams)
+
+
+def of_calls(calls, recordings):
+    """what is tried of the library: a name, the words, the input, what is wanted, whether it may go on, and the mark"""
+    of_capture = [f'capture_{call}' for call in OF_INPUT]
+    for call in CALLS + OF_INPUT + of_capture + WORDS:
+        answer = f'{call}: Memory, and then as if it were the first\n', [], 0
+        for name, text in recordings.items():
+            yield f'{call}, {name}', [calls, call], text, answer, call in WORDS, MARK
+
+
+def of_program(program, recording):
+    """what is tried of the program"""
+    nothing = '', ['rtps-audit: out of memory'], 3
+    views = [*([view] for view in VIEWS), ['audit', '--from', '3']]
+    for words in (*([*view, '-'] for view in views), ['--help'], ['audit', '--help'], ['--version'], ['audit'], []):
+        yield f"rtps-audit {' '.join(words)}", [program, *words], recording, nothing, True
+    capture = file_of('examples', 'loopback.pcap')
+    for view in views:
+        yield f"rtps-audit {' '.join(view)} - of a capture", [program, *view, '-'], capture, nothing, True
 
 
 def main():
     if len(sys.argv) != 3:
         raise SystemExit(__doc__)
     program, calls = map(os.path.realpath, sys.argv[1:])
-    with open(os.path.join(ROOT, 'examples', 'pose.rec'), 'rb') as f:
-        recordings = {'of six datagrams': f.read(), 'of 80 endpoints': many_endpoints()}
-    passed = failed = 0
+    recordings = {'of six datagrams': file_of('examples', 'pose.rec'), 'of 80 endpoints': many_endpoints()}
+    tests = Counts()
     with tempfile.TemporaryDirectory() as folder:
         library = built(folder)
-        tried = []
-        for call in CALLS + WORDS:
-            answer = f'{call}: Memory, and then as if it were the first\n', [], 0
-            for name, text in recordings.items():
-                tried.append((f'{call}, {name}', [calls, call], text, answer, call in WORDS, MARK))
-        nothing = '', ['rtps-audit: out of memory'], 3
-        for words in (['show', '-'], ['list', '-'], ['audit', '-'], ['audit', '--from', '3', '-'], ['--help'], ['audit', '--help'], ['--version'], ['audit'], []):
-            tried.append((f"rtps-audit {' '.join(words)}", [program, *words], recordings['of six datagrams'], nothing, True))
-        with open(os.path.join(ROOT, 'examples', 'loopback.pcap'), 'rb') as f:
-            capture = f.read()
-        for view in ('show', 'list', 'audit'):
-            tried.append((f'rtps-audit {view} - of a capture', [program, view, '-'], capture, nothing, True))
-        for name, *one in tried:
+        for name, *one in (*of_calls(calls, recordings), *of_program(program, recordings['of six datagrams'])):
             told, went_on, others = sweep(library, *one)
-            passed += told
-            failed += others + (told == 0)
+            tests.count(told, others + (told == 0))
             print(f'{name}: {told} requests refused' + (f', and {went_on} that changed nothing' if went_on else ''))
-    print(f'{passed} passed, {failed} failed')
-    return 0 if passed and not failed else 1
+    return tests.told()
 
 
 if __name__ == '__main__':

@@ -11,6 +11,7 @@
 #![tactic(auto)]
 
 mod acknowledgements;
+mod captures;
 mod cuts;
 mod fault;
 mod recordings;
@@ -64,20 +65,24 @@ fn try_all(rt: &HostRuntime, text: &str) -> Result<(), Fault> {
     let first = recordings.first().ok_or(Fault::Input)?;
     let many = acknowledgements::count(alloc, first)?;
     println!(rt; "ACKNACKs in one datagram: {many}")?;
+    let capture = captures::capture_of(alloc, first)?;
     let first = texts.first().ok_or(Fault::Input)?;
-    try_streams(rt, first.as_bytes())?;
+    try_streams(rt, "a text", first.as_bytes())?;
+    try_streams(rt, "a capture", &capture)?;
     for call in refusals::CALLS {
         try_refused(rt, call, first.as_str())?;
     }
     Ok(())
 }
 
-fn try_streams(rt: &HostRuntime, text: &[u8]) -> Result<(), Fault> {
-    let reads = streams::count_reads(rt.alloc(), text)?;
-    println!(rt; "failed reads: {reads}")?;
-    let writers = streams::count_writers(rt.alloc(), text)?;
-    println!(rt; "failed writes: {writers}")?;
-    let octets = streams::count_octets(rt.alloc(), text)?;
-    println!(rt; "octets that were read and written one by one: {octets}")?;
+fn try_streams(rt: &HostRuntime, form: &str, input: &[u8]) -> Result<(), Fault> {
+    let reads = streams::count_reads(rt.alloc(), input)?;
+    println!(rt; "{form}, failed reads: {reads}")?;
+    let ends = streams::count_ends(rt.alloc(), input)?;
+    println!(rt; "{form}, early ends: {ends}")?;
+    let writers = streams::count_writers(rt.alloc(), input)?;
+    println!(rt; "{form}, failed writes: {writers}")?;
+    let octets = streams::count_octets(rt.alloc(), input)?;
+    println!(rt; "{form}, octets that were read and written one by one: {octets}")?;
     Ok(())
 }

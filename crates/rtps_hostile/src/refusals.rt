@@ -5,13 +5,14 @@ mod library;
 mod tool;
 mod writers;
 
+use crate::captures::capture_of;
 use crate::fault::Fault;
 use crate::recordings::datagrams;
 use rtps_tool::read_recording;
 use std::alloc::{AllocError, Global};
 
-/// All calls that can be tried.
-pub(crate) const CALLS: [&str; 23] = [
+/// All calls that can be tried. One whose name begins with `capture_` is given a capture of the recording.
+pub(crate) const CALLS: [&str; 35] = [
     "note",
     "participants",
     "endpoints",
@@ -23,18 +24,30 @@ pub(crate) const CALLS: [&str; 23] = [
     "add_bits",
     "judge",
     "judge_by_plain",
+    "judge_from_plain",
+    "judge_from_merged",
+    "judge_from_bits",
     "build",
     "index_judge",
+    "index_judge_from",
     "audit",
+    "audit_from",
     "write_list",
     "write_message",
-    "read_recording",
     "read_words",
+    "read_words_from",
     "read_help",
     "read_refused_words",
+    "read_recording",
     "show",
     "list",
     "audit_run",
+    "audit_from_run",
+    "capture_read_recording",
+    "capture_show",
+    "capture_list",
+    "capture_audit_run",
+    "capture_audit_from_run",
 ];
 
 /// Requests between one of this size and the next are counted by `tests/refuse_requests.c`. Nothing else asks for so much.
@@ -49,10 +62,17 @@ fn mark(alloc: Global) -> Result<(), AllocError> {
 /// Whether the call was refused memory on the recording that is the text. An `Err` tells of another fault, or of an
 /// answer that differs.
 pub(crate) fn try_call(alloc: Global, call: &str, text: &str) -> Result<bool, Fault> {
-    if let Some(refused) = tool::try_call(alloc, call, text)? {
+    let recording = read_recording(alloc, text.as_bytes())?;
+    if let Some(call) = call.strip_prefix("capture_") {
+        let capture = capture_of(alloc, &recording)?;
+        return tool::try_input(alloc, call, &capture)?.ok_or(Fault::Call);
+    }
+    if let Some(refused) = tool::try_input(alloc, call, text.as_bytes())? {
         return Ok(refused);
     }
-    let recording = read_recording(alloc, text.as_bytes())?;
+    if let Some(refused) = tool::try_words(alloc, call)? {
+        return Ok(refused);
+    }
     let recording = datagrams(alloc, &recording)?;
     if let Some(refused) = writers::try_call(alloc, call, &recording)? {
         return Ok(refused);

@@ -1,7 +1,8 @@
 //! Readers and writers that give and take octet by octet, and that fail at each place.
 
 use crate::fault::Fault;
-use rtps_tool::{Ending, RunFault, run_audit, run_list, run_show};
+use rtps_ids::SeqNum;
+use rtps_tool::{Ending, RunFault, run_audit, run_audit_from, run_list, run_show};
 use std::alloc::Global;
 use std::io::{self, ErrorKind, Read, Write};
 
@@ -63,9 +64,15 @@ pub(crate) enum Run {
     Show,
     List,
     Audit,
+    AuditFrom,
 }
 
-pub(crate) const RUNS: [Run; 3] = [Run::Show, Run::List, Run::Audit];
+const RUNS: [Run; 4] = [Run::Show, Run::List, Run::Audit, Run::AuditFrom];
+
+/// The number from which on is asked.
+pub(crate) fn asked_from() -> SeqNum {
+    SeqNum::new(2).unwrap_or(SeqNum::first())
+}
 
 impl Run {
     pub(crate) fn of<R: Read, W: Write>(
@@ -78,11 +85,13 @@ impl Run {
             Run::Show => run_show(alloc, input, output),
             Run::List => run_list(alloc, input, output),
             Run::Audit => run_audit(alloc, input, output),
+            Run::AuditFrom => run_audit_from(alloc, input, output, asked_from()),
         }
     }
 }
 
-/// What a run prints of a text where nothing fails, and how it ends. A `Vec` fails to take octets for want of memory alone.
+/// What a run prints of an input where nothing fails, and how it ends. A `Vec` fails to take octets for want of memory
+/// alone.
 pub(crate) fn text_of(alloc: Global, run: Run, input: &[u8]) -> Result<(Vec<u8>, Ending), Fault> {
     let mut left = input;
     let mut output = Vec::new(alloc);
@@ -91,6 +100,18 @@ pub(crate) fn text_of(alloc: Global, run: Run, input: &[u8]) -> Result<(Vec<u8>,
         Err(RunFault::Memory | RunFault::Output { .. }) => Err(Fault::Memory),
         Err(_) => Err(Fault::Differs("a run fails with nothing that fails")),
     }
+}
+
+// Whether a run, made again, prints this text and ends so.
+fn is_made_again(
+    alloc: Global,
+    run: Run,
+    input: &[u8],
+    text: &Vec<u8>,
+    ending: Ending,
+) -> Result<bool, Fault> {
+    let (again, end) = text_of(alloc, run, input)?;
+    Ok(again == *text && end == ending)
 }
 
 fn octet_by_octet(left: &[u8], fails_at: usize, failure: ErrorKind) -> Slow<'_> {
@@ -103,59 +124,109 @@ fn octet_by_octet(left: &[u8], fails_at: usize, failure: ErrorKind) -> Slow<'_> 
     }
 }
 
-/// Counts reads that fail: each of them, also the one that would find the end, in two ways. Nothing is written.
+/// Counts reads that fail: each of them, also the one that would find the end, in two ways. Nothing is written, and the
+/// same run made again is as if it were the first.
 pub(crate) fn count_reads(alloc: Global, input: &[u8]) -> Result<usize, Fault> {
     let mut count = 0usize;
     for run in RUNS {
         for failure in [ErrorKind::ConnectionReset, ErrorKind::Interrupted] {
-            for fails_at in 1..input.len().saturating_add(2) {
-                let mut output = Vec::new(alloc);
-                let outcome = run.of(
-                    alloc,
-                    &mut octet_by_octet(input, fails_at, failure),
-                    &mut output,
-                );
-                if outcome != Err(RunFault::Input) || !output.is_empty() {
-                    return Err(Fault::Differs("a failed read is answered otherwise"));
-                }
-                count = count.saturating_add(1);
-            }
+            count = count.saturating_add(fail_each_read(alloc, run, input, failure)?);
         }
     }
     Ok(count)
 }
 
-/// Counts writers that have room for fewer octets than the text has, each number of them, in four ways.
+fn fail_each_read(
+    alloc: Global,
+    run: Run,
+    input: &[u8],
+    failure: ErrorKind,
+) -> Result<usize, Fault> {
+    let (text, ending) = text_of(alloc, run, input)?;
+    for fails_at in 1..input.len().saturating_add(2) {
+        let mut output = Vec::new(alloc);
+        let mut reader = octet_by_octet(input, fails_at, failure);
+        let outcome = run.of(alloc, &mut reader, &mut output);
+        if outcome != Err(RunFault::Input) || !output.is_empty() {
+            return Err(Fault::Differs("a failed read is answered otherwise"));
+        }
+        if !is_made_again(alloc, run, input, &text, ending)? {
+            return Err(Fault::Differs("a run is another after a failed read"));
+        }
+    }
+    Ok(input.len().saturating_add(1))
+}
+
+/// Counts inputs that end early, behind each octet. What is read of one octet by octet is what is read of it at once.
+pub(crate) fn count_ends(alloc: Global, input: &[u8]) -> Result<usize, Fault> {
+    let mut count = 0usize;
+    for run in RUNS {
+        count = count.saturating_add(end_behind_each_octet(alloc, run, input)?);
+    }
+    Ok(count)
+}
+
+fn end_behind_each_octet(alloc: Global, run: Run, input: &[u8]) -> Result<usize, Fault> {
+    for length in 0..input.len() {
+        let left = &input[..length];
+        let mut wanted = Vec::new(alloc);
+        let first = run.of(alloc, &mut { left }, &mut wanted);
+        let mut reader = octet_by_octet(left, 0, ErrorKind::Other);
+        let mut output = Vec::new(alloc);
+        let outcome = run.of(alloc, &mut reader, &mut output);
+        if outcome != first || output != wanted {
+            return Err(Fault::Differs("an input that ends early is read otherwise octet by octet"));
+        }
+    }
+    Ok(input.len())
+}
+
+// How many octets a writer takes at most at once, and whether it fails where it has no room: else it takes none.
+const WRITERS: [(usize, bool); 4] = [
+    (1, true),
+    (1, false),
+    (usize::MAX, true),
+    (usize::MAX, false),
+];
+
+/// Counts writers that have room for fewer octets than the text has, each number of them, in four ways. The same run
+/// made again is as if it were the first.
 pub(crate) fn count_writers(alloc: Global, input: &[u8]) -> Result<usize, Fault> {
     let mut count = 0usize;
     for run in RUNS {
-        let (text, _) = text_of(alloc, run, input)?;
-        for (most, fails) in [
-            (1, true),
-            (1, false),
-            (usize::MAX, true),
-            (usize::MAX, false),
-        ] {
-            for room in 0..text.len() {
-                let held = Vec::new(alloc);
-                let mut output = Narrow {
-                    held,
-                    most,
-                    room,
-                    fails,
-                };
-                let outcome = run.of(alloc, &mut { input }, &mut output);
-                let written = room as u64;
-                if outcome != Err(RunFault::Output { written })
-                    || output.held.as_slice() != &text[..room]
-                {
-                    return Err(Fault::Differs("a failed write is answered otherwise"));
-                }
-                count = count.saturating_add(1);
-            }
+        for (most, fails) in WRITERS {
+            count = count.saturating_add(fail_each_write(alloc, run, input, most, fails)?);
         }
     }
     Ok(count)
+}
+
+fn fail_each_write(
+    alloc: Global,
+    run: Run,
+    input: &[u8],
+    most: usize,
+    fails: bool,
+) -> Result<usize, Fault> {
+    let (text, ending) = text_of(alloc, run, input)?;
+    for room in 0..text.len() {
+        let held = Vec::new(alloc);
+        let mut output = Narrow {
+            held,
+            most,
+            room,
+            fails,
+        };
+        let outcome = run.of(alloc, &mut { input }, &mut output);
+        let written = room as u64;
+        if outcome != Err(RunFault::Output { written }) || output.held.as_slice() != &text[..room] {
+            return Err(Fault::Differs("a failed write is answered otherwise"));
+        }
+        if !is_made_again(alloc, run, input, &text, ending)? {
+            return Err(Fault::Differs("a run is another after a failed write"));
+        }
+    }
+    Ok(text.len())
 }
 
 /// Counts the octets of the texts of runs whose octets are read and written one by one.

@@ -1,4 +1,4 @@
-//! The verdict by trying every event, for small recordings of the numbers 1 to 3, which are asked for from a number on.
+//! The verdict by trying every event, for small recordings of the numbers 1 to 3, each asked for from each number on.
 
 ghost use Rattle.std.specs.Prelude.{◌<◌};
 
@@ -21,6 +21,9 @@ struct Small {
 /// How many sets of words there are.
 const SETS: usize = 512;
 
+/// The numbers that are asked from: 1 to this one. From 4 on no word is asked for.
+const FROM_MAX: u64 = 5;
+
 /// The bits of a number, or none past 3.
 fn bits_of(number: u64) -> usize {
     match number {
@@ -35,19 +38,20 @@ fn has_word(words: usize, number: u64) -> bool {
     words & bits_of(number) != 0
 }
 
-/// The words of the numbers from `from` on.
-fn asked_words(words: usize, from: u64) -> usize {
-    match from {
-        1 => words & 511,
-        2 => words & 504,
-        3 => words & 448,
-        _ => 0,
-    }
-}
-
 /// The least number from `from` on, below `end`, without a word.
 fn least_without(words: usize, from: u64, end: u64) -> Option<u64> {
     (from..end).find(|number| !has_word(words, *number))
+}
+
+/// The least number such that each from it on, below `end`, has a word. The end is 5 at most.
+fn asked_at_least(words: usize, end: u64) -> u8 {
+    let mut least = 1u8;
+    for number in 1..5u8 {
+        if u64::from(number) < end && !has_word(words, u64::from(number)) {
+            least = number + 1;
+        }
+    }
+    least
 }
 
 /// The words of the first datagrams.
@@ -58,40 +62,50 @@ fn told_by(datagrams: &[Small], sent: usize) -> usize {
         .fold(0, |words, small| words | small.words)
 }
 
-fn mark(reached: &mut Vec<bool>, place: usize) {
-    if let Some(flag) = reached.get_mut(place) {
-        *flag = true;
+/// For each state the least number such that, asked from it on, events lead to the state; 255 where none do. A state is
+/// how many datagrams are sent, times the sets, and the words held. A take of a number that is not asked for is a take
+/// that adds nothing that is looked at, so the events of each number are among those of one enumeration.
+type Reached = Vec<u8>;
+
+fn mark(reached: &mut Reached, place: usize, from: u8) {
+    if let Some(least) = reached.get_mut(place) {
+        *least = from.min(*least);
     }
 }
 
-fn is_marked(reached: &Vec<bool>, place: usize) -> bool {
-    reached.get(place) == Some(&true)
+/// The least number at a state.
+fn least_at(reached: &Reached, place: usize) -> u8 {
+    match reached.get(place) {
+        Some(least) => *least,
+        None => u8::MAX,
+    }
 }
 
 /// Marks what one event makes of a state: a word taken, or the next datagram sent.
-fn mark_next(reached: &mut Vec<bool>, datagrams: &[Small], from: u64, place: usize) {
+fn mark_next(reached: &mut Reached, datagrams: &[Small], place: usize, least: u8) {
     let (sent, held) = (place / SETS, place % SETS);
-    let told = asked_words(told_by(datagrams, sent), from);
+    let told = told_by(datagrams, sent);
     for bit in 0..9u32 {
         if told & (1 << bit) != 0 {
-            mark(reached, place | (1 << bit));
+            mark(reached, place | (1 << bit), least);
         }
     }
     if let Some(next) = datagrams.get(sent) {
-        if least_without(held, from, next.base).is_none() && place < 1 << 20 {
-            mark(reached, place + SETS);
+        if place < 1 << 20 {
+            let needed = asked_at_least(held, next.base);
+            mark(reached, place + SETS, needed.max(least));
         }
     }
 }
 
-/// The states that events lead to: how many datagrams are sent, times the sets, and the words held. Each event
-/// leads to a later place, so one pass finds all.
-fn reachable(alloc: Global, datagrams: &[Small], from: u64) -> Result<Vec<bool>, AllocError> {
-    let mut reached = vec![in alloc; false; 5 * SETS]?;
-    mark(&mut reached, 0);
+/// The states that events lead to. Each event leads to a later place, or to the same, so one pass finds all.
+fn reachable(alloc: Global, datagrams: &[Small]) -> Result<Reached, AllocError> {
+    let mut reached = vec![in alloc; u8::MAX; 5 * SETS]?;
+    mark(&mut reached, 0, 1);
     for place in 0..5 * SETS {
-        if is_marked(&reached, place) {
-            mark_next(&mut reached, datagrams, from, place);
+        let least = least_at(&reached, place);
+        if least < u8::MAX {
+            mark_next(&mut reached, datagrams, place, least);
         }
     }
     Ok(reached)
@@ -105,9 +119,9 @@ fn place_of(sent: usize, held: usize) -> usize {
     }
 }
 
-/// Whether some list of events sends this many datagrams.
-fn can_send(reached: &Vec<bool>, sent: usize) -> bool {
-    (0..SETS).any(|held| is_marked(reached, place_of(sent, held)))
+/// Whether some list of events sends this many datagrams, where the numbers from `from` on are asked for.
+fn can_send(reached: &Reached, sent: usize, from: u64) -> bool {
+    (0..SETS).any(|held| u64::from(least_at(reached, place_of(sent, held))) <= from)
 }
 
 fn signed(number: u64) -> i64 {
@@ -115,9 +129,9 @@ fn signed(number: u64) -> i64 {
 }
 
 /// The verdict where no run exists.
-fn unfounded(reached: &Vec<bool>, datagrams: &[Small], from: u64) -> Verdict {
+fn unfounded(reached: &Reached, datagrams: &[Small], from: u64) -> Verdict {
     for (place, small) in datagrams.iter().enumerate() {
-        if !can_send(reached, place + 1) {
+        if !can_send(reached, place + 1, from) {
             let told = told_by(datagrams, place);
             let number = least_without(told, from, small.base).unwrap_or(0);
             return Verdict::Unfounded {
@@ -135,17 +149,32 @@ fn has_both(words: usize, number: u64) -> bool {
     both != 0 && words & both == both
 }
 
-/// The verdict on at most four datagrams, by all lists of events, of the numbers from `from` on.
-fn verdict_by_trial(alloc: Global, datagrams: &[Small], from: u64) -> Result<Verdict, AllocError> {
-    let reached = reachable(alloc, datagrams, from)?;
-    let mut ends: Vec<usize> = Vec::new(alloc);
+/// The words that runs over all datagrams end with, where the numbers from `from` on are asked for.
+fn ends_of(
+    alloc: Global,
+    reached: &Reached,
+    sent: usize,
+    from: u64,
+) -> Result<Vec<usize>, AllocError> {
+    let mut ends = Vec::new(alloc);
     for held in 0..SETS {
-        if is_marked(&reached, place_of(datagrams.len(), held)) {
+        if u64::from(least_at(reached, place_of(sent, held))) <= from {
             ends.push(held)?;
         }
     }
+    Ok(ends)
+}
+
+/// The verdict on at most four datagrams, by all lists of events, of the numbers from `from` on.
+fn verdict_by_trial(
+    alloc: Global,
+    reached: &Reached,
+    datagrams: &[Small],
+    from: u64,
+) -> Result<Verdict, AllocError> {
+    let ends = ends_of(alloc, reached, datagrams.len(), from)?;
     if ends.is_empty() {
-        return Ok(unfounded(&reached, datagrams, from));
+        return Ok(unfounded(reached, datagrams, from));
     }
     if let Some(number) = (from..4u64).find(|number| ends
         .iter()
@@ -311,69 +340,103 @@ fn add_act(random: &mut Random, octets: &mut Vec<u8>, small: &mut Small) -> Resu
     }
 }
 
-/// The verdicts on one recording of the numbers from `from` on: by the judge with each kind of set, by the index, and by
-/// trial.
-fn verdicts(
-    rt: &impl Abort,
+/// A recording of at most four datagrams, in both forms.
+fn some_recording(
     alloc: Global,
     random: &mut Random,
-    from: u64,
-) -> Result<(Verdict, Verdict), Fail> {
-    let mut recording: Vec<Vec<u8>> = Vec::new(alloc);
+) -> Result<(Vec<Vec<u8>>, Vec<Small>), AllocError> {
+    let mut recording = Vec::new(alloc);
     let mut datagrams = Vec::new(alloc);
     for _ in 0..random.below(5) {
-        let mut octets = Vec::new(alloc);
         let mut small = Small {
             words: 0,
             base: 0,
             last: 0,
         };
-        octets.extend_from_slice(&HEADER)?;
-        for _ in 0..random.below(4) {
-            add_act(random, &mut octets, &mut small)?;
-        }
-        recording.push(octets)?;
+        recording.push(some_datagram(alloc, random, &mut small)?)?;
         datagrams.push(small)?;
     }
+    Ok((recording, datagrams))
+}
+
+/// A datagram of at most three acts, in both forms.
+fn some_datagram(
+    alloc: Global,
+    random: &mut Random,
+    small: &mut Small,
+) -> Result<Vec<u8>, AllocError> {
+    let mut octets = Vec::from_slice(alloc, &HEADER)?;
+    for _ in 0..random.below(4) {
+        add_act(random, &mut octets, small)?;
+    }
+    Ok(octets)
+}
+
+/// The verdict of the numbers from `first` on: by the index, and the same by the judge with each kind of set.
+fn judged(
+    rt: &impl Abort,
+    alloc: Global,
+    index: &Index<'_>,
+    recording: &[&[u8]],
+    first: SeqNum,
+) -> Result<Verdict, Fail> {
+    let indexed = index.judge_from(PAIR, first)?;
+    let plain = judge_from::<PlainRanges>(alloc, recording, PAIR, first)?;
+    let merged = judge_from::<MergedRanges>(alloc, recording, PAIR, first)?;
+    let bits = judge_from::<BitRanges>(alloc, recording, PAIR, first)?;
+    assert_eq!(rt; indexed, plain);
+    assert_eq!(rt; indexed, merged);
+    assert_eq!(rt; indexed, bits);
+    Ok(indexed)
+}
+
+/// Which of the four verdicts this is.
+fn kind_of(verdict: Verdict) -> usize
+    ensures { result < 4 }
+{
+    match verdict {
+        Verdict::Unfounded { .. } => 0,
+        Verdict::Conflict { .. } => 1,
+        Verdict::Open { .. } => 2,
+        Verdict::Complete { .. } => 3,
+    }
+}
+
+/// Judges one recording from each number on, and counts the verdicts. Each is the one by trial.
+fn judge_from_each(
+    rt: &impl Abort,
+    alloc: Global,
+    random: &mut Random,
+    seen: &mut [u32; 4],
+) -> Result<(), Fail> {
+    let (recording, datagrams) = some_recording(alloc, random)?;
     let mut lent: Vec<&[u8]> = Vec::new(alloc);
     for octets in &recording {
         lent.push(octets)?;
     }
-    let Some(first) = SeqNum::new(signed(from)) else {
-        return Err("a sequence number".into());
-    };
-    let judged = judge_from::<PlainRanges>(alloc, &lent, PAIR, first)?;
-    let merged = judge_from::<MergedRanges>(alloc, &lent, PAIR, first)?;
-    let bits = judge_from::<BitRanges>(alloc, &lent, PAIR, first)?;
-    let indexed = Index::build(alloc, &lent)?.judge_from(PAIR, first)?;
-    assert_eq!(rt; judged, merged);
-    assert_eq!(rt; judged, bits);
-    assert_eq!(rt; judged, indexed);
-    Ok((judged, verdict_by_trial(alloc, &datagrams, from)?))
+    let index = Index::build(alloc, &lent)?;
+    let reached = reachable(alloc, &datagrams)?;
+    for from in 1..=FROM_MAX {
+        let Some(first) = SeqNum::new(signed(from)) else {
+            return Err("a sequence number".into());
+        };
+        let found = judged(rt, alloc, &index, &lent, first)?;
+        let tried = verdict_by_trial(alloc, &reached, &datagrams, from)?;
+        assert_eq!(rt; found, tried, "from {from}");
+        let kind = kind_of(found);
+        seen[kind] = seen[kind].saturating_add(1);
+    }
+    Ok(())
 }
 
 #[test]
 fn small_recordings_are_judged_as_by_trial(rt: HostRuntime) -> Result<(), Fail> {
     let mut random = Random(1);
     let mut seen = [0u32; 4];
-    for recording in 0..3000u32 {
-        // Every second recording is asked from 1 on, the others from 2 to 5.
-        let from = if recording % 2 == 0 {
-            1
-        } else {
-            2 + random.below(4)
-        };
-        let (judged, tried) = verdicts(&rt, rt.alloc(), &mut random, from)?;
-        assert_eq!(rt; judged, tried, "recording {recording}, from {from}");
-        let kind = match judged {
-            Verdict::Unfounded { .. } => 0,
-            Verdict::Conflict { .. } => 1,
-            Verdict::Open { .. } => 2,
-            Verdict::Complete { .. } => 3,
-        };
-        seen[kind] = seen[kind].saturating_add(1);
+    for _ in 0..3000u32 {
+        judge_from_each(&rt, rt.alloc(), &mut random, &mut seen)?;
     }
     println!(rt; "unfounded, conflict, open, complete: {seen:?}")?;
-    assert!(rt; seen.iter().all(|count| *count > 100));
+    assert!(rt; seen.iter().all(|count| *count > 500));
     Ok(())
 }

@@ -245,27 +245,27 @@ fn number(value: i64) -> Result<SeqNum, Fail> {
     }
 }
 
-/// The verdict of the one pair by the numbers from a number on: by the audit, by each kind of set, and by the index. These
-/// pieces stand behind the announcements of the pair.
-fn verdict_from(alloc: Global, pieces: &[Piece], from: i64) -> Result<Verdict, Fail> {
+/// The audit of the announcements of the pair and then these pieces, of the numbers from a number on. Each row is what
+/// the pair is judged by each kind of set, and by the index.
+fn audited_from(alloc: Global, pieces: &[Piece], from: i64) -> Result<Report, Fail> {
     let from = number(from)?;
     let mut datagrams = Vec::new(alloc);
     push_all(alloc, &mut datagrams, &[HeaderA, WriterW, HeaderB, ReaderR])?;
     push_all(alloc, &mut datagrams, pieces)?;
     let slices = slices_of(alloc, &datagrams)?;
     let report = audit_from(alloc, &slices, from)?;
-    let [row] = report.rows.as_slice() else {
-        return Err("one row".into());
-    };
-    let plain = judge_from::<PlainRanges>(alloc, &slices, row.pair, from)?;
-    let merged = judge_from::<MergedRanges>(alloc, &slices, row.pair, from)?;
-    let bits = judge_from::<BitRanges>(alloc, &slices, row.pair, from)?;
-    let indexed = Index::build(alloc, &slices)?.judge_from(row.pair, from)?;
-    let sets_differ = plain != row.verdict || merged != row.verdict || bits != row.verdict;
-    if sets_differ || indexed != row.verdict {
-        return Err("one verdict by any way".into());
+    let index = Index::build(alloc, &slices)?;
+    for row in &report.rows {
+        let plain = judge_from::<PlainRanges>(alloc, &slices, row.pair, from)?;
+        let merged = judge_from::<MergedRanges>(alloc, &slices, row.pair, from)?;
+        let bits = judge_from::<BitRanges>(alloc, &slices, row.pair, from)?;
+        let indexed = index.judge_from(row.pair, from)?;
+        let sets_differ = plain != row.verdict || merged != row.verdict || bits != row.verdict;
+        if sets_differ || indexed != row.verdict {
+            return Err("one verdict by any way".into());
+        }
     }
-    Ok(row.verdict)
+    Ok(report)
 }
 
 /// The counts of so many datagrams in which there is nothing else to count.
@@ -293,23 +293,23 @@ fn pair() -> Pair {
     }
 }
 
+/// Three samples, which the reader acknowledges.
+const DELIVERED: [Piece; 10] = [
+    HeaderA,
+    Data(1, 1),
+    HeaderA,
+    Data(2, 2),
+    HeaderA,
+    Data(3, 3),
+    Heartbeat1To3,
+    HeaderB,
+    ToA,
+    AckNack(4),
+];
+
 #[test]
 fn samples_that_were_all_acknowledged_are_complete(rt: HostRuntime) -> Result<(), Fail> {
-    let report = audited(
-        rt.alloc(),
-        &[
-            HeaderA,
-            Data(1, 1),
-            HeaderA,
-            Data(2, 2),
-            HeaderA,
-            Data(3, 3),
-            Heartbeat1To3,
-            HeaderB,
-            ToA,
-            AckNack(4),
-        ],
-    )?;
+    let report = audited(rt.alloc(), &DELIVERED)?;
     assert_eq!(rt; report.rows.len(), 1);
     assert!(rt;
         report.rows.iter().all(|row| row.pair == pair()
@@ -393,66 +393,89 @@ fn verdicts_of_recordings(rt: HostRuntime) -> Result<(), Fail> {
 /// The first two samples were written before the reader joined.
 const JOINED_LATE: [Piece; 6] = [HeaderA, Data(3, 3), Heartbeat1To3, HeaderB, ToA, AckNack(4)];
 
+/// Two samples, of which the reader acknowledges the first.
+const ONE_IS_OPEN: [Piece; 6] = [HeaderA, Data(1, 1), Data(2, 2), HeaderB, ToA, AckNack(2)];
+
+/// Two payloads of the second sample.
+const CONFLICT: [Piece; 8] = [
+    HeaderA,
+    Data(1, 1),
+    Data(2, 2),
+    HeaderA,
+    Data(2, 9),
+    HeaderB,
+    ToA,
+    AckNack(3),
+];
+
+/// A sample of the greatest number, and what can be said of it.
+const GREATEST: [Piece; 6] = [
+    HeaderA,
+    DataGreatest,
+    HeartbeatGreatest,
+    HeaderB,
+    ToA,
+    AckNackGreatest,
+];
+
+/// Nothing is said of the pair.
+const SILENT: [Piece; 1] = [HeaderA];
+
+/// How many datagrams these pieces are behind the announcements, and the number from which on they are asked for: then
+/// this is the verdict.
+const FROM_ROWS: [(&[Piece], u64, i64, Verdict); 15] = [
+    (&DELIVERED, 4, 1, Verdict::Complete { last: 3 }),
+    (&DELIVERED, 4, 4, Verdict::Complete { last: 3 }),
+    (
+        &JOINED_LATE,
+        2,
+        1,
+        Verdict::Unfounded {
+            datagram: 4,
+            number: 1,
+        },
+    ),
+    (
+        &JOINED_LATE,
+        2,
+        2,
+        Verdict::Unfounded {
+            datagram: 4,
+            number: 2,
+        },
+    ),
+    (&JOINED_LATE, 2, 3, Verdict::Complete { last: 3 }),
+    (&JOINED_LATE, 2, 4, Verdict::Complete { last: 3 }),
+    (&JOINED_LATE, 2, 5, Verdict::Complete { last: 4 }),
+    (&ONE_IS_OPEN, 2, 1, Verdict::Open { number: 2 }),
+    (&ONE_IS_OPEN, 2, 2, Verdict::Open { number: 2 }),
+    (&ONE_IS_OPEN, 2, 3, Verdict::Complete { last: 2 }),
+    (&CONFLICT, 3, 2, Verdict::Conflict { number: 2 }),
+    (&CONFLICT, 3, 3, Verdict::Complete { last: 2 }),
+    (&GREATEST, 2, 1, Verdict::Open { number: i64::MAX }),
+    (&GREATEST, 2, i64::MAX, Verdict::Open { number: i64::MAX }),
+    (
+        &SILENT,
+        1,
+        i64::MAX,
+        Verdict::Complete { last: i64::MAX - 1 },
+    ),
+];
+
 #[test]
 fn numbers_from_a_number_on(rt: HostRuntime) -> Result<(), Fail> {
-    let alloc = rt.alloc();
-    for (from, number) in [(1, 1), (2, 2)] {
-        let unfounded = Verdict::Unfounded {
-            datagram: 4,
-            number,
-        };
-        assert_eq!(rt; verdict_from(alloc, &JOINED_LATE, from)?, unfounded);
+    for (pieces, datagrams, from, verdict) in FROM_ROWS {
+        let report = audited_from(rt.alloc(), pieces, from)?;
+        assert_eq!(rt; report.rows.len(), 1);
+        assert!(rt;
+            report
+                .rows
+                .iter()
+                .all(|row| row.pair == pair() && row.verdict == verdict),
+            "from {from}, {verdict:?}"
+        );
+        assert_eq!(rt; report.counts, counts_of(2 + datagrams));
     }
-    for (from, last) in [(3, 3), (4, 3), (5, 4)] {
-        let complete = Verdict::Complete { last };
-        assert_eq!(rt; verdict_from(alloc, &JOINED_LATE, from)?, complete);
-    }
-    let open = [HeaderA, Data(1, 1), Data(2, 2), HeaderB, ToA, AckNack(2)];
-    assert_eq!(rt; verdict_from(alloc, &open, 2)?, Verdict::Open { number: 2 });
-    assert_eq!(rt;
-        verdict_from(alloc, &open, 3)?,
-        Verdict::Complete { last: 2 }
-    );
-    Ok(())
-}
-
-#[test]
-fn two_payloads_of_a_number_that_is_not_asked_for(rt: HostRuntime) -> Result<(), Fail> {
-    let alloc = rt.alloc();
-    let conflict = [
-        HeaderA,
-        Data(1, 1),
-        Data(2, 2),
-        HeaderA,
-        Data(2, 9),
-        HeaderB,
-        ToA,
-        AckNack(3),
-    ];
-    let found = Verdict::Conflict { number: 2 };
-    assert_eq!(rt; verdict_from(alloc, &conflict, 2)?, found);
-    assert_eq!(rt;
-        verdict_from(alloc, &conflict, 3)?,
-        Verdict::Complete { last: 2 }
-    );
-    Ok(())
-}
-
-#[test]
-fn the_greatest_number_alone(rt: HostRuntime) -> Result<(), Fail> {
-    let greatest = [
-        HeaderA,
-        DataGreatest,
-        HeartbeatGreatest,
-        HeaderB,
-        ToA,
-        AckNackGreatest,
-    ];
-    let open = Verdict::Open { number: i64::MAX };
-    assert_eq!(rt; verdict_from(rt.alloc(), &greatest, i64::MAX)?, open);
-    assert_eq!(rt; verdict_from(rt.alloc(), &greatest, 1)?, open);
-    let before = Verdict::Complete { last: i64::MAX - 1 };
-    assert_eq!(rt; verdict_from(rt.alloc(), &[HeaderA], i64::MAX)?, before);
     Ok(())
 }
 

@@ -2,9 +2,11 @@
 
 use super::mark;
 use crate::fault::Fault;
+use crate::streams::asked_from;
 use crate::verdicts::PAIR;
 use rtps_audit::{
-    BitRanges, Coverage, Index, MergedRanges, PlainRanges, Verdict, audit, judge, judge_by,
+    BitRanges, Counts, Coverage, Index, MergedRanges, PlainRanges, Report, Row, Verdict, audit,
+    audit_from, judge, judge_by, judge_from,
 };
 use rtps_discovery::{Directory, Endpoint, Match, Noted, Pair};
 use rtps_ids::{Guid, Memory};
@@ -44,17 +46,49 @@ pub(super) fn try_call(
         "add_plain" => is_add_refused::<PlainRanges>(alloc)?,
         "add_merged" => is_add_refused::<MergedRanges>(alloc)?,
         "add_bits" => is_add_refused::<BitRanges>(alloc)?,
-        "judge" => is_refused!(alloc, judge(alloc, recording, PAIR)),
-        "judge_by_plain" => is_refused!(alloc, judge_by::<PlainRanges>(alloc, recording, PAIR)),
+        "judge"
+        | "judge_by_plain"
+        | "judge_from_plain"
+        | "judge_from_merged"
+        | "judge_from_bits"
+        | "index_judge"
+        | "index_judge_from" => is_judging_refused(alloc, call, recording)?,
         "build" => is_build_refused(alloc, recording)?,
-        "index_judge" => {
-            let index = Index::build(alloc, recording)?;
-            is_refused!(alloc, index.judge(PAIR))
-        }
-        "audit" => is_audit_refused(alloc, recording)?,
+        "audit" => is_refused!(alloc, said_by(audit(alloc, recording))),
+        "audit_from" => is_refused!(alloc, said_by(audit_from(alloc, recording, asked_from()))),
         _ => return Ok(None),
     };
     Ok(Some(refused))
+}
+
+fn is_judging_refused(alloc: Global, call: &str, recording: &[&[u8]]) -> Result<bool, Fault> {
+    let index = Index::build(alloc, recording)?;
+    Ok(is_refused!(alloc, judged(alloc, call, recording, &index)))
+}
+
+// The verdict on the pair by a call; by the index alone where it is none of the others.
+fn judged(
+    alloc: Global,
+    call: &str,
+    recording: &[&[u8]],
+    index: &Index<'_>,
+) -> Result<Verdict, Memory> {
+    let from = asked_from();
+    match call {
+        "judge" => judge(alloc, recording, PAIR),
+        "judge_by_plain" => judge_by::<PlainRanges>(alloc, recording, PAIR),
+        "judge_from_plain" => judge_from::<PlainRanges>(alloc, recording, PAIR, from),
+        "judge_from_merged" => judge_from::<MergedRanges>(alloc, recording, PAIR, from),
+        "judge_from_bits" => judge_from::<BitRanges>(alloc, recording, PAIR, from),
+        "index_judge_from" => index.judge_from(PAIR, from),
+        _ => index.judge(PAIR),
+    }
+}
+
+// What a report says.
+fn said_by(report: Result<Report, Memory>) -> Result<(Vec<Row>, Counts), Memory> {
+    let report = report?;
+    Ok((report.rows, report.counts))
 }
 
 fn is_note_refused(alloc: Global, recording: &[&[u8]]) -> Result<bool, Fault> {
@@ -231,19 +265,4 @@ fn said(index: &Index<'_>) -> Result<(usize, usize, Verdict), Memory> {
     let read = index.acts_of(PAIR.reader).len();
     let verdict = index.judge(PAIR)?;
     Ok((written, read, verdict))
-}
-
-fn is_audit_refused(alloc: Global, recording: &[&[u8]]) -> Result<bool, Fault> {
-    let wanted = audit(alloc, recording)?;
-    mark(alloc)?;
-    let first = audit(alloc, recording);
-    mark(alloc)?;
-    let (report, refused) = match first {
-        Ok(report) => (report, false),
-        Err(Memory) => (audit(alloc, recording)?, true),
-    };
-    if report.rows != wanted.rows || report.counts != wanted.counts {
-        return Err(Fault::Differs("the report is another after a refusal"));
-    }
-    Ok(refused)
 }

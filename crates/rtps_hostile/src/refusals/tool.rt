@@ -1,4 +1,4 @@
-//! The calls of the tool, on the text of a recording and on words.
+//! The calls of the tool, on a recording in either form and on words.
 
 use super::mark;
 use crate::fault::Fault;
@@ -6,32 +6,45 @@ use crate::streams::{Run, text_of};
 use rtps_tool::{Choice, RecFault, Recording, RunFault, WordFault, read_recording, read_words};
 use std::alloc::Global;
 
-/// Whether the call was refused memory; None where it is none of these.
-pub(super) fn try_call(alloc: Global, call: &str, text: &str) -> Result<Option<bool>, Fault> {
+/// Whether the call on the input was refused memory; None where it is none of these.
+pub(super) fn try_input(alloc: Global, call: &str, input: &[u8]) -> Result<Option<bool>, Fault> {
     let refused = match call {
-        "read_recording" => is_reading_refused(alloc, text)?,
-        "read_words" => are_words_refused(alloc, &["rtps-audit", "audit", "--", "a file.rec"])?,
-        "read_help" => are_words_refused(alloc, &["rtps-audit", "list", "--help"])?,
-        "read_refused_words" => are_words_refused(alloc, &["rtps-audit", "show", "--quiet"])?,
-        "show" => is_run_refused(alloc, Run::Show, text.as_bytes())?,
-        "list" => is_run_refused(alloc, Run::List, text.as_bytes())?,
-        "audit_run" => is_run_refused(alloc, Run::Audit, text.as_bytes())?,
+        "read_recording" => is_reading_refused(alloc, input)?,
+        "show" => is_run_refused(alloc, Run::Show, input)?,
+        "list" => is_run_refused(alloc, Run::List, input)?,
+        "audit_run" => is_run_refused(alloc, Run::Audit, input)?,
+        "audit_from_run" => is_run_refused(alloc, Run::AuditFrom, input)?,
         _ => return Ok(None),
     };
     Ok(Some(refused))
 }
 
-fn is_reading_refused(alloc: Global, text: &str) -> Result<bool, Fault> {
-    let wanted = read_recording(alloc, text.as_bytes())?;
+/// Whether the call on words was refused memory; None where it is none of these.
+pub(super) fn try_words(alloc: Global, call: &str) -> Result<Option<bool>, Fault> {
+    let refused = match call {
+        "read_words" => are_words_refused(alloc, &["rtps-audit", "audit", "--", "a file.rec"])?,
+        "read_words_from" => are_words_refused(
+            alloc,
+            &["rtps-audit", "audit", "--from", "2", "-"],
+        )?,
+        "read_help" => are_words_refused(alloc, &["rtps-audit", "list", "--help"])?,
+        "read_refused_words" => are_words_refused(alloc, &["rtps-audit", "show", "--quiet"])?,
+        _ => return Ok(None),
+    };
+    Ok(Some(refused))
+}
+
+fn is_reading_refused(alloc: Global, input: &[u8]) -> Result<bool, Fault> {
+    let wanted = read_recording(alloc, input)?;
     mark(alloc)?;
-    let first = read_recording(alloc, text.as_bytes());
+    let first = read_recording(alloc, input);
     mark(alloc)?;
     let (recording, refused): (Recording, bool) = match first {
         Ok(recording) => (recording, false),
-        Err(RecFault::Memory) => (read_recording(alloc, text.as_bytes())?, true),
+        Err(RecFault::Memory) => (read_recording(alloc, input)?, true),
         Err(_) => return Err(Fault::Differs("a refusal is answered by another fault")),
     };
-    if !recording.datagrams().eq(wanted.datagrams()) {
+    if !recording.datagrams().eq(wanted.datagrams()) || recording.ignored() != wanted.ignored() {
         return Err(Fault::Differs("the recording is another after a refusal"));
     }
     Ok(refused)
@@ -64,10 +77,13 @@ fn answer_of(alloc: Global, read: Result<Choice, WordFault>) -> Result<Option<St
         Ok(
             Choice::Audit {
                 file,
-                from: _,
+                from,
                 limits: _,
             },
-        ) => format!(in alloc; "audit {file}")?,
+        ) => {
+            let number = from.get();
+            format!(in alloc; "audit {file} from {number}")?
+        }
         Ok(Choice::Sample) => format!(in alloc; "sample")?,
         Err(WordFault::Refused(refusal)) => format!(in alloc; "refused {refusal}")?,
         Err(WordFault::Help(help)) => format!(in alloc; "help {help}")?,
@@ -77,18 +93,18 @@ fn answer_of(alloc: Global, read: Result<Choice, WordFault>) -> Result<Option<St
 }
 
 // The output has its room before the run. A run that is refused has written nothing, and is made again on a fresh input.
-fn is_run_refused(alloc: Global, run: Run, text: &[u8]) -> Result<bool, Fault> {
-    let (wanted, ending) = text_of(alloc, run, text)?;
+fn is_run_refused(alloc: Global, run: Run, input: &[u8]) -> Result<bool, Fault> {
+    let (wanted, ending) = text_of(alloc, run, input)?;
     let mut output = Vec::with_capacity(alloc, wanted.len())?;
     mark(alloc)?;
-    let first = run.of(alloc, &mut { text }, &mut output);
+    let first = run.of(alloc, &mut { input }, &mut output);
     mark(alloc)?;
     let refused = first == Err(RunFault::Memory);
     if refused && !output.is_empty() {
         return Err(Fault::Differs("a refused run writes"));
     }
     let outcome = if refused {
-        run.of(alloc, &mut { text }, &mut output)
+        run.of(alloc, &mut { input }, &mut output)
     } else {
         first
     };
