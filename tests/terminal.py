@@ -16,6 +16,8 @@ import tty
 sys.dont_write_bytecode = True
 from program import Counts
 
+# How many seconds a run waits that is to be long, also where the machine is slow to start it.
+LONG = 2.5
 WIPE = b'\r\x1b[K'
 READING = WIPE + b'rtps-audit: reading, 0 MiB'
 JUDGING = WIPE + b'rtps-audit: judging, 1 of 1 pairs'
@@ -53,27 +55,36 @@ def run(program, recording, wait, words=('audit', '-'), both=False):
     return status, written, b''.join(told)
 
 
+def short_run(program, recording):
+    """what a run answers that took less than a second; on a machine with much else to do the first may not"""
+    for _ in range(20):
+        begin = time.monotonic()
+        answer = run(program, recording, 0)
+        if time.monotonic() - begin < 1:
+            return answer
+    return 'no run was short'
+
+
 def main():
     program = os.path.realpath(sys.argv[1])
     tests = Counts()
     sample = subprocess.run([program, 'sample'], stdout=subprocess.PIPE, check=True).stdout
     report = subprocess.run([program, 'audit', '-'], input=sample, stdout=subprocess.PIPE, check=True).stdout
 
-    status, written, told = run(program, sample, 0)
-    tests.holds('a short run', (0, report, b''), (status, written, told))
-    status, written, told = run(program, sample, 1.3)
+    tests.holds('a short run', (0, report, b''), short_run(program, sample))
+    status, written, told = run(program, sample, LONG)
     tests.holds('a long run: its status and its text', (0, report), (status, written))
     tests.holds('a long run: that it reads is told', True, told.startswith(READING))
     tests.holds('a long run: then that it judges, and all is wiped', True, told.endswith(JUDGING + WIPE))
-    status, _, told = run(program, sample, 1.3, both=True)
+    status, _, told = run(program, sample, LONG, both=True)
     tests.holds('a long run whose text goes to the terminal', (0, True), (status, told.endswith(JUDGING + WIPE + report)))
-    status, written, told = run(program, sample + b'0', 1.3)
+    status, written, told = run(program, sample + b'0', LONG)
     tests.holds('a long run with a fault: its status and its text', (2, b''), (status, written))
     tests.holds('a long run with a fault: all is wiped before that is told', True,
                 told.startswith(READING) and told.endswith(WIPE + b'rtps-audit: line 7: bad hex\n'))
-    status, _, told = run(program, sample, 1.3, ('list', '-'))
+    status, _, told = run(program, sample, LONG, ('list', '-'))
     tests.holds('a long run of list', (0, True), (status, told.startswith(READING) and told.endswith(WIPE)))
-    slow = f'"$1" sample | (head -c 100; sleep 1.3; cat) | "$1" audit - 2>&1 >/dev/null'
+    slow = f'"$1" sample | (head -c 100; sleep {LONG}; cat) | "$1" audit - 2>&1 >/dev/null'
     told = subprocess.run(['sh', '-c', slow, 'sh', program], stdout=subprocess.PIPE, check=True).stdout
     tests.holds('a long run with no terminal', b'', told)
     return tests.told()

@@ -56,6 +56,7 @@ payload_in None = None
 abbrev pub payload_for : Guid → Guid → ℕ → PlacedValue → Option PayloadValue
 payload_for writer reader n placed = payload_in (word_for writer reader placed.act n)
 
+-- the reader hears one
 abbrev pub sends : Guid → Guid → ℕ → PlacedValue → Bool
 sends writer reader n placed = is_some (payload_for writer reader n placed)
 
@@ -66,25 +67,29 @@ is_same (Whole one) (Whole other) = bytes_eq one other
 is_same (Key one) (Key other) = bytes_eq one other
 is_same _ _ = false
 
+-- the second is there, and is another
 abbrev pub differs : PayloadValue → Option PayloadValue → Bool
 differs one None = false
 differs one (Some other) = not (is_same one other)
 
--- the first act that announces this number, where it is asked for
+-- an act as the announcement of a number
 abbrev pub announcement_at : ℕ → PlacedValue → Announcement
 announcement_at number placed = record { number = pos number; kind = kind_of placed.act.body; place = place_of placed }
 
+-- the first act that announces this number, where it is asked for
 abbrev pub announcement_of : ℕ → Guid → ℕ → List PlacedValue → Option Announcement
 announcement_of from writer number acts =
     if nat_le from number then option_map (announcement_at number) (find (λ placed. number_said writer placed == number) acts) else None
 
--- the first answer with the greatest base of all answers, where that is above the first number that is asked for
+-- an act as an answer of the reader to the writer
 abbrev pub claim_at : Guid → Guid → PlacedValue → Claim
 claim_at writer reader placed = record { below = pos (base_said writer reader placed); place = place_of placed }
 
+-- the greatest base of all answers of the reader to the writer, or 0
 abbrev pub greatest_base : Guid → Guid → List PlacedValue → ℕ
 greatest_base writer reader acts = greatest (map (base_said writer reader) acts)
 
+-- the first answer with the greatest base of all answers, where that is above the first number that is asked for
 abbrev pub acknowledgement_of : ℕ → Guid → Guid → List PlacedValue → Option Claim
 acknowledgement_of from writer reader acts =
     if nat_lt from (greatest_base writer reader acts)
@@ -96,10 +101,11 @@ abbrev pub claim_of : Guid → Guid → ℕ → ℕ → List PlacedValue → Opt
 claim_of writer reader datagram n acts =
     option_map (claim_at writer reader) (find (λ placed. (placed.datagram == datagram) && nat_lt n (base_said writer reader placed)) acts)
 
--- the first act that tells n
+-- an act as one that tells a number
 abbrev pub teller_at : PlacedValue → Teller
 teller_at placed = record { kind = kind_of placed.act.body; place = place_of placed }
 
+-- the first act that tells n
 abbrev pub teller_of : Guid → Guid → ℕ → List PlacedValue → Option Teller
 teller_of writer reader n acts = option_map teller_at (find (tells writer reader n) acts)
 
@@ -112,6 +118,7 @@ pub record SentValue : Type 0 where
 abbrev pub sent_value : Sent → SentValue
 sent_value sent = record { payload = Some (payload_value sent.payload); place = sent.place }
 
+-- what an act sends for n, and where it stands
 abbrev pub sent_at : Guid → Guid → ℕ → PlacedValue → SentValue
 sent_at writer reader n placed = record { payload = payload_for writer reader n placed; place = place_of placed }
 
@@ -124,13 +131,16 @@ abbrev pub other_sending : Guid → Guid → ℕ → Option PayloadValue → Lis
 other_sending writer reader n None acts = None
 other_sending writer reader n (Some payload) acts = find (λ placed. differs payload (payload_for writer reader n placed)) acts
 
+-- the payload for n of an act, if there is one
 abbrev pub payload_at : Guid → Guid → ℕ → Option PlacedValue → Option PayloadValue
 payload_at writer reader n None = None
 payload_at writer reader n (Some placed) = payload_for writer reader n placed
 
+-- what the first act with a payload for n sends
 abbrev pub first_sent : Guid → Guid → ℕ → List PlacedValue → Option SentValue
 first_sent writer reader n acts = option_map (sent_at writer reader n) (first_sending writer reader n acts)
 
+-- what the first act with another payload for n than that one sends
 abbrev pub other_sent : Guid → Guid → ℕ → List PlacedValue → Option SentValue
 other_sent writer reader n acts =
     option_map (sent_at writer reader n) (other_sending writer reader n (payload_at writer reader n (first_sending writer reader n acts)) acts)

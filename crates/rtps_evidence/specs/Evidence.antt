@@ -29,13 +29,14 @@ claim_by (Conflict number) writer reader acts = None
 claim_by (Open number) writer reader acts = None
 claim_by (Complete last) writer reader acts = None
 
--- the first payload for the number, and the first other one, where the verdict is conflict
+-- the first payload for the number, where the verdict is conflict
 abbrev pub first_by : Verdict → Guid → Guid → List PlacedValue → Option SentValue
 first_by (Unfounded datagram number) writer reader acts = None
 first_by (Conflict number) writer reader acts = first_sent writer reader (natural number) acts
 first_by (Open number) writer reader acts = None
 first_by (Complete last) writer reader acts = None
 
+-- the first payload for the number that is another than that one, where the verdict is conflict
 abbrev pub other_by : Verdict → Guid → Guid → List PlacedValue → Option SentValue
 other_by (Unfounded datagram number) writer reader acts = None
 other_by (Conflict number) writer reader acts = other_sent writer reader (natural number) acts
