@@ -1,7 +1,6 @@
 //! Texts that come in pieces, with a cut at each place that could matter, and readers that fail in mid-stream.
 
-use rtps_text::show_text;
-use rtps_tool::{RunFault, read_recording, run_show};
+use rtps_tool::{Limits, Recording, RunFault, read_input, read_recording, run_show};
 use std::alloc::Global;
 use std::io::{self, Read};
 use std::test::Fail;
@@ -59,12 +58,26 @@ fn shown(alloc: Global, input: &mut Pieces<'_>) -> Result<Vec<u8>, RunFault> {
     Ok(output)
 }
 
+// Whether two recordings have the same datagrams, octet for octet, and as many frames that were ignored.
+fn is_same_recording(one: &Recording, other: &Recording) -> bool {
+    if one.len() != other.len() || one.ignored() != other.ignored() {
+        return false;
+    }
+    let mut others = other.datagrams();
+    for datagram in one.datagrams() {
+        if others.next() != Some(datagram) {
+            return false;
+        }
+    }
+    true
+}
+
 // Whether what is read in pieces is what the text as a whole stands for.
 pub(super) fn reads_as_whole(alloc: Global, mut input: Pieces<'_>) -> bool {
     let text = input.text;
-    match (shown(alloc, &mut input), read_recording(alloc, text)) {
-        (Ok(one), Ok(other)) => show_text(alloc, &other).is_ok_and(|shown| one.as_slice()
-            == shown.0.as_bytes()),
+    let read = read_input(alloc, Limits::usual(), &mut input);
+    match (read, read_recording(alloc, text)) {
+        (Ok(one), Ok(other)) => is_same_recording(&one, &other),
         (Err(RunFault::Recording(one)), Err(other)) => one == other,
         _ => false,
     }

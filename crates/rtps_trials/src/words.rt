@@ -161,6 +161,9 @@ fn the_version_is_an_answer(rt: HostRuntime) -> Result<(), Fail> {
         return Ok(());
     };
     let text = format!(in alloc; "{version}")?;
-    assert!(rt; text.as_str().starts_with("rtps-audit "), "the version of the program");
+    assert!(rt;
+        text.as_str().starts_with("rtps-audit "),
+        "the version of the program"
+    );
     Ok(())
 }
