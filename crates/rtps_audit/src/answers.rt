@@ -12,10 +12,10 @@ use rtps_receiver::{Act, ActBody};
 
 /// An answer of a reader to a writer: the datagram that it stands in, counted from 1, and its base, by which the reader
 /// claims each number below it.
-#[derive(Clone, Copy, Debug)]
-pub(crate) struct Answer {
-    pub(crate) datagram: usize,
-    pub(crate) base: i64,
+#[derive(Clone, Copy, PartialEq, Eq, Debug)]
+pub struct Answer {
+    pub datagram: usize,
+    pub base: i64,
 }
 
 impl Answer {

@@ -10,7 +10,7 @@ use crate::index::Index;
 use crate::report::{Report, Row};
 use crate::verdict::Verdict;
 use crate::watch::{Unwatched, Watch};
-use rtps_discovery::Pair;
+use rtps_discovery::{Directory, Pair};
 use rtps_ids::{Memory, SeqNum};
 use std::alloc::Global;
 
@@ -39,6 +39,32 @@ fn rows_of<P: Watch>(
     Ok(rows)
 }
 
+impl<'a> Index<'a> {
+    ghost use Rattle.std.specs.Prelude.{ℕ, List, IfOk};
+    ghost use Rattle.rtps_receiver.specs.Acts.{acts_in};
+    ghost use Rattle.rtps_discovery.specs.Directory.{IsMapOf};
+    ghost use Rattle.rtps_audit.specs.Index.{IsIndexOf};
+    ghost use Rattle.rtps_audit.specs.Report.{IsReportFrom};
+
+    /// What the recording announces. It takes no memory.
+    pub fn directory(&self) -> &Directory<'a>
+        ensures { (recording : List (List ℕ)) → IsIndexOf recording self.now → IsMapOf (acts_in recording) result.now }
+    {
+        &self.directory
+    }
+
+    /// The report on the recording by the numbers from `from` on, as [`audit_from`] answers it. It tells how far it is.
+    pub fn report_from<P: Watch>(&self, from: SeqNum, watch: &mut P) -> Result<Report, Memory>
+        ensures { (recording : List (List ℕ)) → IsIndexOf recording self.now → IfOk result (IsReportFrom from recording) }
+    {
+        let pairs = self.directory.pairs()?;
+        let rows = rows_of(self, &pairs, from, watch)?;
+        let mut counts = self.counts;
+        counts.unsettled = self.directory.unsettled() as u64;
+        Ok(Report { rows, counts })
+    }
+}
+
 /// Audits a recording as [`audit_from`] does, and tells how far it is.
 pub fn audit_watched<P: Watch>(
     alloc: Global,
@@ -59,11 +85,8 @@ pub fn audit_watched<P: Watch>(
         IfOk result (λ report. All (λ row. HasFullRunFrom from (speech_of row.pair.writer row.pair.reader octets) row.verdict) report.rows.items) }
 {
     let index = Index::build(alloc, recording)?;
-    let pairs = index.directory.pairs()?;
-    let rows = rows_of(&index, &pairs, from, watch)?;
-    let mut counts = index.counts;
-    counts.unsettled = index.directory.unsettled() as u64;
-    Ok(Report { rows, counts })
+    let report = index.report_from(from, watch)?;
+    Ok(report)
 }
 
 /// Audits a recording, any datagrams, well formed or not, by the numbers from `from` on.

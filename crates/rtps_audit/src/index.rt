@@ -75,8 +75,8 @@ impl<'a> Index<'a> {
         self.origins.acts.of(origin)
     }
 
-    /// The answers of a pair's reader to its writer, in the order of sending.
-    pub(crate) fn answers_of(&self, pair: Pair) -> &[Answer]
+    /// The answers of a pair's reader to its writer, in the order of sending. It takes no memory.
+    pub fn answers_of(&self, pair: Pair) -> &[Answer]
         ensures { (recording : List (List ℕ)) → IsIndexOf recording self.now
             → result.now ≡ answers_among pair (placed_in recording) }
     {

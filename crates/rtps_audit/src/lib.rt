@@ -26,6 +26,7 @@ mod verdict;
 mod watch;
 mod words;
 
+pub use answers::Answer;
 pub use auditing::{audit, audit_from, audit_watched};
 pub use index::Index;
 pub use judging::{judge, judge_by, judge_from};

@@ -66,6 +66,14 @@ pub record IsMapOf (acts : List ActValue) (map : DirectoryValue) : Type 0 where
 abbrev pub settled_in : Entries → List EndpointValue
 settled_in entries = filter_map (λ entry. entry.1) entries
 
+-- the endpoint of a GUID, if there is an announcement of it, and all of them agree
+abbrev pub agreed : Option (Option EndpointValue) → Option EndpointValue
+agreed None = None
+agreed (Some entry) = entry
+
+abbrev pub settled_at : Entries → Guid → Option EndpointValue
+settled_at entries guid = agreed (entry_at entries guid)
+
 -- the GUIDs whose announcements disagree, in order
 abbrev pub unsettled_in : Entries → List Guid
 unsettled_in entries = keys_of (filter (λ entry. is_none entry.1) entries)

@@ -1,13 +1,14 @@
 ghost use Rattle.std.specs.Prelude.{◌≡◌, ◌≢◌, ◌∷◌, [], ◌++◌, List, IfOk, OnOk, OnErr, length, map};
+ghost use Rattle.std.specs.Option.{option_map};
 ghost use Rattle.rtps_receiver.specs.Values.{ActValue, act_value};
-ghost use Rattle.rtps_discovery.specs.Directory.{IsMapOf, settled_in, unsettled_in};
+ghost use Rattle.rtps_discovery.specs.Directory.{IsMapOf, settled_at, settled_in, unsettled_in};
 ghost use Rattle.rtps_discovery.specs.Endpoint.{endpoint_value};
 ghost use Rattle.rtps_discovery.specs.Matching.{matches_among, reliable_pairs};
 ghost use Rattle.rtps_discovery.specs.Notice.{RepeatsOneOf, announcement_of, answer_of};
 
 use crate::announcement::{read_endpoint, read_participant};
 use crate::endpoint::Endpoint;
-use crate::kept::{Kept, count_unsettled, keep_endpoint, keep_participant, settled};
+use crate::kept::{Kept, count_unsettled, keep_endpoint, keep_participant, settled, settled_at};
 use crate::matching::{Match, Pair, reliable_pairs};
 use crate::notice::{Noted, Subject, notice};
 use crate::topic_index::matches_among;
@@ -105,6 +106,14 @@ impl<'a> Directory<'a> {
         ensures { IfOk result (λ endpoints. map endpoint_value endpoints.items ≡ settled_in self.now.endpoints) }
     {
         settled(self.alloc, &self.endpoints)
+    }
+
+    /// The endpoint of a GUID, where its announcements agree. None where there is none, or they disagree.
+    #[tactic(auto, using(crate::proofs::Entries::entry_at-entries_value))]
+    pub fn endpoint(&self, guid: Guid) -> Option<Endpoint<'a>>
+        ensures { option_map endpoint_value result ≡ settled_at self.now.endpoints guid }
+    {
+        settled_at(&self.endpoints, guid)
     }
 
     /// The matches among those endpoints, sorted by writer and then by reader.

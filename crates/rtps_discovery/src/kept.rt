@@ -2,7 +2,7 @@ ghost use Rattle.std.specs.Prelude.{◌≡◌, ◌≢◌, ◌∷◌, [], ◌++�
 ghost use Rattle.std.specs.BTreeMap.{values};
 ghost use Rattle.std.specs.Option.{option_map};
 ghost use Rattle.rtps_ids.specs.declared.identity.Guid.{Guid};
-ghost use Rattle.rtps_discovery.specs.Directory.{AreEntries, AreParticipants, entry_at};
+ghost use Rattle.rtps_discovery.specs.Directory.{AreEntries, AreParticipants, agreed, entry_at};
 ghost use Rattle.rtps_discovery.specs.Endpoint.{EndpointValue, endpoint_value};
 ghost use Rattle.rtps_discovery.specs.Kept.{IsJoined, entries_value, kept_value};
 
@@ -86,6 +86,19 @@ pub(crate) fn settled<'a>(
     let settled = endpoints.values().filter(|kept| kept.settled);
     found.extend(settled.map(|kept| kept.endpoint))?;
     Ok(found)
+}
+
+/// The endpoint of a GUID, where its announcements agree.
+pub(crate) fn settled_at<'a>(
+    endpoints: &BTreeMap<Guid, Kept<'a>>,
+    guid: Guid,
+) -> Option<Endpoint<'a>>
+    ensures { option_map endpoint_value result ≡ agreed (entry_at (entries_value endpoints.now.entries) guid) }
+{
+    match endpoints.get(&guid) {
+        Some(kept) if kept.settled => Some(kept.endpoint),
+        _ => None,
+    }
 }
 
 /// How many GUIDs have announcements that disagree.

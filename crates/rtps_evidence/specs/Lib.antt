@@ -2,3 +2,4 @@ pub mod Acting
 pub mod Counted
 pub mod Evidence
 pub mod Certificates
+pub mod Explained

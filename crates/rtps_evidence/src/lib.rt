@@ -5,6 +5,7 @@
 mod announcing;
 mod answering;
 mod counting;
+mod explaining;
 pub mod laws;
 mod places;
 mod sending;
@@ -14,6 +15,7 @@ mod why;
 
 pub use announcing::Announcement;
 pub use answering::Claim;
+pub use explaining::{Explained, Explanation, explain_from};
 pub use places::{Kind, Place};
 pub use sending::Sent;
 pub use telling::Teller;

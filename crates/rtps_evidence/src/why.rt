@@ -44,6 +44,8 @@ pub struct Evidence<'a> {
 }
 
 impl<'a> Evidence<'a> {
+    ghost use Rattle.rtps_audit.specs.RunVerdict.{IsVerdictFrom};
+    ghost use Rattle.rtps_audit.specs.Speech.{speech_of};
     ghost use Rattle.rtps_evidence.specs.Evidence.{IsEvidence, IsEvidenceFrom};
 
     /// The evidence of an index's recording for a writer and a reader, any two GUIDs, by the writer's numbers from `from` on:
@@ -57,6 +59,22 @@ impl<'a> Evidence<'a> {
         ensures { (recording : List (List ℕ)) → IsIndexOf recording index.now → IfOk result (IsEvidenceFrom from pair recording) }
     {
         let verdict = index.judge_from(pair, from)?;
+        Evidence::of_judged(alloc, index, pair, from, verdict)
+    }
+
+    /// The evidence of two that were judged so.
+    pub(crate) fn of_judged(
+        alloc: Global,
+        index: &Index<'a>,
+        pair: Pair,
+        from: SeqNum,
+        verdict: Verdict,
+    ) -> Result<Evidence<'a>, Memory>
+        ensures judged { IfOk result (λ evidence. evidence.verdict ≡ verdict) }
+        ensures evidence { (recording : List (List ℕ)) → IsIndexOf recording index.now
+            → IsVerdictFrom from (speech_of pair.writer pair.reader recording) verdict
+            → IfOk result (IsEvidenceFrom from pair recording) }
+    {
         let spoken = index.acts_of(pair.writer);
         let answered = index.acts_of(pair.reader);
         let before = from.get().cast_unsigned() - 1;

@@ -1,4 +1,5 @@
 pub mod AuditText
+pub mod WhyText
 pub mod ListText
 pub mod Places
 pub mod Recording

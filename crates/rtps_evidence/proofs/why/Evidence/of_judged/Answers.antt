@@ -7,10 +7,10 @@ use Rattle.rtps_evidence.specs.Acting.{acknowledgement_of, announcement_of, numb
 use Rattle.rtps_evidence.specs.Counted.{AreAmounts}
 use Rattle.rtps_evidence.specs.Evidence.{claim_by, first_by, other_by, teller_by}
 use Rattle.rtps_evidence.proofs.OriginLemmas.{acknowledgement_same, amounts_same, announcement_same, claim_by_same, first_by_same, last_same, other_by_same, teller_by_same}
-use Rattle.rtps_evidence.proofs.why.Evidence.of_from.Goals as goal
+use Rattle.rtps_evidence.proofs.why.Evidence.of_judged.Goals as goal
 
-pub returns : goal.returns
-returns c = λ recording is.
+pub returns-clause-evidence : goal.returns-clause-evidence
+returns-clause-evidence c = λ recording is judged.
     let writer = c.args.pair.writer in
     let reader = c.args.pair.reader in
     let all = placed_in recording in
@@ -22,12 +22,12 @@ returns c = λ recording is.
     last_same c.args.from writer reader recording c.greatest_number.result c.max-last.result (c.greatest_number.ensures.value ∙ ap (λ l. Rattle.rtps_audit.specs.Delivery.greatest (map (number_said writer) l)) spoken) (c.max-last.ensures ∙ ap (max c.greatest_number.result) before) in
     let amounts = amounts_same c.args.from c.max-last.result writer reader all c.in_ok-amounts.amounts (subst (λ l. AreAmounts c.args.from c.max-last.result writer reader l c.in_ok-amounts.amounts) spoken c.in_ok-amounts.ensures) in
     record {
-      verdict = c.in_ok-verdict.ensures.verdict recording is;
+      verdict = judged;
       announcement = c.find_announcement.ensures ∙ ap (announcement_of c.args.from writer c.max-last.result) spoken ∙ announcement_same c.args.from writer c.max-last.result all low ∙ ap (λ n. announcement_of c.args.from writer n all) last;
       acknowledgement = c.find_acknowledgement.ensures ∙ ap (acknowledgement_of c.args.from writer reader) answered ∙ acknowledgement_same c.args.from writer reader all;
       amounts = subst (λ n. AreAmounts c.args.from n writer reader all c.in_ok-amounts.amounts) last amounts;
-      teller = c.teller_by.ensures ∙ ap (teller_by c.in_ok-verdict.verdict writer reader) spoken ∙ teller_by_same c.in_ok-verdict.verdict writer reader all;
-      claim = c.claim_by.ensures ∙ ap (claim_by c.in_ok-verdict.verdict writer reader) answered ∙ claim_by_same c.in_ok-verdict.verdict writer reader all;
-      first = c.first_by.ensures ∙ ap (first_by c.in_ok-verdict.verdict writer reader) spoken ∙ first_by_same c.in_ok-verdict.verdict writer reader all;
-      other = c.other_by.ensures ∙ ap (other_by c.in_ok-verdict.verdict writer reader) spoken ∙ other_by_same c.in_ok-verdict.verdict writer reader all;
+      teller = c.teller_by.ensures ∙ ap (teller_by c.args.verdict writer reader) spoken ∙ teller_by_same c.args.verdict writer reader all;
+      claim = c.claim_by.ensures ∙ ap (claim_by c.args.verdict writer reader) answered ∙ claim_by_same c.args.verdict writer reader all;
+      first = c.first_by.ensures ∙ ap (first_by c.args.verdict writer reader) spoken ∙ first_by_same c.args.verdict writer reader all;
+      other = c.other_by.ensures ∙ ap (other_by c.args.verdict writer reader) spoken ∙ other_by_same c.args.verdict writer reader all;
     }

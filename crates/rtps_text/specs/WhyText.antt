@@ -1,0 +1,118 @@
+-- What `why` prints of a recording, and how it ends.
+-- own: for each row of the report, its pair and what its verdict rests on, place by place, so that it can be checked with
+-- `show`. A place is the number of a datagram, from 1, and the place of a submessage's first octet in it, from 0, both as
+-- `show` writes them. Behind the line of a pair, each line begins with two spaces.
+use Rattle.std.specs.Prelude.{ℕ, ℤ, ◌≡◌, ◌++◌, if◌then◌else◌, List, [], ◌∷◌, codes, length, map, Option, None, Some}
+use Rattle.std.specs.Fmt.{decimal, signed_decimal}
+use Rattle.std.specs.List.{flat_map, list_all}
+use Rattle.rtps_audit.specs.declared.report.Counts.{Counts}
+use Rattle.rtps_audit.specs.declared.verdict.Verdict.{Verdict}
+use Rattle.rtps_audit.specs.declared.verdict.Verdict.TheVariants.{Unfounded, Conflict, Open, Complete}
+use Rattle.rtps_evidence.specs.Acting.{SentValue}
+use Rattle.rtps_evidence.specs.Explained.{EvidenceValue, ExplanationValue, IsExplainedFrom, explanation_value}
+use Rattle.rtps_evidence.specs.declared.announcing.Announcement.{Announcement}
+use Rattle.rtps_evidence.specs.declared.answering.Claim.{Claim}
+use Rattle.rtps_evidence.specs.declared.explaining.Explained.{Explained}
+use Rattle.rtps_evidence.specs.declared.places.Kind.{Kind}
+use Rattle.rtps_evidence.specs.declared.places.Kind.TheVariants.{Data, Heartbeat, AckNack, Gap}
+use Rattle.rtps_evidence.specs.declared.places.Place.{Place}
+use Rattle.rtps_evidence.specs.declared.telling.Teller.{Teller}
+use Rattle.rtps_wire.specs.Values.{PayloadValue}
+use Rattle.rtps_text.specs.AuditText.{is_complete, pairs_line, report_counts_line, verdict_text}
+use Rattle.rtps_text.specs.ListText.{guid_text, name_text}
+use Rattle.rtps_text.specs.Recording.{RecordingValue}
+use Rattle.rtps_text.specs.ShowText.{line_of, payload_text}
+use Rattle.rtps_text.specs.declared.ending.Ending.{Ending}
+use Rattle.rtps_text.specs.declared.ending.Ending.TheVariants.{Clean, Unclean}
+
+-- a line behind two spaces
+abbrev pub inner_line : List (List ℕ) → List ℕ
+inner_line fields = 32 ∷ 32 ∷ line_of fields
+
+-- the submessage, by the name that `show` gives it
+unfoldable pub kind_text : Kind → List ℕ
+kind_text Data = codes "data"
+kind_text Heartbeat = codes "heartbeat"
+kind_text AckNack = codes "acknack"
+kind_text Gap = codes "gap"
+
+unfoldable pub place_text : Place → List ℕ
+place_text place = codes "in datagram " ++ (decimal place.datagram ++ (codes " at " ++ decimal place.at))
+
+abbrev pub pair_line : ExplanationValue → List ℕ
+pair_line row = line_of (codes "pair" ∷ guid_text row.pair.writer ∷ guid_text row.pair.reader ∷ verdict_text row.evidence.verdict ∷ [])
+
+abbrev pub names_line : List ℕ → List ℕ → List ℕ
+names_line topic type_name = inner_line (codes "topic" ∷ name_text topic ∷ codes "type" ∷ name_text type_name ∷ [])
+
+-- the last number that the writer announced, and the submessage that did so first
+abbrev pub announced_line : Option Announcement → List ℕ
+announced_line None = inner_line (codes "announced nothing" ∷ [])
+announced_line (Some announcement) =
+    inner_line (codes "announced" ∷ signed_decimal announcement.number ∷ codes "by" ∷ kind_text announcement.kind ∷ place_text announcement.place ∷ [])
+
+-- the greatest base of the reader's answers, and the answer that had it first
+abbrev pub acknowledged_line : Option Claim → List ℕ
+acknowledged_line None = inner_line (codes "acknowledged nothing" ∷ [])
+acknowledged_line (Some claim) = inner_line (codes "acknowledged below" ∷ signed_decimal claim.below ∷ place_text claim.place ∷ [])
+
+-- of the numbers asked for, up to the last announced one: how many have a payload, are gone without one, have no word
+abbrev pub amounts_line : ℕ → ℕ → ℕ → List ℕ
+amounts_line payloads gone untold = inner_line (codes "payloads" ∷ decimal payloads ∷ codes "gone" ∷ decimal gone ∷ codes "untold" ∷ decimal untold ∷ [])
+
+-- the submessage that told a number first
+abbrev pub told_line : ℤ → Option Teller → List ℕ
+told_line number None = inner_line (codes "number" ∷ signed_decimal number ∷ codes "told nowhere" ∷ [])
+told_line number (Some teller) =
+    inner_line (codes "number" ∷ signed_decimal number ∷ codes "told by" ∷ kind_text teller.kind ∷ place_text teller.place ∷ [])
+
+-- the answer that claimed a number too early
+abbrev pub claimed_line : Option Claim → List ℕ
+claimed_line None = []
+claimed_line (Some claim) = inner_line (codes "claimed below" ∷ signed_decimal claim.below ∷ place_text claim.place ∷ [])
+
+-- what was sent for a number
+abbrev pub carried_text : Option PayloadValue → List ℕ
+carried_text None = []
+carried_text (Some payload) = payload_text payload
+
+abbrev pub sent_line : ℤ → Option SentValue → List ℕ
+sent_line number None = []
+sent_line number (Some sent) =
+    inner_line (codes "number" ∷ signed_decimal number ∷ codes "payload" ∷ carried_text sent.payload ∷ place_text sent.place ∷ [])
+
+-- what the verdict rests on
+abbrev pub shown_by : Verdict → EvidenceValue → List ℕ
+shown_by (Complete last) evidence = []
+shown_by (Open number) evidence = told_line number evidence.teller
+shown_by (Conflict number) evidence = sent_line number evidence.first_sent ++ sent_line number evidence.other_sent
+shown_by (Unfounded datagram number) evidence = claimed_line evidence.claim ++ told_line number evidence.teller
+
+-- the lines of a pair
+abbrev pub explanation_text : ExplanationValue → List ℕ
+explanation_text row =
+    pair_line row
+    ++ (names_line row.topic row.type_name
+    ++ (announced_line row.evidence.announcement
+    ++ (acknowledged_line row.evidence.acknowledgement
+    ++ (amounts_line row.evidence.payloads row.evidence.gone row.evidence.untold
+    ++ shown_by row.evidence.verdict row.evidence))))
+
+-- the lines of these rows and counts
+abbrev pub explained_text : List ExplanationValue → Counts → Option ℕ → List ℕ
+explained_text rows counts ignored = pairs_line (length rows) ++ (flat_map explanation_text rows ++ report_counts_line counts ignored)
+
+-- as that of the report
+abbrev pub ending_of_rows : List ExplanationValue → Ending
+ending_of_rows rows = if list_all (λ row. is_complete row.evidence.verdict) rows then Clean else Unclean
+
+-- what `why` answers of the numbers from `from` on: the text of the report's rows, each explained, clean where each is complete
+pub record IsExplainedTextFrom (from : ℕ) (recording : RecordingValue) (text : List ℕ) (ending : Ending) : Type 0 where
+  pub explained : Explained
+  pub explains : IsExplainedFrom from recording.datagrams explained
+  pub is_text : text ≡ explained_text (map explanation_value explained.rows.items) explained.counts recording.ignored
+  pub ends : ending ≡ ending_of_rows (map explanation_value explained.rows.items)
+
+-- and of all numbers
+abbrev pub IsExplainedText : RecordingValue → List ℕ → Ending → Type 0
+IsExplainedText recording text ending = IsExplainedTextFrom 1 recording text ending
