@@ -2,4 +2,5 @@ pub mod ListLemmas
 pub mod PiecesLemmas
 pub mod ShowLemmas
 pub mod DigitLemmas
-mod WhyLemmas
+mod JsonLemmas
+mod PartLemmas

@@ -1,5 +1,6 @@
 pub mod AuditText
 pub mod WhyText
+pub mod JsonText
 pub mod ListText
 pub mod Places
 pub mod Recording

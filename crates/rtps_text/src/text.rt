@@ -4,6 +4,8 @@ pub(crate) mod audit;
 mod audit_lines;
 mod digits;
 mod item_lines;
+pub(crate) mod json;
+mod json_members;
 pub(crate) mod list;
 mod list_lines;
 mod parts;

@@ -106,6 +106,18 @@ impl fmt::Display for NameText<'_> {
     }
 }
 
+/// A name as it stands between the quotes.
+#[derive(Drop)]
+pub(crate) struct NameOctets<'a>(pub(crate) &'a [u8]);
+
+impl fmt::Display for NameOctets<'_> {
+    ghost output = { λ name. Some (flat_map octet_text name.0.now) };
+
+    fn fmt<W: fmt::Write>(&self, f: &mut fmt::Formatter<W>) -> fmt::Result {
+        write_name(self.0, f)
+    }
+}
+
 // Writes the octets of a name.
 fn write_name<W: fmt::Write>(name: &[u8], f: &mut fmt::Formatter<W>) -> fmt::Result
     ensures { WritesOnOk W.write_str_gives f.old result (flat_map octet_text name.now) f.new }

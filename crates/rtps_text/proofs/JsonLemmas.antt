@@ -1,0 +1,166 @@
+-- Facts on the tokens of a report as JSON, on how deep it nests, and on numbers.
+use Rattle.std.proofs.Common.{◌≡◌, ◌++◌, ◌∷◌, [], ◌∙◌, ◌+◌, ◌<◌, ◌≤◌, ◌^◌, ◌%◌, ◌==◌, ℕ, List, Option, None, Some, ap, append_assoc, append-nil, arith, cond, decimal, drop, false, get_or, length, map, option_and_then, refl, suc, sym, zero}
+use Rattle.std.proofs.lemmas.Bool.{and_from, le-leb, ne_eqb}
+use Rattle.std.proofs.lemmas.Fmt.{decimal_by_steps_wide, decimal_digit, decimal_is_IsNumeral_wide}
+use Rattle.std.proofs.lemmas.List.{drop_all, get_or_append_left, length-append}
+use Rattle.std.proofs.lemmas.Str.Parse.{digit_at}
+use Rattle.std.specs.Char.{is_ascii_digit}
+use Rattle.std.specs.List.{flat_map, prefix_len}
+use Rattle.json.proofs.Printed.Trees.{value-json_tokens}
+use Rattle.json.specs.Json.{document, if_last, max_depth, value}
+use Rattle.json.specs.Lex.{tokens}
+use Rattle.json.specs.Print.{IsNumber, print}
+use Rattle.json.specs.Token.{begin_object, end_array, end_object, key}
+use Rattle.json.specs.Tree.{depth, items_depth, items_tokens, json_tokens, members_depth, members_tokens}
+use Rattle.json.specs.Word.{after_exponent, after_fraction, after_number, after_whole, head}
+use Rattle.rtps_audit.specs.declared.report.Counts.{Counts}
+use Rattle.rtps_audit.specs.declared.verdict.Verdict.{Verdict}
+use Rattle.rtps_audit.specs.declared.verdict.Verdict.TheVariants.{Unfounded, Conflict, Open, Complete}
+use Rattle.rtps_evidence.specs.Acting.{SentValue}
+use Rattle.rtps_evidence.specs.Explained.{EvidenceValue, ExplanationValue, explanation_value}
+use Rattle.rtps_evidence.specs.declared.announcing.Announcement.{Announcement}
+use Rattle.rtps_evidence.specs.declared.answering.Claim.{Claim}
+use Rattle.rtps_evidence.specs.declared.explaining.Explanation.{Explanation}
+use Rattle.rtps_evidence.specs.declared.telling.Teller.{Teller}
+use Rattle.rtps_wire.specs.Values.{PayloadValue}
+use Rattle.rtps_wire.specs.Values.PayloadValue.{Absent, Whole, Key}
+use Rattle.rtps_text.specs.JsonText.{Member, announcement_json, claim_json, counts_members, evidence_members, ignored_members, items_of, members_of, object_of, pair_members, payload_members, place_members, report_json, row_json, sent_json, shown_members, teller_json, tokens_of, tokens_of_member, verdict_members}
+
+-- ---- tokens
+
+front : (members more : List Member) → members_tokens (members_of (members ++ more)) ≡ tokens_of members ++ members_tokens (members_of more)
+front [] more = refl
+front ((name, json) ∷ members) more =
+    ap (λ rest. key name ∷ (json_tokens json ++ rest)) (front members more) ∙ sym (append_assoc (key name ∷ json_tokens json) (tokens_of members) (members_tokens (members_of more)))
+
+whole : (members : List Member) → members_tokens (members_of members) ≡ tokens_of members ++ end_object ∷ []
+whole [] = refl
+whole ((name, json) ∷ members) = ap (λ rest. key name ∷ (json_tokens json ++ rest)) (whole members) ∙ sym (append_assoc (key name ∷ json_tokens json) (tokens_of members) (end_object ∷ []))
+
+-- an object of four parts
+pub row_tokens : (a b c d : List Member) → json_tokens (object_of (a ++ (b ++ (c ++ d)))) ≡ begin_object ∷ (tokens_of a ++ (tokens_of b ++ (tokens_of c ++ (tokens_of d ++ end_object ∷ []))))
+row_tokens a b c d =
+    ap (λ rest. begin_object ∷ rest)
+    (front a (b ++ (c ++ d)) ∙ ap (λ rest. tokens_of a ++ rest) (front b (c ++ d) ∙ ap (λ rest. tokens_of b ++ rest) (front c d ∙ ap (λ rest. tokens_of c ++ rest) (whole d))))
+
+-- an object of a member and two parts
+pub report_tokens : (a : Member) (b c : List Member) → json_tokens (object_of (a ∷ (b ++ c))) ≡ begin_object ∷ (tokens_of_member a ++ (tokens_of b ++ (tokens_of c ++ end_object ∷ [])))
+report_tokens (name, json) b c = ap (λ rest. begin_object ∷ key name ∷ (json_tokens json ++ rest)) (front b c ∙ ap (λ rest. tokens_of b ++ rest) (whole c))
+
+-- the array of rows
+pub rows_tokens : (rows : List Explanation)
+    → flat_map (λ row. json_tokens (row_json (explanation_value row))) rows ++ end_array ∷ [] ≡ items_tokens (items_of (map row_json (map explanation_value rows)))
+rows_tokens [] = refl
+rows_tokens (row ∷ rows) =
+    let first = json_tokens (row_json (explanation_value row)) in
+    append_assoc first (flat_map (λ each. json_tokens (row_json (explanation_value each))) rows) (end_array ∷ []) ∙ ap (λ rest. first ++ rest) (rows_tokens rows)
+
+-- ---- depth
+
+joined : (most : ℕ) (one other : List Member) → members_depth (members_of one) ≤ most → members_depth (members_of other) ≤ most → members_depth (members_of (one ++ other)) ≤ most
+joined most [] other h k = k
+joined most ((name, json) ∷ one) other h k = let rest = joined most one other (omega (arith, h)) k in omega (arith, h, rest)
+
+announcement_within : (announcement : Option Announcement) → depth (announcement_json announcement) ≤ 1
+announcement_within None = omega arith
+announcement_within (Some announcement) = omega arith
+
+claim_within : (claim : Option Claim) → depth (claim_json claim) ≤ 1
+claim_within None = omega arith
+claim_within (Some claim) = omega arith
+
+teller_within : (teller : Option Teller) → depth (teller_json teller) ≤ 1
+teller_within None = omega arith
+teller_within (Some teller) = omega arith
+
+payload_within : (payload : Option PayloadValue) → members_depth (members_of (payload_members payload)) ≤ 0
+payload_within None = omega arith
+payload_within (Some Absent) = omega arith
+payload_within (Some (Whole octets)) = omega arith
+payload_within (Some (Key octets)) = omega arith
+
+sent_within : (sent : Option SentValue) → depth (sent_json sent) ≤ 1
+sent_within None = omega arith
+sent_within (Some sent) =
+    let members = joined 0 (payload_members sent.payload) (place_members sent.place) (payload_within sent.payload) (omega arith) in
+    omega (arith, members)
+
+verdict_within : (verdict : Verdict) → members_depth (members_of (verdict_members verdict)) ≤ 2
+verdict_within (Complete last) = omega arith
+verdict_within (Open n) = omega arith
+verdict_within (Conflict n) = omega arith
+verdict_within (Unfounded datagram n) = omega arith
+
+evidence_within : (evidence : EvidenceValue) → members_depth (members_of (evidence_members evidence)) ≤ 2
+evidence_within evidence = omega (arith, announcement_within evidence.announcement, claim_within evidence.acknowledgement)
+
+shown_within : (verdict : Verdict) (evidence : EvidenceValue) → members_depth (members_of (shown_members verdict evidence)) ≤ 2
+shown_within (Complete last) evidence = omega arith
+shown_within (Open n) evidence = omega (arith, teller_within evidence.teller)
+shown_within (Conflict n) evidence = omega (arith, sent_within evidence.first_sent, sent_within evidence.other_sent)
+shown_within (Unfounded datagram n) evidence = omega (arith, claim_within evidence.claim, teller_within evidence.teller)
+
+row_within : (row : ExplanationValue) → depth (row_json row) ≤ 3
+row_within row =
+    let evidence = row.evidence in
+    let verdict = evidence.verdict in
+    let last = joined 2 (evidence_members evidence) (shown_members verdict evidence) (evidence_within evidence) (shown_within verdict evidence) in
+    let later = joined 2 (verdict_members verdict) (evidence_members evidence ++ shown_members verdict evidence) (verdict_within verdict) last in
+    let all = joined 2 (pair_members row) (verdict_members verdict ++ (evidence_members evidence ++ shown_members verdict evidence)) (omega arith) later in
+    omega (arith, all)
+
+rows_within : (rows : List ExplanationValue) → items_depth (items_of (map row_json rows)) ≤ 3
+rows_within [] = omega arith
+rows_within (row ∷ rows) = omega (arith, row_within row, rows_within rows)
+
+ignored_within : (ignored : Option ℕ) → members_depth (members_of (ignored_members ignored)) ≤ 0
+ignored_within None = omega arith
+ignored_within (Some ignored) = omega arith
+
+report_within : (rows : List ExplanationValue) (counts : Counts) (ignored : Option ℕ) → depth (report_json rows counts ignored) ≤ max_depth
+report_within rows counts ignored =
+    let last = joined 0 (counts_members counts) (ignored_members ignored) (omega arith) (ignored_within ignored) in
+    omega (arith, rows_within rows, last)
+
+-- the grammar of JSON reads a report back, where its tokens are read back
+pub report_reads_back : (rows : List ExplanationValue) (counts : Counts) (ignored : Option ℕ)
+    → tokens (print (json_tokens (report_json rows counts ignored))) ≡ json_tokens (report_json rows counts ignored)
+    → document (print (json_tokens (report_json rows counts ignored))) ≡ Some (report_json rows counts ignored)
+report_reads_back rows counts ignored read =
+    let json = report_json rows counts ignored in
+    ap (option_and_then (λ p. if_last p.0 p.1))
+    (ap (value max_depth) (read ∙ sym (append-nil (json_tokens json))) ∙ value-json_tokens json max_depth [] (report_within rows counts ignored))
+
+-- ---- numbers
+
+all_digits : (digits : List ℕ) → ((i : ℕ) → i < length digits → (48 ≤ get_or digits i 0) × (get_or digits i 0 ≤ 57)) → prefix_len is_ascii_digit digits ≡ length digits
+all_digits [] h = refl
+all_digits (digit ∷ digits) h =
+    let first = h 0 (omega arith) in
+    let rest = all_digits digits (λ i l. h (suc i) (omega arith)) in
+    ap (λ b. cond b (1 + prefix_len is_ascii_digit digits) 0) (and_from _ _ (le-leb 48 digit first.0) (le-leb digit 57 first.1)) ∙ omega arith
+
+whole_digits : (digits : List ℕ) → 48 < get_or digits 0 0 → prefix_len is_ascii_digit digits ≡ length digits → (after_whole digits ≡ Some []) × ((head digits == 45) ≡ false)
+whole_digits [] first all = absurd (omega arith)
+whole_digits (digit ∷ digits) first all = (
+  rw (ne_eqb digit 48 (λ e. omega arith), all, ne_eqb (suc (length digits)) 0 (λ e. omega arith)) (ap Some (drop_all (length digits) digits (omega arith))),
+  ne_eqb digit 45 (λ e. omega arith),
+)
+
+-- no number but 0 begins with the digit 0
+first_digit : (n : ℕ) → 0 < n → n < 10 ^ 64 → 48 < get_or (decimal n) 0 0
+first_digit n some small =
+    (decimal_by_steps_wide (λ m digits. (0 < length digits) × (0 < m → 48 < get_or digits 0 0)) (λ m l. (omega arith, λ a. omega arith))
+    (λ m digits l h. (omega (arith, length-append digits ((48 + m % 10) ∷ [])), λ a. omega (arith, get_or_append_left digits ((48 + m % 10) ∷ []) 0 0 h.0, h.1 (omega arith)))) n small).1 some
+
+whole_decimal : (n : ℕ) → n < 10 ^ 64 → (after_whole (decimal n) ≡ Some []) × ((head (decimal n) == 45) ≡ false)
+whole_decimal zero h = let e = decimal_digit 0 (omega arith) in (ap after_whole e, ap (λ l. head l == 45) e)
+whole_decimal (suc n) h =
+    whole_digits (decimal (suc n)) (first_digit (suc n) (omega arith) h) (all_digits _ (λ i l. digit_at _ i (decimal_is_IsNumeral_wide (suc n) h).0.1 l))
+
+-- a number of any size is one of JSON
+pub is_number : (n : ℕ) → n < 2 ^ 128 → IsNumber (decimal n)
+unfolding after_number
+is_number n h =
+    let w = whole_decimal n (omega (arith, h)) in
+    ap (λ o. option_and_then after_exponent (option_and_then after_fraction o)) (ap (λ b. after_whole (cond b (drop 1 (decimal n)) (decimal n))) w.1 ∙ w.0)

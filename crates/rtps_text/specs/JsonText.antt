@@ -1,0 +1,157 @@
+-- What `audit --json` prints of a recording, and how it ends. RFC 8259 "The JavaScript Object Notation (JSON) Data
+-- Interchange Format".
+-- own: one object on one line, with the report's rows, what each rests on, and the counts, so that other programs can read
+-- them. Its members stand in the order given here, no space stands between tokens, and numbers are integers in decimal.
+-- Names are strings of what `list` writes between the quotes. Places are as `why` writes them.
+use Rattle.std.specs.Prelude.{ℕ, ℤ, ◌≡◌, ◌++◌, List, [], ◌∷◌, codes, length, map, flat_map, Option, None, Some}
+use Rattle.std.specs.Fmt.{decimal, signed_decimal}
+use Rattle.json.specs.Json.{Json, null, number, string, array, object, Items, no_items, item, Members, no_members, member, document}
+use Rattle.json.specs.Print.{print}
+use Rattle.json.specs.Token.{Token, key}
+use Rattle.json.specs.Tree.{json_tokens}
+use Rattle.rtps_audit.specs.declared.report.Counts.{Counts}
+use Rattle.rtps_audit.specs.declared.verdict.Verdict.{Verdict}
+use Rattle.rtps_audit.specs.declared.verdict.Verdict.TheVariants.{Unfounded, Conflict, Open, Complete}
+use Rattle.rtps_evidence.specs.Acting.{SentValue}
+use Rattle.rtps_evidence.specs.Explained.{EvidenceValue, ExplanationValue, IsExplainedFrom, explanation_value}
+use Rattle.rtps_evidence.specs.declared.announcing.Announcement.{Announcement}
+use Rattle.rtps_evidence.specs.declared.answering.Claim.{Claim}
+use Rattle.rtps_evidence.specs.declared.explaining.Explained.{Explained}
+use Rattle.rtps_evidence.specs.declared.places.Place.{Place}
+use Rattle.rtps_evidence.specs.declared.telling.Teller.{Teller}
+use Rattle.rtps_wire.specs.Values.{PayloadValue}
+use Rattle.rtps_wire.specs.Values.PayloadValue.{Absent, Whole, Key}
+use Rattle.rtps_text.specs.ListText.{guid_text, octet_text}
+use Rattle.rtps_text.specs.Recording.{RecordingValue}
+use Rattle.rtps_text.specs.WhyText.{ending_of_rows, kind_text}
+use Rattle.rtps_text.specs.declared.ending.Ending.{Ending}
+
+-- a name and a value of an object
+abbrev pub Member : Type 0
+Member = List ℕ × Json
+
+-- the object of these members, in their order
+abbrev pub members_of : List Member → Members
+members_of [] = no_members
+members_of ((name, value) ∷ members) = member name value (members_of members)
+
+abbrev pub object_of : List Member → Json
+object_of members = object (members_of members)
+
+-- the array of these values, in their order
+abbrev pub items_of : List Json → Items
+items_of [] = no_items
+items_of (value ∷ values) = item value (items_of values)
+
+abbrev pub array_of : List Json → Json
+array_of values = array (items_of values)
+
+-- numbers, which are integers
+abbrev pub count_json : ℕ → Json
+count_json n = number (decimal n)
+
+abbrev pub number_json : ℤ → Json
+number_json n = number (signed_decimal n)
+
+-- where a submessage stands
+abbrev pub place_members : Place → List Member
+place_members place = (codes "datagram", count_json place.datagram) ∷ (codes "at", count_json place.at) ∷ []
+
+-- the last number that the writer announced, and the submessage that did so first
+abbrev pub announcement_json : Option Announcement → Json
+announcement_json None = null
+announcement_json (Some announcement) =
+    object_of ((codes "number", number_json announcement.number) ∷ (codes "by", string (kind_text announcement.kind)) ∷ place_members announcement.place)
+
+-- an answer
+abbrev pub claim_json : Option Claim → Json
+claim_json None = null
+claim_json (Some claim) = object_of ((codes "below", number_json claim.below) ∷ place_members claim.place)
+
+-- the submessage that told a number first
+abbrev pub teller_json : Option Teller → Json
+teller_json None = null
+teller_json (Some teller) = object_of ((codes "by", string (kind_text teller.kind)) ∷ place_members teller.place)
+
+-- what a payload is, and how many octets it has
+abbrev pub carried_members : List ℕ → ℕ → List Member
+carried_members kind octets = (codes "payload", string kind) ∷ (codes "octets", count_json octets) ∷ []
+
+abbrev pub payload_members : Option PayloadValue → List Member
+payload_members None = []
+payload_members (Some Absent) = carried_members (codes "absent") 0
+payload_members (Some (Whole octets)) = carried_members (codes "whole") (length octets)
+payload_members (Some (Key octets)) = carried_members (codes "key") (length octets)
+
+-- what was sent for a number
+abbrev pub sent_json : Option SentValue → Json
+sent_json None = null
+sent_json (Some sent) = object_of (payload_members sent.payload ++ place_members sent.place)
+
+-- a pair, and the topic and the type of both
+abbrev pub name_json : List ℕ → Json
+name_json name = string (flat_map octet_text name)
+
+abbrev pub pair_members : ExplanationValue → List Member
+pair_members row = (codes "writer", string (guid_text row.pair.writer)) ∷ (codes "reader", string (guid_text row.pair.reader))
+    ∷ (codes "topic", name_json row.topic) ∷ (codes "type", name_json row.type_name) ∷ []
+
+-- the verdict and its number, as in the report's row
+abbrev pub verdict_members : Verdict → List Member
+verdict_members (Complete last) = (codes "verdict", string (codes "complete")) ∷ (codes "number", number_json last) ∷ []
+verdict_members (Open n) = (codes "verdict", string (codes "open")) ∷ (codes "number", number_json n) ∷ []
+verdict_members (Conflict n) = (codes "verdict", string (codes "conflict")) ∷ (codes "number", number_json n) ∷ []
+verdict_members (Unfounded datagram n) =
+    (codes "verdict", string (codes "unfounded")) ∷ (codes "number", number_json n) ∷ (codes "datagram", count_json datagram) ∷ []
+
+-- what is said of each pair
+abbrev pub evidence_members : EvidenceValue → List Member
+evidence_members evidence = (codes "announced", announcement_json evidence.announcement) ∷ (codes "acknowledged", claim_json evidence.acknowledgement)
+    ∷ (codes "payloads", count_json evidence.payloads) ∷ (codes "gone", count_json evidence.gone) ∷ (codes "untold", count_json evidence.untold) ∷ []
+
+-- what the verdict rests on
+abbrev pub shown_members : Verdict → EvidenceValue → List Member
+shown_members (Complete last) evidence = []
+shown_members (Open n) evidence = (codes "told", teller_json evidence.teller) ∷ []
+shown_members (Conflict n) evidence = (codes "sent", array_of (sent_json evidence.first_sent ∷ sent_json evidence.other_sent ∷ [])) ∷ []
+shown_members (Unfounded datagram n) evidence = (codes "claimed", claim_json evidence.claim) ∷ (codes "told", teller_json evidence.teller) ∷ []
+
+abbrev pub row_json : ExplanationValue → Json
+row_json row =
+    object_of (pair_members row ++ (verdict_members row.evidence.verdict ++ (evidence_members row.evidence ++ shown_members row.evidence.verdict row.evidence)))
+
+-- what was counted, and how many frames of a capture gave no datagram; a text has none
+abbrev pub ignored_members : Option ℕ → List Member
+ignored_members None = []
+ignored_members (Some ignored) = (codes "ignored", count_json ignored) ∷ []
+
+abbrev pub counts_members : Counts → List Member
+counts_members counts = (codes "datagrams", count_json counts.datagrams) ∷ (codes "refused", count_json counts.refused) ∷ (codes "skipped", count_json counts.skipped)
+    ∷ (codes "fragments", count_json counts.fragments) ∷ (codes "undirected", count_json counts.undirected) ∷ (codes "unsettled", count_json counts.unsettled) ∷ []
+
+-- the value of these rows and counts
+abbrev pub pairs_member : List ExplanationValue → Member
+pairs_member rows = (codes "pairs", array_of (map row_json rows))
+
+abbrev pub report_json : List ExplanationValue → Counts → Option ℕ → Json
+report_json rows counts ignored = object_of (pairs_member rows ∷ (counts_members counts ++ ignored_members ignored))
+
+-- the tokens of members, in their order
+abbrev pub tokens_of_member : Member → List Token
+tokens_of_member (name, value) = key name ∷ json_tokens value
+
+abbrev pub tokens_of : List Member → List Token
+tokens_of members = flat_map tokens_of_member members
+
+-- the text of a value, which the grammar of JSON reads back as that value, and a line feed (10)
+pub record IsJsonLine (value : Json) (text : List ℕ) : Type 0 where
+  pub is_text : text ≡ print (json_tokens value) ++ 10 ∷ []
+  pub reads_back : document (print (json_tokens value)) ≡ Some value
+
+-- what `audit --json` answers of the numbers from `from` on: the line of the report's rows, each explained, clean where each
+-- is complete
+pub record IsJsonTextFrom (from : ℕ) (recording : RecordingValue) (text : List ℕ) (ending : Ending) : Type 0 where
+  pub explained : Explained
+  pub explains : IsExplainedFrom from recording.datagrams explained
+  pub is_line : IsJsonLine (report_json (map explanation_value explained.rows.items) explained.counts recording.ignored) text
+  pub ends : ending ≡ ending_of_rows (map explanation_value explained.rows.items)

@@ -1,0 +1,203 @@
+ghost use Rattle.std.specs.Prelude.{◌≡◌, ◌++◌, ◌∷◌, [], IfOk, OnOk, codes, map};
+ghost use Rattle.std.specs.Fmt.{signed_decimal};
+ghost use Rattle.std.specs.List.{flat_map};
+ghost use Rattle.std.specs.String.{string_bytes};
+ghost use Rattle.json.specs.Token.{key, number as number_token, string as string_token};
+ghost use Rattle.json.specs.Tree.{json_tokens};
+ghost use Rattle.rtps_evidence.specs.Explained.{evidence_value, explanation_value};
+ghost use Rattle.rtps_text.specs.JsonText.{IsJsonLine, IsJsonTextFrom, counts_members, ignored_members, pair_members, pairs_member, report_json, row_json, shown_members, tokens_of, tokens_of_member, verdict_members};
+
+use crate::ending::Ending;
+use crate::recording::Recording;
+use crate::text::json_members::{
+    push_claim, push_count, push_evidence, push_guid, push_name, push_number, push_sent,
+    push_teller, push_total, push_word,
+};
+use crate::text::why::{ending_of, explained_of};
+use json::Writer;
+use rtps_audit::{Counts, Verdict, Watch};
+use rtps_evidence::{Evidence, Explained, Explanation};
+use rtps_ids::{Memory, SeqNum};
+use std::alloc::{AllocError, Global};
+
+/// What `audit --json` prints of a recording by the numbers from `from` on, and how it ends: as `audit` does. It tells how far
+/// it is.
+pub fn json_text<P: Watch>(
+    alloc: Global,
+    recording: &Recording,
+    from: SeqNum,
+    watch: &mut P,
+) -> Result<(String, Ending), Memory>
+    ensures { IfOk result (λ told. IsJsonTextFrom from recording.now (string_bytes told.0) told.1) }
+{
+    let explained = explained_of(alloc, recording, from, watch)?;
+    let text = line_of(alloc, &explained, recording.ignored())?;
+    Ok((text, ending_of(&explained.rows)))
+}
+
+// The line of explained rows, of a recording of which so many frames were ignored, if it has any.
+fn line_of(
+    alloc: Global,
+    explained: &Explained<'_>,
+    ignored: Option<u64>,
+) -> Result<String, AllocError>
+    ensures { IfOk result (λ text. IsJsonLine (report_json (map explanation_value explained.now.rows.items) explained.now.counts ignored) (string_bytes text)) }
+{
+    let mut writer = Writer::new(Vec::new(alloc));
+    push_report(alloc, &mut writer, explained, ignored)?;
+    let mut text = unsafe { String::from_utf8_unchecked(writer.into_inner()) };
+    text.push_str("\n")?;
+    Ok(text)
+}
+
+// Appends the object of a report.
+fn push_report(
+    alloc: Global,
+    writer: &mut Writer,
+    explained: &Explained<'_>,
+    ignored: Option<u64>,
+) -> Result<(), AllocError>
+    ensures tokens { OnOk result (writer.new.tokens
+        ≡ writer.old.tokens ++ json_tokens (report_json (map explanation_value explained.now.rows.items) explained.now.counts ignored)) }
+    ensures before { writer.new.before ≡ writer.old.before }
+{
+    let mut word = String::new(alloc);
+    writer.begin_object()?;
+    push_pairs(writer, &mut word, &explained.rows)?;
+    push_counts(writer, explained.counts)?;
+    push_ignored(writer, ignored)?;
+    writer.end_object()
+}
+
+// Appends the array of rows. Names are written to `word` first.
+fn push_pairs(
+    writer: &mut Writer,
+    word: &mut String,
+    rows: &[Explanation<'_>],
+) -> Result<(), AllocError>
+    ensures tokens { OnOk result (writer.new.tokens
+        ≡ writer.old.tokens ++ tokens_of_member (pairs_member (map explanation_value rows.now))) }
+    ensures before { writer.new.before ≡ writer.old.before }
+{
+    writer.key("pairs")?;
+    writer.begin_array()?;
+    push_rows(writer, word, rows)?;
+    writer.end_array()
+}
+
+// Appends the objects of rows.
+fn push_rows(
+    writer: &mut Writer,
+    word: &mut String,
+    rows: &[Explanation<'_>],
+) -> Result<(), AllocError>
+    ensures tokens { OnOk result (writer.new.tokens
+        ≡ writer.old.tokens ++ flat_map (λ row. json_tokens (row_json (explanation_value row))) rows.now) }
+    ensures before { writer.new.before ≡ writer.old.before }
+{
+    for row in rows {
+        push_row(writer, word, row)?;
+    }
+    Ok(())
+}
+
+// Appends the object of a row.
+fn push_row(writer: &mut Writer, word: &mut String, row: &Explanation<'_>) -> Result<(), AllocError>
+    ensures tokens { OnOk result (writer.new.tokens ≡ writer.old.tokens ++ json_tokens (row_json (explanation_value row.now))) }
+    ensures before { writer.new.before ≡ writer.old.before }
+{
+    writer.begin_object()?;
+    push_pair(writer, word, row)?;
+    push_verdict(writer, row.evidence.verdict)?;
+    push_evidence(writer, &row.evidence)?;
+    push_shown(writer, &row.evidence)?;
+    writer.end_object()
+}
+
+// Appends a pair and its names.
+fn push_pair(
+    writer: &mut Writer,
+    word: &mut String,
+    row: &Explanation<'_>,
+) -> Result<(), AllocError>
+    ensures tokens { OnOk result (writer.new.tokens ≡ writer.old.tokens ++ tokens_of (pair_members (explanation_value row.now))) }
+    ensures before { writer.new.before ≡ writer.old.before }
+{
+    push_guid(writer, word, "writer", row.pair.writer)?;
+    push_guid(writer, word, "reader", row.pair.reader)?;
+    push_name(writer, word, "topic", row.topic)?;
+    push_name(writer, word, "type", row.type_name)
+}
+
+// Appends the name of a verdict and its number.
+fn push_judged(writer: &mut Writer, name: &str, number: i64) -> Result<(), AllocError>
+    ensures tokens { OnOk result (writer.new.tokens
+        ≡ writer.old.tokens ++ key (codes "verdict") ∷ string_token name.now ∷ key (codes "number") ∷ number_token (signed_decimal number) ∷ []) }
+    ensures before { writer.new.before ≡ writer.old.before }
+{
+    push_word(writer, "verdict", name)?;
+    push_number(writer, "number", number)
+}
+
+// Appends a verdict and its numbers.
+fn push_verdict(writer: &mut Writer, verdict: Verdict) -> Result<(), AllocError>
+    ensures tokens { OnOk result (writer.new.tokens ≡ writer.old.tokens ++ tokens_of (verdict_members verdict)) }
+    ensures before { writer.new.before ≡ writer.old.before }
+{
+    match verdict {
+        Verdict::Complete { last } => push_judged(writer, "complete", last),
+        Verdict::Open { number } => push_judged(writer, "open", number),
+        Verdict::Conflict { number } => push_judged(writer, "conflict", number),
+        Verdict::Unfounded { datagram, number } => {
+            push_judged(writer, "unfounded", number)?;
+            push_count(writer, "datagram", datagram)
+        }
+    }
+}
+
+// Appends what the verdict rests on.
+fn push_shown(writer: &mut Writer, evidence: &Evidence<'_>) -> Result<(), AllocError>
+    ensures tokens { OnOk result (writer.new.tokens
+        ≡ writer.old.tokens ++ tokens_of (shown_members evidence.now.verdict (evidence_value evidence.now))) }
+    ensures before { writer.new.before ≡ writer.old.before }
+{
+    match evidence.verdict {
+        Verdict::Complete { .. } => Ok(()),
+        Verdict::Open { .. } => push_teller(writer, evidence.teller),
+        Verdict::Conflict { .. } => {
+            writer.key("sent")?;
+            writer.begin_array()?;
+            push_sent(writer, evidence.first_sent)?;
+            push_sent(writer, evidence.other_sent)?;
+            writer.end_array()
+        }
+        Verdict::Unfounded { .. } => {
+            push_claim(writer, "claimed", evidence.claim)?;
+            push_teller(writer, evidence.teller)
+        }
+    }
+}
+
+// Appends what was counted.
+fn push_counts(writer: &mut Writer, counts: Counts) -> Result<(), AllocError>
+    ensures tokens { OnOk result (writer.new.tokens ≡ writer.old.tokens ++ tokens_of (counts_members counts)) }
+    ensures before { writer.new.before ≡ writer.old.before }
+{
+    push_count(writer, "datagrams", counts.datagrams)?;
+    push_count(writer, "refused", counts.refused)?;
+    push_total(writer, "skipped", counts.skipped)?;
+    push_total(writer, "fragments", counts.fragments)?;
+    push_total(writer, "undirected", counts.undirected)?;
+    push_count(writer, "unsettled", counts.unsettled)
+}
+
+// Appends how many frames were ignored; nothing where there are no frames.
+fn push_ignored(writer: &mut Writer, ignored: Option<u64>) -> Result<(), AllocError>
+    ensures tokens { OnOk result (writer.new.tokens ≡ writer.old.tokens ++ tokens_of (ignored_members ignored)) }
+    ensures before { writer.new.before ≡ writer.old.before }
+{
+    match ignored {
+        Some(ignored) => push_count(writer, "ignored", ignored),
+        None => Ok(()),
+    }
+}

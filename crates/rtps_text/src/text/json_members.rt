@@ -1,0 +1,198 @@
+//! Appends members to an object of JSON, and the values that are made of them.
+
+ghost use Rattle.std.specs.Prelude.{◌≡◌, ◌++◌, ◌∷◌, [], OnOk, Some, codes, decimal};
+ghost use Rattle.std.specs.Fmt.{signed_decimal};
+ghost use Rattle.std.specs.List.{flat_map};
+ghost use Rattle.std.specs.Option.{option_map};
+ghost use Rattle.json.specs.Token.{key, number as number_token, string as string_token};
+ghost use Rattle.json.specs.Tree.{json_tokens};
+ghost use Rattle.rtps_evidence.specs.Acting.{sent_value};
+ghost use Rattle.rtps_evidence.specs.Explained.{evidence_value};
+ghost use Rattle.rtps_wire.specs.Values.{payload_value};
+ghost use Rattle.rtps_text.specs.JsonText.{announcement_json, carried_members, claim_json, evidence_members, payload_members, place_members, sent_json, teller_json, tokens_of};
+ghost use Rattle.rtps_text.specs.ListText.{guid_text, octet_text};
+
+use crate::text::list_lines::NameOctets;
+use crate::text::why_lines::kind_name;
+use itoa::Buffer;
+use json::Writer;
+use rtps_evidence::{Announcement, Claim, Evidence, Place, Sent, Teller};
+use rtps_ids::Guid;
+use rtps_wire::Payload;
+use std::alloc::AllocError;
+
+/// Appends a number that counts.
+pub(crate) fn push_count(writer: &mut Writer, name: &str, count: u64) -> Result<(), AllocError>
+    ensures tokens { OnOk result (writer.new.tokens ≡ writer.old.tokens ++ key name.now ∷ number_token (decimal count) ∷ []) }
+    ensures before { writer.new.before ≡ writer.old.before }
+{
+    writer.key(name)?;
+    writer.u64(count)
+}
+
+/// Appends a number that counts, of any size.
+pub(crate) fn push_total(writer: &mut Writer, name: &str, count: u128) -> Result<(), AllocError>
+    ensures tokens { OnOk result (writer.new.tokens ≡ writer.old.tokens ++ key name.now ∷ number_token (decimal count) ∷ []) }
+    ensures before { writer.new.before ≡ writer.old.before }
+{
+    let mut buffer = Buffer::new();
+    writer.key(name)?;
+    writer.number(buffer.format(count))
+}
+
+/// Appends a number.
+pub(crate) fn push_number(writer: &mut Writer, name: &str, number: i64) -> Result<(), AllocError>
+    ensures tokens { OnOk result (writer.new.tokens ≡ writer.old.tokens ++ key name.now ∷ number_token (signed_decimal number) ∷ []) }
+    ensures before { writer.new.before ≡ writer.old.before }
+{
+    writer.key(name)?;
+    writer.i64(number)
+}
+
+/// Appends a text.
+pub(crate) fn push_word(writer: &mut Writer, name: &str, text: &str) -> Result<(), AllocError>
+    ensures tokens { OnOk result (writer.new.tokens ≡ writer.old.tokens ++ key name.now ∷ string_token text.now ∷ []) }
+    ensures before { writer.new.before ≡ writer.old.before }
+{
+    writer.key(name)?;
+    writer.string(text)
+}
+
+/// Appends a GUID, which is written to `word` first.
+pub(crate) fn push_guid(
+    writer: &mut Writer,
+    word: &mut String,
+    name: &str,
+    guid: Guid,
+) -> Result<(), AllocError>
+    ensures tokens { OnOk result (writer.new.tokens ≡ writer.old.tokens ++ key name.now ∷ string_token (guid_text guid) ∷ []) }
+    ensures before { writer.new.before ≡ writer.old.before }
+{
+    word.clear();
+    write!(word, "{guid}")?;
+    push_word(writer, name, word)
+}
+
+/// Appends a topic or a type, which is written to `word` first.
+pub(crate) fn push_name(
+    writer: &mut Writer,
+    word: &mut String,
+    name: &str,
+    octets: &[u8],
+) -> Result<(), AllocError>
+    ensures tokens { OnOk result (writer.new.tokens
+        ≡ writer.old.tokens ++ key name.now ∷ string_token (flat_map octet_text octets.now) ∷ []) }
+    ensures before { writer.new.before ≡ writer.old.before }
+{
+    word.clear();
+    write!(word, "{}", NameOctets(octets))?;
+    push_word(writer, name, word)
+}
+
+// Appends where a submessage stands.
+fn push_place(writer: &mut Writer, place: Place) -> Result<(), AllocError>
+    ensures tokens { OnOk result (writer.new.tokens ≡ writer.old.tokens ++ tokens_of (place_members place)) }
+    ensures before { writer.new.before ≡ writer.old.before }
+{
+    push_count(writer, "datagram", place.datagram)?;
+    push_count(writer, "at", place.at as u64)
+}
+
+// Appends the value of an announcement.
+fn push_announcement(
+    writer: &mut Writer,
+    announcement: Option<Announcement>,
+) -> Result<(), AllocError>
+    ensures tokens { OnOk result (writer.new.tokens ≡ writer.old.tokens ++ json_tokens (announcement_json announcement)) }
+    ensures before { writer.new.before ≡ writer.old.before }
+{
+    let Some(announcement) = announcement else {
+        return writer.null();
+    };
+    writer.begin_object()?;
+    push_number(writer, "number", announcement.number)?;
+    push_word(writer, "by", kind_name(announcement.kind))?;
+    push_place(writer, announcement.place)?;
+    writer.end_object()
+}
+
+/// Appends an answer.
+pub(crate) fn push_claim(
+    writer: &mut Writer,
+    name: &str,
+    claim: Option<Claim>,
+) -> Result<(), AllocError>
+    ensures tokens { OnOk result (writer.new.tokens ≡ writer.old.tokens ++ key name.now ∷ json_tokens (claim_json claim)) }
+    ensures before { writer.new.before ≡ writer.old.before }
+{
+    writer.key(name)?;
+    let Some(claim) = claim else {
+        return writer.null();
+    };
+    writer.begin_object()?;
+    push_number(writer, "below", claim.below)?;
+    push_place(writer, claim.place)?;
+    writer.end_object()
+}
+
+/// Appends what told a number first.
+pub(crate) fn push_teller(writer: &mut Writer, teller: Option<Teller>) -> Result<(), AllocError>
+    ensures tokens { OnOk result (writer.new.tokens ≡ writer.old.tokens ++ key (codes "told") ∷ json_tokens (teller_json teller)) }
+    ensures before { writer.new.before ≡ writer.old.before }
+{
+    writer.key("told")?;
+    let Some(teller) = teller else {
+        return writer.null();
+    };
+    writer.begin_object()?;
+    push_word(writer, "by", kind_name(teller.kind))?;
+    push_place(writer, teller.place)?;
+    writer.end_object()
+}
+
+// Appends what a payload is, and how many octets it has.
+fn push_carried(writer: &mut Writer, kind: &str, octets: usize) -> Result<(), AllocError>
+    ensures tokens { OnOk result (writer.new.tokens ≡ writer.old.tokens ++ tokens_of (carried_members kind.now octets)) }
+    ensures before { writer.new.before ≡ writer.old.before }
+{
+    push_word(writer, "payload", kind)?;
+    push_count(writer, "octets", octets as u64)
+}
+
+fn push_payload(writer: &mut Writer, payload: Payload<'_>) -> Result<(), AllocError>
+    ensures tokens { OnOk result (writer.new.tokens ≡ writer.old.tokens ++ tokens_of (payload_members (Some (payload_value payload.entry)))) }
+    ensures before { writer.new.before ≡ writer.old.before }
+{
+    match payload {
+        Payload::Absent => push_carried(writer, "absent", 0),
+        Payload::Whole(octets) => push_carried(writer, "whole", octets.len()),
+        Payload::Key(octets) => push_carried(writer, "key", octets.len()),
+    }
+}
+
+/// Appends the value of what was sent for a number.
+pub(crate) fn push_sent(writer: &mut Writer, sent: Option<Sent<'_>>) -> Result<(), AllocError>
+    ensures tokens { OnOk result (writer.new.tokens ≡ writer.old.tokens ++ json_tokens (sent_json (option_map sent_value sent.entry))) }
+    ensures before { writer.new.before ≡ writer.old.before }
+{
+    let Some(sent) = sent else {
+        return writer.null();
+    };
+    writer.begin_object()?;
+    push_payload(writer, sent.payload)?;
+    push_place(writer, sent.place)?;
+    writer.end_object()
+}
+
+/// Appends what is said of each pair.
+pub(crate) fn push_evidence(writer: &mut Writer, evidence: &Evidence<'_>) -> Result<(), AllocError>
+    ensures tokens { OnOk result (writer.new.tokens ≡ writer.old.tokens ++ tokens_of (evidence_members (evidence_value evidence.now))) }
+    ensures before { writer.new.before ≡ writer.old.before }
+{
+    writer.key("announced")?;
+    push_announcement(writer, evidence.announcement)?;
+    push_claim(writer, "acknowledged", evidence.acknowledgement)?;
+    push_count(writer, "payloads", evidence.payloads)?;
+    push_count(writer, "gone", evidence.gone)?;
+    push_count(writer, "untold", evidence.untold)
+}
