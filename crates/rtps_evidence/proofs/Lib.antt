@@ -4,3 +4,4 @@ pub mod MadeLemmas
 pub mod StretchLemmas
 pub mod OriginLemmas
 pub mod Shown
+pub mod AnswerLemmas

@@ -5,7 +5,7 @@ use Rattle.rtps_audit.specs.Placed.{PlacedValue, placed_value}
 use Rattle.rtps_evidence.specs.Acting.{base_said, claim_at}
 use Rattle.rtps_evidence.proofs.FindLemmas.{claims_it, claims_not, found_item, none_past}
 use Rattle.rtps_evidence.proofs.MadeLemmas.{claim_made}
-use Rattle.rtps_evidence.proofs.answering.find_claim.Goals as goal
+use Rattle.rtps_evidence.proofs.answering.first_claiming.Goals as goal
 
 pub returns-then-number-base : goal.returns-then-number-base
 returns-then-number-base c =
