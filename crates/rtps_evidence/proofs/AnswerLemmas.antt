@@ -1,10 +1,11 @@
 -- What the answers of a pair tell of the acts of a recording.
-use Rattle.std.proofs.Common.{◌≡◌, ◌∙◌, ◌==◌, ◌&&◌, ◌≤◌, ◌<◌, ℕ, Bool, true, false, All, nat_le, nat_lt, max, map, filter, List, [], ◌∷◌, Option, Some, None, refl, sym, ap, arith}
+use Rattle.std.proofs.Common.{◌≡◌, ◌∙◌, ◌==◌, ◌&&◌, ◌+◌, ◌≤◌, ◌<◌, ℕ, Bool, true, false, All, get_or, length, nat_le, nat_lt, max, map, filter, subst, take, List, [], ◌∷◌, Option, Some, None, refl, sym, ap, arith}
 use Rattle.std.specs.Prelude.{if◌then◌else◌, unwrap_or}
 use Rattle.std.specs.List.{cons_option, find}
 use Rattle.std.specs.Option.{option_map}
 use Rattle.std.proofs.lemmas.Bool.Decides.{nat_tests}
-use Rattle.std.proofs.lemmas.List.Elements.{All-cons, All-filter, All-head, All-nil, All-tail, All-weaker}
+use Rattle.std.proofs.lemmas.List.{take_more}
+use Rattle.std.proofs.lemmas.List.Elements.{All-cons, All-filter, All-head, All-nil, All-push, All-tail, All-weaker}
 use Rattle.rtps_ids.specs.declared.identity.Guid.{Guid}
 use Rattle.rtps_discovery.specs.declared.matching.Pair.{Pair}
 use Rattle.rtps_audit.specs.Delivery.{greatest}
@@ -30,18 +31,33 @@ pub not_before : (pair : Pair) (base datagram : ℕ) (placed : List PlacedValue)
     → All (λ (answer : Answer). natural answer.base ≡ base → datagram ≤ answer.datagram) (answers_among pair placed)
     → All (λ (at : PlacedValue). base_said pair.writer pair.reader at ≡ base → datagram ≤ at.datagram) placed
 not_before pair base datagram [] some late = All-nil _
-not_before pair base datagram (x ∷ placed) some late = by (base_for pair.writer pair.reader x.act) refl late
+not_before pair base datagram (x ∷ placed) some late = by (base_for pair.writer pair.reader x.act) refl (not_before pair base datagram placed some) late
   where
     by : (said : Option ℕ) → base_for pair.writer pair.reader x.act ≡ said
+        → (All (λ (answer : Answer). natural answer.base ≡ base → datagram ≤ answer.datagram) (answers_among pair placed) → All (λ (at : PlacedValue). base_said pair.writer pair.reader at ≡ base → datagram ≤ at.datagram) placed)
         → All (λ (answer : Answer). natural answer.base ≡ base → datagram ≤ answer.datagram) (cons_option (answer_at x.datagram said) (answers_among pair placed))
         → All (λ (at : PlacedValue). base_said pair.writer pair.reader at ≡ base → datagram ≤ at.datagram) (x ∷ placed)
-    by None said late =
+    by None said rest late =
         All-cons (λ (at : PlacedValue). base_said pair.writer pair.reader at ≡ base → datagram ≤ at.datagram) x placed
-        (λ e. let zero : 0 ≡ base = sym (ap (λ o. unwrap_or o 0) said) ∙ e in absurd (omega arith)) (not_before pair base datagram placed some late)
-    by (Some one) said late =
+        (λ e. let zero : 0 ≡ base = sym (ap (λ o. unwrap_or o 0) said) ∙ e in absurd (omega arith)) (rest late)
+    by (Some one) said rest late =
         All-cons (λ (at : PlacedValue). base_said pair.writer pair.reader at ≡ base → datagram ≤ at.datagram) x placed
         (λ e. All-head (λ (answer : Answer). natural answer.base ≡ base → datagram ≤ answer.datagram) _ _ late (sym (ap (λ o. unwrap_or o 0) said) ∙ e))
-        (not_before pair base datagram placed some (All-tail (λ (answer : Answer). natural answer.base ≡ base → datagram ≤ answer.datagram) _ _ late))
+        (rest (All-tail (λ (answer : Answer). natural answer.base ≡ base → datagram ≤ answer.datagram) _ _ late))
+
+-- one answer more, which stands in this datagram or behind it where it has the base
+pub first_more : (base before first : ℕ) (answers : List Answer) (i : ℕ) (d : Answer) → i < length answers → first ≤ before
+    → (natural (get_or answers i d).base ≡ base → first ≤ (get_or answers i d).datagram)
+    → All (λ (answer : Answer). natural answer.base ≡ base → before ≤ answer.datagram) (take i answers)
+    → All (λ (answer : Answer). natural answer.base ≡ base → first ≤ answer.datagram) (take (i + 1) answers)
+first_more base before first answers i d lt le here so_far =
+    subst (All (λ (answer : Answer). natural answer.base ≡ base → first ≤ answer.datagram)) (sym (take_more answers i d lt))
+    (All-push (λ (answer : Answer). natural answer.base ≡ base → first ≤ answer.datagram) (take i answers) (get_or answers i d)
+    (All-weaker (λ (answer : Answer). natural answer.base ≡ base → before ≤ answer.datagram) (λ (answer : Answer). natural answer.base ≡ base → first ≤ answer.datagram) (λ answer h e. le_trans (h e)) (take i answers) so_far)
+    here)
+  where
+    le_trans : {n : ℕ} → before ≤ n → first ≤ n
+    le_trans h = omega arith
 
 equal_numbers : (a b : ℕ) → (a == b) ≡ true → a ≡ b
 equal_numbers a b e = grind (arith, nat_tests)
@@ -62,7 +78,7 @@ acknowledged from base datagram pair placed is above late =
     let greatest_is : greatest_base pair.writer pair.reader (filter (is_from pair.reader) placed) ≡ base = base_same pair.writer pair.reader placed ∙ sym (is ∙ bases_same pair placed) in
     let since = All-filter (is_from pair.reader) (λ (at : PlacedValue). base_said pair.writer pair.reader at ≡ base → datagram ≤ at.datagram) placed (not_before pair base datagram placed (omega arith) late) in
     let keeps = All-weaker (λ (at : PlacedValue). base_said pair.writer pair.reader at ≡ base → datagram ≤ at.datagram) (λ (at : PlacedValue). (base_said pair.writer pair.reader at == base) ≡ true → nat_le datagram at.datagram ≡ true)
-            (λ at h e. kept_since datagram at.datagram (h (equal_numbers _ _ e))) (filter (is_from pair.reader) placed) since in
+    (λ at h e. kept_since datagram at.datagram (h (equal_numbers _ _ e))) (filter (is_from pair.reader) placed) since in
     ap (option_map (claim_at pair.writer pair.reader)) (find_filter_within (λ at. base_said pair.writer pair.reader at == base) (λ at. nat_le datagram at.datagram) (filter (is_from pair.reader) placed) keeps)
     ∙ by_order (greatest_base pair.writer pair.reader (filter (is_from pair.reader) placed)) greatest_is
     ∙ acknowledgement_same from pair.writer pair.reader placed

@@ -101,13 +101,12 @@ greatest_past v number xs i x lt at =
     one : (n : ℕ) → max (greatest (map number (map v (take i xs)))) (max n 0) ≡ max (greatest (map number (map v (take i xs)))) n
     one n = omega arith
 
-pub greatest_of_each : {X : Type 0} (number : X → ℕ) (xs : List X) (i : ℕ) (x : X) → i < length xs → x ≡ get_or xs i x → greatest (map number (take (i + 1) xs)) ≡ max (greatest (map number (take i xs))) (number x)
-greatest_of_each number xs i x lt at =
-    ap (λ l. greatest (map number l)) (take_more xs i x lt)
-    ∙ ap greatest (map-append number (take i xs) (get_or xs i x ∷ []))
-    ∙ greatest_append (map number (take i xs)) (number (get_or xs i x) ∷ [])
-    ∙ ap (λ y. max (greatest (map number (take i xs))) (max (number y) 0)) (sym at)
-    ∙ one (number x)
+pub greatest_of_each : {X : Type 0} (number : X → ℕ) (xs : List X) (i : ℕ) (d : X) → i < length xs → greatest (map number (take (i + 1) xs)) ≡ max (greatest (map number (take i xs))) (number (get_or xs i d))
+greatest_of_each number xs i d lt =
+    ap (λ l. greatest (map number l)) (take_more xs i d lt)
+    ∙ ap greatest (map-append number (take i xs) (get_or xs i d ∷ []))
+    ∙ greatest_append (map number (take i xs)) (number (get_or xs i d) ∷ [])
+    ∙ one (number (get_or xs i d))
   where
     one : (n : ℕ) → max (greatest (map number (take i xs))) (max n 0) ≡ max (greatest (map number (take i xs))) n
     one n = omega arith

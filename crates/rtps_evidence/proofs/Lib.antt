@@ -4,4 +4,5 @@ pub mod MadeLemmas
 pub mod StretchLemmas
 pub mod OriginLemmas
 pub mod Shown
+pub mod RowLemmas
 pub mod AnswerLemmas

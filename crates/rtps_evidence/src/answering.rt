@@ -77,12 +77,7 @@ fn first_answering(acts: &[Placed<'_>], pair: Pair, base: u64) -> Option<Claim>
 }
 
 /// The first of these acts, in a datagram counted from 1, that answers with a base above the number.
-fn first_claiming(
-    acts: &[Placed<'_>],
-    pair: Pair,
-    datagram: u64,
-    number: u64,
-) -> Option<Claim>
+fn first_claiming(acts: &[Placed<'_>], pair: Pair, datagram: u64, number: u64) -> Option<Claim>
     ensures { result ≡ claim_of pair.writer pair.reader datagram number (map placed_value acts.now) }
 {
     for placed in acts {
@@ -112,12 +107,7 @@ pub(crate) fn find_acknowledgement(index: &Index<'_>, pair: Pair, from: SeqNum) 
 }
 
 /// The first answer of a pair's reader to its writer, in a datagram counted from 1, that has a base above the number.
-pub(crate) fn find_claim(
-    index: &Index<'_>,
-    pair: Pair,
-    datagram: u64,
-    number: u64,
-) -> Option<Claim>
+pub(crate) fn find_claim(index: &Index<'_>, pair: Pair, datagram: u64, number: u64) -> Option<Claim>
     ensures { (recording : List (List ℕ)) → IsIndexOf recording index.now
         → result ≡ claim_of pair.writer pair.reader datagram number (placed_in recording) }
 {
