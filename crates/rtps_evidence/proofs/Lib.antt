@@ -5,4 +5,5 @@ pub mod StretchLemmas
 pub mod OriginLemmas
 pub mod Shown
 pub mod RowLemmas
+pub mod OneExplanation
 pub mod AnswerLemmas
