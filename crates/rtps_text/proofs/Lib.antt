@@ -2,3 +2,4 @@ pub mod ListLemmas
 pub mod PiecesLemmas
 pub mod ShowLemmas
 pub mod DigitLemmas
+mod WhyLemmas

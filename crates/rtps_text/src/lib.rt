@@ -18,3 +18,4 @@ pub use text::audit::audit_text;
 pub use text::list::list_text;
 pub use text::sample::sample_text;
 pub use text::show::show_text;
+pub use text::why::why_text;

@@ -9,3 +9,5 @@ mod list_lines;
 mod parts;
 pub(crate) mod sample;
 pub(crate) mod show;
+pub(crate) mod why;
+mod why_lines;

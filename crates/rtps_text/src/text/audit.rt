@@ -38,8 +38,8 @@ fn report_of<P: Watch>(
     rtps_audit::audit_watched(alloc, &datagrams, from, watch)
 }
 
-// The datagrams of a recording.
-fn datagrams_of(alloc: Global, recording: &Recording) -> Result<Vec<&[u8]>, AllocError>
+/// The datagrams of a recording.
+pub(crate) fn datagrams_of(alloc: Global, recording: &Recording) -> Result<Vec<&[u8]>, AllocError>
     ensures { IfOk result (λ datagrams. map (λ datagram. datagram.now) datagrams.items ≡ recording.now.datagrams) }
 {
     let mut datagrams = Vec::with_capacity(alloc, recording.len())?;
@@ -81,7 +81,8 @@ fn ending_of(rows: &[Row]) -> Ending
     }
 }
 
-fn is_complete(verdict: &Verdict) -> bool
+/// Whether nothing is to be reported of a pair with this verdict.
+pub(crate) fn is_complete(verdict: &Verdict) -> bool
     ensures { result ≡ completes verdict.now }
 {
     match verdict {

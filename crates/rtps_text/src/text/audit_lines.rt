@@ -91,9 +91,9 @@ impl fmt::Display for IgnoredText {
     }
 }
 
-// A verdict and its numbers.
+/// A verdict and its numbers.
 #[derive(Drop)]
-struct VerdictText(Verdict);
+pub(crate) struct VerdictText(pub(crate) Verdict);
 
 impl fmt::Display for VerdictText {
     ghost output = { λ text. Some (verdict_text text.0) };

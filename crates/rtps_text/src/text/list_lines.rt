@@ -92,9 +92,9 @@ impl fmt::Display for CountsLine {
     }
 }
 
-// A name between quotes.
+/// A name between quotes.
 #[derive(Drop)]
-struct NameText<'a>(&'a [u8]);
+pub(crate) struct NameText<'a>(pub(crate) &'a [u8]);
 
 impl fmt::Display for NameText<'_> {
     ghost output = { λ name. Some (name_text name.0.now) };
