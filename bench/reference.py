@@ -1,9 +1,8 @@
 #!/usr/bin/env python3
 """A second reading of recordings, apart from the proved program, to compare it with.
 
-    reference.py show|list|audit FILE      prints what `rtps-audit` should print
-    reference.py audit --from N FILE       the same, of the numbers from N on
-    reference.py why [--from N] FILE       the report, with what each row rests on
+    reference.py show|list|audit|why FILE  prints what `rtps-audit` should print
+    reference.py audit|why --from N FILE   the same, of the numbers from N on
     reference.py compare PROGRAM [COUNT [SEED]]
                                            runs PROGRAM on COUNT random recordings, and says where it differs
     reference.py texts PROGRAM [COUNT [SEED]]
@@ -635,9 +634,9 @@ def why(datagrams, first=1):
     return out + report[-1:]
 
 
-VIEWS = {'show': show, 'list': list_text, 'audit': audit}
+VIEWS = {'show': show, 'list': list_text, 'audit': audit, 'why': why}
 # those that take the number from which on numbers are asked for
-REPORTS = {'audit': audit, 'why': why}
+REPORTS = 'audit', 'why'
 
 
 def answer(view, text, first=1, limits=USUAL):
@@ -646,7 +645,7 @@ def answer(view, text, first=1, limits=USUAL):
     if isinstance(read, str):
         return '', 2
     datagrams, ignored = read
-    lines = REPORTS[view](datagrams, first) if view in REPORTS else VIEWS[view](datagrams)
+    lines = VIEWS[view](datagrams, first) if view in REPORTS else VIEWS[view](datagrams)
     if view in REPORTS and ignored is not None:
         lines[-1] += f' ignored {ignored}'
     unclean = view in REPORTS and any(' complete ' not in line for line in audit(datagrams, first)[1:-1])
@@ -810,18 +809,14 @@ def compare(program, count, seed):
     rng, differing, verdicts = random.Random(seed), 0, {}
     for k in range(count):
         text = some_recording(rng)
-        for view in VIEWS:
-            want, status = answer(view, text)
-            got = subprocess.run(program.split() + [view, '-'], input=text, capture_output=True)
+        first = rng.choice([1, 2, 3, 4, 5, 6, GREATEST])
+        for view, start in [*((view, None) for view in VIEWS), *((view, first) for view in REPORTS)]:
+            words = [view, '--from', str(start)] if start else [view]
+            want, status = answer(view, text, start or 1)
+            got = subprocess.run(program.split() + words + ['-'], input=text, capture_output=True)
             if got.stdout.decode() != want or got.returncode != status:
                 differing += 1
-                print(f'{view} differs on recording {k}, kept in {kept(text)}')
-        first = rng.choice([1, 2, 3, 4, 5, 6, GREATEST])
-        want, status = answer('audit', text, first)
-        got = subprocess.run(program.split() + ['audit', '--from', str(first), '-'], input=text, capture_output=True)
-        if got.stdout.decode() != want or got.returncode != status:
-            differing += 1
-            print(f'audit --from {first} differs on recording {k}, kept in {kept(text)}')
+                print(f'{" ".join(words)} differs on recording {k}, kept in {kept(text)}')
         datagrams = recording_of(text)
         if not isinstance(datagrams, str):
             recording = [acts_of(d) for d in datagrams]
@@ -902,10 +897,11 @@ def texts(program, count, seed):
             told = passed_limit(text, limits) + told
         if told and text.startswith(b'\n\r\r\n'):
             told = 'rtps-audit: -: a pcapng file; editcap -F pcap IN OUT makes a capture of it\n' + told
-        want, status = answer('show', text, limits=limits)
-        if in_pieces(rng, program, ['show', *words, '-'], text) != (want, told, status):
-            differing += 1
-            print(f'text {k} differs within {limits}, kept in {kept(text)}')
+        for view in ('show', 'why'):
+            want, status = answer(view, text, limits=limits)
+            if in_pieces(rng, program, [view, *words, '-'], text) != (want, told, status):
+                differing += 1
+                print(f'{view} of text {k} differs within {limits}, kept in {kept(text)}')
     print(f'{count} texts, {faulty} of them no recordings, {differing} differences')
     return int(differing > 0)
 

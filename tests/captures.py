@@ -124,8 +124,9 @@ def rows(tests):
     for view in VIEWS:
         wanted = file_of('tests', 'examples', f'pose.{view}').decode()
         packets = capture([packet(d) for d in pose])
-        if view == 'audit':
+        if view in ('audit', 'why'):
             wanted = wanted[:-1] + ' ignored 0\n'
+        if view == 'audit':
             tests.answers('the datagrams of pose.rec as raw IP, from 3 on', view, packets, wanted, words=('--from', '3'))
         tests.answers('the datagrams of pose.rec as raw IP', view, packets, wanted)
         framed = [ethernet(packet(d)) for d in pose]
@@ -149,7 +150,7 @@ def cut_and_changed(tests):
     for link, order, magic in ((RAW_IP, 'little', MICROSECONDS), (ETHERNET, 'big', NANOSECONDS)):
         whole = small(link, order, magic)
         for length in range(len(whole)):
-            tests.agrees(f'cut to {length} octets', whole[:length], ('show', 'audit'))
+            tests.agrees(f'cut to {length} octets', whole[:length], ('show', 'audit', 'why'))
             cuts += 1
         for at in range(len(whole)):
             for value in {0, 0xff, whole[at] ^ 1} - {whole[at]}:
@@ -192,7 +193,7 @@ def kinds(tests):
         count += 1
     for snap in (0, 14, 28, 34, 42, 60, 93):
         whole = ethernet(good)
-        tests.agrees(f'a snap length of {snap}', start(ETHERNET) + record(whole[:snap], original=len(whole)), ('show', 'audit'))
+        tests.agrees(f'a snap length of {snap}', start(ETHERNET) + record(whole[:snap], original=len(whole)), ('show', 'audit', 'why'))
         count += 1
     print(f'kinds of frames: {count}')
 

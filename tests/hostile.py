@@ -78,14 +78,16 @@ def audits_of_changed(tests):
     for place, datagram in enumerate(recording):
         for one in changed(datagram):
             text = text_of(recording[:place] + [one] + recording[place + 1:])
+            name = f'datagram {place + 1} is {one.hex()}'
             wanted = reference.answer('audit', text)
-            tests.answers(f'datagram {place + 1} is {one.hex()}', 'audit', text, *wanted)
+            tests.answers(name, 'audit', text, *wanted)
+            tests.answers(name, 'why', text, *reference.answer('why', text))
             row = wanted[0].split('\n')[1].split(' ')
             found = row[2] if len(row) < 12 else 'no pair'
             verdicts[found] = verdicts.get(found, 0) + 1
             count += 1
     told = ', '.join(f'{number} {found}' for found, number in sorted(verdicts.items()))
-    print(f'audits of changed octets: {count}, of which {told}')
+    print(f'audits of changed octets, and why: {count}, of which {told}')
 
 
 # ---- large datagrams
@@ -175,7 +177,7 @@ def acknowledgements(tests):
     samples = [*make.announcements(1), *(make.header(A) + make.data(WRITER, n, bytes(4)) for n in range(1, 11))]
     for name, bases in (('ascending', [min(i, 11) for i in range(most)]), ('descending', [most - i for i in range(most)]), ('one too many', [11] * (most - 1) + [12])):
         many = b''.join(make.ack_nack(READER, WRITER, base) for base in bases)
-        tests.agrees(f'ACKNACKs, {name}', text_of([*samples, make.header(B) + make.to(A) + many, make.header(B) + many]), ('audit',))
+        tests.agrees(f'ACKNACKs, {name}', text_of([*samples, make.header(B) + make.to(A) + many, make.header(B) + many]), ('audit', 'why'))
     print(f'acknowledgements: {most} in one datagram, in 3 orders, and as many to everyone')
 
 
@@ -184,6 +186,7 @@ def many_datagrams(tests):
     text = (make.header(A).hex().encode() + b'\n') * count
     wanted = f'pairs 0\ndatagrams {count} refused 0 skipped 0 fragments 0 undirected 0 unsettled 0\n'
     tests.answers('datagrams with nothing in them', 'audit', text, wanted)
+    tests.answers('datagrams with nothing in them', 'why', text, wanted)
     tests.answers('datagrams with nothing in them', 'list', text, 'participants 0 endpoints 0 unsettled 0 faults 0\n')
     print(f'datagrams with nothing in them: {count}')
 

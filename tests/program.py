@@ -9,7 +9,7 @@ sys.dont_write_bytecode = True
 sys.path.insert(0, os.path.join(ROOT, 'bench'))
 import reference
 
-VIEWS = ('show', 'list', 'audit')
+VIEWS = ('show', 'list', 'audit', 'why')
 
 
 def file_of(*names):

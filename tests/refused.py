@@ -95,7 +95,7 @@ def of_calls(calls, recordings):
 def of_program(program, recording):
     """what is tried of the program"""
     nothing = '', ['rtps-audit: out of memory'], 3
-    views = [*([view] for view in VIEWS), ['audit', '--from', '3']]
+    views = [*([view] for view in VIEWS), ['audit', '--from', '3'], ['why', '--from', '3']]
     for words in (*([*view, '-'] for view in views), ['--help'], ['audit', '--help'], ['--version'], ['audit'], []):
         yield f"rtps-audit {' '.join(words)}", [program, *words], recording, nothing, True
     capture = file_of('examples', 'loopback.pcap')

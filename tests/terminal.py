@@ -77,6 +77,8 @@ def on_a_terminal(tests, program, sample, report):
     tests.holds('a long run with a fault: its status and its text', (2, b''), (status, written))
     tests.holds('a long run with a fault: all is wiped before that is told', True,
                 told.startswith(READING) and told.endswith(WIPE + b'rtps-audit: line 7: bad hex\n'))
+    status, _, told = run(program, sample, LONG, ('why', '-'))
+    tests.holds('a long run of why', (0, True), (status, told.startswith(READING) and told.endswith(JUDGING + WIPE)))
     status, _, told = run(program, sample, LONG, ('list', '-'))
     tests.holds('a long run of list', (0, True), (status, told.startswith(READING) and told.endswith(WIPE)))
 

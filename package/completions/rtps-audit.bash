@@ -3,13 +3,13 @@ _rtps_audit() {
     local word=${COMP_WORDS[COMP_CWORD]} command=${COMP_WORDS[1]-}
     COMPREPLY=()
     if [ "$COMP_CWORD" -eq 1 ]; then
-        mapfile -t COMPREPLY < <(compgen -W 'show list audit sample help -h --help -V --version' -- "$word")
+        mapfile -t COMPREPLY < <(compgen -W 'show list audit why sample help -h --help -V --version' -- "$word")
         return
     fi
     case $command in
-    show | list | audit)
+    show | list | audit | why)
         local options='--max-datagrams --max-octets -h --help'
-        if [ "$command" = audit ]; then options="--from $options"; fi
+        case $command in audit | why) options="--from $options" ;; esac
         case $word in
         -*) mapfile -t COMPREPLY < <(compgen -W "$options" -- "$word") ;;
         *)
@@ -19,7 +19,7 @@ _rtps_audit() {
         esac
         ;;
     sample) mapfile -t COMPREPLY < <(compgen -W '-h --help' -- "$word") ;;
-    help) [ "$COMP_CWORD" -eq 2 ] && mapfile -t COMPREPLY < <(compgen -W 'show list audit sample help' -- "$word") ;;
+    help) [ "$COMP_CWORD" -eq 2 ] && mapfile -t COMPREPLY < <(compgen -W 'show list audit why sample help' -- "$word") ;;
     esac
 }
 complete -F _rtps_audit rtps-audit

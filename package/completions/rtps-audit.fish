@@ -3,12 +3,13 @@ complete -c rtps-audit -f
 complete -c rtps-audit -n __fish_use_subcommand -a show -d 'Shows each datagram of a recording and its submessages'
 complete -c rtps-audit -n __fish_use_subcommand -a list -d 'Lists participants, endpoints and pairs of writers and readers that match'
 complete -c rtps-audit -n __fish_use_subcommand -a audit -d 'Says for each reliable writer and reader that match whether the reader got all data'
+complete -c rtps-audit -n __fish_use_subcommand -a why -d 'Says of each verdict of audit what it rests on, place by place'
 complete -c rtps-audit -n __fish_use_subcommand -a sample -d 'Writes a recording to try, which audit finds complete'
 complete -c rtps-audit -n __fish_use_subcommand -a help -d 'Print this message or the help of the given subcommand(s)'
 complete -c rtps-audit -n __fish_use_subcommand -s V -l version -d 'Print version'
 complete -c rtps-audit -s h -l help -d 'Print help'
-complete -c rtps-audit -n '__fish_seen_subcommand_from show list audit' -F
-complete -c rtps-audit -n '__fish_seen_subcommand_from audit' -x -l from -d 'The first number that the readers are owed'
-complete -c rtps-audit -n '__fish_seen_subcommand_from show list audit' -x -l max-datagrams -d 'The most datagrams of the recording'
-complete -c rtps-audit -n '__fish_seen_subcommand_from show list audit' -x -l max-octets -d 'The most octets of FILE'
-complete -c rtps-audit -n '__fish_seen_subcommand_from help' -a 'show list audit sample help'
+complete -c rtps-audit -n '__fish_seen_subcommand_from show list audit why' -F
+complete -c rtps-audit -n '__fish_seen_subcommand_from audit why' -x -l from -d 'The first number that the readers are owed'
+complete -c rtps-audit -n '__fish_seen_subcommand_from show list audit why' -x -l max-datagrams -d 'The most datagrams of the recording'
+complete -c rtps-audit -n '__fish_seen_subcommand_from show list audit why' -x -l max-octets -d 'The most octets of FILE'
+complete -c rtps-audit -n '__fish_seen_subcommand_from help' -a 'show list audit why sample help'

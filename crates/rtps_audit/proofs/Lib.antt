@@ -31,3 +31,4 @@ pub mod DeliveredLemmas
 pub mod RecordingActs
 pub mod Offered
 pub mod SetWords
+pub mod SinceLemmas

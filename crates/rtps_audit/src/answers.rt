@@ -23,7 +23,7 @@ impl Answer {
     ghost use Rattle.rtps_audit.specs.Speech.{natural};
 
     /// The base as a number; 0 for one below it.
-    pub(crate) fn natural_base(&self) -> u64
+    pub fn natural_base(&self) -> u64
         ensures value { result ≡ natural self.now.base }
         ensures in_range { result < 2 ^ 63 }
     {

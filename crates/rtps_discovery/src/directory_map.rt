@@ -109,7 +109,6 @@ impl<'a> Directory<'a> {
     }
 
     /// The endpoint of a GUID, where its announcements agree. None where there is none, or they disagree.
-    #[tactic(auto, using(crate::proofs::Entries::entry_at-entries_value))]
     pub fn endpoint(&self, guid: Guid) -> Option<Endpoint<'a>>
         ensures { option_map endpoint_value result ≡ settled_at self.now.endpoints guid }
     {

@@ -2,7 +2,7 @@ ghost use Rattle.std.specs.Prelude.{◌≡◌, ◌≢◌, ◌∷◌, [], ◌++�
 ghost use Rattle.std.specs.BTreeMap.{values};
 ghost use Rattle.std.specs.Option.{option_map};
 ghost use Rattle.rtps_ids.specs.declared.identity.Guid.{Guid};
-ghost use Rattle.rtps_discovery.specs.Directory.{AreEntries, AreParticipants, agreed, entry_at};
+ghost use Rattle.rtps_discovery.specs.Directory.{AreEntries, AreParticipants, agreed as agreed_entry, entry_at};
 ghost use Rattle.rtps_discovery.specs.Endpoint.{EndpointValue, endpoint_value};
 ghost use Rattle.rtps_discovery.specs.Kept.{IsJoined, entries_value, kept_value};
 
@@ -93,11 +93,22 @@ pub(crate) fn settled_at<'a>(
     endpoints: &BTreeMap<Guid, Kept<'a>>,
     guid: Guid,
 ) -> Option<Endpoint<'a>>
-    ensures { option_map endpoint_value result ≡ agreed (entry_at (entries_value endpoints.now.entries) guid) }
+    ensures { option_map endpoint_value result ≡ agreed_entry (entry_at (entries_value endpoints.now.entries) guid) }
 {
     match endpoints.get(&guid) {
-        Some(kept) if kept.settled => Some(kept.endpoint),
-        _ => None,
+        Some(kept) => agreed(kept),
+        None => None,
+    }
+}
+
+/// The endpoint of a GUID whose announcements agree.
+fn agreed<'a>(kept: &Kept<'a>) -> Option<Endpoint<'a>>
+    ensures { option_map endpoint_value result ≡ kept_value kept.now }
+{
+    if kept.settled {
+        Some(kept.endpoint)
+    } else {
+        None
     }
 }
 

@@ -1,9 +1,10 @@
 -- The first element of a list that passes a test, also where elements are left out that do not.
 use Rattle.std.proofs.lemmas.Bool.Decides.{nat_tests}
-use Rattle.std.proofs.Common.{◌≡◌, ◌==◌, ◌&&◌, ◌⊎◌, inl, inr, nat_lt, ℕ, ◌+◌, ◌<◌, ◌≤◌, Bool, true, false, ◌||◌, cond, List, [], ◌∷◌, ◌++◌, length, map, filter, take, drop, get_or, max, Some, None, refl, sym, ap, ◌∙◌, arith}
+use Rattle.std.proofs.Common.{◌≡◌, All, ◌==◌, ◌&&◌, ◌⊎◌, inl, inr, nat_lt, ℕ, ◌+◌, ◌<◌, ◌≤◌, Bool, true, false, ◌||◌, cond, List, [], ◌∷◌, ◌++◌, length, map, filter, take, drop, get_or, max, Some, None, refl, sym, ap, ◌∙◌, arith}
 use Rattle.std.specs.List.{find, list_any}
 use Rattle.std.specs.Option.{option_or}
 use Rattle.std.proofs.lemmas.List.{map-append, take_all, take_more, take-append-drop}
+use Rattle.std.proofs.lemmas.List.Elements.{All-head, All-tail}
 use Rattle.std.proofs.lemmas.List.Folds.{find-append, list_any-append}
 use Rattle.rtps_audit.specs.Delivery.{greatest}
 
@@ -18,6 +19,12 @@ find_past test x false xs h = by (test x) h
 pub find_filter : {X : Type 0} (test keeps : X → Bool) → ((x : X) → test x ≡ true → keeps x ≡ true) → (xs : List X) → find test (filter keeps xs) ≡ find test xs
 find_filter test keeps h [] = refl
 find_filter test keeps h (x ∷ xs) = find_past test x (keeps x) (filter keeps xs) (h x) ∙ ap (λ o. cond (test x) (Some x) o) (find_filter test keeps h xs)
+
+pub find_filter_within : {X : Type 0} (test keeps : X → Bool) (xs : List X) → All (λ x. test x ≡ true → keeps x ≡ true) xs → find test (filter keeps xs) ≡ find test xs
+find_filter_within test keeps [] h = refl
+find_filter_within test keeps (x ∷ xs) h =
+    find_past test x (keeps x) (filter keeps xs) (All-head (λ x. test x ≡ true → keeps x ≡ true) x xs h)
+    ∙ ap (λ o. cond (test x) (Some x) o) (find_filter_within test keeps xs (All-tail (λ x. test x ≡ true → keeps x ≡ true) x xs h))
 
 any_kept : {X : Type 0} (test : X → Bool) (x : X) (keeps : Bool) (xs : List X) → (test x ≡ true → keeps ≡ true) → list_any test (cond keeps (x ∷ xs) xs) ≡ (test x || list_any test xs)
 any_kept test x true xs h = refl
@@ -92,6 +99,16 @@ greatest_past v number xs i x lt at =
     ∙ one (number (v x))
   where
     one : (n : ℕ) → max (greatest (map number (map v (take i xs)))) (max n 0) ≡ max (greatest (map number (map v (take i xs)))) n
+    one n = omega arith
+
+pub greatest_of_each : {X : Type 0} (number : X → ℕ) (xs : List X) (i : ℕ) (d : X) → i < length xs → greatest (map number (take (i + 1) xs)) ≡ max (greatest (map number (take i xs))) (number (get_or xs i d))
+greatest_of_each number xs i d lt =
+    ap (λ l. greatest (map number l)) (take_more xs i d lt)
+    ∙ ap greatest (map-append number (take i xs) (get_or xs i d ∷ []))
+    ∙ greatest_append (map number (take i xs)) (number (get_or xs i d) ∷ [])
+    ∙ one (number (get_or xs i d))
+  where
+    one : (n : ℕ) → max (greatest (map number (take i xs))) (max n 0) ≡ max (greatest (map number (take i xs))) n
     one n = omega arith
 
 pub greatest_all : {X Y : Type 0} (v : X → Y) (number : Y → ℕ) (xs : List X) (i : ℕ) → length xs ≤ i → greatest (map number (map v xs)) ≡ greatest (map number (map v (take i xs)))

@@ -4,3 +4,6 @@ pub mod MadeLemmas
 pub mod StretchLemmas
 pub mod OriginLemmas
 pub mod Shown
+pub mod RowLemmas
+pub mod OneExplanation
+pub mod AnswerLemmas

@@ -93,3 +93,9 @@ pub record IsExplainedFrom (from : ℕ) (recording : List (List ℕ)) (explained
   pub is_map : IsMapOf (acts_in recording) directory
   pub named : All (IsNamed directory.endpoints) explained.rows.items
   pub shown : All (λ row. IsEvidenceFrom from row.pair recording row.evidence) explained.rows.items
+
+-- a recording is explained in one way: the same rows, and the same counts
+abbrev pub HasOneExplanation : Type 0
+HasOneExplanation =
+    (from : ℕ) (recording : List (List ℕ)) (one other : Explained) → IsExplainedFrom from recording one → IsExplainedFrom from recording other
+    → (map explanation_value one.rows.items ≡ map explanation_value other.rows.items) × (one.counts ≡ other.counts)

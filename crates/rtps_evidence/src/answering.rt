@@ -1,11 +1,14 @@
-ghost use Rattle.std.specs.Prelude.{◌≡◌, ◌<◌, ◌==◌, ◌&&◌, ◌^◌, map, nat_lt};
+ghost use Rattle.std.specs.Prelude.{ℕ, ◌≡◌, ◌<◌, ◌≤◌, ◌==◌, ◌^◌, map, All, List};
 ghost use Rattle.std.specs.List.{find};
 ghost use Rattle.std.specs.Option.{option_map};
-ghost use Rattle.rtps_audit.specs.Placed.{placed_value};
-ghost use Rattle.rtps_evidence.specs.Acting.{acknowledgement_of, base_said as base_said_lem, claim_at, claim_of, greatest_base as greatest_base_lem};
+ghost use Rattle.rtps_audit.specs.Delivery.{greatest};
+ghost use Rattle.rtps_audit.specs.Index.{IsIndexOf};
+ghost use Rattle.rtps_audit.specs.Placed.{placed_in, placed_value};
+ghost use Rattle.rtps_audit.specs.Speech.{natural};
+ghost use Rattle.rtps_evidence.specs.Acting.{acknowledgement_of, base_said as base_said_lem, claim_at, claim_of};
 
 use crate::places::{Place, place_of};
-use rtps_audit::Placed;
+use rtps_audit::{Answer, Index, Placed};
 use rtps_discovery::Pair;
 use rtps_ids::SeqNum;
 use rtps_receiver::ActBody;
@@ -31,16 +34,29 @@ fn base_said(placed: &Placed<'_>, pair: Pair) -> u64
     }
 }
 
-/// The greatest base of the answers among these acts, or 0.
-fn greatest_base(acts: &[Placed<'_>], pair: Pair) -> u64
-    ensures value { result ≡ greatest_base_lem pair.writer pair.reader (map placed_value acts.now) }
+/// The greatest base of these answers, or 0.
+fn greatest_base(answers: &[Answer]) -> u64
+    ensures value { result ≡ greatest (map (λ answer. natural answer.base) answers.now) }
     ensures in_range { result < 2 ^ 63 }
 {
     let mut greatest = 0u64;
-    for placed in acts {
-        greatest = greatest.max(base_said(placed, pair));
+    for answer in answers {
+        greatest = greatest.max(answer.natural_base());
     }
     greatest
+}
+
+/// The first datagram of these answers that has one with this base.
+fn first_datagram(answers: &[Answer], base: u64) -> usize
+    ensures { All (λ answer. natural answer.base ≡ base → result ≤ answer.datagram) answers.now }
+{
+    let mut first = usize::MAX;
+    for answer in answers {
+        if answer.natural_base() == base {
+            first = first.min(answer.datagram);
+        }
+    }
+    first
 }
 
 /// The first of these acts that answers with the base.
@@ -60,24 +76,8 @@ fn first_answering(acts: &[Placed<'_>], pair: Pair, base: u64) -> Option<Claim>
     None
 }
 
-/// The first of these acts that answers with the greatest base of all, where that is above `from`.
-pub(crate) fn find_acknowledgement(acts: &[Placed<'_>], pair: Pair, from: SeqNum) -> Option<Claim>
-    ensures { result ≡ acknowledgement_of from pair.writer pair.reader (map placed_value acts.now) }
-{
-    let base = greatest_base(acts, pair);
-    if base <= from.get().cast_unsigned() {
-        return None;
-    }
-    first_answering(acts, pair, base)
-}
-
 /// The first of these acts, in a datagram counted from 1, that answers with a base above the number.
-pub(crate) fn find_claim(
-    acts: &[Placed<'_>],
-    pair: Pair,
-    datagram: u64,
-    number: u64,
-) -> Option<Claim>
+fn first_claiming(acts: &[Placed<'_>], pair: Pair, datagram: u64, number: u64) -> Option<Claim>
     ensures { result ≡ claim_of pair.writer pair.reader datagram number (map placed_value acts.now) }
 {
     for placed in acts {
@@ -90,4 +90,27 @@ pub(crate) fn find_claim(
         }
     }
     None
+}
+
+/// The first answer of a pair's reader to its writer that has the greatest base of all, where that is above `from`.
+pub(crate) fn find_acknowledgement(index: &Index<'_>, pair: Pair, from: SeqNum) -> Option<Claim>
+    ensures { (recording : List (List ℕ)) → IsIndexOf recording index.now
+        → result ≡ acknowledgement_of from pair.writer pair.reader (placed_in recording) }
+{
+    let answers = index.answers_of(pair);
+    let base = greatest_base(answers);
+    if base <= from.get().cast_unsigned() {
+        return None;
+    }
+    let acts = index.acts_since(pair.reader, first_datagram(answers, base));
+    first_answering(acts, pair, base)
+}
+
+/// The first answer of a pair's reader to its writer, in a datagram counted from 1, that has a base above the number.
+pub(crate) fn find_claim(index: &Index<'_>, pair: Pair, datagram: u64, number: u64) -> Option<Claim>
+    ensures { (recording : List (List ℕ)) → IsIndexOf recording index.now
+        → result ≡ claim_of pair.writer pair.reader datagram number (placed_in recording) }
+{
+    let acts = index.acts_since(pair.reader, datagram as usize);
+    first_claiming(acts, pair, datagram, number)
 }

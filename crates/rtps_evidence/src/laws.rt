@@ -1,7 +1,11 @@
-//! Laws over definitions alone, each from what can be seen at a few places of a recording. Each function does nothing: its
-//! clause is the law, and its proof the law's proof.
+//! Laws over definitions alone, the certificates each from what can be seen at a few places of a recording. Each function
+//! does nothing: its clause is the law, and its proof the law's proof.
 
 ghost use Rattle.rtps_evidence.specs.Certificates.{CompleteIsShown, ConflictIsShown, OpenIsShown, UnfoundedIsShown};
+ghost use Rattle.rtps_evidence.specs.Explained.{HasOneExplanation};
+
+use rtps_audit::laws::one_report;
+use rtps_discovery::laws::one_map;
 
 /// Where a claim of a number stands at its place, and no act of an earlier datagram has a word for that number, there is no
 /// run.
@@ -24,3 +28,11 @@ pub fn conflict_is_shown()
 pub fn complete_is_shown()
     ensures { CompleteIsShown }
 {}
+
+/// A recording is explained in one way.
+pub fn one_explanation()
+    ensures { HasOneExplanation }
+{
+    one_map();
+    one_report();
+}

@@ -1,7 +1,7 @@
 ghost use Rattle.std.specs.Prelude.{ℕ, ◌≡◌, ◌<◌, ◌^◌, map, IfOk, List};
 ghost use Rattle.std.specs.Option.{option_map};
 ghost use Rattle.rtps_audit.specs.Index.{IsIndexOf};
-ghost use Rattle.rtps_audit.specs.Placed.{placed_value};
+ghost use Rattle.rtps_audit.specs.Placed.{placed_in, placed_value};
 ghost use Rattle.rtps_audit.specs.Speech.{natural as natural_lem};
 ghost use Rattle.rtps_evidence.specs.Acting.{sent_value};
 ghost use Rattle.rtps_evidence.specs.Evidence.{claim_by as claim_by_lem, first_by as first_by_lem, other_by as other_by_lem, teller_by as teller_by_lem};
@@ -76,19 +76,18 @@ impl<'a> Evidence<'a> {
             → IfOk result (IsEvidenceFrom from pair recording) }
     {
         let spoken = index.acts_of(pair.writer);
-        let answered = index.acts_of(pair.reader);
         let before = from.get().cast_unsigned() - 1;
         let last = greatest_number(spoken, pair.writer).max(before);
         let amounts = count_amounts(alloc, spoken, pair, from, last)?;
         Ok(Evidence {
             verdict,
             announcement: find_announcement(spoken, pair.writer, from, last),
-            acknowledgement: find_acknowledgement(answered, pair, from),
+            acknowledgement: find_acknowledgement(index, pair, from),
             payloads: amounts.payloads,
             gone: amounts.gone,
             untold: amounts.untold,
             teller: teller_by(spoken, pair, verdict),
-            claim: claim_by(answered, pair, verdict),
+            claim: claim_by(index, pair, verdict),
             first_sent: first_by(spoken, pair, verdict),
             other_sent: other_by(spoken, pair, verdict),
         })
@@ -123,13 +122,14 @@ fn teller_by(acts: &[Placed<'_>], pair: Pair, verdict: Verdict) -> Option<Teller
     }
 }
 
-/// The first of these acts that claims the number of the verdict in its datagram, where it is unfounded.
-fn claim_by(acts: &[Placed<'_>], pair: Pair, verdict: Verdict) -> Option<Claim>
-    ensures { result ≡ claim_by_lem verdict pair.writer pair.reader (map placed_value acts.now) }
+/// The first answer of a pair that claims the number of the verdict in its datagram, where it is unfounded.
+fn claim_by(index: &Index<'_>, pair: Pair, verdict: Verdict) -> Option<Claim>
+    ensures { (recording : List (List ℕ)) → IsIndexOf recording index.now
+        → result ≡ claim_by_lem verdict pair.writer pair.reader (placed_in recording) }
 {
     match verdict {
         Verdict::Unfounded { datagram, number } => {
-            find_claim(acts, pair, datagram, natural(number))
+            find_claim(index, pair, datagram, natural(number))
         }
         Verdict::Conflict { .. } => None,
         Verdict::Open { .. } => None,

@@ -5,17 +5,21 @@ ghost use Rattle.rtps_text.specs.AuditText.{IsAuditedFrom};
 ghost use Rattle.rtps_text.specs.Laws.{HasOneText};
 ghost use Rattle.rtps_text.specs.ListText.{IsListed};
 ghost use Rattle.rtps_text.specs.ShowText.{IsShown};
+ghost use Rattle.rtps_text.specs.WhyText.{IsExplainedTextFrom};
 
 use rtps_audit::laws::one_report;
 use rtps_discovery::laws::one_map;
+use rtps_evidence::laws::one_explanation;
 
-/// What is printed of a recording, and how a run on it ends, is decided by its datagrams alone; by `audit`, also by how many
-/// frames of a capture were ignored, and by the number from which on it asks.
+/// What is printed of a recording, and how a run on it ends, is decided by its datagrams alone; by `audit`
+/// and `why`, also by how many frames of a capture were ignored, and by the number from which on they ask.
 pub fn one_text()
     ensures shown { HasOneText IsShown }
     ensures listed { HasOneText IsListed }
     ensures audited { (from : ℕ) → HasOneText (IsAuditedFrom from) }
+    ensures explained { (from : ℕ) → HasOneText (IsExplainedTextFrom from) }
 {
     one_map();
     one_report();
+    one_explanation();
 }

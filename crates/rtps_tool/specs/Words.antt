@@ -1,6 +1,6 @@
 -- The words of the command line, as `clap` reads them.
--- own: a subcommand and one FILE; `sample` reads none. No option changes what a text means, but for that of `audit`,
--- which says from which number on its verdicts ask; two options say how large a recording may be.
+-- own: a subcommand and one FILE; `sample` reads none. No option changes what a text means, but for that of `audit` and
+-- `why`, which says from which number on verdicts ask; two options say how large a recording may be.
 use Rattle.std.specs.Prelude.{ℕ, ◌≡◌, ◌≢◌, ◌-◌, ◌^◌, codes, true, List, [], ◌∷◌, IfSome, Option, None, Some, unwrap_or}
 use Rattle.std.specs.Str.Parse.{digits_value, without_leading_plus}
 use Rattle.clap.specs.Words.{App, IsAmong, IsUnsignedIn, Kinds, Row, Rule, Text, fault_of, first_of, kind_of, new_app, new_rule, with_rule, with_subcommand}
@@ -12,7 +12,7 @@ use Rattle.clap.specs.declared.error.kind.ErrorKind.TheVariants.{DisplayHelp, Di
 use Rattle.std.specs.String.{string_bytes}
 use Rattle.rtps_tool.specs.Limits.{usual}
 use Rattle.rtps_tool.specs.declared.command.Choice.{Choice}
-use Rattle.rtps_tool.specs.declared.command.Choice.TheVariants.{Show, List as ListChoice, Audit, Sample}
+use Rattle.rtps_tool.specs.declared.command.Choice.TheVariants.{Show, List as ListChoice, Audit, Why, Sample}
 use Rattle.rtps_tool.specs.declared.command.WordFault.{WordFault}
 use Rattle.rtps_tool.specs.declared.command.WordFault.TheVariants.{Refused, Help, Version, Memory}
 use Rattle.rtps_tool.specs.declared.limits.Limits.{Limits}
@@ -31,12 +31,13 @@ reading_app name =
     with_rule (with_rule (with_rule (new_app name) file_rule) (number_rule (codes "DATAGRAMS") (codes "max-datagrams")))
     (number_rule (codes "OCTETS") (codes "max-octets"))
 
--- the number from which on `audit` asks: a sequence number
+-- the number from which on verdicts ask: a sequence number
 abbrev pub from_rule : Rule
 from_rule = number_rule (codes "N") (codes "from")
 
-abbrev pub audit_app : App
-audit_app = with_rule (reading_app (codes "audit")) from_rule
+-- a subcommand that judges
+abbrev pub report_app : Text → App
+report_app name = with_rule (reading_app name) from_rule
 
 -- a program that has a version and wants a subcommand
 abbrev pub bare_program : App
@@ -45,7 +46,10 @@ bare_program = record (new_app (codes "rtps-audit")) { top = record (new_app (co
 abbrev pub program : App
 program =
     with_subcommand
-    (with_subcommand (with_subcommand (with_subcommand bare_program (reading_app (codes "show")).top) (reading_app (codes "list")).top) audit_app.top)
+    (with_subcommand
+    (with_subcommand (with_subcommand (with_subcommand bare_program (reading_app (codes "show")).top) (reading_app (codes "list")).top)
+    (report_app (codes "audit")).top)
+    (report_app (codes "why")).top)
     (new_app (codes "sample")).top
 
 -- the subcommand that was chosen
@@ -53,6 +57,7 @@ abbrev pub subcommand_name : Choice → Text
 subcommand_name (Show file limits) = codes "show"
 subcommand_name (ListChoice file limits) = codes "list"
 subcommand_name (Audit file from limits) = codes "audit"
+subcommand_name (Why file from limits) = codes "why"
 subcommand_name Sample = codes "sample"
 
 -- the file that was chosen; `sample` has none
@@ -60,6 +65,7 @@ abbrev pub file_name : Choice → Option Text
 file_name (Show file limits) = Some (string_bytes file)
 file_name (ListChoice file limits) = Some (string_bytes file)
 file_name (Audit file from limits) = Some (string_bytes file)
+file_name (Why file from limits) = Some (string_bytes file)
 file_name Sample = None
 
 -- its FILE is the one that was given, and empty where none was
@@ -73,15 +79,16 @@ IsGivenOr usually None n = n ≡ usually
 IsGivenOr usually (Some text) n =
     (IsUnsignedIn 1 (2 ^ 63 - 1) text → n ≡ digits_value 10 (without_leading_plus text)) × (¬ IsUnsignedIn 1 (2 ^ 63 - 1) text → n ≡ usually)
 
--- of a number of `audit` that is 1
+-- of the number from which on verdicts ask, that is 1
 abbrev pub IsNumberGiven : Option Text → ℕ → Type 0
 IsNumberGiven text n = IsGivenOr 1 text n
 
--- its number is the one that was given; only `audit` has one
+-- its number is the one that was given; only `audit` and `why` have one
 abbrev pub HasItsNumber : Choice → List Row → Type 0
 HasItsNumber (Show file limits) rows = Unit {0}
 HasItsNumber (ListChoice file limits) rows = Unit {0}
 HasItsNumber (Audit file from limits) rows = IsNumberGiven (first_of (codes "N") rows) from
+HasItsNumber (Why file from limits) rows = IsNumberGiven (first_of (codes "N") rows) from
 HasItsNumber Sample rows = Unit {0}
 
 -- the limits that were chosen; `sample` has none
@@ -89,6 +96,7 @@ abbrev pub limits_of : Choice → Option Limits
 limits_of (Show file limits) = Some limits
 limits_of (ListChoice file limits) = Some limits
 limits_of (Audit file from limits) = Some limits
+limits_of (Why file from limits) = Some limits
 limits_of Sample = None
 
 -- the limits are those that were given, each the usual one where it was not
@@ -140,6 +148,7 @@ pub record WordsAreWanted : Type 0 where
   pub no_file_to_show : faults_of_words (codes "show" ∷ []) ≡ MissingRequiredArgument ∷ []
   pub no_file_to_list : faults_of_words (codes "list" ∷ []) ≡ MissingRequiredArgument ∷ []
   pub no_file_to_audit : faults_of_words (codes "audit" ∷ []) ≡ MissingRequiredArgument ∷ []
+  pub no_file_to_explain : faults_of_words (codes "why" ∷ []) ≡ MissingRequiredArgument ∷ []
   pub help : faults_of_words (codes "--help" ∷ []) ≡ DisplayHelp ∷ []
   pub version : faults_of_words (codes "--version" ∷ []) ≡ DisplayVersion ∷ []
   pub whole : faults_of_words (codes "audit" ∷ codes "a.rec" ∷ []) ≡ []
@@ -150,6 +159,8 @@ pub record WordsAreWanted : Type 0 where
   pub none : faults_of_words (codes "audit" ∷ codes "--from" ∷ codes "0" ∷ codes "a.rec" ∷ []) ≡ ValueValidation ∷ []
   pub too_great : faults_of_words (codes "audit" ∷ codes "--from" ∷ codes "9223372036854775808" ∷ codes "a.rec" ∷ []) ≡ ValueValidation ∷ []
   pub no_number : faults_of_words (codes "audit" ∷ codes "--from" ∷ codes "1x" ∷ codes "a.rec" ∷ []) ≡ ValueValidation ∷ []
+  pub from_of_why : faults_of_words (codes "why" ∷ codes "--from" ∷ codes "3" ∷ codes "a.rec" ∷ []) ≡ []
+  pub none_of_why : faults_of_words (codes "why" ∷ codes "--from" ∷ codes "0" ∷ codes "a.rec" ∷ []) ≡ ValueValidation ∷ []
   pub from_of_show : faults_of_words (codes "show" ∷ codes "--from" ∷ codes "1" ∷ codes "a.rec" ∷ []) ≡ UnknownArgument ∷ []
   pub from_of_list : faults_of_words (codes "list" ∷ codes "--from" ∷ codes "1" ∷ codes "a.rec" ∷ []) ≡ UnknownArgument ∷ []
   pub least_limits : faults_of_words (codes "show" ∷ codes "--max-datagrams" ∷ codes "1" ∷ codes "--max-octets" ∷ codes "1" ∷ codes "a.rec" ∷ []) ≡ []
@@ -159,4 +170,5 @@ pub record WordsAreWanted : Type 0 where
   pub no_octets : faults_of_words (codes "list" ∷ codes "--max-octets" ∷ codes "0" ∷ codes "a.rec" ∷ []) ≡ ValueValidation ∷ []
   pub too_many_datagrams : faults_of_words (codes "audit" ∷ codes "--max-datagrams" ∷ codes "9223372036854775808" ∷ codes "a.rec" ∷ []) ≡ ValueValidation ∷ []
   pub too_many_octets : faults_of_words (codes "audit" ∷ codes "--max-octets" ∷ codes "9223372036854775808" ∷ codes "a.rec" ∷ []) ≡ ValueValidation ∷ []
+  pub no_octets_of_why : faults_of_words (codes "why" ∷ codes "--max-octets" ∷ codes "0" ∷ codes "a.rec" ∷ []) ≡ ValueValidation ∷ []
   pub limit_of_sample : faults_of_words (codes "sample" ∷ codes "--max-octets" ∷ codes "1" ∷ []) ≡ UnknownArgument ∷ []

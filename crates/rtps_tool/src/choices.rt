@@ -6,7 +6,7 @@ ghost use Rattle.rtps_tool.specs.Words.{file_name, limits_of};
 use crate::command::Choice;
 use crate::faults::RunFault;
 use crate::limits::Limits;
-use crate::run::{run_audit_within, run_list_within, run_sample, run_show_within};
+use crate::run::{run_audit_within, run_list_within, run_sample, run_show_within, run_why_within};
 use rtps_text::{Ending, Watch};
 use std::alloc::Global;
 use std::io::{Read, Write};
@@ -17,9 +17,10 @@ impl Choice {
         ensures { option_map (λ name. name.now) result ≡ file_name self.now }
     {
         match self {
-            Choice::Show { file, .. } | Choice::List { file, .. } | Choice::Audit { file, .. } => {
-                Some(file.as_str())
-            }
+            Choice::Show { file, .. }
+            | Choice::List { file, .. }
+            | Choice::Audit { file, .. }
+            | Choice::Why { file, .. } => Some(file.as_str()),
             Choice::Sample => None,
         }
     }
@@ -31,14 +32,16 @@ impl Choice {
         match self {
             Choice::Show { limits, .. }
             | Choice::List { limits, .. }
-            | Choice::Audit { limits, .. } => Some(*limits),
+            | Choice::Audit { limits, .. }
+            | Choice::Why { limits, .. } => Some(*limits),
             Choice::Sample => None,
         }
     }
 }
 
-/// Runs what the words chose: [`crate::run_show_within`], [`crate::run_list_within`] or [`crate::run_audit_within`] on an
-/// input, or [`crate::run_sample`], which leaves the input as it is. It tells how far an audit is.
+/// Runs what the words chose: [`crate::run_show_within`], [`crate::run_list_within`], [`crate::run_audit_within`] or
+/// [`crate::run_why_within`] on an input, or [`crate::run_sample`], which leaves the input as it is. It tells how far an
+/// audit is.
 pub fn run_choice<R: Read, W: Write, P: Watch>(
     alloc: Global,
     choice: &Choice,
@@ -57,6 +60,11 @@ pub fn run_choice<R: Read, W: Write, P: Watch>(
             from,
             limits,
         } => run_audit_within(alloc, *limits, input, output, *from, watch),
+        Choice::Why {
+            file: _,
+            from,
+            limits,
+        } => run_why_within(alloc, *limits, input, output, *from, watch),
         Choice::Sample => run_sample(output),
     }
 }

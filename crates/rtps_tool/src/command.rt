@@ -2,7 +2,7 @@ ghost use Rattle.std.specs.Prelude.{◌≡◌, ◌⊎◌, true, false, codes, So
 ghost use Rattle.std.specs.String.{string_bytes};
 ghost use Rattle.clap.specs.Words.{app_of, fault_of, first_of, found_of, new_app, rows_of, rule_of, subcommand_of, subcommand_rows_of, takes};
 ghost use Rattle.clap.specs.declared.builder.command.Command.TheViews.{out-Command};
-ghost use Rattle.rtps_tool.specs.Words.{audit_app, bare_program as bare_app, number_rule, program as program_app, reading_app, AreLimitsGiven, IsChoice, IsGivenOr, IsNumberGiven, IsOneOf, HasItsKind};
+ghost use Rattle.rtps_tool.specs.Words.{bare_program as bare_app, number_rule, program as program_app, reading_app, report_app, AreLimitsGiven, IsChoice, IsGivenOr, IsNumberGiven, IsOneOf, HasItsKind};
 
 use crate::limits::Limits;
 use clap::builder::ValueParser;
@@ -27,6 +27,12 @@ pub enum Choice {
     /// Judge for each reliable writer and reader that match whether the reader got all data, of the writer's numbers from
     /// `from` on.
     Audit {
+        file: String,
+        from: SeqNum,
+        limits: Limits,
+    },
+    /// Say for each verdict of such an audit what it rests on, place by place.
+    Why {
         file: String,
         from: SeqNum,
         limits: Limits,
@@ -100,6 +106,7 @@ const NEWCOMERS: &str = "A FILE is what was sent in a test: a capture, as tcpdum
 
   tcpdump -i eth0 -w test.pcap udp          records a test, until it is interrupted
   rtps-audit audit test.pcap                says whether each reader got all data
+  rtps-audit why test.pcap                  says what each of these verdicts rests on
   rtps-audit sample | rtps-audit audit -    tries this program
 
 Status: 0 clean, 1 not every pair is complete, 2 the arguments or the recording are refused, \
@@ -111,6 +118,8 @@ const LISTS: &str = "Lists participants, endpoints and pairs of writers and read
 
 const AUDITS: &str =
     "Says for each reliable writer and reader that match whether the reader got all data";
+
+const EXPLAINS: &str = "Says of each verdict of audit what it rests on, place by place";
 
 const SAMPLES: &str = "Writes a recording to try, which audit finds complete";
 
@@ -146,13 +155,17 @@ fn reading_subcommand<'a>(
     two.arg(number_option(alloc, "OCTETS", "max-octets", OCTETS_HELP))
 }
 
-// The subcommand that judges: it reads a FILE, and asks for numbers from some number on.
-fn audit_subcommand<'a>(alloc: Global, about: &'a str) -> Result<Command<'a>, AllocError>
-    ensures app { IfOk result (λ command. app_of command ≡ audit_app) }
+// A subcommand that judges: it reads a FILE, and asks for numbers from some number on.
+fn report_subcommand<'a>(
+    alloc: Global,
+    name: &'a str,
+    about: &'a str,
+) -> Result<Command<'a>, AllocError>
+    ensures app { IfOk result (λ command. app_of command ≡ report_app name.now) }
     ensures local { IfOk result (λ command. (out-Command command).has_globals ≡ false) }
 {
     let from = number_option(alloc, "N", "from", FROM_HELP);
-    let reading = reading_subcommand(alloc, "audit", about)?;
+    let reading = reading_subcommand(alloc, name, about)?;
     reading.arg(from)
 }
 
@@ -183,9 +196,11 @@ fn program<'a>(alloc: Global) -> Result<Command<'a>, AllocError>
     let one = bare_program(alloc).subcommand(show)?;
     let list = reading_subcommand(alloc, "list", LISTS)?;
     let two = one.subcommand(list)?;
-    let audit = audit_subcommand(alloc, AUDITS)?;
+    let audit = report_subcommand(alloc, "audit", AUDITS)?;
     let three = two.subcommand(audit)?;
-    three.subcommand(plain_subcommand(alloc, "sample", SAMPLES))
+    let why = report_subcommand(alloc, "why", EXPLAINS)?;
+    let four = three.subcommand(why)?;
+    four.subcommand(plain_subcommand(alloc, "sample", SAMPLES))
 }
 
 // The FILE of a subcommand; empty where it has none.
@@ -207,7 +222,7 @@ fn number_in(text: &str) -> SeqNum
     }
 }
 
-// The number from which on `audit` asks; 1 where none is given.
+// The number from which on is asked; 1 where none is given.
 fn number_of(found: &ArgMatches) -> SeqNum
     ensures { IsNumberGiven (first_of (codes "N") (rows_of (found_of found.now))) result }
 {
@@ -269,6 +284,12 @@ fn choice_of(alloc: Global, matches: &ArgMatches) -> Result<Option<Choice>, Allo
         let from = number_of(audit);
         let limits = limits_of(audit);
         return Ok(Some(Choice::Audit { file, from, limits }));
+    }
+    if let Some(why) = matches.subcommand_matches("why") {
+        let file = file_of(alloc, why)?;
+        let from = number_of(why);
+        let limits = limits_of(why);
+        return Ok(Some(Choice::Why { file, from, limits }));
     }
     if matches.subcommand_matches("sample").is_some() {
         return Ok(Some(Choice::Sample));

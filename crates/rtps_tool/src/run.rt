@@ -4,6 +4,7 @@ ghost use Rattle.rtps_text.specs.AuditText.{IsAudited, IsAuditedFrom};
 ghost use Rattle.rtps_text.specs.ListText.{IsListed};
 ghost use Rattle.rtps_text.specs.SampleText.{sample};
 ghost use Rattle.rtps_text.specs.ShowText.{IsShown};
+ghost use Rattle.rtps_text.specs.WhyText.{IsExplainedText, IsExplainedTextFrom};
 ghost use Rattle.rtps_tool.specs.Runs.{Runs, RunsWithin, Writes};
 ghost use Rattle.rtps_tool.specs.Subcommands.{IsTextOf};
 
@@ -12,7 +13,7 @@ use crate::limits::Limits;
 use crate::streams::{read_input, write_text};
 use rtps_ids::{Memory, SeqNum};
 use rtps_text::{
-    Ending, Recording, Unwatched, Watch, audit_text, list_text, sample_text, show_text,
+    Ending, Recording, Unwatched, Watch, audit_text, list_text, sample_text, show_text, why_text,
 };
 use std::alloc::Global;
 use std::io::{Read, Write};
@@ -24,6 +25,8 @@ pub(crate) enum Subcommand {
     List,
     /// By the numbers from this one on.
     Audit(SeqNum),
+    /// By the numbers from this one on.
+    Why(SeqNum),
 }
 
 /// Reads a recording, to the end of the input, and writes what `show` prints of it; it ends [`Ending::Clean`]. It is
@@ -130,6 +133,50 @@ pub fn run_audit<R: Read, W: Write>(
     run_audit_from(alloc, input, output, SeqNum::first())
 }
 
+/// Reads a recording, to the end of the input, and writes what `why` prints of it: each verdict that `audit` has on it,
+/// with what it rests on. It ends as [`run_audit`] does, and fails as [`run_show`] does.
+pub fn run_why<R: Read, W: Write>(
+    alloc: Global,
+    input: &mut R,
+    output: &mut W,
+) -> Result<Ending, RunFault>
+    ensures { Runs IsExplainedText
+        (R.remaining input.old) (R.remaining input.new) (W.contents output.old) (W.contents output.new) result }
+{
+    run_why_from(alloc, input, output, SeqNum::first())
+}
+
+/// Reads a recording, to the end of the input, and writes what `why` prints of it by the numbers from `from` on: smaller
+/// numbers are not asked for. Else it is [`run_why`].
+pub fn run_why_from<R: Read, W: Write>(
+    alloc: Global,
+    input: &mut R,
+    output: &mut W,
+    from: SeqNum,
+) -> Result<Ending, RunFault>
+    ensures { Runs (IsExplainedTextFrom from)
+        (R.remaining input.old) (R.remaining input.new) (W.contents output.old) (W.contents output.new) result }
+{
+    let mut watch = Unwatched;
+    run_why_within(alloc, Limits::usual(), input, output, from, &mut watch)
+}
+
+/// Reads a recording within limits, to the end of the input or past the most octets that it may have, and tells how far
+/// its audit is. Else it is [`run_why_from`].
+pub fn run_why_within<R: Read, W: Write, P: Watch>(
+    alloc: Global,
+    limits: Limits,
+    input: &mut R,
+    output: &mut W,
+    from: SeqNum,
+    watch: &mut P,
+) -> Result<Ending, RunFault>
+    ensures { RunsWithin limits (IsExplainedTextFrom from)
+        (R.remaining input.old) (R.remaining input.new) (W.contents output.old) (W.contents output.new) result }
+{
+    run(alloc, limits, Subcommand::Why(from), input, output, watch)
+}
+
 /// Writes a recording to try, of six datagrams; it ends [`Ending::Clean`]. It reads nothing, and fails with
 /// [`RunFault::Output`] alone, which says how much of it was written.
 pub fn run_sample<W: Write>(output: &mut W) -> Result<Ending, RunFault>
@@ -170,5 +217,6 @@ fn text_of<P: Watch>(
         Subcommand::Show => show_text(alloc, recording),
         Subcommand::List => list_text(alloc, recording),
         Subcommand::Audit(from) => audit_text(alloc, recording, from, watch),
+        Subcommand::Why(from) => why_text(alloc, recording, from, watch),
     }
 }

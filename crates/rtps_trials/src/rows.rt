@@ -1,6 +1,7 @@
 use rtps_ids::SeqNum;
 use rtps_tool::{
-    Ending, RecFault, RunFault, run_audit, run_audit_from, run_list, run_show, status, write_fault,
+    Ending, RecFault, RunFault, run_audit, run_audit_from, run_list, run_show, run_why,
+    run_why_from, status, write_fault,
 };
 use std::test::Fail;
 
@@ -84,6 +85,42 @@ fn a_recording_is_audited_from_a_number_on(rt: HostRuntime) -> Result<(), Fail> 
         assert_eq!(rt; output.as_slice(), wanted.as_bytes());
         assert_eq!(rt; ending, wanted_ending);
     }
+    Ok(())
+}
+
+#[test]
+fn a_verdict_is_explained(rt: HostRuntime) -> Result<(), Fail> {
+    let mut output = Vec::new(rt.alloc());
+    let ending = run_why(rt.alloc(), &mut OPEN.as_bytes(), &mut output)?;
+    let wanted = "pairs 1
+pair aaaaaaaaaaaaaaaaaaaaaaaa.00000103 bbbbbbbbbbbbbbbbbbbbbbbb.00000104 open 2
+  topic \"pose\" type \"Pose\"
+  announced 2 by data in datagram 3 at 52
+  acknowledged below 2 in datagram 4 at 36
+  payloads 2 gone 0 untold 0
+  number 2 told by data in datagram 3 at 52
+datagrams 4 refused 0 skipped 0 fragments 0 undirected 0 unsettled 0
+";
+    assert_eq!(rt; output.as_slice(), wanted.as_bytes());
+    assert_eq!(rt; ending, Ending::Unclean);
+    Ok(())
+}
+
+#[test]
+fn a_verdict_is_explained_from_a_number_on(rt: HostRuntime) -> Result<(), Fail> {
+    let mut output = Vec::new(rt.alloc());
+    let from = SeqNum::new(3).expect(&rt, "a number");
+    let ending = run_why_from(rt.alloc(), &mut OPEN.as_bytes(), &mut output, from)?;
+    let wanted = "pairs 1
+pair aaaaaaaaaaaaaaaaaaaaaaaa.00000103 bbbbbbbbbbbbbbbbbbbbbbbb.00000104 complete 2
+  topic \"pose\" type \"Pose\"
+  announced nothing
+  acknowledged nothing
+  payloads 0 gone 0 untold 0
+datagrams 4 refused 0 skipped 0 fragments 0 undirected 0 unsettled 0
+";
+    assert_eq!(rt; output.as_slice(), wanted.as_bytes());
+    assert_eq!(rt; ending, Ending::Clean);
     Ok(())
 }
 

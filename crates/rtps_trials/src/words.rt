@@ -19,6 +19,11 @@ fn chosen_of(alloc: Global, words: &[&str]) -> Result<(&'static str, String), Wo
             from: _,
             limits: _,
         } => ("audit", file),
+        Choice::Why {
+            file,
+            from: _,
+            limits: _,
+        } => ("why", file),
         Choice::Sample => ("sample", String::new(alloc)),
     })
 }
@@ -33,7 +38,7 @@ fn a_sample_is_chosen(rt: HostRuntime) {
 #[test]
 fn a_subcommand_is_chosen_with_its_file(rt: HostRuntime) -> Result<(), Fail> {
     let alloc = rt.alloc();
-    for subcommand in ["show", "list", "audit"] {
+    for subcommand in ["show", "list", "audit", "why"] {
         for name in ["-", "a file.rec", "--"] {
             let words = ["rtps-audit", subcommand, "--", name];
             let (chosen, file) = chosen_of(alloc, &words).expect(&rt, "a choice");
@@ -47,10 +52,15 @@ fn a_subcommand_is_chosen_with_its_file(rt: HostRuntime) -> Result<(), Fail> {
     Ok(())
 }
 
-// The number from which on the words ask `audit`; None where they choose something else.
+// The number from which on the words ask; None where they choose what asks for all.
 fn number_of(alloc: Global, words: &[&str]) -> Result<Option<SeqNum>, WordFault> {
     Ok(match read_words(alloc, words)? {
         Choice::Audit {
+            file: _,
+            from,
+            limits: _,
+        }
+        | Choice::Why {
             file: _,
             from,
             limits: _,
@@ -74,6 +84,8 @@ fn a_number_is_chosen(rt: HostRuntime) {
             ["rtps-audit", "audit", "--from=9223372036854775807", "-"].as_slice(),
             i64::MAX,
         ),
+        (["rtps-audit", "why", "-"].as_slice(), 1),
+        (["rtps-audit", "why", "--from", "3", "-"].as_slice(), 3),
     ] {
         let number = number_of(alloc, words).expect(&rt, "a choice");
         assert_eq!(rt; number, SeqNum::new(wanted));
@@ -94,6 +106,11 @@ fn limits_are_chosen(rt: HostRuntime) {
             ["rtps-audit", "audit", "--max-octets", "0017", "-"].as_slice(),
             1_000_000,
             17,
+        ),
+        (
+            ["rtps-audit", "why", "--max-octets=18", "-"].as_slice(),
+            1_000_000,
+            18,
         ),
         (
             [
@@ -127,6 +144,7 @@ fn what_is_no_number_is_refused(rt: HostRuntime) {
     let alloc = rt.alloc();
     for number in ["0", "9223372036854775808", "-1", "1x", "", " 1", "1.0"] {
         assert!(rt; are_refused(alloc, &["rtps-audit", "audit", "--from", number, "-"]));
+        assert!(rt; are_refused(alloc, &["rtps-audit", "why", "--from", number, "-"]));
     }
     assert!(rt; are_refused(alloc, &["rtps-audit", "audit", "-", "--from"]));
     assert!(rt; are_refused(alloc, &["rtps-audit", "show", "--from", "1", "-"]));

@@ -1,15 +1,16 @@
-use Rattle.std.proofs.Common.{arith}
-use Rattle.rtps_audit.specs.Placed.{placed_value}
-use Rattle.rtps_evidence.specs.Acting.{base_said}
-use Rattle.rtps_evidence.proofs.FindLemmas.{greatest_past}
+use Rattle.std.proofs.Common.{arith, pos}
+use Rattle.rtps_audit.specs.Speech.{natural}
+use Rattle.rtps_audit.specs.declared.answers.Answer.{Answer}
+use Rattle.rtps_evidence.proofs.FindLemmas.{greatest_of_each}
 use Rattle.rtps_evidence.proofs.answering.greatest_base.Goals as goal
 
-pub loop-placed-preserved : goal.loop-placed-preserved
-loop-placed-preserved c =
-    let past = greatest_past placed_value (base_said c.args.pair.writer c.args.pair.reader) c.args.acts.now c.loop-placed.placed-index c.placed-item.result c.loop-placed-test.true c.placed-item.is in
-    let said = c.base_said.ensures.value in
-    let small = c.base_said.ensures.in_range in
-    let so_far = c.loop-placed.invariant.value in
-    let low = c.loop-placed.invariant.in_range in
+pub loop-answer-preserved : goal.loop-answer-preserved
+loop-answer-preserved c =
+    let none : Answer = record { datagram = 0; base = pos 0 } in
+    let past = greatest_of_each (λ (answer : Answer). natural answer.base) c.args.answers.now c.loop-answer.answer-index none c.loop-answer-test.true in
+    let said = c.natural_base.ensures.value in
+    let small = c.natural_base.ensures.in_range in
+    let so_far = c.loop-answer.invariant.value in
+    let low = c.loop-answer.invariant.in_range in
     let is = c.max-greatest.ensures in
     record { value = omega arith; in_range = omega arith }

@@ -1,9 +1,8 @@
 use Rattle.std.proofs.Common.{◌≡◌, ◌<◌, ◌^◌, map, take}
 use Rattle.rtps_audit.specs.Delivery.{greatest}
-use Rattle.rtps_audit.specs.Placed.{placed_value}
-use Rattle.rtps_evidence.specs.Acting.{base_said}
+use Rattle.rtps_audit.specs.Speech.{natural}
 use Rattle.rtps_evidence.proofs.answering.greatest_base.Given as goal
 
 -- the greatest so far
-abbrev pub invariant-loop-placed : goal.invariant-loop-placed
-invariant-loop-placed l = record { value : l.greatest ≡ greatest (map (base_said l.fn.pair.writer l.fn.pair.reader) (map placed_value (take l.placed-index l.acts))); in_range : l.greatest < 2 ^ 63 }
+abbrev pub invariant-loop-answer : goal.invariant-loop-answer
+invariant-loop-answer l = record { value : l.greatest ≡ greatest (map (λ answer. natural answer.base) (take l.answer-index l.answers)); in_range : l.greatest < 2 ^ 63 }

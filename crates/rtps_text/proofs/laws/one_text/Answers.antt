@@ -1,11 +1,13 @@
-use Rattle.std.proofs.Common.{◌≡◌, List, sym, ◌∙◌, ap}
+use Rattle.std.proofs.Common.{◌≡◌, List, map, sym, ◌∙◌, ap}
 use Rattle.rtps_receiver.specs.Acts.{acts_in}
 use Rattle.rtps_discovery.specs.Directory.{DirectoryValue}
 use Rattle.rtps_discovery.specs.Notice.{faults_in}
 use Rattle.rtps_audit.specs.declared.report.Counts.{Counts}
 use Rattle.rtps_audit.specs.declared.report.Row.{Row}
+use Rattle.rtps_evidence.specs.Explained.{ExplanationValue, explanation_value}
 use Rattle.rtps_text.specs.AuditText.{ending_of, report_text}
 use Rattle.rtps_text.specs.ListText.{directory_text}
+use Rattle.rtps_text.specs.WhyText.{ending_of_rows, explained_text}
 use Rattle.rtps_text.proofs.laws.one_text.Goals as goal
 
 pub returns-clause-shown : goal.returns-clause-shown
@@ -21,4 +23,12 @@ returns-clause-audited c = λ from recording one other ending last is also.
     let same = c.one_report.ensures from recording.datagrams is.report also.report is.reports also.reports in (
       is.is_text ∙ ap (λ (rows : List Row). report_text rows is.report.counts recording.ignored) same.0 ∙ ap (λ (counts : Counts). report_text also.report.rows.items counts recording.ignored) same.1 ∙ sym also.is_text,
       is.ends ∙ ap ending_of same.0 ∙ sym also.ends,
+    )
+
+pub returns-clause-explained : goal.returns-clause-explained
+returns-clause-explained c = λ from recording one other ending last is also.
+    let same = c.one_explanation.ensures from recording.datagrams is.explained also.explained is.explains also.explains in (
+      is.is_text ∙ ap (λ (rows : List ExplanationValue). explained_text rows is.explained.counts recording.ignored) same.0
+          ∙ ap (λ (counts : Counts). explained_text (map explanation_value also.explained.rows.items) counts recording.ignored) same.1 ∙ sym also.is_text,
+      is.ends ∙ ap ending_of_rows same.0 ∙ sym also.ends,
     )

@@ -1,4 +1,4 @@
-use Rattle.std.proofs.Common.{◌≡◌, ◌∙◌, true, ap}
+use Rattle.std.proofs.Common.{◌∙◌, true, ap}
 use Rattle.clap.specs.Simple.{app_of_fields, on_top}
 use Rattle.rtps_tool.proofs.command.bare_program.Goals as goal
 

@@ -2,7 +2,7 @@ use Rattle.std.proofs.Common.{◌≡◌, ◌==◌, ◌&&◌, map, nat_lt, take, 
 use Rattle.std.specs.List.{find}
 use Rattle.rtps_audit.specs.Placed.{placed_value}
 use Rattle.rtps_evidence.specs.Acting.{base_said}
-use Rattle.rtps_evidence.proofs.answering.find_claim.Given as goal
+use Rattle.rtps_evidence.proofs.answering.first_claiming.Given as goal
 
 -- none so far claims it
 abbrev pub invariant-loop-placed : goal.invariant-loop-placed

@@ -1,7 +1,7 @@
 use Rattle.std.proofs.Common.{◌∙◌, refl, ap₂}
 use Rattle.std.proofs.lemmas.Result.{IfOk-weaker}
 use Rattle.clap.specs.Words.{with_rule}
-use Rattle.rtps_tool.proofs.command.audit_subcommand.Goals as goal
+use Rattle.rtps_tool.proofs.command.report_subcommand.Goals as goal
 
 pub returns : goal.returns
 returns c =

@@ -1,0 +1,15 @@
+-- The rows that are explained, one more at a time.
+use Rattle.std.proofs.Common.{◌≡◌, ℕ, ◌+◌, ◌<◌, List, [], ◌∷◌, ◌++◌, length, map, take, get_or, sym, ◌∙◌, ap}
+use Rattle.std.proofs.lemmas.List.{map-append, take_more}
+use Rattle.rtps_discovery.specs.declared.matching.Pair.{Pair}
+use Rattle.rtps_audit.specs.declared.report.Row.{Row}
+use Rattle.rtps_audit.specs.declared.verdict.Verdict.{Verdict}
+use Rattle.rtps_evidence.specs.Explained.{row_of}
+use Rattle.rtps_evidence.specs.declared.explaining.Explanation.{Explanation}
+
+pub rows_more : (old new : List Explanation) (x : Explanation) (rows : List Row) (i : ℕ) (d : Row) → i < length rows → new ≡ old ++ x ∷ []
+    → x.pair ≡ (get_or rows i d).pair → x.evidence.verdict ≡ (get_or rows i d).verdict
+    → map row_of old ≡ take i rows → map row_of new ≡ take (i + 1) rows
+rows_more old new x rows i d lt is pair verdict so_far =
+    let at : row_of x ≡ get_or rows i d = ap (λ (p : Pair). record { pair = p; verdict = x.evidence.verdict }) pair ∙ ap (λ (v : Verdict). record { pair = (get_or rows i d).pair; verdict = v }) verdict in
+    ap (map row_of) is ∙ map-append row_of old (x ∷ []) ∙ ap (λ l. l ++ row_of x ∷ []) so_far ∙ ap (λ row. take i rows ++ row ∷ []) at ∙ sym (take_more rows i d lt)
