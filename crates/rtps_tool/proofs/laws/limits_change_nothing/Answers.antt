@@ -1,6 +1,7 @@
 use Rattle.rtps_text.specs.AuditText.{IsAuditedFrom}
 use Rattle.rtps_text.specs.ListText.{IsListed}
 use Rattle.rtps_text.specs.ShowText.{IsShown}
+use Rattle.rtps_text.specs.WhyText.{IsExplainedTextFrom}
 use Rattle.rtps_tool.proofs.LimitsLemmas.{stays_within}
 use Rattle.rtps_tool.proofs.RunsLemmas.{runs_agree_within}
 use Rattle.rtps_tool.proofs.laws.limits_change_nothing.Goals as goal
@@ -16,3 +17,6 @@ returns-clause-list c = runs_agree_within IsListed c.one_text.ensures.listed
 
 pub returns-clause-audit : goal.returns-clause-audit
 returns-clause-audit c = λ from. runs_agree_within (IsAuditedFrom from) (c.one_text.ensures.audited from)
+
+pub returns-clause-why : goal.returns-clause-why
+returns-clause-why c = λ from. runs_agree_within (IsExplainedTextFrom from) (c.one_text.ensures.explained from)
