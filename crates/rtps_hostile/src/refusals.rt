@@ -43,11 +43,13 @@ pub(crate) const CALLS: [&str; 35] = [
     "list",
     "audit_run",
     "audit_from_run",
+    "why_run",
     "capture_read_recording",
     "capture_show",
     "capture_list",
     "capture_audit_run",
     "capture_audit_from_run",
+    "capture_why_run",
 ];
 
 /// Requests between one of this size and the next are counted by `tests/refuse_requests.c`. Nothing else asks for so much.

@@ -2,7 +2,7 @@
 
 use crate::fault::Fault;
 use rtps_ids::SeqNum;
-use rtps_tool::{Ending, RunFault, run_audit, run_audit_from, run_list, run_show};
+use rtps_tool::{Ending, RunFault, run_audit, run_audit_from, run_list, run_show, run_why};
 use std::alloc::Global;
 use std::io::{self, ErrorKind, Read, Write};
 
@@ -65,9 +65,10 @@ pub(crate) enum Run {
     List,
     Audit,
     AuditFrom,
+    Why,
 }
 
-const RUNS: [Run; 4] = [Run::Show, Run::List, Run::Audit, Run::AuditFrom];
+const RUNS: [Run; 5] = [Run::Show, Run::List, Run::Audit, Run::AuditFrom, Run::Why];
 
 /// The number from which on is asked.
 pub(crate) fn asked_from() -> SeqNum {
@@ -86,6 +87,7 @@ impl Run {
             Run::List => run_list(alloc, input, output),
             Run::Audit => run_audit(alloc, input, output),
             Run::AuditFrom => run_audit_from(alloc, input, output, asked_from()),
+            Run::Why => run_why(alloc, input, output),
         }
     }
 }

@@ -14,6 +14,7 @@ pub(super) fn try_input(alloc: Global, call: &str, input: &[u8]) -> Result<Optio
         "list" => is_run_refused(alloc, Run::List, input)?,
         "audit_run" => is_run_refused(alloc, Run::Audit, input)?,
         "audit_from_run" => is_run_refused(alloc, Run::AuditFrom, input)?,
+        "why_run" => is_run_refused(alloc, Run::Why, input)?,
         _ => return Ok(None),
     };
     Ok(Some(refused))
@@ -83,6 +84,16 @@ fn answer_of(alloc: Global, read: Result<Choice, WordFault>) -> Result<Option<St
         ) => {
             let number = from.get();
             format!(in alloc; "audit {file} from {number}")?
+        }
+        Ok(
+            Choice::Why {
+                file,
+                from,
+                limits: _,
+            },
+        ) => {
+            let number = from.get();
+            format!(in alloc; "why {file} from {number}")?
         }
         Ok(Choice::Sample) => format!(in alloc; "sample")?,
         Err(WordFault::Refused(refusal)) => format!(in alloc; "refused {refusal}")?,
