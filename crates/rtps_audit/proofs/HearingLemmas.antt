@@ -2,13 +2,14 @@
 use Rattle.std.proofs.Common.{◌≡◌, ℕ, zero, suc, ℤ, pos, negsuc, ◌+◌, ◌-◌, ◌<◌, ◌≤◌, ◌^◌, ltb, Bool, true, false, not, List, [], ◌∷◌, ◌++◌, length, get_or, slice_index_or, take, max, map, Option, Some, None, ◌⊎◌, inl, inr, refl, sym, ap, ◌∙◌, subst, arith}
 use Rattle.std.specs.Prelude.{IfSome, if◌then◌else◌, ◌&&◌, ◌||◌, MatchOption, is_some, nat_lt, unwrap_or}
 use Rattle.std.specs.Bool.{beq}
-use Rattle.std.specs.List.{All, AllWithin}
+use Rattle.std.specs.List.{All, AllWithin, list_all}
+use Rattle.std.specs.Option.{is_none}
 use Rattle.std.specs.List.Sorted.{IsNonDecreasingBy, IsPartitionPoint}
 use Rattle.std.proofs.lemmas.Bool.{cases_lt, ltb-true, ltb-false}
 use Rattle.std.proofs.lemmas.Bool.Decides.{nat_tests}
 use Rattle.std.proofs.lemmas.Int.{ints}
 use Rattle.std.proofs.lemmas.List.{get_or-map, get_or_append_left, get_or_read, length-append, map-append, take_more}
-use Rattle.std.proofs.lemmas.List.Elements.{All-contains, All-map, All-nil, All-push, All-weaker, Contains-append_left, Contains-push, Contains-push_cases}
+use Rattle.std.proofs.lemmas.List.Elements.{All-cons, All-contains, All-map, All-nil, All-push, All-weaker, Contains-append_left, Contains-push, Contains-push_cases}
 use Rattle.std.proofs.lemmas.List.Sorted.{IsNonDecreasingBy-push, IsNonDecreasingBy-short}
 use Rattle.rtps_ids.specs.declared.identity.Guid.{Guid}
 use Rattle.rtps_wire.specs.Values.{PayloadValue}
@@ -16,7 +17,7 @@ use Rattle.rtps_receiver.specs.Speech.{is_for, is_for_all, is_heard_by, is_spoke
 use Rattle.rtps_ids.specs.declared.identity.GuidPrefix.{GuidPrefix}
 use Rattle.rtps_receiver.specs.Values.{ActValue, act_value}
 use Rattle.rtps_coverage.specs.Coverage.{IsFront, TellsMore}
-use Rattle.rtps_audit.specs.Common.{nobody}
+use Rattle.rtps_audit.specs.Common.{is_for_everyone, nobody}
 use Rattle.rtps_audit.specs.Delivery.{Word, IsAsked}
 use Rattle.rtps_audit.specs.Delivery.Word.{Told}
 use Rattle.rtps_audit.specs.Hearing.{HearsTwo, IsCut, IsFrontBy, IsHeard, IsListening, IsTimeline, IsToldBy, Hears, Marks, front_after}
@@ -398,3 +399,24 @@ for_all_alike act reader for_all heard = by_dest act.dest for_all refl ∙ sym h
         sym (ap (λ d. (is_for_all d || is_for d nobody.prefix) && (names (reader_named act.body) unknown_entity || names (reader_named act.body) unknown_entity)) is) ∙ heard in
         ap (λ d. (is_for_all d || is_for d reader.prefix) && (names (reader_named act.body) unknown_entity || names (reader_named act.body) reader.entity)) is
         ∙ either (names (reader_named act.body) unknown_entity) (names (reader_named act.body) reader.entity) known
+
+-- acts that are for everyone are heard by all alike
+first_true : (a b : Bool) → (a && b) ≡ true → a ≡ true
+first_true true b e = refl
+first_true false b e = cc
+
+second_true : (a b : Bool) → (a && b) ≡ true → b ≡ true
+second_true true b e = e
+second_true false b e = cc
+
+named_nobody : (dest : Option GuidPrefix) → is_none dest ≡ true → is_some dest ≡ false
+named_nobody None e = refl
+named_nobody (Some prefix) e = cc
+
+everyone_alike : (act : ActValue) (reader : Guid) → is_for_everyone act ≡ true → is_heard_by act reader ≡ is_heard_by act nobody
+everyone_alike act reader e = for_all_alike act reader (named_nobody act.dest (first_true _ _ e)) (second_true _ _ e)
+
+pub all_alike : (acts : List PlacedValue) (reader : Guid) → list_all (λ at. is_for_everyone at.act) acts ≡ true → All (λ (at : PlacedValue). is_heard_by at.act reader ≡ is_heard_by at.act nobody) acts
+all_alike [] reader e = All-nil _
+all_alike (at ∷ acts) reader e =
+    All-cons (λ (at : PlacedValue). is_heard_by at.act reader ≡ is_heard_by at.act nobody) at acts (everyone_alike at.act reader (first_true _ _ e)) (all_alike acts reader (second_true _ _ e))

@@ -1,8 +1,8 @@
 ghost use Rattle.std.specs.Prelude.{◌≡◌, ◌↔◌, ℕ, All, IfOk, IsTrue, List, OnOk};
-ghost use Rattle.rtps_ids.specs.declared.identity.Guid.{Guid as GuidValue};
+ghost use Rattle.std.specs.List.{list_all};
 ghost use Rattle.rtps_receiver.specs.Speech.{is_heard_by};
 ghost use Rattle.rtps_receiver.specs.Values.{act_value};
-ghost use Rattle.rtps_audit.specs.Common.{nobody};
+ghost use Rattle.rtps_audit.specs.Common.{is_for_everyone as is_for_everyone_lem, nobody};
 
 use crate::hearing::Hearing;
 use crate::index::Index;
@@ -10,6 +10,7 @@ use crate::placed::Placed;
 use crate::verdict::Verdict;
 use rtps_discovery::Pair;
 use rtps_ids::{EntityId, Guid, GuidPrefix, Memory, SeqNum};
+use rtps_receiver::Act;
 
 /// A reader that hears what is for all readers, and nothing else.
 const NOBODY: Guid = Guid {
@@ -39,17 +40,18 @@ fn hears_as_all(acts: &[Placed<'_>], reader: Guid) -> bool
     true
 }
 
-/// Whether these acts are for all readers, so that all hear the same.
-fn are_for_all(acts: &[Placed<'_>]) -> bool
-    ensures { IsTrue result → (reader : GuidValue) → All (λ placed. is_heard_by (act_value placed.act) reader
-        ≡ is_heard_by (act_value placed.act) nobody) acts.now }
+/// Whether an act is for every reader.
+fn is_for_everyone(act: &Act<'_>) -> bool
+    ensures { result ≡ is_for_everyone_lem (act_value act.now) }
 {
-    for placed in acts {
-        if placed.act.dest.is_some() || !placed.act.heard_by(NOBODY) {
-            return false;
-        }
-    }
-    true
+    act.dest.is_none() && act.heard_by(NOBODY)
+}
+
+/// Whether these acts are for every reader, so that all hear the same.
+pub(crate) fn are_for_all(acts: &[Placed<'_>]) -> bool
+    ensures { result ≡ list_all (λ placed. is_for_everyone_lem (act_value placed.act)) acts.now }
+{
+    acts.iter().all(|placed| is_for_everyone(&placed.act))
 }
 
 impl Common {

@@ -1,4 +1,6 @@
 ghost use Rattle.std.specs.Prelude.{ℤ, ℕ, ◌≡◌, ◌↔◌, pos, filter, map, nat_le, IfOk, List};
+ghost use Rattle.std.specs.List.{list_all};
+ghost use Rattle.rtps_audit.specs.Common.{is_for_everyone};
 ghost use Rattle.rtps_audit.specs.Delivered.{IsDelivered, IsDeliveredFrom, IsPlain, IsPlainFrom};
 ghost use Rattle.rtps_audit.specs.Delivery.{last_announced, last_announced_from};
 ghost use Rattle.rtps_audit.specs.FullRun.{HasFullRun, HasFullRunFrom};
@@ -8,6 +10,7 @@ ghost use Rattle.rtps_audit.specs.RunVerdict.{IsVerdict, IsVerdictFrom};
 ghost use Rattle.rtps_audit.specs.Speech.{speech_of};
 
 use crate::answers::Answer;
+use crate::common::are_for_all;
 use crate::counting::{one_if, undirected_among};
 use crate::hearing::Hearing;
 use crate::origins::Origins;
@@ -84,6 +87,14 @@ impl<'a> Index<'a> {
         let acts = self.acts_of(origin);
         let start = acts.partition_point(|placed| placed.datagram < datagram);
         &acts[start..]
+    }
+
+    /// Whether each act from this GUID is for every reader, so that all readers hear the same from it. It takes no memory.
+    pub fn is_for_all(&self, origin: Guid) -> bool
+        ensures { (recording : List (List ℕ)) → IsIndexOf recording self.now
+            → result ≡ list_all (λ at. is_for_everyone at.act) (filter (is_from origin) (placed_in recording)) }
+    {
+        are_for_all(self.acts_of(origin))
     }
 
     /// The answers of a pair's reader to its writer, in the order of sending. It takes no memory.
