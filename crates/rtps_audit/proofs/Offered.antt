@@ -17,9 +17,13 @@ use Rattle.rtps_audit.proofs.Sound.{founded_from_run, held_from_claim, spoken_fr
 use Rattle.rtps_audit.proofs.Verdicts.{ends_without}
 use Rattle.rtps_audit.proofs.DeliveryRuns.{Ends-took, took}
 use Rattle.std.proofs.lemmas.List.Elements.{Contains-append_left, Contains-push}
+use Rattle.std.specs.List.{All, list_all}
+use Rattle.rtps_receiver.specs.Speech.{is_heard_by}
+use Rattle.rtps_audit.specs.Common.{is_for_everyone, nobody}
 use Rattle.rtps_audit.specs.Hearing.{IsHeard, last_among}
 use Rattle.rtps_audit.specs.Placed.{PlacedValue, is_from, placed_in}
 use Rattle.rtps_audit.specs.Speech.{announced_for, announced_of_body, base_for, said_by, speech_of, word_for, word_of}
+use Rattle.rtps_audit.proofs.HearingLemmas.{all_alike}
 use Rattle.rtps_audit.proofs.IndexSpeech.{get_mapped, gives_from, heard_from, if_some, last_from, mapped_get, spoken_is_from}
 use Rattle.rtps_audit.proofs.PlacedActs.{kept_if_passed, kept_is_there, made_from, makes, stands_there, stands_where}
 use Rattle.rtps_audit.proofs.PlacedLemmas.{both, bytes_eq-sym}
@@ -143,3 +147,9 @@ claimed_is_held from speech end j n ends claims = held_from_claim speech end j n
 
 pub held_is_spoken : (from : ℕ) (speech : Speech) (end : DeliveryState) (n : ℕ) (word : Word) → Ends from speech end → Contains end.held (n, word) → IsSpoken from speech n word
 held_is_spoken from speech end n word ends held = spoken_from_held speech end n word ends held
+
+-- ---- who hears
+
+-- what is for everyone is heard by all readers alike
+pub all_hear_alike : (acts : List PlacedValue) (reader : Guid) → list_all (λ at. is_for_everyone at.act) acts ≡ true → All (λ (at : PlacedValue). is_heard_by at.act reader ≡ is_heard_by at.act nobody) acts
+all_hear_alike acts reader e = all_alike acts reader e

@@ -5,5 +5,6 @@ pub mod StretchLemmas
 pub mod OriginLemmas
 pub mod Shown
 pub mod RowLemmas
+pub mod HeardLemmas
 pub mod OneExplanation
 pub mod AnswerLemmas

@@ -11,7 +11,7 @@ use Rattle.rtps_audit.specs.declared.report.Row.{Row}
 use Rattle.rtps_audit.specs.declared.verdict.Verdict.{Verdict}
 use Rattle.rtps_audit.specs.Placed.{placed_in}
 use Rattle.rtps_evidence.specs.Evidence.{IsEvidenceFrom, claim_by, first_by, other_by, teller_by}
-use Rattle.rtps_evidence.specs.Explained.{ExplanationValue, EvidenceValue, HasOneExplanation, IsExplainedFrom, IsNamed, evidence_value, explanation_value, row_of, topic_of, type_of}
+use Rattle.rtps_evidence.specs.Explained.{ExplanationValue, EvidenceValue, HasOneExplanation, IsNamed, evidence_value, explanation_value, row_of, topic_of, type_of}
 use Rattle.rtps_evidence.specs.declared.explaining.Explanation.{Explanation}
 use Rattle.rtps_evidence.specs.declared.why.Evidence.{Evidence}
 

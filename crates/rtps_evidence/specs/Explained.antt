@@ -2,7 +2,6 @@
 -- topic and the type of its two, and its evidence.
 use Rattle.std.specs.Prelude.{ℕ, ◌≡◌, List, [], All, map, Option, Some, None}
 use Rattle.std.specs.Option.{option_map}
-use Rattle.rtps_ids.specs.declared.identity.Guid.{Guid}
 use Rattle.rtps_receiver.specs.Acts.{acts_in}
 use Rattle.rtps_discovery.specs.Directory.{DirectoryValue, Entries, IsMapOf, settled_at}
 use Rattle.rtps_discovery.specs.Endpoint.{EndpointValue}

@@ -3,3 +3,4 @@ pub mod Counted
 pub mod Evidence
 pub mod Certificates
 pub mod Explained
+pub mod Spoken

@@ -6,6 +6,7 @@ ghost use Rattle.rtps_audit.specs.Speech.{speech_of};
 ghost use Rattle.rtps_evidence.specs.Evidence.{IsEvidenceFrom};
 ghost use Rattle.rtps_evidence.specs.Explained.{IsExplainedFrom, IsNamed, row_of, topic_of, type_of};
 
+use crate::spoken::turned_to;
 use crate::why::Evidence;
 use rtps_audit::{Counts, Index, Row, Watch};
 use rtps_discovery::{Directory, Pair};
@@ -57,10 +58,13 @@ fn explain_rows<'a>(
         → IfOk result (λ explained. All (λ row. IsEvidenceFrom from row.pair recording row.evidence) explained.items) }
 {
     let mut explained = Vec::with_capacity(alloc, rows.len())?;
+    let mut before = None;
     for row in rows {
         let Row { pair, verdict } = *row;
         let (topic, type_name) = names_of(directory, pair.writer);
-        let evidence = Evidence::of_judged(alloc, index, pair, from, verdict)?;
+        let spoken = turned_to(alloc, index, before, pair.writer, from)?;
+        let evidence = Evidence::of_spoken(alloc, index, spoken, pair.reader, from, verdict)?;
+        before = Some(spoken);
         explained.push(Explanation {
             pair,
             topic,

@@ -9,6 +9,7 @@ mod explaining;
 pub mod laws;
 mod places;
 mod sending;
+mod spoken;
 mod stretches;
 mod telling;
 mod why;

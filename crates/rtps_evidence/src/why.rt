@@ -1,4 +1,4 @@
-ghost use Rattle.std.specs.Prelude.{ℕ, ◌≡◌, ◌<◌, ◌^◌, map, IfOk, List};
+ghost use Rattle.std.specs.Prelude.{ℕ, ◌≡◌, ◌-◌, ◌<◌, ◌≤◌, ◌^◌, map, IfOk, List};
 ghost use Rattle.std.specs.Option.{option_map};
 ghost use Rattle.rtps_audit.specs.Index.{IsIndexOf};
 ghost use Rattle.rtps_audit.specs.Placed.{placed_in, placed_value};
@@ -6,14 +6,14 @@ ghost use Rattle.rtps_audit.specs.Speech.{natural as natural_lem};
 ghost use Rattle.rtps_evidence.specs.Acting.{sent_value};
 ghost use Rattle.rtps_evidence.specs.Evidence.{claim_by as claim_by_lem, first_by as first_by_lem, other_by as other_by_lem, teller_by as teller_by_lem};
 
-use crate::announcing::{Announcement, find_announcement, greatest_number};
+use crate::announcing::Announcement;
 use crate::answering::{Claim, find_acknowledgement, find_claim};
-use crate::counting::count_amounts;
 use crate::sending::{Sent, first_sent, other_sent};
+use crate::spoken::{Spoken, amounts_of, spoken_of};
 use crate::telling::{Teller, find_teller};
 use rtps_audit::{Index, Placed, Verdict};
 use rtps_discovery::Pair;
-use rtps_ids::{Memory, SeqNum};
+use rtps_ids::{Guid, Memory, SeqNum};
 use std::alloc::Global;
 
 /// The verdict on a writer and a reader, by the writer's numbers from some number on, and what it rests on. Acts are those of
@@ -47,6 +47,7 @@ impl<'a> Evidence<'a> {
     ghost use Rattle.rtps_audit.specs.RunVerdict.{IsVerdictFrom};
     ghost use Rattle.rtps_audit.specs.Speech.{speech_of};
     ghost use Rattle.rtps_evidence.specs.Evidence.{IsEvidence, IsEvidenceFrom};
+    ghost use Rattle.rtps_evidence.specs.Spoken.{IsSpokenFrom};
 
     /// The evidence of an index's recording for a writer and a reader, any two GUIDs, by the writer's numbers from `from` on:
     /// the verdict is that of [`Index::judge_from`]. `Memory` is answered where what is kept of the two cannot grow.
@@ -59,37 +60,43 @@ impl<'a> Evidence<'a> {
         ensures { (recording : List (List ℕ)) → IsIndexOf recording index.now → IfOk result (IsEvidenceFrom from pair recording) }
     {
         let verdict = index.judge_from(pair, from)?;
-        Evidence::of_judged(alloc, index, pair, from, verdict)
+        let spoken = spoken_of(alloc, index, pair.writer, from)?;
+        Evidence::of_spoken(alloc, index, spoken, pair.reader, from, verdict)
     }
 
-    /// The evidence of two that were judged so.
-    pub(crate) fn of_judged(
+    /// The evidence for a writer that said this and a reader, which were judged so.
+    pub(crate) fn of_spoken(
         alloc: Global,
         index: &Index<'a>,
-        pair: Pair,
+        spoken: Spoken,
+        reader: Guid,
         from: SeqNum,
         verdict: Verdict,
     ) -> Result<Evidence<'a>, Memory>
+        requires reached { from - 1 ≤ spoken.last }
+        requires in_range { spoken.last < 2 ^ 63 }
         ensures judged { IfOk result (λ evidence. evidence.verdict ≡ verdict) }
-        ensures evidence { (recording : List (List ℕ)) → IsIndexOf recording index.now
-            → IsVerdictFrom from (speech_of pair.writer pair.reader recording) verdict
-            → IfOk result (IsEvidenceFrom from pair recording) }
+        ensures evidence { (recording : List (List ℕ)) → IsIndexOf recording index.now → IsSpokenFrom from recording spoken
+            → IsVerdictFrom from (speech_of spoken.writer reader recording) verdict
+            → IfOk result (IsEvidenceFrom from (record { writer = spoken.writer; reader = reader }) recording) }
     {
-        let spoken = index.acts_of(pair.writer);
-        let before = from.get().cast_unsigned() - 1;
-        let last = greatest_number(spoken, pair.writer).max(before);
-        let amounts = count_amounts(alloc, spoken, pair, from, last)?;
+        let pair = Pair {
+            writer: spoken.writer,
+            reader,
+        };
+        let acts = index.acts_of(pair.writer);
+        let amounts = amounts_of(alloc, index, spoken, reader, from)?;
         Ok(Evidence {
             verdict,
-            announcement: find_announcement(spoken, pair.writer, from, last),
+            announcement: spoken.announcement,
             acknowledgement: find_acknowledgement(index, pair, from),
             payloads: amounts.payloads,
             gone: amounts.gone,
             untold: amounts.untold,
-            teller: teller_by(spoken, pair, verdict),
+            teller: teller_by(acts, pair, verdict),
             claim: claim_by(index, pair, verdict),
-            first_sent: first_by(spoken, pair, verdict),
-            other_sent: other_by(spoken, pair, verdict),
+            first_sent: first_by(acts, pair, verdict),
+            other_sent: other_by(acts, pair, verdict),
         })
     }
 

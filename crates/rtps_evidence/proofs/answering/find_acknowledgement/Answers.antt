@@ -1,4 +1,4 @@
-use Rattle.std.proofs.Common.{List, ◌≡◌, ◌∙◌, ◌==◌, ◌≤◌, All, ap, arith, map, subst, sym}
+use Rattle.std.proofs.Common.{List, ◌≡◌, ◌∙◌, ◌==◌, ◌≤◌, All, ap, arith, map, subst}
 use Rattle.std.proofs.lemmas.Int.{ints}
 use Rattle.std.specs.List.{find}
 use Rattle.std.specs.Option.{option_map}

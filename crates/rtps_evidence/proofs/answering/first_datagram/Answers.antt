@@ -1,4 +1,4 @@
-use Rattle.std.proofs.Common.{◌≡◌, ◌∙◌, ◌≤◌, All, arith, pos, subst, sym}
+use Rattle.std.proofs.Common.{◌≡◌, ◌∙◌, ◌≤◌, All, arith, pos, subst}
 use Rattle.std.proofs.lemmas.List.{take_all}
 use Rattle.rtps_audit.specs.Speech.{natural}
 use Rattle.rtps_audit.specs.declared.answers.Answer.{Answer}

@@ -1,12 +1,14 @@
-use Rattle.std.proofs.Common.{◌≡◌, ℕ, All, List, map, take}
+use Rattle.std.proofs.Common.{◌≡◌, ◌-◌, ◌<◌, ◌≤◌, ◌^◌, ℕ, All, List, map, take}
+use Rattle.std.specs.Prelude.{IfSome}
 use Rattle.rtps_audit.specs.Index.{IsIndexOf}
 use Rattle.rtps_audit.specs.RunVerdict.{IsVerdictFrom}
 use Rattle.rtps_audit.specs.Speech.{speech_of}
 use Rattle.rtps_evidence.specs.Evidence.{IsEvidenceFrom}
 use Rattle.rtps_evidence.specs.Explained.{IsNamed, row_of}
+use Rattle.rtps_evidence.specs.Spoken.{IsSpokenFrom}
 use Rattle.rtps_evidence.proofs.explaining.explain_rows.Given as goal
 
--- each row so far is explained
+-- each row so far is explained, and what the last writer said is known
 abbrev pub invariant-loop-row : goal.invariant-loop-row
 invariant-loop-row l = record {
   rows : map row_of l.explained.items ≡ take l.row-index l.rows;
@@ -14,4 +16,7 @@ invariant-loop-row l = record {
   shown : (recording : List (List ℕ)) → IsIndexOf recording l.index
       → All (λ row. IsVerdictFrom l.fn.from (speech_of row.pair.writer row.pair.reader recording) row.verdict) l.rows
       → All (λ row. IsEvidenceFrom l.fn.from row.pair recording row.evidence) l.explained.items;
+  known : (recording : List (List ℕ)) → IsIndexOf recording l.index → IfSome l.before (IsSpokenFrom l.fn.from recording);
+  reached : IfSome l.before (λ spoken. l.fn.from - 1 ≤ spoken.last);
+  in_range : IfSome l.before (λ spoken. spoken.last < 2 ^ 63);
 }
