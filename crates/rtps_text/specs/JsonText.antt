@@ -143,9 +143,13 @@ tokens_of_member (name, value) = key name ∷ json_tokens value
 abbrev pub tokens_of : List Member → List Token
 tokens_of members = flat_map tokens_of_member members
 
--- the text of a value, which the grammar of JSON reads back as that value, and a line feed (10)
+-- the text of a value, and a line feed (10)
+abbrev pub json_line : Json → List ℕ
+json_line value = print (json_tokens value) ++ 10 ∷ []
+
+-- that text, of which the grammar of JSON reads what stands before the line feed back as the value
 pub record IsJsonLine (value : Json) (text : List ℕ) : Type 0 where
-  pub is_text : text ≡ print (json_tokens value) ++ 10 ∷ []
+  pub is_text : text ≡ json_line value
   pub reads_back : document (print (json_tokens value)) ≡ Some value
 
 -- what `audit --json` answers of the numbers from `from` on: the line of the report's rows, each explained, clean where each
