@@ -177,7 +177,8 @@ def acknowledgements(tests):
     samples = [*make.announcements(1), *(make.header(A) + make.data(WRITER, n, bytes(4)) for n in range(1, 11))]
     for name, bases in (('ascending', [min(i, 11) for i in range(most)]), ('descending', [most - i for i in range(most)]), ('one too many', [11] * (most - 1) + [12])):
         many = b''.join(make.ack_nack(READER, WRITER, base) for base in bases)
-        tests.agrees(f'ACKNACKs, {name}', text_of([*samples, make.header(B) + make.to(A) + many, make.header(B) + many]), ('audit', 'why'))
+        views = ('audit', 'why') if name == 'descending' else ('audit',)
+        tests.agrees(f'ACKNACKs, {name}', text_of([*samples, make.header(B) + make.to(A) + many, make.header(B) + many]), views)
     print(f'acknowledgements: {most} in one datagram, in 3 orders, and as many to everyone')
 
 
