@@ -60,10 +60,10 @@ impl<'a> Act<'a> {
         let ActBody::AckNack(ack_nack) = &self.body else {
             return false;
         };
-        self.source == reader.prefix
-            && self.dest == Some(writer.prefix)
+        ack_nack.writer == writer.entity
             && ack_nack.reader == reader.entity
-            && ack_nack.writer == writer.entity
+            && self.source == reader.prefix
+            && self.dest == Some(writer.prefix)
     }
 
     /// The writer that the act names, unless it is an ACKNACK.
