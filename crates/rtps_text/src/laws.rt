@@ -2,6 +2,7 @@
 
 ghost use Rattle.std.specs.Prelude.{ℕ};
 ghost use Rattle.rtps_text.specs.AuditText.{IsAuditedFrom};
+ghost use Rattle.rtps_text.specs.JsonText.{IsJsonTextFrom};
 ghost use Rattle.rtps_text.specs.Laws.{HasOneText};
 ghost use Rattle.rtps_text.specs.ListText.{IsListed};
 ghost use Rattle.rtps_text.specs.ShowText.{IsShown};
@@ -11,13 +12,14 @@ use rtps_audit::laws::one_report;
 use rtps_discovery::laws::one_map;
 use rtps_evidence::laws::one_explanation;
 
-/// What is printed of a recording, and how a run on it ends, is decided by its datagrams alone; by `audit`
-/// and `why`, also by how many frames of a capture were ignored, and by the number from which on they ask.
+/// What is printed of a recording, and how a run on it ends, is decided by its datagrams alone; by `audit`,
+/// as JSON too, and by `why`, also by how many frames of a capture were ignored, and by the number from which on they ask.
 pub fn one_text()
     ensures shown { HasOneText IsShown }
     ensures listed { HasOneText IsListed }
     ensures audited { (from : ℕ) → HasOneText (IsAuditedFrom from) }
     ensures explained { (from : ℕ) → HasOneText (IsExplainedTextFrom from) }
+    ensures json { (from : ℕ) → HasOneText (IsJsonTextFrom from) }
 {
     one_map();
     one_report();

@@ -1,4 +1,4 @@
-use Rattle.std.proofs.Common.{◌≡◌, List, map, sym, ◌∙◌, ap}
+use Rattle.std.proofs.Common.{◌≡◌, List, map, sym, ◌∙◌, ◌++◌, ◌∷◌, [], ap}
 use Rattle.rtps_receiver.specs.Acts.{acts_in}
 use Rattle.rtps_discovery.specs.Directory.{DirectoryValue}
 use Rattle.rtps_discovery.specs.Notice.{faults_in}
@@ -6,6 +6,9 @@ use Rattle.rtps_audit.specs.declared.report.Counts.{Counts}
 use Rattle.rtps_audit.specs.declared.report.Row.{Row}
 use Rattle.rtps_evidence.specs.Explained.{ExplanationValue, explanation_value}
 use Rattle.rtps_text.specs.AuditText.{ending_of, report_text}
+use Rattle.json.specs.Print.{print}
+use Rattle.json.specs.Tree.{json_tokens}
+use Rattle.rtps_text.specs.JsonText.{report_json}
 use Rattle.rtps_text.specs.ListText.{directory_text}
 use Rattle.rtps_text.specs.WhyText.{ending_of_rows, explained_text}
 use Rattle.rtps_text.proofs.laws.one_text.Goals as goal
@@ -30,5 +33,15 @@ returns-clause-explained c = λ from recording one other ending last is also.
     let same = c.one_explanation.ensures from recording.datagrams is.explained also.explained is.explains also.explains in (
       is.is_text ∙ ap (λ (rows : List ExplanationValue). explained_text rows is.explained.counts recording.ignored) same.0
           ∙ ap (λ (counts : Counts). explained_text (map explanation_value also.explained.rows.items) counts recording.ignored) same.1 ∙ sym also.is_text,
+      is.ends ∙ ap ending_of_rows same.0 ∙ sym also.ends,
+    )
+
+pub returns-clause-json : goal.returns-clause-json
+returns-clause-json c = λ from recording one other ending last is also.
+    let same = c.one_explanation.ensures from recording.datagrams is.explained also.explained is.explains also.explains in (
+      is.is_line.is_text
+          ∙ ap (λ (rows : List ExplanationValue). print (json_tokens (report_json rows is.explained.counts recording.ignored)) ++ 10 ∷ []) same.0
+          ∙ ap (λ (counts : Counts). print (json_tokens (report_json (map explanation_value also.explained.rows.items) counts recording.ignored)) ++ 10 ∷ []) same.1
+          ∙ sym also.is_line.is_text,
       is.ends ∙ ap ending_of_rows same.0 ∙ sym also.ends,
     )
