@@ -2,7 +2,9 @@
 """A second reading of recordings, apart from the proved program, to compare it with.
 
     reference.py show|list|audit|why FILE  prints what `rtps-audit` should print
-    reference.py audit|why --from N FILE   the same, of the numbers from N on
+    reference.py json FILE                 prints what `rtps-audit audit --json` should print
+    reference.py audit|why|json --from N FILE
+                                           the same, of the numbers from N on
     reference.py compare PROGRAM [COUNT [SEED]]
                                            runs PROGRAM on COUNT random recordings, and says where it differs
     reference.py texts PROGRAM [COUNT [SEED]]
@@ -12,6 +14,7 @@
 It is written for clearness: every verdict of a small recording is found by trying what a reader may take
 (`verdict_by_runs`), and that of a large one by the plain conditions.
 """
+import json
 import random
 import subprocess
 import sys
@@ -634,9 +637,76 @@ def why(datagrams, first=1):
     return out + report[-1:]
 
 
-VIEWS = {'show': show, 'list': list_text, 'audit': audit, 'why': why}
+# ---- JSON: Python's writer on the values of the lines of `why`
+
+def place_of(line):
+    words = line.split()
+    return {'datagram': int(words[-3]), 'at': int(words[-1])}
+
+
+def told_by(line):
+    return None if line.endswith('nowhere') else {'by': line.split()[4], **place_of(line)}
+
+
+def claim_of(line):
+    return {'below': int(line.split()[2]), **place_of(line)}
+
+
+def sent_of(line):
+    _, _, _, form, *octets = line.split(' in ')[0].split()
+    return {'payload': form, 'octets': int(octets[0]) if octets else 0, **place_of(line)}
+
+
+def evidence_values(verdict, lines):
+    """the members of a pair behind its names, from its verdict and the lines of its evidence"""
+    kind, *numbers = verdict
+    announced, acknowledged, counts, *shown = lines
+    values = {'verdict': kind, 'number': int(numbers[-1])}
+    if kind == 'unfounded':
+        values['datagram'] = int(numbers[0])
+    words = announced.split()
+    values['announced'] = None if words[1] == 'nothing' else {'number': int(words[1]), 'by': words[3], **place_of(announced)}
+    values['acknowledged'] = None if acknowledged == 'acknowledged nothing' else claim_of(acknowledged)
+    counts = counts.split()
+    values |= {name: int(count) for name, count in zip(counts[::2], counts[1::2])}
+    if kind == 'open':
+        values['told'] = told_by(shown[0])
+    elif kind == 'conflict':
+        values['sent'] = [sent_of(line) for line in shown]
+    elif kind == 'unfounded':
+        values |= {'claimed': claim_of(shown[0]), 'told': told_by(shown[1])}
+    return values
+
+
+def report_values(datagrams, first=1):
+    """the report as Python has it"""
+    rows = audit(datagrams, first)
+    named = {guid: (topic, kind) for guid, _, topic, kind, _, _ in discovery(datagrams)[1]}
+    recording = [acts_of(d) for d in datagrams]
+    pairs = []
+    for row in rows[1:-1]:
+        writer, reader, *verdict = row.split()
+        w, r = (bytes.fromhex(guid.replace('.', '')) for guid in (writer, reader))
+        topic, kind = map(name_text, named[w])
+        names = {'writer': writer, 'reader': reader, 'topic': topic, 'type': kind}
+        pairs.append(names | evidence_values(verdict, evidence(recording, w, r, first)))
+    counts = rows[-1].split()
+    return {'pairs': pairs} | {name: int(count) for name, count in zip(counts[::2], counts[1::2])}
+
+
+def json_lines(datagrams, first=1, ignored=None):
+    counted = {} if ignored is None else {'ignored': ignored}
+    return [json.dumps(report_values(datagrams, first) | counted, separators=(',', ':'))]
+
+
+VIEWS = {'show': show, 'list': list_text, 'audit': audit, 'why': why, 'json': json_lines}
 # those that take the number from which on numbers are asked for
-REPORTS = 'audit', 'why'
+REPORTS = 'audit', 'why', 'json'
+
+
+def words_of(view):
+    """the subcommand and the flag that print it"""
+    return ['audit', '--json'] if view == 'json' else [view]
 
 
 def answer(view, text, first=1, limits=USUAL):
@@ -645,8 +715,11 @@ def answer(view, text, first=1, limits=USUAL):
     if isinstance(read, str):
         return '', 2
     datagrams, ignored = read
-    lines = VIEWS[view](datagrams, first) if view in REPORTS else VIEWS[view](datagrams)
-    if view in REPORTS and ignored is not None:
+    if view == 'json':
+        lines = json_lines(datagrams, first, ignored)
+    else:
+        lines = VIEWS[view](datagrams, first) if view in REPORTS else VIEWS[view](datagrams)
+    if view in ('audit', 'why') and ignored is not None:
         lines[-1] += f' ignored {ignored}'
     unclean = view in REPORTS and any(' complete ' not in line for line in audit(datagrams, first)[1:-1])
     return ''.join(line + '\n' for line in lines), int(unclean)
@@ -811,7 +884,7 @@ def compare(program, count, seed):
         text = some_recording(rng)
         first = rng.choice([1, 2, 3, 4, 5, 6, GREATEST])
         for view, start in [*((view, None) for view in VIEWS), *((view, first) for view in REPORTS)]:
-            words = [view, '--from', str(start)] if start else [view]
+            words = words_of(view) + (['--from', str(start)] if start else [])
             want, status = answer(view, text, start or 1)
             got = subprocess.run(program.split() + words + ['-'], input=text, capture_output=True)
             if got.stdout.decode() != want or got.returncode != status:
@@ -897,9 +970,9 @@ def texts(program, count, seed):
             told = passed_limit(text, limits) + told
         if told and text.startswith(b'\n\r\r\n'):
             told = 'rtps-audit: -: a pcapng file; editcap -F pcap IN OUT makes a capture of it\n' + told
-        for view in ('show', 'why'):
+        for view in ('show', 'why', 'json'):
             want, status = answer(view, text, limits=limits)
-            if in_pieces(rng, program, [view, *words, '-'], text) != (want, told, status):
+            if in_pieces(rng, program, [*words_of(view), *words, '-'], text) != (want, told, status):
                 differing += 1
                 print(f'{view} of text {k} differs within {limits}, kept in {kept(text)}')
     print(f'{count} texts, {faulty} of them no recordings, {differing} differences')

@@ -126,13 +126,15 @@ def rows(tests):
         packets = capture([packet(d) for d in pose])
         if view in ('audit', 'why'):
             wanted = wanted[:-1] + ' ignored 0\n'
+        if view == 'json':
+            wanted = wanted[:-2] + ',"ignored":0}\n'
         if view == 'audit':
             tests.answers('the datagrams of pose.rec as raw IP, from 3 on', view, packets, wanted, words=('--from', '3'))
         tests.answers('the datagrams of pose.rec as raw IP', view, packets, wanted)
         framed = [ethernet(packet(d)) for d in pose]
         tests.answers('the same in Ethernet frames', view, capture(framed, ETHERNET), wanted)
         mixed = [f for frame in framed for f in (ethernet(b'', 0x0806), frame, b'')]
-        tests.answers('ignored frames between', view, capture(mixed, ETHERNET), wanted.replace('ignored 0', 'ignored 12'))
+        tests.answers('ignored frames between', view, capture(mixed, ETHERNET), wanted.replace('ignored 0', 'ignored 12').replace('"ignored":0', '"ignored":12'))
     print('rows worked out by hand')
 
 

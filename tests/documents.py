@@ -17,7 +17,7 @@ sys.dont_write_bytecode = True
 from program import ROOT, Counts, file_of
 
 PAGES = (('docs', 'GUIDE.md'), ('README.md',))
-EXAMPLES = sorted(os.listdir(os.path.join(ROOT, 'examples')))
+EXAMPLES = sorted(name for name in os.listdir(os.path.join(ROOT, 'examples')) if name.endswith(('.rec', '.pcap')))
 
 
 def blocks_of(page):

@@ -9,7 +9,7 @@ sys.dont_write_bytecode = True
 sys.path.insert(0, os.path.join(ROOT, 'bench'))
 import reference
 
-VIEWS = ('show', 'list', 'audit', 'why')
+VIEWS = tuple(reference.VIEWS)
 
 
 def file_of(*names):
@@ -66,7 +66,7 @@ class Tests(Counts):
         self.file.truncate()
         self.file.write(octets)
         self.file.flush()
-        done = subprocess.run([self.program, view, *words, self.file.name], capture_output=True)
+        done = subprocess.run([self.program, *reference.words_of(view), *words, self.file.name], capture_output=True)
         return done.stdout.decode(), done.stderr.decode(), done.returncode
 
     def answers(self, name, view, octets, wanted, status=0, words=()):

@@ -19,6 +19,7 @@ import tempfile
 
 sys.dont_write_bytecode = True
 from program import ROOT, VIEWS, Counts, file_of, text_of
+from reference import words_of
 import make
 
 # The calls on a recording, those that take a capture of it too, and those on words.
@@ -95,7 +96,7 @@ def of_calls(calls, recordings):
 def of_program(program, recording):
     """what is tried of the program"""
     nothing = '', ['rtps-audit: out of memory'], 3
-    views = [*([view] for view in VIEWS), ['audit', '--from', '3'], ['why', '--from', '3']]
+    views = [*map(words_of, VIEWS), ['audit', '--from', '3'], ['why', '--from', '3']]
     for words in (*([*view, '-'] for view in views), ['--help'], ['audit', '--help'], ['--version'], ['audit'], []):
         yield f"rtps-audit {' '.join(words)}", [program, *words], recording, nothing, True
     capture = file_of('examples', 'loopback.pcap')

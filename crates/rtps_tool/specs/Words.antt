@@ -1,10 +1,12 @@
 -- The words of the command line, as `clap` reads them.
 -- own: a subcommand and one FILE; `sample` reads none. No option changes what a text means, but for that of `audit` and
--- `why`, which says from which number on verdicts ask; two options say how large a recording may be.
-use Rattle.std.specs.Prelude.{ℕ, ◌≡◌, ◌≢◌, ◌-◌, ◌^◌, codes, true, List, [], ◌∷◌, IfSome, Option, None, Some, unwrap_or}
+-- `why`, which says from which number on verdicts ask; two options say how large a recording may be, and a flag of `audit`
+-- asks for its report as JSON.
+use Rattle.std.specs.Prelude.{ℕ, ◌≡◌, ◌≢◌, ◌-◌, ◌^◌, codes, Bool, true, false, List, [], ◌∷◌, IfSome, Option, None, Some, unwrap_or}
+use Rattle.std.specs.Option.{option_and_then}
 use Rattle.std.specs.Str.Parse.{digits_value, without_leading_plus}
-use Rattle.clap.specs.Words.{App, IsAmong, IsUnsignedIn, Kinds, Row, Rule, Text, fault_of, first_of, kind_of, new_app, new_rule, with_rule, with_subcommand}
-use Rattle.clap.specs.declared.builder.action.ArgAction.TheVariants.{Set}
+use Rattle.clap.specs.Words.{App, IsAmong, IsUnsignedIn, Kinds, Row, Rule, Text, fault_of, first_of, kind_of, one_of, new_app, new_rule, subcommand_of, with_rule, with_subcommand}
+use Rattle.clap.specs.declared.builder.action.ArgAction.TheVariants.{Set, SetTrue}
 use Rattle.clap.specs.declared.builder.value_parser.ValueParser.TheVariants.{Unsigned}
 use Rattle.clap.specs.declared.error.Error.{Error}
 use Rattle.clap.specs.declared.error.kind.ErrorKind.{ErrorKind}
@@ -39,6 +41,14 @@ from_rule = number_rule (codes "N") (codes "from")
 abbrev pub report_app : Text → App
 report_app name = with_rule (reading_app name) from_rule
 
+-- a flag, which asks for JSON
+abbrev pub json_rule : Rule
+json_rule = record (new_rule (codes "json")) { long = Some (codes "json"); action = Some SetTrue }
+
+-- the subcommand `audit`
+abbrev pub audit_app : App
+audit_app = with_rule (report_app (codes "audit")) json_rule
+
 -- a program that has a version and wants a subcommand
 abbrev pub bare_program : App
 bare_program = record (new_app (codes "rtps-audit")) { top = record (new_app (codes "rtps-audit")).top { has_version = true; subcommand_required = true } }
@@ -48,7 +58,7 @@ program =
     with_subcommand
     (with_subcommand
     (with_subcommand (with_subcommand (with_subcommand bare_program (reading_app (codes "show")).top) (reading_app (codes "list")).top)
-    (report_app (codes "audit")).top)
+    audit_app.top)
     (report_app (codes "why")).top)
     (new_app (codes "sample")).top
 
@@ -56,7 +66,7 @@ program =
 abbrev pub subcommand_name : Choice → Text
 subcommand_name (Show file limits) = codes "show"
 subcommand_name (ListChoice file limits) = codes "list"
-subcommand_name (Audit file from limits) = codes "audit"
+subcommand_name (Audit file from limits json) = codes "audit"
 subcommand_name (Why file from limits) = codes "why"
 subcommand_name Sample = codes "sample"
 
@@ -64,7 +74,7 @@ subcommand_name Sample = codes "sample"
 abbrev pub file_name : Choice → Option Text
 file_name (Show file limits) = Some (string_bytes file)
 file_name (ListChoice file limits) = Some (string_bytes file)
-file_name (Audit file from limits) = Some (string_bytes file)
+file_name (Audit file from limits json) = Some (string_bytes file)
 file_name (Why file from limits) = Some (string_bytes file)
 file_name Sample = None
 
@@ -87,15 +97,28 @@ IsNumberGiven text n = IsGivenOr 1 text n
 abbrev pub HasItsNumber : Choice → List Row → Type 0
 HasItsNumber (Show file limits) rows = Unit {0}
 HasItsNumber (ListChoice file limits) rows = Unit {0}
-HasItsNumber (Audit file from limits) rows = IsNumberGiven (first_of (codes "N") rows) from
+HasItsNumber (Audit file from limits json) rows = IsNumberGiven (first_of (codes "N") rows) from
 HasItsNumber (Why file from limits) rows = IsNumberGiven (first_of (codes "N") rows) from
 HasItsNumber Sample rows = Unit {0}
+
+-- The flag was given or not: `clap` gives it the text `true` where it was, and `false` where not.
+abbrev pub IsFlagGiven : Option Text → Bool → Type 0
+IsFlagGiven None flag = flag ≡ false
+IsFlagGiven (Some text) flag = (text ≡ codes "true" → flag ≡ true) × (text ≡ codes "false" → flag ≡ false)
+
+-- it asks for JSON where the flag was given; only `audit` has one
+abbrev pub HasItsFlag : Choice → List Row → Type 0
+HasItsFlag (Show file limits) rows = Unit {0}
+HasItsFlag (ListChoice file limits) rows = Unit {0}
+HasItsFlag (Audit file from limits json) rows = IsFlagGiven (one_of (codes "json") rows) json
+HasItsFlag (Why file from limits) rows = Unit {0}
+HasItsFlag Sample rows = Unit {0}
 
 -- the limits that were chosen; `sample` has none
 abbrev pub limits_of : Choice → Option Limits
 limits_of (Show file limits) = Some limits
 limits_of (ListChoice file limits) = Some limits
-limits_of (Audit file from limits) = Some limits
+limits_of (Audit file from limits json) = Some limits
 limits_of (Why file from limits) = Some limits
 limits_of Sample = None
 
@@ -108,10 +131,10 @@ pub record AreLimitsGiven (rows : List Row) (limits : Limits) : Type 0 where
 abbrev pub HasItsLimits : Choice → List Row → Type 0
 HasItsLimits choice rows = IfSome (limits_of choice) (AreLimitsGiven rows)
 
--- the choice has the name of the subcommand that was found, its FILE, its number and its limits
+-- the choice has the name of the subcommand that was found, its FILE, its number, its flag and its limits
 abbrev pub IsChoice : Option (Text × List Row) → Choice → Type 0
 IsChoice found choice =
-    (rows : List Row) × (found ≡ Some (subcommand_name choice, rows)) × HasItsFile choice rows × HasItsNumber choice rows × HasItsLimits choice rows
+    (rows : List Row) × (found ≡ Some (subcommand_name choice, rows)) × HasItsFile choice rows × HasItsNumber choice rows × HasItsFlag choice rows × HasItsLimits choice rows
 
 -- help and the version are answers, want of memory has no text, and any other error of `clap` refuses the words
 abbrev pub word_fault_by : ErrorKind → Error → WordFault
@@ -137,12 +160,17 @@ IsOneOf kinds (Help error) = IsAmong DisplayHelp kinds
 IsOneOf kinds (Version error) = IsAmong DisplayVersion kinds
 IsOneOf kinds Memory = Unit {0}
 
+-- the text of the flag among these words, behind the program's name
+abbrev pub flag_of_words : List Text → Option Text
+flag_of_words words = option_and_then (λ found. one_of (codes "json") found.1) (subcommand_of program (codes "rtps-audit" ∷ words))
+
 -- what is wrong with these words, behind the program's name
 abbrev pub faults_of_words : List Text → Kinds
 faults_of_words words = fault_of program (codes "rtps-audit" ∷ words)
 
 -- Without a subcommand, and without its FILE, words are refused, and so is a FILE of `sample`, and a number or a limit that
--- is none from 1 to 2^63 - 1, or of a subcommand that asks for none; `--help` and `--version` are answered.
+-- is none from 1 to 2^63 - 1, or of a subcommand that asks for none, and a flag `--json` that is not of `audit`; `--help` and
+-- `--version` are answered.
 pub record WordsAreWanted : Type 0 where
   pub no_subcommand : faults_of_words [] ≡ MissingSubcommand ∷ []
   pub no_file_to_show : faults_of_words (codes "show" ∷ []) ≡ MissingRequiredArgument ∷ []
@@ -171,4 +199,10 @@ pub record WordsAreWanted : Type 0 where
   pub too_many_datagrams : faults_of_words (codes "audit" ∷ codes "--max-datagrams" ∷ codes "9223372036854775808" ∷ codes "a.rec" ∷ []) ≡ ValueValidation ∷ []
   pub too_many_octets : faults_of_words (codes "audit" ∷ codes "--max-octets" ∷ codes "9223372036854775808" ∷ codes "a.rec" ∷ []) ≡ ValueValidation ∷ []
   pub no_octets_of_why : faults_of_words (codes "why" ∷ codes "--max-octets" ∷ codes "0" ∷ codes "a.rec" ∷ []) ≡ ValueValidation ∷ []
+  pub json : faults_of_words (codes "audit" ∷ codes "--json" ∷ codes "a.rec" ∷ []) ≡ []
+  pub json_is_asked : flag_of_words (codes "audit" ∷ codes "--json" ∷ codes "a.rec" ∷ []) ≡ Some (codes "true")
+  pub no_json_is_asked : flag_of_words (codes "audit" ∷ codes "a.rec" ∷ []) ≡ Some (codes "false")
+  pub json_of_show : faults_of_words (codes "show" ∷ codes "--json" ∷ codes "a.rec" ∷ []) ≡ UnknownArgument ∷ []
+  pub json_of_list : faults_of_words (codes "list" ∷ codes "--json" ∷ codes "a.rec" ∷ []) ≡ UnknownArgument ∷ []
+  pub json_of_why : faults_of_words (codes "why" ∷ codes "--json" ∷ codes "a.rec" ∷ []) ≡ UnknownArgument ∷ []
   pub limit_of_sample : faults_of_words (codes "sample" ∷ codes "--max-octets" ∷ codes "1" ∷ []) ≡ UnknownArgument ∷ []

@@ -6,7 +6,9 @@ ghost use Rattle.rtps_tool.specs.Words.{file_name, limits_of};
 use crate::command::Choice;
 use crate::faults::RunFault;
 use crate::limits::Limits;
-use crate::run::{run_audit_within, run_list_within, run_sample, run_show_within, run_why_within};
+use crate::run::{
+    run_audit_within, run_json_within, run_list_within, run_sample, run_show_within, run_why_within,
+};
 use rtps_text::{Ending, Watch};
 use std::alloc::Global;
 use std::io::{Read, Write};
@@ -39,9 +41,9 @@ impl Choice {
     }
 }
 
-/// Runs what the words chose: [`crate::run_show_within`], [`crate::run_list_within`], [`crate::run_audit_within`] or
-/// [`crate::run_why_within`] on an input, or [`crate::run_sample`], which leaves the input as it is. It tells how far an
-/// audit is.
+/// Runs what the words chose: [`crate::run_show_within`], [`crate::run_list_within`], [`crate::run_audit_within`],
+/// [`crate::run_json_within`] or [`crate::run_why_within`] on an input, or [`crate::run_sample`], which leaves the input as
+/// it is. It tells how far an audit is.
 pub fn run_choice<R: Read, W: Write, P: Watch>(
     alloc: Global,
     choice: &Choice,
@@ -59,7 +61,14 @@ pub fn run_choice<R: Read, W: Write, P: Watch>(
             file: _,
             from,
             limits,
-        } => run_audit_within(alloc, *limits, input, output, *from, watch),
+            json,
+        } => {
+            if *json {
+                run_json_within(alloc, *limits, input, output, *from, watch)
+            } else {
+                run_audit_within(alloc, *limits, input, output, *from, watch)
+            }
+        }
         Choice::Why {
             file: _,
             from,

@@ -1,8 +1,8 @@
 ghost use Rattle.std.specs.Prelude.{◌≡◌, ◌⊎◌, true, false, codes, Some, IfOk, IfErr, OnOk, List, [], MatchOption, map, unwrap_or};
 ghost use Rattle.std.specs.String.{string_bytes};
-ghost use Rattle.clap.specs.Words.{app_of, fault_of, first_of, found_of, new_app, rows_of, rule_of, subcommand_of, subcommand_rows_of, takes};
+ghost use Rattle.clap.specs.Words.{app_of, fault_of, first_of, found_of, new_app, one_of, rows_of, rule_of, subcommand_of, subcommand_rows_of, takes};
 ghost use Rattle.clap.specs.declared.builder.command.Command.TheViews.{out-Command};
-ghost use Rattle.rtps_tool.specs.Words.{bare_program as bare_app, number_rule, program as program_app, reading_app, report_app, AreLimitsGiven, IsChoice, IsGivenOr, IsNumberGiven, IsOneOf, HasItsKind};
+ghost use Rattle.rtps_tool.specs.Words.{bare_program as bare_app, audit_app, json_rule, number_rule, program as program_app, reading_app, report_app, AreLimitsGiven, IsChoice, IsFlagGiven, IsGivenOr, IsNumberGiven, IsOneOf, HasItsKind};
 
 use crate::limits::Limits;
 use clap::builder::ValueParser;
@@ -30,6 +30,8 @@ pub enum Choice {
         file: String,
         from: SeqNum,
         limits: Limits,
+        /// Whether the report is asked for as JSON, with what each verdict rests on.
+        json: bool,
     },
     /// Say for each verdict of such an audit what it rests on, place by place.
     Why {
@@ -96,6 +98,8 @@ const DATAGRAMS_HELP: &str = "The most datagrams of the recording, 1 to 92233720
 
 const OCTETS_HELP: &str = "The most octets of FILE, 1 to 9223372036854775807; \
     1073741824 where it is not given";
+
+const JSON_HELP: &str = "Print one JSON object, with what each verdict rests on";
 
 const STATUSES: &str =
     "Status: 0 clean, 1 not every pair is complete, 2 the arguments or the recording are refused, \
@@ -169,6 +173,26 @@ fn report_subcommand<'a>(
     reading.arg(from)
 }
 
+// The flag of `audit` that asks for JSON.
+fn json_flag<'a>(alloc: Global) -> Arg<'a>
+    ensures rule { rule_of result ≡ json_rule }
+    ensures local { result.global ≡ false }
+{
+    Arg::new(alloc, "json")
+        .long("json")
+        .action(ArgAction::SetTrue)
+        .help(JSON_HELP)
+}
+
+// The subcommand `audit`, which judges, and prints JSON where it is asked to.
+fn audit_subcommand<'a>(alloc: Global) -> Result<Command<'a>, AllocError>
+    ensures app { IfOk result (λ command. app_of command ≡ audit_app) }
+    ensures local { IfOk result (λ command. (out-Command command).has_globals ≡ false) }
+{
+    let report = report_subcommand(alloc, "audit", AUDITS)?;
+    report.arg(json_flag(alloc))
+}
+
 // A subcommand that reads nothing.
 fn plain_subcommand<'a>(alloc: Global, name: &'a str, about: &'a str) -> Command<'a>
     ensures app { app_of result ≡ new_app name.now }
@@ -196,7 +220,7 @@ fn program<'a>(alloc: Global) -> Result<Command<'a>, AllocError>
     let one = bare_program(alloc).subcommand(show)?;
     let list = reading_subcommand(alloc, "list", LISTS)?;
     let two = one.subcommand(list)?;
-    let audit = report_subcommand(alloc, "audit", AUDITS)?;
+    let audit = audit_subcommand(alloc)?;
     let three = two.subcommand(audit)?;
     let why = report_subcommand(alloc, "why", EXPLAINS)?;
     let four = three.subcommand(why)?;
@@ -263,6 +287,13 @@ fn limits_of(found: &ArgMatches) -> Limits
     }
 }
 
+// Whether JSON is asked for.
+fn flag_of(found: &ArgMatches) -> bool
+    ensures { IsFlagGiven (one_of (codes "json") (rows_of (found_of found.now))) result }
+{
+    found.get_flag("json")
+}
+
 // What the matches choose; None where they have no subcommand that can be chosen.
 fn choice_of(alloc: Global, matches: &ArgMatches) -> Result<Option<Choice>, AllocError>
     ensures { IfOk result (λ choice. MatchOption choice
@@ -283,7 +314,13 @@ fn choice_of(alloc: Global, matches: &ArgMatches) -> Result<Option<Choice>, Allo
         let file = file_of(alloc, audit)?;
         let from = number_of(audit);
         let limits = limits_of(audit);
-        return Ok(Some(Choice::Audit { file, from, limits }));
+        let json = flag_of(audit);
+        return Ok(Some(Choice::Audit {
+            file,
+            from,
+            limits,
+            json,
+        }));
     }
     if let Some(why) = matches.subcommand_matches("why") {
         let file = file_of(alloc, why)?;
@@ -299,7 +336,7 @@ fn choice_of(alloc: Global, matches: &ArgMatches) -> Result<Option<Choice>, Allo
 
 /// Reads the words of the command line, of which the first is the program's name.
 pub fn read_words<'a>(alloc: Global, words: &'a [&'a str]) -> Result<Choice, WordFault>
-    // The subcommand, the FILE, the number and the limits are those of the matches that `clap` defines for the words.
+    // The subcommand, the FILE, the number, the flag and the limits are those of the matches that `clap` defines for the words.
     ensures chosen { IfOk result (IsChoice (subcommand_of program_app (map (λ word. word.now) words.now))) }
 
     // Words with a fault are refused, and the refusal is of its kind.

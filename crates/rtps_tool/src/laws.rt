@@ -2,6 +2,7 @@
 
 ghost use Rattle.std.specs.Prelude.{ℕ};
 ghost use Rattle.rtps_text.specs.AuditText.{IsAuditedFrom};
+ghost use Rattle.rtps_text.specs.JsonText.{IsJsonTextFrom};
 ghost use Rattle.rtps_text.specs.ListText.{IsListed};
 ghost use Rattle.rtps_text.specs.ShowText.{IsShown};
 ghost use Rattle.rtps_text.specs.WhyText.{IsExplainedTextFrom};
@@ -18,12 +19,13 @@ pub fn words_are_wanted()
 {}
 
 /// What a run prints, and how it ends, is decided by what it reads, and of `audit` and `why` also by the number from which
-/// on they ask: two runs of `show`, of `list`, of `audit` or of `why` over the same octets that both end well end in the
-/// same way and write the same text.
+/// on they ask: two runs of `show`, of `list`, of `audit`, of `audit --json` or of `why` over the same octets that both
+/// end well end in the same way and write the same text.
 pub fn runs_agree()
     ensures show { RunsAgree IsShown }
     ensures list { RunsAgree IsListed }
     ensures audit { (from : ℕ) → RunsAgree (IsAuditedFrom from) }
+    ensures json { (from : ℕ) → RunsAgree (IsJsonTextFrom from) }
     ensures why { (from : ℕ) → RunsAgree (IsExplainedTextFrom from) }
 {
     one_text();
@@ -37,6 +39,7 @@ pub fn limits_change_nothing()
     ensures show { RunsAgreeWithin IsShown }
     ensures list { RunsAgreeWithin IsListed }
     ensures audit { (from : ℕ) → RunsAgreeWithin (IsAuditedFrom from) }
+    ensures json { (from : ℕ) → RunsAgreeWithin (IsJsonTextFrom from) }
     ensures why { (from : ℕ) → RunsAgreeWithin (IsExplainedTextFrom from) }
 {
     one_text();

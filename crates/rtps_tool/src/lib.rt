@@ -21,7 +21,7 @@ pub use outcome::{status, write_fault};
 pub use rtps_capture::link_type;
 pub use rtps_text::{Datagrams, Ending, Recording, Unwatched, Watch};
 pub use run::{
-    run_audit, run_audit_from, run_audit_within, run_list, run_list_within, run_sample, run_show,
-    run_show_within, run_why, run_why_from, run_why_within,
+    run_audit, run_audit_from, run_audit_within, run_json_within, run_list, run_list_within,
+    run_sample, run_show, run_show_within, run_why, run_why_from, run_why_within,
 };
 pub use streams::read_input;

@@ -1,6 +1,7 @@
 ghost use Rattle.std.specs.Prelude.{IfOk};
 ghost use Rattle.std.specs.String.{string_bytes};
 ghost use Rattle.rtps_text.specs.AuditText.{IsAudited, IsAuditedFrom};
+ghost use Rattle.rtps_text.specs.JsonText.{IsJsonTextFrom};
 ghost use Rattle.rtps_text.specs.ListText.{IsListed};
 ghost use Rattle.rtps_text.specs.SampleText.{sample};
 ghost use Rattle.rtps_text.specs.ShowText.{IsShown};
@@ -13,7 +14,8 @@ use crate::limits::Limits;
 use crate::streams::{read_input, write_text};
 use rtps_ids::{Memory, SeqNum};
 use rtps_text::{
-    Ending, Recording, Unwatched, Watch, audit_text, list_text, sample_text, show_text, why_text,
+    Ending, Recording, Unwatched, Watch, audit_text, json_text, list_text, sample_text, show_text,
+    why_text,
 };
 use std::alloc::Global;
 use std::io::{Read, Write};
@@ -25,6 +27,8 @@ pub(crate) enum Subcommand {
     List,
     /// By the numbers from this one on.
     Audit(SeqNum),
+    /// An audit, and what it rests on, as JSON; by the numbers from this one on.
+    Json(SeqNum),
     /// By the numbers from this one on.
     Why(SeqNum),
 }
@@ -133,6 +137,24 @@ pub fn run_audit<R: Read, W: Write>(
     run_audit_from(alloc, input, output, SeqNum::first())
 }
 
+/// Reads a recording within limits, to the end of the input or past the most octets that it may have, and writes what
+/// `audit --json` prints of it by the numbers from `from` on: one JSON object on one line, with each verdict that `audit` has
+/// on it, what it rests on, and what was counted. It tells how far its audit is. It ends as [`run_audit`] does, and fails as
+/// [`run_show`] does.
+pub fn run_json_within<R: Read, W: Write, P: Watch>(
+    alloc: Global,
+    limits: Limits,
+    input: &mut R,
+    output: &mut W,
+    from: SeqNum,
+    watch: &mut P,
+) -> Result<Ending, RunFault>
+    ensures { RunsWithin limits (IsJsonTextFrom from)
+        (R.remaining input.old) (R.remaining input.new) (W.contents output.old) (W.contents output.new) result }
+{
+    run(alloc, limits, Subcommand::Json(from), input, output, watch)
+}
+
 /// Reads a recording, to the end of the input, and writes what `why` prints of it: each verdict that `audit` has on it,
 /// with what it rests on. It ends as [`run_audit`] does, and fails as [`run_show`] does.
 pub fn run_why<R: Read, W: Write>(
@@ -217,6 +239,7 @@ fn text_of<P: Watch>(
         Subcommand::Show => show_text(alloc, recording),
         Subcommand::List => list_text(alloc, recording),
         Subcommand::Audit(from) => audit_text(alloc, recording, from, watch),
+        Subcommand::Json(from) => json_text(alloc, recording, from, watch),
         Subcommand::Why(from) => why_text(alloc, recording, from, watch),
     }
 }

@@ -18,6 +18,7 @@ fn chosen_of(alloc: Global, words: &[&str]) -> Result<(&'static str, String), Wo
             file,
             from: _,
             limits: _,
+            json: _,
         } => ("audit", file),
         Choice::Why {
             file,
@@ -59,6 +60,7 @@ fn number_of(alloc: Global, words: &[&str]) -> Result<Option<SeqNum>, WordFault>
             file: _,
             from,
             limits: _,
+            json: _,
         }
         | Choice::Why {
             file: _,
@@ -89,6 +91,20 @@ fn a_number_is_chosen(rt: HostRuntime) {
     ] {
         let number = number_of(alloc, words).expect(&rt, "a choice");
         assert_eq!(rt; number, SeqNum::new(wanted));
+    }
+}
+
+#[test]
+fn json_is_chosen(rt: HostRuntime) {
+    let alloc = rt.alloc();
+    for (words, wanted) in [
+        (["rtps-audit", "audit", "-"].as_slice(), false),
+        (["rtps-audit", "audit", "--json", "-"].as_slice(), true),
+        (["rtps-audit", "audit", "-", "--json"].as_slice(), true),
+        (["rtps-audit", "audit", "--", "--json"].as_slice(), false),
+    ] {
+        let choice = read_words(alloc, words).expect(&rt, "a choice");
+        assert_eq!(rt; matches!(choice, Choice::Audit { json: true, .. }), wanted);
     }
 }
 

@@ -80,10 +80,11 @@ fn answer_of(alloc: Global, read: Result<Choice, WordFault>) -> Result<Option<St
                 file,
                 from,
                 limits: _,
+                json,
             },
         ) => {
             let number = from.get();
-            format!(in alloc; "audit {file} from {number}")?
+            format!(in alloc; "audit {file} from {number} json {json}")?
         }
         Ok(
             Choice::Why {

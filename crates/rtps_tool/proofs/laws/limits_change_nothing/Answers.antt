@@ -1,4 +1,5 @@
 use Rattle.rtps_text.specs.AuditText.{IsAuditedFrom}
+use Rattle.rtps_text.specs.JsonText.{IsJsonTextFrom}
 use Rattle.rtps_text.specs.ListText.{IsListed}
 use Rattle.rtps_text.specs.ShowText.{IsShown}
 use Rattle.rtps_text.specs.WhyText.{IsExplainedTextFrom}
@@ -17,6 +18,9 @@ returns-clause-list c = runs_agree_within IsListed c.one_text.ensures.listed
 
 pub returns-clause-audit : goal.returns-clause-audit
 returns-clause-audit c = λ from. runs_agree_within (IsAuditedFrom from) (c.one_text.ensures.audited from)
+
+pub returns-clause-json : goal.returns-clause-json
+returns-clause-json c = λ from. runs_agree_within (IsJsonTextFrom from) (c.one_text.ensures.json from)
 
 pub returns-clause-why : goal.returns-clause-why
 returns-clause-why c = λ from. runs_agree_within (IsExplainedTextFrom from) (c.one_text.ensures.explained from)
