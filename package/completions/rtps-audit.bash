@@ -9,7 +9,10 @@ _rtps_audit() {
     case $command in
     show | list | audit | why)
         local options='--max-datagrams --max-octets -h --help'
-        case $command in audit | why) options="--from $options" ;; esac
+        case $command in
+        audit) options="--from --json $options" ;;
+        why) options="--from $options" ;;
+        esac
         case $word in
         -*) mapfile -t COMPREPLY < <(compgen -W "$options" -- "$word") ;;
         *)

@@ -10,6 +10,7 @@ complete -c rtps-audit -n __fish_use_subcommand -s V -l version -d 'Print versio
 complete -c rtps-audit -s h -l help -d 'Print help'
 complete -c rtps-audit -n '__fish_seen_subcommand_from show list audit why' -F
 complete -c rtps-audit -n '__fish_seen_subcommand_from audit why' -x -l from -d 'The first number that the readers are owed'
+complete -c rtps-audit -n '__fish_seen_subcommand_from audit' -l json -d 'Print one JSON object, with what each verdict rests on'
 complete -c rtps-audit -n '__fish_seen_subcommand_from show list audit why' -x -l max-datagrams -d 'The most datagrams of the recording'
 complete -c rtps-audit -n '__fish_seen_subcommand_from show list audit why' -x -l max-octets -d 'The most octets of FILE'
 complete -c rtps-audit -n '__fish_seen_subcommand_from help' -a 'show list audit why sample help'
