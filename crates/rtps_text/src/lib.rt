@@ -15,7 +15,7 @@ pub use places::{Place, push_octets, push_place};
 pub use recording::Recording;
 pub use rtps_audit::{Unwatched, Watch};
 pub use text::audit::audit_text;
-pub use text::json::json_text;
+pub use text::json_object::json_text;
 pub use text::list::list_text;
 pub use text::sample::sample_text;
 pub use text::show::show_text;

@@ -7,7 +7,7 @@ use Rattle.rtps_evidence.specs.Explained.{explanation_value}
 use Rattle.rtps_text.specs.JsonText.{row_json}
 use Rattle.rtps_text.proofs.JsonLemmas.{rows_tokens}
 use Rattle.rtps_text.proofs.PartLemmas.{four_parts}
-use Rattle.rtps_text.proofs.text.json.push_pairs.Goals as goal
+use Rattle.rtps_text.proofs.text.json_object.push_pairs.Goals as goal
 
 pub returns-clause-tokens : goal.returns-clause-tokens
 returns-clause-tokens c =

@@ -5,7 +5,7 @@ use Rattle.json.specs.Tree.{json_tokens}
 use Rattle.rtps_evidence.specs.Explained.{explanation_value}
 use Rattle.rtps_text.specs.JsonText.{report_json}
 use Rattle.rtps_text.proofs.JsonLemmas.{report_reads_back}
-use Rattle.rtps_text.proofs.text.json.line_of.Goals as goal
+use Rattle.rtps_text.proofs.text.json_object.line_of.Goals as goal
 
 pub returns : goal.returns
 returns c =

@@ -3,7 +3,7 @@ use Rattle.std.specs.String.{string_bytes}
 use Rattle.rtps_evidence.specs.Explained.{explanation_value}
 use Rattle.rtps_text.specs.JsonText.{IsJsonLine, report_json}
 use Rattle.rtps_text.specs.WhyText.{ending_of_rows}
-use Rattle.rtps_text.proofs.text.json.json_text.Goals as goal
+use Rattle.rtps_text.proofs.text.json_object.json_text.Goals as goal
 
 pub returns : goal.returns
 returns g c =

@@ -5,7 +5,7 @@ use Rattle.rtps_evidence.specs.Explained.{explanation_value}
 use Rattle.rtps_text.specs.JsonText.{evidence_members, pair_members, shown_members, tokens_of, verdict_members}
 use Rattle.rtps_text.proofs.JsonLemmas.{row_tokens}
 use Rattle.rtps_text.proofs.PartLemmas.{six_parts}
-use Rattle.rtps_text.proofs.text.json.push_row.Goals as goal
+use Rattle.rtps_text.proofs.text.json_object.push_row.Goals as goal
 
 pub returns-clause-tokens : goal.returns-clause-tokens
 returns-clause-tokens c =

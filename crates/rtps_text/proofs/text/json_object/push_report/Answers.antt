@@ -6,7 +6,7 @@ use Rattle.rtps_evidence.specs.Explained.{explanation_value}
 use Rattle.rtps_text.specs.JsonText.{counts_members, ignored_members, pairs_member, report_json, tokens_of, tokens_of_member}
 use Rattle.rtps_text.proofs.JsonLemmas.{report_tokens}
 use Rattle.rtps_text.proofs.PartLemmas.{five_parts}
-use Rattle.rtps_text.proofs.text.json.push_report.Goals as goal
+use Rattle.rtps_text.proofs.text.json_object.push_report.Goals as goal
 
 pub returns-clause-tokens : goal.returns-clause-tokens
 returns-clause-tokens c =

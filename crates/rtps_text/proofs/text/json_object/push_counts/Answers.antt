@@ -2,7 +2,7 @@ use Rattle.std.proofs.Common.{◌∷◌, [], List, ℕ, codes, decimal}
 use Rattle.std.proofs.lemmas.Result.{on_ok_weaker}
 use Rattle.json.specs.Token.{Token, key, number}
 use Rattle.rtps_text.proofs.PartLemmas.{six_parts}
-use Rattle.rtps_text.proofs.text.json.push_counts.Goals as goal
+use Rattle.rtps_text.proofs.text.json_object.push_counts.Goals as goal
 
 pub returns-clause-tokens : goal.returns-clause-tokens
 returns-clause-tokens c =

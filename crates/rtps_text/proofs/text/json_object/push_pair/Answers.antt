@@ -4,7 +4,7 @@ use Rattle.std.specs.List.{flat_map}
 use Rattle.json.specs.Token.{Token, key, string}
 use Rattle.rtps_text.specs.ListText.{guid_text, octet_text}
 use Rattle.rtps_text.proofs.PartLemmas.{four_parts}
-use Rattle.rtps_text.proofs.text.json.push_pair.Goals as goal
+use Rattle.rtps_text.proofs.text.json_object.push_pair.Goals as goal
 
 pub returns-clause-tokens : goal.returns-clause-tokens
 returns-clause-tokens c =
