@@ -144,10 +144,10 @@ conflict_from from writer reader recording (Some n) least = record { holds = two
 
 -- ---- claims
 
-answered : (pair : Pair) (placed : PlacedValue) (answer : Answer) → answer_of pair placed ≡ Some answer → (base : ℕ) × (base_for pair.writer pair.reader placed.act ≡ Some base) × (answer ≡ record { datagram = placed.datagram; base = pos base })
+answered : (pair : Pair) (placed : PlacedValue) (answer : Answer) → answer_of pair placed ≡ Some answer → (base : ℕ) × (base_for pair.writer pair.reader placed.act ≡ Some base) × (answer ≡ record { datagram = placed.datagram; at = placed.act.at; base = pos base })
 answered pair placed answer e = by_value (base_for pair.writer pair.reader placed.act) refl e
   where
-    by_value : (o : Option ℕ) → base_for pair.writer pair.reader placed.act ≡ o → answer_at placed.datagram o ≡ Some answer → (base : ℕ) × (base_for pair.writer pair.reader placed.act ≡ Some base) × (answer ≡ record { datagram = placed.datagram; base = pos base })
+    by_value : (o : Option ℕ) → base_for pair.writer pair.reader placed.act ≡ o → answer_at placed.datagram placed.act.at o ≡ Some answer → (base : ℕ) × (base_for pair.writer pair.reader placed.act ≡ Some base) × (answer ≡ record { datagram = placed.datagram; at = placed.act.at; base = pos base })
     by_value None is e = cc
     by_value (Some base) is e = (base, is, (let h = e in cc))
 
@@ -170,19 +170,21 @@ answer_stands pair recording answer among =
 
 -- and back
 answer_there : (pair : Pair) (recording : List (List ℕ)) (j : ℕ) (octets : List ℕ) (base : ℕ) → slice_get recording j ≡ Some octets → Contains (said_by pair.writer pair.reader (acts_of (reading_of octets))).bases base
-    → Contains (answers_among pair (placed_in recording)) (record { datagram = j + 1; base = pos base })
+    → (at : ℕ) × Contains (answers_among pair (placed_in recording)) (record { datagram = j + 1; at = at; base = pos base })
 answer_there pair recording j octets base stands among =
     let from = made_from (base_for pair.writer pair.reader) (acts_of (reading_of octets)) base among in
     let there = stands_there 0 j recording octets from.0 stands from.1 in
-    makes (answer_of pair) (placed_in recording) (record { datagram = 0 + j + 1; act = from.0 }) (record { datagram = j + 1; base = pos base }) there
-    (ap (answer_at (0 + j + 1)) from.2 ∙ ap (λ d. let made : Answer = record { datagram = d; base = pos base } in Some made) (omega arith))
+    let makes_it = makes (answer_of pair) (placed_in recording) (record { datagram = 0 + j + 1; act = from.0 }) (record { datagram = j + 1; at = from.0.at; base = pos base }) there
+    (ap (answer_at (0 + j + 1) from.0.at) from.2 ∙ ap (λ d. let made : Answer = record { datagram = d; at = from.0.at; base = pos base } in Some made) (omega arith)) in
+    (from.0.at, makes_it)
 
 claim_of : {from : ℕ} (pair : Pair) (recording : List (List ℕ)) (j n : ℕ) → Claims from (speech_of pair.writer pair.reader recording) j n → (answer : Answer) × Contains (answers_among pair (placed_in recording)) answer × (answer.datagram ≡ j + 1) × (pos n <ℤ answer.base)
 claim_of pair recording j n claims =
     let octets = mapped_get (λ octets. said_by pair.writer pair.reader (acts_of (reading_of octets))) recording j claims.datagram claims.stands in
     let among = subst (λ (d : Datagram). Contains d.bases claims.base) (sym octets.2) claims.answers in
     let below = claims.below in
-    (record { datagram = j + 1; base = pos claims.base }, answer_there pair recording j octets.0 claims.base octets.1 among, refl, omega (arith, ints))
+    let there = answer_there pair recording j octets.0 claims.base octets.1 among in
+    (record { datagram = j + 1; at = there.0; base = pos claims.base }, there.1, refl, omega (arith, ints))
 
 pub answers_counted : (pair : Pair) (recording : List (List ℕ)) → (k : ℕ) (d : Answer) → k < Rattle.std.proofs.Common.length (answers_among pair (placed_in recording)) → 1 ≤ (Rattle.std.proofs.Common.get_or (answers_among pair (placed_in recording)) k d).datagram
 answers_counted pair recording k d lt =
@@ -339,4 +341,4 @@ base_from pair recording = same_number _ _ to back
         let here = found.3 in
         let number = below_greatest n (said_by pair.writer pair.reader (acts_of (reading_of octets.0))).bases (omega (arith, same)) in
         let there = answer_there pair recording found.0 octets.0 number.0 octets.1 number.1 in
-        greatest_below n number.0 _ (mapped_contains (λ (answer : Answer). natural answer.base) (answers_among pair (placed_in recording)) _ there) number.2
+        greatest_below n number.0 _ (mapped_contains (λ (answer : Answer). natural answer.base) (answers_among pair (placed_in recording)) _ there.1) number.2

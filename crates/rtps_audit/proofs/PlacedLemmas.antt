@@ -109,7 +109,7 @@ not_answered act reader pair from apart = by_body act.source act.dest act.body (
 pub none_answered : (datagram : ℕ) (pair : Pair) (acts : List Act) → All (λ act. base_for pair.writer pair.reader (act_value act) ≡ None) acts → answers_among pair (placed_at datagram (map act_value acts)) ≡ []
 none_answered datagram pair [] none = refl
 none_answered datagram pair (act ∷ acts) none =
-    ap (λ base. cons_option (answer_at datagram base) (answers_among pair (placed_at datagram (map act_value acts)))) (All-head (λ (a : Act). base_for pair.writer pair.reader (act_value a) ≡ None) act acts none)
+    ap (λ base. cons_option (answer_at datagram (act_value act).at base) (answers_among pair (placed_at datagram (map act_value acts)))) (All-head (λ (a : Act). base_for pair.writer pair.reader (act_value a) ≡ None) act acts none)
     ∙ none_answered datagram pair acts (All-tail (λ (a : Act). base_for pair.writer pair.reader (act_value a) ≡ None) act acts none)
 
 -- acts of one GUID have answers of no other reader
@@ -164,14 +164,14 @@ pub placed_both : (datagram : ℕ) (xs ys : List Act) → placed_at datagram (ma
 placed_both datagram xs ys = ap (placed_at datagram) (map-append act_value xs ys) ∙ map-append _ (map act_value xs) _
 
 -- answers, with that of one act more
-pub answer_added : (old new : List Answer) (value : Answer) (datagram : ℕ) (number : ℤ) (test : Bool) → value ≡ record { datagram = datagram; base = number }
+pub answer_added : (old new : List Answer) (value : Answer) (datagram at : ℕ) (number : ℤ) (test : Bool) → value ≡ record { datagram = datagram; at = at; base = number }
     → new ≡ old ++ cond test (value ∷ []) []
-    → (base : Option ℕ) → option_map pos base ≡ cond test (Some number) None → new ≡ old ++ cons_option (answer_at datagram base) []
-answer_added old new value datagram number test is added base says = added ∙ ap (λ l. old ++ l) (by_test test base says)
+    → (base : Option ℕ) → option_map pos base ≡ cond test (Some number) None → new ≡ old ++ cons_option (answer_at datagram at base) []
+answer_added old new value datagram at number test is added base says = added ∙ ap (λ l. old ++ l) (by_test test base says)
   where
-    by_test : (b : Bool) (base : Option ℕ) → option_map pos base ≡ cond b (Some number) None → cond b (value ∷ []) [] ≡ cons_option (answer_at datagram base) []
+    by_test : (b : Bool) (base : Option ℕ) → option_map pos base ≡ cond b (Some number) None → cond b (value ∷ []) [] ≡ cons_option (answer_at datagram at base) []
     by_test true None e = cc
-    by_test true (Some n) e = let same : pos n ≡ number = (let h = e in cc) in ap (λ a. a ∷ []) is ∙ ap (λ z. let made : Answer = record { datagram = datagram; base = z } in made ∷ []) (sym same)
+    by_test true (Some n) e = let same : pos n ≡ number = (let h = e in cc) in ap (λ a. a ∷ []) is ∙ ap (λ z. let made : Answer = record { datagram = datagram; at = at; base = z } in made ∷ []) (sym same)
     by_test false None e = refl
     by_test false (Some n) e = cc
 

@@ -48,12 +48,12 @@ abbrev pub is_from : Guid → PlacedValue → Bool
 is_from origin placed = is_guid origin (origin_of placed.act)
 
 -- the answer that an act is of a pair's reader to its writer
-abbrev pub answer_at : ℕ → Option ℕ → Option Answer
-answer_at datagram (Some base) = Some (record { datagram = datagram; base = pos base })
-answer_at datagram None = None
+abbrev pub answer_at : ℕ → ℕ → Option ℕ → Option Answer
+answer_at datagram at (Some base) = Some (record { datagram = datagram; at = at; base = pos base })
+answer_at datagram at None = None
 
 abbrev pub answer_of : Pair → PlacedValue → Option Answer
-answer_of pair placed = answer_at placed.datagram (base_for pair.writer pair.reader placed.act)
+answer_of pair placed = answer_at placed.datagram placed.act.at (base_for pair.writer pair.reader placed.act)
 
 abbrev pub answers_among : Pair → List PlacedValue → List Answer
 answers_among pair placed = filter_map (answer_of pair) placed

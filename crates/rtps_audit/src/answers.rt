@@ -10,11 +10,12 @@ ghost use Rattle.rtps_audit.specs.Speech.{base_for};
 use rtps_ids::Guid;
 use rtps_receiver::{Act, ActBody};
 
-/// An answer of a reader to a writer: the datagram that it stands in, counted from 1, and its base, by which the reader
-/// claims each number below it.
+/// An answer of a reader to a writer: the datagram that it stands in, counted from 1, the place of its first octet there,
+/// from 0, and its base, by which the reader claims each number below it.
 #[derive(Clone, Copy, PartialEq, Eq, Debug)]
 pub struct Answer {
     pub datagram: usize,
+    pub at: usize,
     pub base: i64,
 }
 

@@ -1,4 +1,4 @@
-ghost use Rattle.std.specs.Prelude.{ℤ, ℕ, ◌≡◌, ◌↔◌, pos, filter, map, nat_le, IfOk, List};
+ghost use Rattle.std.specs.Prelude.{ℤ, ℕ, ◌≡◌, ◌↔◌, pos, filter, map, IfOk, List};
 ghost use Rattle.std.specs.List.{list_all};
 ghost use Rattle.rtps_audit.specs.Common.{is_for_everyone};
 ghost use Rattle.rtps_audit.specs.Delivered.{IsDelivered, IsDeliveredFrom, IsPlain, IsPlainFrom};
@@ -76,17 +76,6 @@ impl<'a> Index<'a> {
             → map placed_value result.now ≡ filter (is_from origin) (placed_in recording) }
     {
         self.origins.acts.of(origin)
-    }
-
-    /// The acts from this GUID that stand in this datagram, counted from 1, or behind it, in the same order. It takes no
-    /// memory.
-    pub fn acts_since(&self, origin: Guid, datagram: usize) -> &[Placed<'a>]
-        ensures { (recording : List (List ℕ)) → IsIndexOf recording self.now
-            → map placed_value result.now ≡ filter (λ placed. nat_le datagram placed.datagram) (filter (is_from origin) (placed_in recording)) }
-    {
-        let acts = self.acts_of(origin);
-        let start = acts.partition_point(|placed| placed.datagram < datagram);
-        &acts[start..]
     }
 
     /// Whether each act from this GUID is for every reader, so that all readers hear the same from it. It takes no memory.

@@ -55,7 +55,8 @@ impl ReaderAnswers {
             ≡ answers_to self.old pair.writer ++ answers_among pair (placed_at datagram (act_value act.now ∷ []))) }
     {
         if let Some((writer, base)) = answer_in(act) {
-            self.push(writer, Answer { datagram, base })?;
+            let at = act.at;
+            self.push(writer, Answer { datagram, at, base })?;
         }
         Ok(())
     }

@@ -1,10 +1,9 @@
 -- The first element of a list that passes a test, also where elements are left out that do not.
 use Rattle.std.proofs.lemmas.Bool.Decides.{nat_tests}
-use Rattle.std.proofs.Common.{◌≡◌, All, ◌==◌, ◌&&◌, ◌⊎◌, inl, inr, nat_lt, ℕ, ◌+◌, ◌<◌, ◌≤◌, Bool, true, false, ◌||◌, cond, List, [], ◌∷◌, ◌++◌, length, map, filter, take, drop, get_or, max, Some, None, refl, sym, ap, ◌∙◌, arith}
+use Rattle.std.proofs.Common.{◌≡◌, ◌==◌, ◌&&◌, ◌⊎◌, inl, inr, nat_lt, ℕ, ◌+◌, ◌<◌, ◌≤◌, Bool, true, false, ◌||◌, cond, List, [], ◌∷◌, ◌++◌, length, map, filter, take, drop, get_or, max, Some, None, refl, sym, ap, ◌∙◌, arith}
 use Rattle.std.specs.List.{find, list_any}
 use Rattle.std.specs.Option.{option_or}
 use Rattle.std.proofs.lemmas.List.{map-append, take_all, take_more, take-append-drop}
-use Rattle.std.proofs.lemmas.List.Elements.{All-head, All-tail}
 use Rattle.std.proofs.lemmas.List.Folds.{find-append, list_any-append}
 use Rattle.rtps_audit.specs.Delivery.{greatest}
 
@@ -19,12 +18,6 @@ find_past test x false xs h = by (test x) h
 pub find_filter : {X : Type 0} (test keeps : X → Bool) → ((x : X) → test x ≡ true → keeps x ≡ true) → (xs : List X) → find test (filter keeps xs) ≡ find test xs
 find_filter test keeps h [] = refl
 find_filter test keeps h (x ∷ xs) = find_past test x (keeps x) (filter keeps xs) (h x) ∙ ap (λ o. cond (test x) (Some x) o) (find_filter test keeps h xs)
-
-pub find_filter_within : {X : Type 0} (test keeps : X → Bool) (xs : List X) → All (λ x. test x ≡ true → keeps x ≡ true) xs → find test (filter keeps xs) ≡ find test xs
-find_filter_within test keeps [] h = refl
-find_filter_within test keeps (x ∷ xs) h =
-    find_past test x (keeps x) (filter keeps xs) (All-head (λ x. test x ≡ true → keeps x ≡ true) x xs h)
-    ∙ ap (λ o. cond (test x) (Some x) o) (find_filter_within test keeps xs (All-tail (λ x. test x ≡ true → keeps x ≡ true) x xs h))
 
 any_kept : {X : Type 0} (test : X → Bool) (x : X) (keeps : Bool) (xs : List X) → (test x ≡ true → keeps ≡ true) → list_any test (cond keeps (x ∷ xs) xs) ≡ (test x || list_any test xs)
 any_kept test x true xs h = refl

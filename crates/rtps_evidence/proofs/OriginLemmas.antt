@@ -1,5 +1,5 @@
 -- What the acts of one GUID say is what all acts say, of what it alone can say.
-use Rattle.std.proofs.Common.{◌≡◌, ◌∙◌, ◌+◌, ◌-◌, ◌≤◌, ◌==◌, ◌&&◌, ℕ, zero, suc, Bool, true, false, cond, nat_le, nat_lt, max, map, filter, List, [], ◌∷◌, Option, Some, None, refl, sym, ap, subst, arith, not}
+use Rattle.std.proofs.Common.{◌≡◌, ◌∙◌, ◌+◌, ◌-◌, ◌≤◌, ◌==◌, ◌&&◌, ℕ, Bool, true, false, nat_le, nat_lt, max, map, filter, List, [], ◌∷◌, Option, Some, None, refl, ap, arith, not}
 use Rattle.std.specs.Prelude.{if◌then◌else◌, is_some, unwrap_or}
 use Rattle.std.specs.List.{cons_option, filter_map, find}
 use Rattle.std.specs.Option.{option_map}
@@ -14,7 +14,7 @@ use Rattle.rtps_audit.specs.Speech.{announced_for, announced_of_body, base_of_bo
 use Rattle.rtps_audit.specs.declared.verdict.Verdict.{Verdict}
 use Rattle.rtps_audit.specs.declared.verdict.Verdict.TheVariants.{Unfounded, Conflict, Open, Complete}
 use Rattle.rtps_audit.proofs.Offered.{answerer_is_origin, last_is_last, speaker_is_origin}
-use Rattle.rtps_evidence.specs.Acting.{acknowledgement_of, announcement_at, announcement_of, base_said, claim_at, claim_of, differs, first_sending, first_sent, greatest_base, number_said, other_sending, other_sent, payload_at, payload_for, payload_in, sends, sent_at, teller_at, teller_of, tells}
+use Rattle.rtps_evidence.specs.Acting.{announcement_at, announcement_of, base_said, claim_at, claim_of, differs, first_sending, first_sent, number_said, other_sending, other_sent, payload_at, payload_for, payload_in, sends, sent_at, teller_at, teller_of, tells}
 use Rattle.rtps_evidence.specs.Counted.{AreAmounts, is_sent, is_told}
 use Rattle.rtps_evidence.specs.Evidence.{claim_by, first_by, other_by, teller_by}
 use Rattle.rtps_evidence.specs.declared.counting.Amounts.{Amounts}
@@ -82,33 +82,6 @@ announcement_same from writer number acts low = by_order (nat_le from number) re
 pub claim_same : (writer reader : Guid) (datagram n : ℕ) (acts : List PlacedValue) → claim_of writer reader datagram n (filter (is_from reader) acts) ≡ claim_of writer reader datagram n acts
 claim_same writer reader datagram n acts =
     ap (option_map (claim_at writer reader)) (find_filter (λ placed. (placed.datagram == datagram) && nat_lt n (base_said writer reader placed)) (is_from reader) (λ placed is. base_from writer reader placed (less_number placed.datagram datagram n (base_said writer reader placed) is)) acts)
-
-zero_of : (n m : ℕ) → (1 ≤ n → false ≡ true) → m ≡ max n m
-zero_of zero m f = omega arith
-zero_of (suc n) m f = let bad = f (omega arith) in cc
-
-greatest_past_one : {X : Type 0} (number : X → ℕ) (x : X) (keeps : Bool) (xs : List X) → (1 ≤ number x → keeps ≡ true) → greatest (map number (cond keeps (x ∷ xs) xs)) ≡ max (number x) (greatest (map number xs))
-greatest_past_one number x true xs h = refl
-greatest_past_one number x false xs h = zero_of (number x) (greatest (map number xs)) h
-
-greatest_kept : {X : Type 0} (number : X → ℕ) (keeps : X → Bool) → ((x : X) → 1 ≤ number x → keeps x ≡ true) → (xs : List X) → greatest (map number (filter keeps xs)) ≡ greatest (map number xs)
-greatest_kept number keeps h [] = refl
-greatest_kept number keeps h (x ∷ xs) = greatest_past_one number x (keeps x) (filter keeps xs) (h x) ∙ ap (max (number x)) (greatest_kept number keeps h xs)
-
-pub base_same : (writer reader : Guid) (acts : List PlacedValue) → greatest_base writer reader (filter (is_from reader) acts) ≡ greatest_base writer reader acts
-base_same writer reader acts = greatest_kept (base_said writer reader) (is_from reader) (base_from writer reader) acts
-
-pub acknowledgement_same : (from : ℕ) (writer reader : Guid) (acts : List PlacedValue) → acknowledgement_of from writer reader (filter (is_from reader) acts) ≡ acknowledgement_of from writer reader acts
-acknowledgement_same from writer reader acts =
-    ap (λ base. if nat_lt from base then option_map (claim_at writer reader) (find (λ placed. base_said writer reader placed == base) (filter (is_from reader) acts)) else None) (base_same writer reader acts)
-    ∙ by_order (greatest_base writer reader acts) (nat_lt from (greatest_base writer reader acts)) refl
-  where
-    by_order : (base : ℕ) (b : Bool) → nat_lt from base ≡ b
-        → (if b then option_map (claim_at writer reader) (find (λ placed. base_said writer reader placed == base) (filter (is_from reader) acts)) else None) ≡ (if b then option_map (claim_at writer reader) (find (λ placed. base_said writer reader placed == base) acts) else None)
-    by_order base true e =
-        ap (option_map (claim_at writer reader)) (find_filter (λ placed. base_said writer reader placed == base) (is_from reader)
-        (λ placed is. base_from writer reader placed (let same = equal_numbers (base_said writer reader placed) base is in let above : 1 ≤ base = grind (arith, nat_tests) in subst (λ n. 1 ≤ n) (sym same) above)) acts)
-    by_order base false e = refl
 
 pub first_same : (writer reader : Guid) (n : ℕ) (acts : List PlacedValue) → first_sent writer reader n (filter (is_from writer) acts) ≡ first_sent writer reader n acts
 first_same writer reader n acts = ap (option_map (sent_at writer reader n)) (find_filter (sends writer reader n) (is_from writer) (sends_from writer reader n) acts)

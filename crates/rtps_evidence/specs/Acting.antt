@@ -13,7 +13,8 @@ use Rattle.rtps_receiver.specs.Values.ActBodyValue.{Data as DataAct, Heartbeat a
 use Rattle.rtps_audit.specs.Delivery.{Word, greatest}
 use Rattle.rtps_audit.specs.Delivery.Word.{Told, Gone}
 use Rattle.rtps_audit.specs.Placed.{PlacedValue}
-use Rattle.rtps_audit.specs.Speech.{announced_for, base_for, word_for}
+use Rattle.rtps_audit.specs.Speech.{announced_for, base_for, natural, word_for}
+use Rattle.rtps_audit.specs.declared.answers.Answer.{Answer}
 use Rattle.rtps_evidence.specs.declared.places.Place.{Place}
 use Rattle.rtps_evidence.specs.declared.places.Kind.{Kind}
 use Rattle.rtps_evidence.specs.declared.places.Kind.TheVariants.{Data, Heartbeat, AckNack, Gap}
@@ -84,6 +85,10 @@ announcement_of from writer number acts =
 -- an act as an answer of the reader to the writer
 abbrev pub claim_at : Guid → Guid → PlacedValue → Claim
 claim_at writer reader placed = record { below = pos (base_said writer reader placed); place = place_of placed }
+
+-- an answer that is kept, as a claim
+abbrev pub claim_in : Answer → Claim
+claim_in answer = record { below = pos (natural answer.base); place = record { datagram = answer.datagram; at = answer.at } }
 
 -- the greatest base of all answers of the reader to the writer, or 0
 abbrev pub greatest_base : Guid → Guid → List PlacedValue → ℕ

@@ -1,17 +1,15 @@
-ghost use Rattle.std.specs.Prelude.{ℕ, ◌≡◌, ◌<◌, ◌≤◌, ◌==◌, ◌^◌, map, All, List};
+ghost use Rattle.std.specs.Prelude.{ℕ, ◌≡◌, ◌<◌, ◌==◌, ◌&&◌, ◌^◌, map, nat_lt, List};
 ghost use Rattle.std.specs.List.{find};
-ghost use Rattle.std.specs.Option.{option_map};
 ghost use Rattle.rtps_audit.specs.Delivery.{greatest};
 ghost use Rattle.rtps_audit.specs.Index.{IsIndexOf};
-ghost use Rattle.rtps_audit.specs.Placed.{placed_in, placed_value};
+ghost use Rattle.rtps_audit.specs.Placed.{placed_in};
 ghost use Rattle.rtps_audit.specs.Speech.{natural};
-ghost use Rattle.rtps_evidence.specs.Acting.{acknowledgement_of, base_said as base_said_lem, claim_at, claim_of};
+ghost use Rattle.rtps_evidence.specs.Acting.{acknowledgement_of, claim_in as claim_in_lem, claim_of};
 
-use crate::places::{Place, place_of};
-use rtps_audit::{Answer, Index, Placed};
+use crate::places::Place;
+use rtps_audit::{Answer, Index};
 use rtps_discovery::Pair;
 use rtps_ids::SeqNum;
-use rtps_receiver::ActBody;
 
 /// An answer of the reader to the writer.
 #[derive(Clone, Copy, PartialEq, Eq, Debug)]
@@ -21,16 +19,16 @@ pub struct Claim {
     pub place: Place,
 }
 
-/// The base by which an act of the reader answers the writer, or 0.
-fn base_said(placed: &Placed<'_>, pair: Pair) -> u64
-    ensures value { result ≡ base_said_lem pair.writer pair.reader (placed_value placed.now) }
-    ensures in_range { result < 2 ^ 63 }
+/// What an answer claims, and where it stands.
+fn claim_in(answer: &Answer) -> Claim
+    ensures { result ≡ claim_in_lem answer.now }
 {
-    match &placed.act.body {
-        ActBody::AckNack(ack_nack) if placed.act.answers(pair.reader, pair.writer) => {
-            ack_nack.set.base().cast_unsigned()
-        }
-        _ => 0,
+    Claim {
+        below: answer.natural_base().cast_signed(),
+        place: Place {
+            datagram: answer.datagram as u64,
+            at: answer.at,
+        },
     }
 }
 
@@ -46,47 +44,25 @@ fn greatest_base(answers: &[Answer]) -> u64
     greatest
 }
 
-/// The first datagram of these answers that has one with this base.
-fn first_datagram(answers: &[Answer], base: u64) -> usize
-    ensures { All (λ answer. natural answer.base ≡ base → result ≤ answer.datagram) answers.now }
+/// The first of these answers that has the base.
+fn first_with(answers: &[Answer], base: u64) -> Option<Claim>
+    ensures { result ≡ find (λ claim. natural claim.below == base) (map claim_in_lem answers.now) }
 {
-    let mut first = usize::MAX;
     for answer in answers {
         if answer.natural_base() == base {
-            first = first.min(answer.datagram);
-        }
-    }
-    first
-}
-
-/// The first of these acts that answers with the base.
-fn first_answering(acts: &[Placed<'_>], pair: Pair, base: u64) -> Option<Claim>
-    requires { base < 2 ^ 63 }
-    ensures { result ≡ option_map (claim_at pair.writer pair.reader)
-        (find (λ placed. base_said_lem pair.writer pair.reader placed == base) (map placed_value acts.now)) }
-{
-    for placed in acts {
-        if base_said(placed, pair) == base {
-            return Some(Claim {
-                below: base.cast_signed(),
-                place: place_of(placed),
-            });
+            return Some(claim_in(answer));
         }
     }
     None
 }
 
-/// The first of these acts, in a datagram counted from 1, that answers with a base above the number.
-fn first_claiming(acts: &[Placed<'_>], pair: Pair, datagram: u64, number: u64) -> Option<Claim>
-    ensures { result ≡ claim_of pair.writer pair.reader datagram number (map placed_value acts.now) }
+/// The first of these answers, in a datagram counted from 1, that has a base above the number.
+fn first_above(answers: &[Answer], datagram: u64, number: u64) -> Option<Claim>
+    ensures { result ≡ find (λ claim. (claim.place.datagram == datagram) && nat_lt number (natural claim.below)) (map claim_in_lem answers.now) }
 {
-    for placed in acts {
-        let base = base_said(placed, pair);
-        if placed.datagram as u64 == datagram && number < base {
-            return Some(Claim {
-                below: base.cast_signed(),
-                place: place_of(placed),
-            });
+    for answer in answers {
+        if answer.datagram as u64 == datagram && number < answer.natural_base() {
+            return Some(claim_in(answer));
         }
     }
     None
@@ -102,8 +78,7 @@ pub(crate) fn find_acknowledgement(index: &Index<'_>, pair: Pair, from: SeqNum) 
     if base <= from.get().cast_unsigned() {
         return None;
     }
-    let acts = index.acts_since(pair.reader, first_datagram(answers, base));
-    first_answering(acts, pair, base)
+    first_with(answers, base)
 }
 
 /// The first answer of a pair's reader to its writer, in a datagram counted from 1, that has a base above the number.
@@ -111,6 +86,5 @@ pub(crate) fn find_claim(index: &Index<'_>, pair: Pair, datagram: u64, number: u
     ensures { (recording : List (List ℕ)) → IsIndexOf recording index.now
         → result ≡ claim_of pair.writer pair.reader datagram number (placed_in recording) }
 {
-    let acts = index.acts_since(pair.reader, datagram as usize);
-    first_claiming(acts, pair, datagram, number)
+    first_above(index.answers_of(pair), datagram, number)
 }

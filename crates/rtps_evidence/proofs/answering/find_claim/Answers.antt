@@ -1,10 +1,15 @@
-use Rattle.std.proofs.Common.{◌∙◌, ap}
+use Rattle.std.proofs.Common.{List, ◌∙◌, ◌==◌, ◌&&◌, nat_lt, ap, map}
+use Rattle.std.specs.List.{find}
 use Rattle.rtps_audit.specs.Placed.{placed_in}
-use Rattle.rtps_evidence.specs.Acting.{claim_of}
+use Rattle.rtps_audit.specs.Speech.{natural}
+use Rattle.rtps_audit.specs.declared.answers.Answer.{Answer}
+use Rattle.rtps_evidence.specs.Acting.{claim_in}
+use Rattle.rtps_evidence.specs.declared.answering.Claim.{Claim}
 use Rattle.rtps_evidence.proofs.AnswerLemmas.{claimed}
 use Rattle.rtps_evidence.proofs.answering.find_claim.Goals as goal
 
 pub returns : goal.returns
 returns c = λ recording is.
-    c.first_claiming.ensures ∙ ap (claim_of c.args.pair.writer c.args.pair.reader c.args.datagram c.args.number) (c.acts_since-acts.ensures recording is)
+    c.first_above.ensures
+    ∙ ap (λ (all : List Answer). find (λ (claim : Claim). (claim.place.datagram == c.args.datagram) && nat_lt c.args.number (natural claim.below)) (map claim_in all)) (c.answers_of.ensures recording is)
     ∙ claimed c.args.datagram c.args.number c.args.pair (placed_in recording)

@@ -6,7 +6,7 @@ use Rattle.rtps_evidence.proofs.answering.greatest_base.Goals as goal
 
 pub loop-answer-preserved : goal.loop-answer-preserved
 loop-answer-preserved c =
-    let none : Answer = record { datagram = 0; base = pos 0 } in
+    let none : Answer = record { datagram = 0; at = 0; base = pos 0 } in
     let past = greatest_of_each (λ (answer : Answer). natural answer.base) c.args.answers.now c.loop-answer.answer-index none c.loop-answer-test.true in
     let said = c.natural_base.ensures.value in
     let small = c.natural_base.ensures.in_range in

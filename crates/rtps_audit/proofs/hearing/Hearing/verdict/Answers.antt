@@ -10,7 +10,7 @@ pub loop-answer-preserved : goal.loop-answer-preserved
 loop-answer-preserved c =
     let answers = c.args.answers.now in
     let k = c.loop-answer.answer-index in
-    let answer = get_or answers k (record { datagram = 0; base = pos 0 }) in
+    let answer = get_or answers k (record { datagram = 0; at = 0; base = pos 0 }) in
     let more = take_more answers k _ c.loop-answer-test.true in
     let base = c.natural_base.ensures.value in
     let front : to_z w64 (of_z w64 c.front_before-front.result) ≡ c.front_before-front.result = omega (arith, ints) in

@@ -10,4 +10,4 @@ returns-in_ok-push c = λ pair from.
     let test = is_eq (guid_cmp pair.writer c.in-Some.writer) in
     let number = to_z w64 (of_z w64 c.in-Some.base) in
     let same : c.in-Some.base ≡ number = omega (arith, ints) in
-    answer_added _ _ _ _ number test refl (c.in_ok-push.ensures pair.writer) _ (c.in-Some.ensures pair from ∙ ap (λ z. cond test (Some z) None) same)
+    answer_added _ _ _ _ _ number test refl (c.in_ok-push.ensures pair.writer) _ (c.in-Some.ensures pair from ∙ ap (λ z. cond test (Some z) None) same)
