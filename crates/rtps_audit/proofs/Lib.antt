@@ -31,4 +31,3 @@ pub mod DeliveredLemmas
 pub mod RecordingActs
 pub mod Offered
 pub mod SetWords
-pub mod SinceLemmas

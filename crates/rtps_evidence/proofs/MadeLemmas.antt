@@ -3,9 +3,8 @@ use Rattle.std.proofs.Common.{◌≡◌, ℕ, ℤ, pos, Option, ap, ◌∙◌}
 use Rattle.rtps_ids.specs.declared.identity.Guid.{Guid}
 use Rattle.rtps_wire.specs.Values.{PayloadValue}
 use Rattle.rtps_audit.specs.Placed.{PlacedValue}
-use Rattle.rtps_evidence.specs.Acting.{SentValue, announcement_at, base_said, claim_at, kind_of, payload_for, place_of, sent_at, teller_at}
+use Rattle.rtps_evidence.specs.Acting.{SentValue, announcement_at, kind_of, payload_for, place_of, sent_at, teller_at}
 use Rattle.rtps_evidence.specs.declared.announcing.Announcement.{Announcement}
-use Rattle.rtps_evidence.specs.declared.answering.Claim.{Claim}
 use Rattle.rtps_evidence.specs.declared.places.Kind.{Kind}
 use Rattle.rtps_evidence.specs.declared.places.Place.{Place}
 use Rattle.rtps_evidence.specs.declared.telling.Teller.{Teller}
@@ -16,13 +15,6 @@ teller kind place = record { kind = kind; place = place }
 pub teller_made : (kind : Kind) (place : Place) (placed : PlacedValue) → kind ≡ kind_of placed.act.body → place ≡ place_of placed → (let made : Teller = record { kind = kind; place = place } in made) ≡ teller_at placed
 unfolding teller
 teller_made kind place placed a b = ap (λ k. teller k place) a ∙ ap (teller (kind_of placed.act.body)) b
-
-claim : ℤ → Place → Claim
-claim below place = record { below = below; place = place }
-
-pub claim_made : (writer reader : Guid) (below : ℤ) (place : Place) (placed : PlacedValue) → below ≡ pos (base_said writer reader placed) → place ≡ place_of placed → (let made : Claim = record { below = below; place = place } in made) ≡ claim_at writer reader placed
-unfolding claim
-claim_made writer reader below place placed a b = ap (λ z. claim z place) a ∙ ap (claim (pos (base_said writer reader placed))) b
 
 announcement : ℤ → Kind → Place → Announcement
 announcement number kind place = record { number = number; kind = kind; place = place }
