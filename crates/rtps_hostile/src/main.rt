@@ -55,24 +55,33 @@ fn try_refused(rt: &HostRuntime, call: &str, text: &str) -> Result<(), Fault> {
 }
 
 fn try_all(rt: &HostRuntime, text: &str) -> Result<(), Fault> {
-    let alloc = rt.alloc();
-    let texts = recordings::texts(alloc, text)?;
-    let recordings = recordings::read(alloc, &texts)?;
-    let (datagrams, cuts) = cuts::count(&recordings)?;
-    println!(rt; "cuts: {cuts} of {datagrams} datagrams")?;
-    let (octets, verdicts) = verdicts::count(alloc, &recordings)?;
-    println!(rt; "changed octets: {octets}, each in 3 ways, with {verdicts} rows of audits")?;
-    let first = recordings.first().ok_or(Fault::Input)?;
-    let many = acknowledgements::count(alloc, first)?;
-    println!(rt; "ACKNACKs in one datagram: {many}")?;
-    let capture = captures::capture_of(alloc, first)?;
+    let texts = recordings::texts(rt.alloc(), text)?;
+    count_changes(rt, &texts)?;
     let first = texts.first().ok_or(Fault::Input)?;
-    try_streams(rt, "a text", first.as_bytes())?;
-    try_streams(rt, "a capture", &capture)?;
+    try_forms(rt, first.as_str())?;
     for call in refusals::CALLS {
         try_refused(rt, call, first.as_str())?;
     }
     Ok(())
+}
+
+fn count_changes(rt: &HostRuntime, texts: &[String]) -> Result<(), Fault> {
+    let recordings = recordings::read(rt.alloc(), texts)?;
+    let (datagrams, cuts) = cuts::count(&recordings)?;
+    println!(rt; "cuts: {cuts} of {datagrams} datagrams")?;
+    let (octets, verdicts) = verdicts::count(rt.alloc(), &recordings)?;
+    println!(rt; "changed octets: {octets}, each in 3 ways, with {verdicts} rows of audits")?;
+    let first = recordings.first().ok_or(Fault::Input)?;
+    let many = acknowledgements::count(rt.alloc(), first)?;
+    println!(rt; "ACKNACKs in one datagram: {many}")?;
+    Ok(())
+}
+
+fn try_forms(rt: &HostRuntime, text: &str) -> Result<(), Fault> {
+    try_streams(rt, "a text", text.as_bytes())?;
+    let recording = recordings::read_one(rt.alloc(), text)?;
+    let capture = captures::capture_of(rt.alloc(), &recording)?;
+    try_streams(rt, "a capture", &capture)
 }
 
 fn try_streams(rt: &HostRuntime, form: &str, input: &[u8]) -> Result<(), Fault> {

@@ -22,10 +22,14 @@ pub(crate) fn texts(alloc: Global, text: &str) -> Result<Vec<String>, Fault> {
 pub(crate) fn read(alloc: Global, texts: &[String]) -> Result<Vec<Recording>, Fault> {
     let mut recordings = Vec::new(alloc);
     for text in texts {
-        let recording = read_recording(alloc, text.as_bytes())?;
-        recordings.push(recording)?;
+        recordings.push(read_one(alloc, text.as_str())?)?;
     }
     Ok(recordings)
+}
+
+/// The recording that is a text.
+pub(crate) fn read_one(alloc: Global, text: &str) -> Result<Recording, Fault> {
+    Ok(read_recording(alloc, text.as_bytes())?)
 }
 
 /// The datagrams of a recording.

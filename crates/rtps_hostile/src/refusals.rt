@@ -7,8 +7,8 @@ mod writers;
 
 use crate::captures::capture_of;
 use crate::fault::Fault;
-use crate::recordings::datagrams;
-use rtps_tool::read_recording;
+use crate::recordings::{datagrams, read_one};
+use rtps_tool::Recording;
 use std::alloc::{AllocError, Global};
 
 /// All calls that can be tried. One whose name begins with `capture_` is given a capture of the recording.
@@ -64,10 +64,8 @@ fn mark(alloc: Global) -> Result<(), AllocError> {
 /// Whether the call was refused memory on the recording that is the text. An `Err` tells of another fault, or of an
 /// answer that differs.
 pub(crate) fn try_call(alloc: Global, call: &str, text: &str) -> Result<bool, Fault> {
-    let recording = read_recording(alloc, text.as_bytes())?;
     if let Some(call) = call.strip_prefix("capture_") {
-        let capture = capture_of(alloc, &recording)?;
-        return tool::try_input(alloc, call, &capture)?.ok_or(Fault::Call);
+        return try_capture(alloc, call, text);
     }
     if let Some(refused) = tool::try_input(alloc, call, text.as_bytes())? {
         return Ok(refused);
@@ -75,9 +73,22 @@ pub(crate) fn try_call(alloc: Global, call: &str, text: &str) -> Result<bool, Fa
     if let Some(refused) = tool::try_words(alloc, call)? {
         return Ok(refused);
     }
-    let recording = datagrams(alloc, &recording)?;
-    if let Some(refused) = writers::try_call(alloc, call, &recording)? {
-        return Ok(refused);
+    let recording = read_one(alloc, text)?;
+    try_recording(alloc, call, &recording)
+}
+
+// A call on a capture of the recording.
+fn try_capture(alloc: Global, call: &str, text: &str) -> Result<bool, Fault> {
+    let recording = read_one(alloc, text)?;
+    let capture = capture_of(alloc, &recording)?;
+    tool::try_input(alloc, call, &capture)?.ok_or(Fault::Call)
+}
+
+// A call on the datagrams of the recording.
+fn try_recording(alloc: Global, call: &str, recording: &Recording) -> Result<bool, Fault> {
+    let recording = datagrams(alloc, recording)?;
+    match writers::try_call(alloc, call, &recording)? {
+        Some(refused) => Ok(refused),
+        None => library::try_call(alloc, call, &recording)?.ok_or(Fault::Call),
     }
-    library::try_call(alloc, call, &recording)?.ok_or(Fault::Call)
 }

@@ -3,7 +3,7 @@
 
 use crate::fault::Fault;
 use crate::recordings::{ANNOUNCING, datagrams};
-use rtps_audit::{Index, MergedRanges, PlainRanges, audit, judge, judge_by};
+use rtps_audit::{BitRanges, Index, PlainRanges, Verdict, audit, judge, judge_by};
 use rtps_discovery::Pair;
 use rtps_ids::{EntityId, Guid, GuidPrefix};
 use rtps_tool::Recording;
@@ -72,20 +72,26 @@ pub(crate) fn judge_every_way(alloc: Global, recording: &[&[u8]]) -> Result<usiz
     let report = audit(alloc, recording)?;
     let index = Index::build(alloc, recording)?;
     for row in &report.rows {
-        let plain = judge_by::<PlainRanges>(alloc, recording, row.pair)?;
-        let merged = judge_by::<MergedRanges>(alloc, recording, row.pair)?;
-        let one = judge(alloc, recording, row.pair)?;
-        let indexed = index.judge(row.pair)?;
-        if row.verdict != plain
-            || row.verdict != merged
-            || row.verdict != one
-            || row.verdict != indexed
-        {
+        if row.verdict != judged_alike(alloc, recording, &index, row.pair)? {
             return Err(Fault::Differs("a verdict is another by another way"));
         }
     }
-    if index.judge(PAIR)? != judge(alloc, recording, PAIR)? {
-        return Err(Fault::Differs("a pair that need not match is judged otherwise by the index"));
-    }
+    let _ = judged_alike(alloc, recording, &index, PAIR)?;
     Ok(report.rows.len())
+}
+
+// The verdict on a pair, which need not match: the same by the index and by the judge with each of three sets.
+fn judged_alike(
+    alloc: Global,
+    recording: &[&[u8]],
+    index: &Index<'_>,
+    pair: Pair,
+) -> Result<Verdict, Fault> {
+    let verdict = index.judge(pair)?;
+    let plain = judge_by::<PlainRanges>(alloc, recording, pair)?;
+    let bits = judge_by::<BitRanges>(alloc, recording, pair)?;
+    if [judge(alloc, recording, pair)?, plain, bits] != [verdict; 3] {
+        return Err(Fault::Differs("a pair is judged otherwise by the index"));
+    }
+    Ok(verdict)
 }

@@ -98,6 +98,19 @@ impl Counts {
     }
 }
 
+// Writes how many messages are refused for a fault, where there are some.
+fn write_refused<W: fmt::Write, F: fmt::Display + Drop>(
+    f: &mut fmt::Formatter<W>,
+    what: &str,
+    fault: F,
+    count: usize,
+) -> fmt::Result {
+    if count == 0 {
+        return Ok(());
+    }
+    writeln!(f, "{what}, {fault}: {count}")
+}
+
 impl fmt::Display for Counts {
     fn fmt<W: fmt::Write>(&self, f: &mut fmt::Formatter<W>) -> fmt::Result {
         writeln!(f, "the same octets: {}", self.same)?;
@@ -105,16 +118,10 @@ impl fmt::Display for Counts {
         writeln!(f, "other items: {}", self.differs)?;
         writeln!(f, "not written, with a skipped item: {}", self.skipped)?;
         for fault in READING {
-            let count = self.refused_for(fault.number());
-            if count > 0 {
-                writeln!(f, "not read, {fault}: {count}")?;
-            }
+            write_refused(f, "not read", fault, self.refused_for(fault.number()))?;
         }
         for fault in WRITING {
-            let count = self.refused_for(fault.number());
-            if count > 0 {
-                writeln!(f, "not written, {fault}: {count}")?;
-            }
+            write_refused(f, "not written", fault, self.refused_for(fault.number()))?;
         }
         Ok(())
     }

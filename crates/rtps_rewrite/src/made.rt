@@ -46,11 +46,11 @@ macro_rules! big {
 pub(crate) fn open(alloc: Global) -> Result<Vec<Vec<u8>>, Fault> {
     let mut messages = Vec::new(alloc);
     announce(alloc, &mut messages)?;
-    messages.push(sample(alloc, 1, b"standing")?)?;
-    messages.push(sample(alloc, 2, b"sitting.")?)?;
-    messages.push(sample(alloc, 3, b"sleeping")?)?;
-    messages.push(heartbeat(alloc, 1, 3)?)?;
-    messages.push(acknowledgement(alloc, 3, 1)?)?;
+    push(&mut messages, sample(alloc, 1, b"standing"))?;
+    push(&mut messages, sample(alloc, 2, b"sitting."))?;
+    push(&mut messages, sample(alloc, 3, b"sleeping"))?;
+    push(&mut messages, heartbeat(alloc, 1, 3))?;
+    push(&mut messages, acknowledgement(alloc, 3, 1))?;
     Ok(messages)
 }
 
@@ -58,19 +58,24 @@ pub(crate) fn open(alloc: Global) -> Result<Vec<Vec<u8>>, Fault> {
 pub(crate) fn unfounded(alloc: Global) -> Result<Vec<Vec<u8>>, Fault> {
     let mut messages = Vec::new(alloc);
     announce(alloc, &mut messages)?;
-    messages.push(sample(alloc, 1, b"standing")?)?;
-    messages.push(sample(alloc, 2, b"sitting.")?)?;
-    messages.push(acknowledgement(alloc, 4, 0)?)?;
-    messages.push(sample(alloc, 3, b"sleeping")?)?;
-    messages.push(heartbeat(alloc, 1, 3)?)?;
+    push(&mut messages, sample(alloc, 1, b"standing"))?;
+    push(&mut messages, sample(alloc, 2, b"sitting."))?;
+    push(&mut messages, acknowledgement(alloc, 4, 0))?;
+    push(&mut messages, sample(alloc, 3, b"sleeping"))?;
+    push(&mut messages, heartbeat(alloc, 1, 3))?;
     Ok(messages)
+}
+
+// Appends a message, where it could be made.
+fn push(messages: &mut Vec<Vec<u8>>, message: Result<Vec<u8>, Fault>) -> Result<(), Fault> {
+    messages.push(message?)?;
+    Ok(())
 }
 
 // Appends the two messages that announce the writer and the reader.
 fn announce(alloc: Global, messages: &mut Vec<Vec<u8>>) -> Result<(), Fault> {
-    messages.push(announcement(alloc, A, ANNOUNCES_WRITERS, WRITER)?)?;
-    messages.push(announcement(alloc, B, ANNOUNCES_READERS, READER)?)?;
-    Ok(())
+    push(messages, announcement(alloc, A, ANNOUNCES_WRITERS, WRITER))?;
+    push(messages, announcement(alloc, B, ANNOUNCES_READERS, READER))
 }
 
 // The octets of an endpoint's GUID.

@@ -19,6 +19,7 @@ mod rewriting;
 
 use fault::Fault;
 use rtps_tool::{Recording, read_recording};
+use std::alloc::Global;
 use std::io::Write;
 use std::process::ExitCode;
 use std::{env, io};
@@ -71,11 +72,20 @@ fn print_made(rt: &HostRuntime, kind: &str) -> Result<(), Fault> {
 fn repeat(rt: &HostRuntime, call: &str, times: &str) -> Result<(), Fault> {
     let times = times.parse::<u32>().map_err(|_| Fault::Words)?;
     let recording = read_stdin(rt)?;
-    let octets = match call {
-        "read" => repeated::read(rt.alloc(), &recording, times)?,
-        "write" => repeated::write(rt.alloc(), &recording, times)?,
-        _ => return Err(Fault::Words),
-    };
+    let octets = repeated_octets(rt.alloc(), call, &recording, times)?;
     println!(rt; "octets: {octets}")?;
     Ok(())
+}
+
+fn repeated_octets(
+    alloc: Global,
+    call: &str,
+    recording: &Recording,
+    times: u32,
+) -> Result<u64, Fault> {
+    match call {
+        "read" => repeated::read(alloc, recording, times),
+        "write" => repeated::write(alloc, recording, times),
+        _ => Err(Fault::Words),
+    }
 }

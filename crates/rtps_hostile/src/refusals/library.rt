@@ -5,8 +5,8 @@ use crate::fault::Fault;
 use crate::streams::asked_from;
 use crate::verdicts::PAIR;
 use rtps_audit::{
-    BitRanges, Counts, Coverage, Index, MergedRanges, PlainRanges, Report, Row, Verdict, audit,
-    audit_from, judge, judge_by, judge_from,
+    BitRanges, Counts, Coverage, Index, MergedRanges, PlainRanges, Row, Verdict, audit, audit_from,
+    judge, judge_by, judge_from,
 };
 use rtps_discovery::{Directory, Endpoint, Match, Noted, Pair};
 use rtps_ids::{Guid, Memory};
@@ -38,32 +38,40 @@ pub(super) fn try_call(
     recording: &[&[u8]],
 ) -> Result<Option<bool>, Fault> {
     let refused = match call {
-        "note" => is_note_refused(alloc, recording)?,
+        "note" => is_note_refused(alloc, recording),
         "participants" | "endpoints" | "matched" | "pairs" => {
-            is_listing_refused(alloc, call, recording)?
+            is_listing_refused(alloc, call, recording)
         }
-        "walk" => is_walk_refused(alloc, recording)?,
-        "add_plain" => is_add_refused::<PlainRanges>(alloc)?,
-        "add_merged" => is_add_refused::<MergedRanges>(alloc)?,
-        "add_bits" => is_add_refused::<BitRanges>(alloc)?,
+        "walk" => is_walk_refused(alloc, recording),
+        "add_plain" => is_add_refused::<PlainRanges>(alloc),
+        "add_merged" => is_add_refused::<MergedRanges>(alloc),
+        "add_bits" => is_add_refused::<BitRanges>(alloc),
         "judge"
         | "judge_by_plain"
         | "judge_from_plain"
         | "judge_from_merged"
         | "judge_from_bits"
         | "index_judge"
-        | "index_judge_from" => is_judging_refused(alloc, call, recording)?,
-        "build" => is_build_refused(alloc, recording)?,
-        "audit" => is_refused!(alloc, said_by(audit(alloc, recording))),
-        "audit_from" => is_refused!(alloc, said_by(audit_from(alloc, recording, asked_from()))),
+        | "index_judge_from" => is_judging_refused(alloc, call, recording),
+        "build" => is_build_refused(alloc, recording),
+        "audit" | "audit_from" => is_audit_refused(alloc, call, recording),
         _ => return Ok(None),
     };
-    Ok(Some(refused))
+    Ok(Some(refused?))
 }
 
 fn is_judging_refused(alloc: Global, call: &str, recording: &[&[u8]]) -> Result<bool, Fault> {
     let index = Index::build(alloc, recording)?;
-    Ok(is_refused!(alloc, judged(alloc, call, recording, &index)))
+    is_verdict_refused(alloc, call, recording, &index)
+}
+
+fn is_verdict_refused(
+    alloc: Global,
+    call: &str,
+    recording: &[&[u8]],
+    index: &Index<'_>,
+) -> Result<bool, Fault> {
+    Ok(is_refused!(alloc, judged(alloc, call, recording, index)))
 }
 
 // The verdict on the pair by a call; by the index alone where it is none of the others.
@@ -85,9 +93,17 @@ fn judged(
     }
 }
 
-// What a report says.
-fn said_by(report: Result<Report, Memory>) -> Result<(Vec<Row>, Counts), Memory> {
-    let report = report?;
+fn is_audit_refused(alloc: Global, call: &str, recording: &[&[u8]]) -> Result<bool, Fault> {
+    Ok(is_refused!(alloc, audited(alloc, call, recording)))
+}
+
+// What a report says, by a call.
+fn audited(alloc: Global, call: &str, recording: &[&[u8]]) -> Result<(Vec<Row>, Counts), Memory> {
+    let report = if call == "audit" {
+        audit(alloc, recording)?
+    } else {
+        audit_from(alloc, recording, asked_from())?
+    };
     Ok((report.rows, report.counts))
 }
 
@@ -150,7 +166,11 @@ fn is_listing_refused(alloc: Global, call: &str, recording: &[&[u8]]) -> Result<
         let _ = walk.read(datagram)?;
         let _ = directory.note_all(walk.acts())?;
     }
-    Ok(is_refused!(alloc, listed(&directory, call)))
+    is_list_refused(alloc, call, &directory)
+}
+
+fn is_list_refused(alloc: Global, call: &str, directory: &Directory<'_>) -> Result<bool, Fault> {
+    Ok(is_refused!(alloc, listed(directory, call)))
 }
 
 // The calls that list what a directory has.
@@ -245,18 +265,12 @@ fn are_same_numbers<C: Coverage>(one: &C, other: &C) -> bool {
 }
 
 fn is_build_refused(alloc: Global, recording: &[&[u8]]) -> Result<bool, Fault> {
-    let wanted = said(&Index::build(alloc, recording)?)?;
-    mark(alloc)?;
-    let first = Index::build(alloc, recording);
-    mark(alloc)?;
-    let (index, refused) = match first {
-        Ok(index) => (index, false),
-        Err(Memory) => (Index::build(alloc, recording)?, true),
-    };
-    if said(&index)? != wanted {
-        return Err(Fault::Differs("the index is another after a refusal"));
-    }
-    Ok(refused)
+    Ok(is_refused!(alloc, built(alloc, recording)))
+}
+
+// What an index says that is built.
+fn built(alloc: Global, recording: &[&[u8]]) -> Result<(usize, usize, Verdict), Memory> {
+    said(&Index::build(alloc, recording)?)
 }
 
 // How many acts each of the pair has in an index, and the verdict.

@@ -4,35 +4,32 @@ use super::mark;
 use crate::fault::Fault;
 use crate::streams::{Run, text_of};
 use rtps_tool::{Choice, RecFault, Recording, RunFault, WordFault, read_recording, read_words};
-use std::alloc::Global;
+use std::alloc::{AllocError, Global};
 
 /// Whether the call on the input was refused memory; None where it is none of these.
 pub(super) fn try_input(alloc: Global, call: &str, input: &[u8]) -> Result<Option<bool>, Fault> {
     let refused = match call {
-        "read_recording" => is_reading_refused(alloc, input)?,
-        "show" => is_run_refused(alloc, Run::Show, input)?,
-        "list" => is_run_refused(alloc, Run::List, input)?,
-        "audit_run" => is_run_refused(alloc, Run::Audit, input)?,
-        "audit_from_run" => is_run_refused(alloc, Run::AuditFrom, input)?,
-        "why_run" => is_run_refused(alloc, Run::Why, input)?,
+        "read_recording" => is_reading_refused(alloc, input),
+        "show" => is_run_refused(alloc, Run::Show, input),
+        "list" => is_run_refused(alloc, Run::List, input),
+        "audit_run" => is_run_refused(alloc, Run::Audit, input),
+        "audit_from_run" => is_run_refused(alloc, Run::AuditFrom, input),
+        "why_run" => is_run_refused(alloc, Run::Why, input),
         _ => return Ok(None),
     };
-    Ok(Some(refused))
+    Ok(Some(refused?))
 }
 
 /// Whether the call on words was refused memory; None where it is none of these.
 pub(super) fn try_words(alloc: Global, call: &str) -> Result<Option<bool>, Fault> {
     let refused = match call {
-        "read_words" => are_words_refused(alloc, &["rtps-audit", "audit", "--", "a file.rec"])?,
-        "read_words_from" => are_words_refused(
-            alloc,
-            &["rtps-audit", "audit", "--from", "2", "-"],
-        )?,
-        "read_help" => are_words_refused(alloc, &["rtps-audit", "list", "--help"])?,
-        "read_refused_words" => are_words_refused(alloc, &["rtps-audit", "show", "--quiet"])?,
+        "read_words" => are_words_refused(alloc, &["rtps-audit", "audit", "--", "a file.rec"]),
+        "read_words_from" => are_words_refused(alloc, &["rtps-audit", "audit", "--from", "2", "-"]),
+        "read_help" => are_words_refused(alloc, &["rtps-audit", "list", "--help"]),
+        "read_refused_words" => are_words_refused(alloc, &["rtps-audit", "show", "--quiet"]),
         _ => return Ok(None),
     };
-    Ok(Some(refused))
+    Ok(Some(refused?))
 }
 
 fn is_reading_refused(alloc: Global, input: &[u8]) -> Result<bool, Fault> {
@@ -40,15 +37,26 @@ fn is_reading_refused(alloc: Global, input: &[u8]) -> Result<bool, Fault> {
     mark(alloc)?;
     let first = read_recording(alloc, input);
     mark(alloc)?;
-    let (recording, refused): (Recording, bool) = match first {
-        Ok(recording) => (recording, false),
-        Err(RecFault::Memory) => (read_recording(alloc, input)?, true),
-        Err(_) => return Err(Fault::Differs("a refusal is answered by another fault")),
-    };
-    if !recording.datagrams().eq(wanted.datagrams()) || recording.ignored() != wanted.ignored() {
-        return Err(Fault::Differs("the recording is another after a refusal"));
+    match first {
+        Ok(recording) => {
+            hold_same(&recording, &wanted)?;
+            Ok(false)
+        }
+        Err(RecFault::Memory) => {
+            hold_same(&read_recording(alloc, input)?, &wanted)?;
+            Ok(true)
+        }
+        Err(_) => Err(Fault::Differs("a refusal is answered by another fault")),
     }
-    Ok(refused)
+}
+
+// Two recordings have to be the same.
+fn hold_same(one: &Recording, other: &Recording) -> Result<(), Fault> {
+    if one.datagrams().eq(other.datagrams()) && one.ignored() == other.ignored() {
+        Ok(())
+    } else {
+        Err(Fault::Differs("the recording is another after a refusal"))
+    }
 }
 
 // The words may be read as with ample memory although a request was refused.
@@ -72,36 +80,39 @@ fn are_words_refused(alloc: Global, words: &[&str]) -> Result<bool, Fault> {
 
 // What words choose, or the text that answers them; None for want of memory.
 fn answer_of(alloc: Global, read: Result<Choice, WordFault>) -> Result<Option<String>, Fault> {
-    Ok(Some(match read {
-        Ok(Choice::Show { file, limits: _ }) => format!(in alloc; "show {file}")?,
-        Ok(Choice::List { file, limits: _ }) => format!(in alloc; "list {file}")?,
-        Ok(
-            Choice::Audit {
-                file,
-                from,
-                limits: _,
-                json,
-            },
-        ) => {
+    match read {
+        Ok(choice) => Ok(Some(chosen(alloc, &choice)?)),
+        Err(WordFault::Memory) => Ok(None),
+        Err(fault) => Ok(Some(told(alloc, &fault)?)),
+    }
+}
+
+// What is chosen.
+fn chosen(alloc: Global, choice: &Choice) -> Result<String, AllocError> {
+    let file = choice.file().unwrap_or("");
+    match choice {
+        Choice::Show { .. } => format!(in alloc; "show {file}"),
+        Choice::List { .. } => format!(in alloc; "list {file}"),
+        Choice::Audit { from, json, .. } => {
             let number = from.get();
-            format!(in alloc; "audit {file} from {number} json {json}")?
+            format!(in alloc; "audit {file} from {number} json {json}")
         }
-        Ok(
-            Choice::Why {
-                file,
-                from,
-                limits: _,
-            },
-        ) => {
+        Choice::Why { from, .. } => {
             let number = from.get();
-            format!(in alloc; "why {file} from {number}")?
+            format!(in alloc; "why {file} from {number}")
         }
-        Ok(Choice::Sample) => format!(in alloc; "sample")?,
-        Err(WordFault::Refused(refusal)) => format!(in alloc; "refused {refusal}")?,
-        Err(WordFault::Help(help)) => format!(in alloc; "help {help}")?,
-        Err(WordFault::Version(version)) => format!(in alloc; "version {version}")?,
-        Err(WordFault::Memory) => return Ok(None),
-    }))
+        Choice::Sample => format!(in alloc; "sample"),
+    }
+}
+
+// The text that answers words which choose nothing; empty for want of memory.
+fn told(alloc: Global, fault: &WordFault) -> Result<String, AllocError> {
+    match fault {
+        WordFault::Refused(refusal) => format!(in alloc; "refused {refusal}"),
+        WordFault::Help(help) => format!(in alloc; "help {help}"),
+        WordFault::Version(version) => format!(in alloc; "version {version}"),
+        WordFault::Memory => Ok(String::new(alloc)),
+    }
 }
 
 // The output has its room before the run. A run that is refused has written nothing, and is made again on a fresh input.

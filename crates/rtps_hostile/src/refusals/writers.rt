@@ -26,11 +26,11 @@ pub(super) fn try_call(
     recording: &[&[u8]],
 ) -> Result<Option<bool>, Fault> {
     let refused = match call {
-        "write_list" => is_append_refused(alloc, Appended::List(&PARAMETERS))?,
-        "write_message" => is_any_message_refused(alloc, recording)?,
+        "write_list" => is_append_refused(alloc, Appended::List(&PARAMETERS)),
+        "write_message" => is_any_message_refused(alloc, recording),
         _ => return Ok(None),
     };
-    Ok(Some(refused))
+    Ok(Some(refused?))
 }
 
 fn is_any_message_refused(alloc: Global, recording: &[&[u8]]) -> Result<bool, Fault> {
