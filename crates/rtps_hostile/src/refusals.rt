@@ -12,7 +12,7 @@ use rtps_tool::Recording;
 use std::alloc::{AllocError, Global};
 
 /// All calls that can be tried. One whose name begins with `capture_` is given a capture of the recording.
-pub(crate) const CALLS: [&str; 37] = [
+pub(crate) const CALLS: [&str; 40] = [
     "note",
     "participants",
     "endpoints",
@@ -30,6 +30,7 @@ pub(crate) const CALLS: [&str; 37] = [
     "build",
     "index_judge",
     "index_judge_from",
+    "evidence",
     "audit",
     "audit_from",
     "write_list",
@@ -44,12 +45,14 @@ pub(crate) const CALLS: [&str; 37] = [
     "audit_run",
     "audit_from_run",
     "why_run",
+    "json_run",
     "capture_read_recording",
     "capture_show",
     "capture_list",
     "capture_audit_run",
     "capture_audit_from_run",
     "capture_why_run",
+    "capture_json_run",
 ];
 
 /// Requests between one of this size and the next are counted by `tests/refuse_requests.c`. Nothing else asks for so much.

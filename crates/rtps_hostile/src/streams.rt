@@ -2,7 +2,10 @@
 
 use crate::fault::Fault;
 use rtps_ids::SeqNum;
-use rtps_tool::{Ending, RunFault, run_audit, run_audit_from, run_list, run_show, run_why};
+use rtps_tool::{
+    Ending, Limits, RunFault, Unwatched, run_audit, run_audit_from, run_json_within, run_list,
+    run_show, run_why,
+};
 use std::alloc::Global;
 use std::io::{self, ErrorKind, Read, Write};
 
@@ -66,9 +69,17 @@ pub(crate) enum Run {
     Audit,
     AuditFrom,
     Why,
+    Json,
 }
 
-const RUNS: [Run; 5] = [Run::Show, Run::List, Run::Audit, Run::AuditFrom, Run::Why];
+const RUNS: [Run; 6] = [
+    Run::Show,
+    Run::List,
+    Run::Audit,
+    Run::AuditFrom,
+    Run::Why,
+    Run::Json,
+];
 
 /// The number from which on is asked.
 pub(crate) fn asked_from() -> SeqNum {
@@ -88,6 +99,10 @@ impl Run {
             Run::Audit => run_audit(alloc, input, output),
             Run::AuditFrom => run_audit_from(alloc, input, output, asked_from()),
             Run::Why => run_why(alloc, input, output),
+            Run::Json => {
+                let watch = &mut Unwatched;
+                run_json_within(alloc, Limits::usual(), input, output, asked_from(), watch)
+            }
         }
     }
 }

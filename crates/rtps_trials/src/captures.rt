@@ -1,7 +1,7 @@
-//! Captures: a small one whole, in pieces and cut.
+//! Captures: a small one whole and in pieces.
 
 use crate::pieces::{in_pieces, reads_as_whole};
-use rtps_tool::{RecFault, RunFault, read_recording, run_audit, status, write_fault};
+use rtps_tool::read_recording;
 use std::alloc::{AllocError, Global};
 use std::test::Fail;
 
@@ -35,8 +35,6 @@ fn frames_stand_for_datagrams(rt: HostRuntime) -> Result<(), Fail> {
     assert_eq!(rt; recording.len(), 1);
     assert!(rt; matches!(recording.datagram(0), Some([0x52, 0x54])));
     assert_eq!(rt; recording.ignored(), Some(1));
-    let text = read_recording(rt.alloc(), b"5254")?;
-    assert_eq!(rt; text.ignored(), None);
     Ok(())
 }
 
@@ -51,36 +49,5 @@ fn a_capture_is_read_in_any_pieces(rt: HostRuntime) -> Result<(), Fail> {
             );
         }
     }
-    Ok(())
-}
-
-// What an audit of these octets says on standard error.
-fn told(alloc: Global, octets: &[u8], line: &[u8]) -> Option<(RunFault, bool)> {
-    let mut output = Vec::new(alloc);
-    let mut input = octets;
-    let outcome = run_audit(alloc, &mut input, &mut output);
-    let is_refused = status(&outcome) == 2;
-    let fault = outcome.err()?;
-    let is_told = write_fault(&fault, &mut output) && output.as_slice() == line;
-    Some((fault, is_refused && is_told))
-}
-
-#[test]
-fn a_capture_that_is_cut_is_refused(rt: HostRuntime) -> Result<(), Fail> {
-    let octets = capture(rt.alloc())?;
-    let bad = RunFault::Recording(RecFault::BadCapture);
-    let found = told(
-        rt.alloc(),
-        octets.get(..23).unwrap_or(&[]),
-        b"rtps-audit: bad capture\n",
-    );
-    assert_eq!(rt; found, Some((bad, true)));
-    let cut = RunFault::Recording(RecFault::CutCapture { frame: 2 });
-    let found = told(
-        rt.alloc(),
-        octets.get(..86).unwrap_or(&[]),
-        b"rtps-audit: frame 2: cut\n",
-    );
-    assert_eq!(rt; found, Some((cut, true)));
     Ok(())
 }

@@ -1,12 +1,11 @@
 use rtps_discovery::{
-    Directory, Durability, Endpoint, Match, Noted, NoticeFault, Pair, Reliability, Side, matches,
+    Directory, Durability, Endpoint, Match, Noted, NoticeFault, Pair, Reliability, Side,
     read_endpoint, read_participant,
 };
 use rtps_ids::{EntityId, Guid, GuidPrefix, Memory, Order, SeqNum, Vendor, Version};
-use rtps_receiver::{Act, ActBody, Walk};
-use rtps_wire::{DataBody, Payload, Tally};
+use rtps_receiver::{Act, ActBody};
+use rtps_wire::{DataBody, Payload};
 use std::alloc::{AllocError, Global};
-use std::process::Abort;
 use std::test::Fail;
 
 const BIG: &[u8] = b"\x00\x02\x00\x00";
@@ -18,14 +17,6 @@ const PARTICIPANT_A: &[u8] = b"\x00\x50\x00\x10aaaaaaaaaaaa\x00\x00\x01\xc1";
 const WRITER_A: &[u8] = b"\x00\x5a\x00\x10aaaaaaaaaaaa\x00\x00\x01\x03";
 
 const READER_B: &[u8] = b"\x00\x5a\x00\x10bbbbbbbbbbbb\x00\x00\x01\x04";
-
-const READER_C: &[u8] = b"\x00\x5a\x00\x10cccccccccccc\x00\x00\x01\x04";
-
-const READER_A_4: &[u8] = b"\x00\x5a\x00\x10aaaaaaaaaaaa\x00\x00\x01\x04";
-
-const READER_A_7: &[u8] = b"\x00\x5a\x00\x10aaaaaaaaaaaa\x00\x00\x01\x07";
-
-const WRITER_D: &[u8] = b"\x00\x5a\x00\x10dddddddddddd\x00\x00\x01\x03";
 
 const TOPIC: &[u8] = b"\x00\x05\x00\x0c\x00\x00\x00\x05pose\x00\x00\x00\x00";
 
@@ -46,8 +37,6 @@ const RELIABILITY_0: &[u8] = b"\x00\x1a\x00\x04\x00\x00\x00\x00";
 const RELIABILITY_3: &[u8] = b"\x00\x1a\x00\x04\x00\x00\x00\x03";
 
 const CUT_RELIABILITY: &[u8] = b"\x00\x1a\x00\x03\x00\x00\x00";
-
-const TRANSIENT_LOCAL: &[u8] = b"\x00\x1d\x00\x04\x00\x00\x00\x01";
 
 const DURABILITY_4: &[u8] = b"\x00\x1d\x00\x04\x00\x00\x00\x04";
 
@@ -239,278 +228,85 @@ fn reads_participants(rt: HostRuntime) -> Result<(), Fail> {
     Ok(())
 }
 
-#[test]
-fn matches_by_four(rt: HostRuntime) {
-    let writer = Endpoint {
-        guid: guid(1, [0, 0, 1, 3]),
-        side: Side::Writer,
-        topic: b"pose",
-        type_name: b"Pose",
-        reliability: Reliability::Reliable,
-        durability: Durability::TransientLocal,
-    };
-    let reader = Endpoint {
-        guid: guid(2, [0, 0, 1, 4]),
-        side: Side::Reader,
-        ..writer
-    };
-    let volatile = Durability::Volatile;
-    let transient = Durability::Transient;
-    let weak = Reliability::BestEffort;
-    assert!(rt; matches(&writer, &reader));
-    assert!(rt;
-        matches(
-            &writer,
-            &Endpoint {
-                durability: volatile,
-                reliability: weak,
-                ..reader
-            }
-        )
-    );
-    assert!(rt; !matches(&reader, &writer));
-    assert!(rt; !matches(&writer, &writer));
-    assert!(rt;
-        !matches(
-            &writer,
-            &Endpoint {
-                topic: b"posf",
-                ..reader
-            }
-        )
-    );
-    assert!(rt;
-        !matches(
-            &writer,
-            &Endpoint {
-                type_name: b"pose",
-                ..reader
-            }
-        )
-    );
-    assert!(rt;
-        !matches(
-            &writer,
-            &Endpoint {
-                durability: transient,
-                ..reader
-            }
-        )
-    );
-    assert!(rt;
-        !matches(
-            &Endpoint {
-                durability: volatile,
-                ..writer
-            },
-            &reader
-        )
-    );
-    assert!(rt;
-        !matches(
-            &Endpoint {
-                reliability: weak,
-                ..writer
-            },
-            &reader
-        )
-    );
+// An announcement of a participant, of a writer and of a RELIABLE reader.
+const PARTICIPANT: &[u8] =
+    b"\x00\x02\x00\x00\x00\x50\x00\x10aaaaaaaaaaaa\x00\x00\x01\xc1\x00\x01\x00\x00";
+
+const WRITER: &[u8] = b"\
+    \x00\x02\x00\x00\x00\x5a\x00\x10aaaaaaaaaaaa\x00\x00\x01\x03\
+    \x00\x05\x00\x0c\x00\x00\x00\x05pose\x00\x00\x00\x00\
+    \x00\x07\x00\x0c\x00\x00\x00\x05Pose\x00\x00\x00\x00\x00\x01\x00\x00";
+
+const READER: &[u8] = b"\
+    \x00\x02\x00\x00\x00\x5a\x00\x10bbbbbbbbbbbb\x00\x00\x01\x04\
+    \x00\x05\x00\x0c\x00\x00\x00\x05pose\x00\x00\x00\x00\
+    \x00\x07\x00\x0c\x00\x00\x00\x05Pose\x00\x00\x00\x00\
+    \x00\x1a\x00\x0c\x00\x00\x00\x02\x00\x00\x00\x00\x00\x00\x00\x00\x00\x01\x00\x00";
+
+// What is noted of acts in this order: of the built-in writer, the payload.
+const ANNOUNCED: [([u8; 4], Payload<'static>, Noted); 8] = [
+    (PARTICIPANTS, Payload::Key(PARTICIPANT), Noted::Nothing),
+    (PUBLICATIONS, Payload::Absent, Noted::Nothing),
+    ([0, 0, 2, 0xc2], Payload::Whole(WRITER), Noted::Nothing),
+    (
+        PARTICIPANTS,
+        Payload::Whole(WRITER),
+        Noted::Fault(NoticeFault::NoGuid),
+    ),
+    (
+        SUBSCRIPTIONS,
+        Payload::Whole(&[0]),
+        Noted::Fault(NoticeFault::CutRepresentation),
+    ),
+    (PARTICIPANTS, Payload::Whole(PARTICIPANT), Noted::Kept),
+    (PUBLICATIONS, Payload::Whole(WRITER), Noted::Kept),
+    (SUBSCRIPTIONS, Payload::Whole(READER), Noted::Kept),
+];
+
+fn note<'a>(
+    directory: &mut Directory<'a>,
+    writer: [u8; 4],
+    payload: Payload<'a>,
+) -> Result<Noted, Memory> {
+    let acts = [act(writer, payload)];
+    directory.note(&acts[0])
 }
 
 #[test]
-fn notes_announcements_alone(rt: HostRuntime) -> Result<(), Fail> {
-    let participant = joined(rt.alloc(), &[BIG, PARTICIPANT_A, END])?;
-    let writer = joined(rt.alloc(), &[BIG, WRITER_A, TOPIC, TYPE, END])?;
+fn announcements_are_noted(rt: HostRuntime) -> Result<(), Fail> {
     let mut directory = Directory::new(rt.alloc());
-    let acts = [
-        act(PARTICIPANTS, Payload::Key(&participant)),
-        act(PUBLICATIONS, Payload::Absent),
-        act([0, 0, 2, 0xc2], Payload::Whole(&writer)),
-        act(PARTICIPANTS, Payload::Whole(&writer)),
-        act(SUBSCRIPTIONS, Payload::Whole(&[0])),
-        act(PARTICIPANTS, Payload::Whole(&participant)),
-        act(PUBLICATIONS, Payload::Whole(&writer)),
-        act(PUBLICATIONS, Payload::Whole(&writer)),
-    ];
-    let answers = [
-        Noted::Nothing,
-        Noted::Nothing,
-        Noted::Nothing,
-        Noted::Fault(NoticeFault::NoGuid),
-        Noted::Fault(NoticeFault::CutRepresentation),
-        Noted::Kept,
-        Noted::Kept,
-        Noted::Kept,
-    ];
-    for (act, answer) in acts.iter().zip(answers) {
-        assert_eq!(rt; directory.note(act)?, answer);
+    for (writer, payload, noted) in ANNOUNCED {
+        assert_eq!(rt; note(&mut directory, writer, payload)?, noted);
     }
-    assert_eq!(rt;
-        directory.participants()?.as_slice(),
-        [guid(b'a', [0, 0, 1, 0xc1])].as_slice()
-    );
-    assert_eq!(rt;
-        directory.endpoints()?.as_slice(),
-        [read_endpoint(&writer, Side::Writer)?].as_slice()
-    );
     assert_eq!(rt; directory.unsettled(), 0);
     Ok(())
 }
 
-/// A writer, a best-effort reader, and one that is announced with two durabilities, in this order.
-fn check_order(rt: &impl Abort, alloc: Global, order: [usize; 4]) -> Result<(), Fail> {
-    let writer = joined(alloc, &[BIG, WRITER_A, TOPIC, TYPE, END])?;
-    let weak = joined(alloc, &[BIG, READER_C, TOPIC, TYPE, END])?;
-    let reader = joined(alloc, &[BIG, READER_B, TOPIC, TYPE, RELIABLE, END])?;
-    let other = joined(
-        alloc,
-        &[BIG, READER_B, TOPIC, TYPE, RELIABLE, TRANSIENT_LOCAL, END],
-    )?;
-    let acts = [
-        act(PUBLICATIONS, Payload::Whole(&writer)),
-        act(SUBSCRIPTIONS, Payload::Whole(&weak)),
-        act(SUBSCRIPTIONS, Payload::Whole(&reader)),
-        act(SUBSCRIPTIONS, Payload::Whole(&other)),
-    ];
-    let mut directory = Directory::new(alloc);
-    for i in order {
-        if let Some(act) = acts.get(i) {
-            assert_eq!(rt; directory.note(act)?, Noted::Kept);
-        }
-    }
-    let listed = [
-        read_endpoint(&writer, Side::Writer)?,
-        read_endpoint(&weak, Side::Reader)?,
-    ];
-    assert_eq!(rt; directory.endpoints()?.as_slice(), listed.as_slice());
-    assert_eq!(rt; directory.unsettled(), 1);
-    let pair = Pair {
-        writer: guid(b'a', [0, 0, 1, 3]),
-        reader: guid(b'c', [0, 0, 1, 4]),
-    };
-    let found = Match {
-        pair,
-        reliable: false,
-    };
-    assert_eq!(rt; directory.matched()?.as_slice(), [found].as_slice());
-    assert!(rt; directory.pairs()?.is_empty());
-    assert!(rt; directory.participants()?.is_empty());
-    Ok(())
-}
-
 #[test]
-fn any_order_is_one(rt: HostRuntime) -> Result<(), Fail> {
-    let orders = [
-        [0, 1, 2, 3],
-        [0, 1, 3, 2],
-        [2, 0, 3, 1],
-        [3, 0, 2, 1],
-        [2, 3, 1, 0],
-        [3, 2, 1, 0],
-    ];
-    for order in orders {
-        check_order(&rt, rt.alloc(), order)?;
-    }
-    Ok(())
-}
-
-/// Notes these payloads, each of this built-in writer.
-fn note_all<'a>(
-    rt: &impl Abort,
-    directory: &mut Directory<'a>,
-    writer: [u8; 4],
-    payloads: &[&'a [u8]],
-) -> Result<(), Memory> {
-    for payload in payloads {
-        assert_eq!(rt;
-            directory.note(&act(writer, Payload::Whole(payload)))?,
-            Noted::Kept
-        );
-    }
-    Ok(())
-}
-
-/// Two writers and two readers of one topic, a reader of another, and a GUID that is announced as both.
-#[test]
-fn lists_in_order(rt: HostRuntime) -> Result<(), Fail> {
-    let writer = joined(rt.alloc(), &[BIG, WRITER_A, TOPIC, TYPE, END])?;
-    let second = joined(rt.alloc(), &[BIG, READER_C, TOPIC, TYPE, BEST_EFFORT, END])?;
-    let reader = joined(rt.alloc(), &[BIG, READER_B, TOPIC, TYPE, RELIABLE, END])?;
-    let parts = [BIG, PARTICIPANT_A, READER_A_7, TOPIC, TYPE, END];
-    let weak = joined(rt.alloc(), &parts)?;
-    let apart = joined(rt.alloc(), &[BIG, READER_A_4, OTHER_TOPIC, TYPE, END])?;
-    let both = joined(rt.alloc(), &[BIG, WRITER_D, TOPIC, TYPE, RELIABLE, END])?;
+fn what_is_announced_is_listed(rt: HostRuntime) -> Result<(), Fail> {
     let mut directory = Directory::new(rt.alloc());
-    note_all(&rt, &mut directory, SUBSCRIPTIONS, &[&reader, &both, &weak])?;
-    note_all(
-        &rt,
-        &mut directory,
-        PUBLICATIONS,
-        &[&second, &both, &writer],
-    )?;
-    note_all(&rt, &mut directory, PARTICIPANTS, &[&weak])?;
-    note_all(&rt, &mut directory, SUBSCRIPTIONS, &[&apart])?;
-    let a = guid(b'a', [0, 0, 1, 3]);
-    let b = guid(b'b', [0, 0, 1, 4]);
-    let c = guid(b'c', [0, 0, 1, 4]);
-    let d = guid(b'a', [0, 0, 1, 7]);
-    let expected = [(a, d, false), (a, b, true), (c, d, false)];
-    let found = directory.matched()?;
-    assert_eq!(rt; found.len(), 3);
-    for (found, (writer, reader, reliable)) in found.iter().zip(expected) {
-        let pair = Pair { writer, reader };
-        assert_eq!(rt; *found, Match { pair, reliable });
-    }
-    let pairs = [Pair {
-        writer: a,
-        reader: b,
-    }];
-    assert_eq!(rt; directory.pairs()?.as_slice(), pairs.as_slice());
+    let faults = directory.note_all(&[
+        act(SUBSCRIPTIONS, Payload::Whole(READER)),
+        act(PUBLICATIONS, Payload::Whole(WRITER)),
+        act(PUBLICATIONS, Payload::Whole(PARTICIPANT)),
+        act(PARTICIPANTS, Payload::Whole(PARTICIPANT)),
+    ])?;
+    assert_eq!(rt; faults, 1);
     let participants = [guid(b'a', [0, 0, 1, 0xc1])];
     assert_eq!(rt;
         directory.participants()?.as_slice(),
         participants.as_slice()
     );
-    assert_eq!(rt; directory.endpoints()?.len(), 5);
-    assert_eq!(rt; directory.unsettled(), 1);
-    Ok(())
-}
-
-/// What stands behind the header of a DATA that announces a participant, up to its payload.
-const OF_PARTICIPANTS: &[u8] =
-    b"\x00\x00\x00\x10\x00\x00\x00\x00\x00\x01\x00\xc2\x00\x00\x00\x00\x00\x00\x00\x01";
-
-/// A submessage of an unknown id, a participant, and an announcement without a GUID.
-#[test]
-fn a_datagram_is_walked_and_noted(rt: HostRuntime) -> Result<(), Fail> {
-    let parts = [
-        b"RTPS\x02\x05\x00\x00aaaaaaaaaaaa".as_slice(),
-        b"\x80\x00\x00\x04\x00\x00\x00\x00",
-        b"\x15\x04\x00\x30",
-        OF_PARTICIPANTS,
-        BIG,
-        PARTICIPANT_A,
-        END,
-        b"\x15\x04\x00\x1c",
-        OF_PARTICIPANTS,
-        BIG,
-        END,
-    ];
-    let datagram = joined(rt.alloc(), &parts)?;
-    let mut walk = Walk::new(rt.alloc());
-    let tally = Tally {
-        refused: false,
-        skipped: 1,
-        fragments: 0,
+    assert_eq!(rt; directory.endpoints()?.len(), 2);
+    let pair = Pair {
+        writer: guid(b'a', [0, 0, 1, 3]),
+        reader: guid(b'b', [0, 0, 1, 4]),
     };
-    assert_eq!(rt; walk.read(&datagram)?, tally);
-    assert_eq!(rt; walk.acts().len(), 2);
-    assert!(rt; walk.acts()[0].at == 28 && walk.acts()[1].at == 80);
-    let mut directory = Directory::new(rt.alloc());
-    assert_eq!(rt; directory.note_all(walk.acts())?, 1);
+    let reliable = true;
     assert_eq!(rt;
-        directory.participants()?.as_slice(),
-        [guid(b'a', [0, 0, 1, 0xc1])].as_slice()
+        directory.matched()?.as_slice(),
+        [Match { pair, reliable }].as_slice()
     );
+    assert_eq!(rt; directory.pairs()?.as_slice(), [pair].as_slice());
     Ok(())
 }

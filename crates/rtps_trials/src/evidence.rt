@@ -1,32 +1,12 @@
+use crate::said::{
+    ACK_NACK_2, ACK_NACK_3, ACK_NACK_6, DATA_1_AGAIN, DATA_1_AND_2, HEARTBEAT_3_TO_5, list_of,
+    pair, slices_of,
+};
 use rtps_audit::{Index, Verdict};
-use rtps_discovery::Pair;
 use rtps_evidence::{Announcement, Claim, Evidence, Kind, Place, Sent, Teller};
-use rtps_ids::{EntityId, Guid, GuidPrefix, SeqNum};
-use rtps_text::DatagramList;
+use rtps_ids::SeqNum;
 use std::alloc::Global;
 use std::test::Fail;
-
-// Two numbers, each with a payload.
-const DATA_1_AND_2: &str =
-    "5254505302050000aaaaaaaaaaaaaaaaaaaaaaaa1504001c000000100000000000000103000000000000000100000000000000011504001c00000010000000000000010300000000000000020000000000000002";
-
-// Number 1 with another payload.
-const DATA_1_AGAIN: &str =
-    "5254505302050000aaaaaaaaaaaaaaaaaaaaaaaa1504001c00000010000000000000010300000000000000010000000000000009";
-
-// A HEARTBEAT of the numbers from 3 to 5.
-const HEARTBEAT_3_TO_5: &str =
-    "5254505302050000aaaaaaaaaaaaaaaaaaaaaaaa0700001c00000000000001030000000000000003000000000000000500000001";
-
-// Answers that claim the numbers below 2, 3 and 6.
-const ACK_NACK_2: &str =
-    "5254505302050000bbbbbbbbbbbbbbbbbbbbbbbb0e00000caaaaaaaaaaaaaaaaaaaaaaaa06000018000001040000010300000000000000020000000000000001";
-
-const ACK_NACK_3: &str =
-    "5254505302050000bbbbbbbbbbbbbbbbbbbbbbbb0e00000caaaaaaaaaaaaaaaaaaaaaaaa06000018000001040000010300000000000000030000000000000002";
-
-const ACK_NACK_6: &str =
-    "5254505302050000bbbbbbbbbbbbbbbbbbbbbbbb0e00000caaaaaaaaaaaaaaaaaaaaaaaa06000018000001040000010300000000000000060000000000000003";
 
 /// The evidence that is wanted, of payloads their places alone.
 #[derive(Clone, Copy)]
@@ -39,19 +19,6 @@ struct Wanted {
     claim: Option<Claim>,
     first_sent: Option<Place>,
     other_sent: Option<Place>,
-}
-
-fn pair() -> Pair {
-    Pair {
-        writer: Guid {
-            prefix: GuidPrefix([0xaa; 12]),
-            entity: EntityId([0, 0, 1, 3]),
-        },
-        reader: Guid {
-            prefix: GuidPrefix([0xbb; 12]),
-            entity: EntityId([0, 0, 1, 4]),
-        },
-    }
 }
 
 fn at(datagram: u64, at: usize) -> Place {
@@ -87,14 +54,8 @@ fn place_of(sent: Option<Sent<'_>>) -> Option<Place> {
 
 /// Whether the evidence of these datagrams, from this number on, is as wanted.
 fn shows(alloc: Global, lines: &[&str], from: SeqNum, wanted: Wanted) -> Result<bool, Fail> {
-    let mut list = DatagramList::new(alloc);
-    for line in lines {
-        list.push_hex(line.as_bytes())?;
-    }
-    let mut slices: Vec<&[u8]> = Vec::new(alloc);
-    for datagram in list.datagrams() {
-        slices.push(datagram)?;
-    }
+    let list = list_of(alloc, lines)?;
+    let slices = slices_of(alloc, &list)?;
     let index = Index::build(alloc, &slices)?;
     let found = Evidence::of_from(alloc, &index, pair(), from)?;
     let amounts = [found.payloads, found.gone, found.untold];

@@ -10,13 +10,9 @@ mod digits;
 #[cfg(test)]
 mod discovery;
 #[cfg(test)]
-mod every_event;
-#[cfg(test)]
 mod evidence;
 #[cfg(test)]
 mod ids;
-#[cfg(test)]
-mod messages;
 #[cfg(test)]
 mod params;
 #[cfg(test)]
@@ -26,14 +22,10 @@ mod ranges;
 #[cfg(test)]
 mod recordings;
 #[cfg(test)]
-mod rows;
+mod said;
 #[cfg(test)]
 mod sets;
 #[cfg(test)]
-mod streams;
-#[cfg(test)]
 mod verdicts;
-#[cfg(test)]
-mod words;
 #[cfg(test)]
 mod written;

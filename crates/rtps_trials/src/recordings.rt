@@ -1,6 +1,8 @@
 use crate::captures::{DATAGRAM, HEADER, IGNORED};
 use crate::pieces::in_pieces;
-use rtps_tool::{Limits, RecFault, RunFault, read_input, read_recording, read_recording_within};
+use rtps_tool::{
+    Limits, RecFault, RunFault, read_input, read_recording, read_recording_within, write_fault,
+};
 use std::alloc::{AllocError, Global};
 use std::test::Fail;
 
@@ -105,4 +107,10 @@ fn a_fault_behind_the_last_datagram_is_told_where_there_is_room_for_it(
         assert_eq!(rt; fault, Some(wanted));
     }
     Ok(())
+}
+
+#[test]
+fn a_line_that_cannot_be_written_is_told(rt: HostRuntime) {
+    let mut room = [0u8; 8];
+    assert!(rt; !write_fault(&RunFault::Input, &mut room.as_mut_slice()));
 }

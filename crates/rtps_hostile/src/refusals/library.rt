@@ -9,6 +9,7 @@ use rtps_audit::{
     judge, judge_by, judge_from,
 };
 use rtps_discovery::{Directory, Endpoint, Match, Noted, Pair};
+use rtps_evidence::Evidence;
 use rtps_ids::{Guid, Memory};
 use rtps_receiver::{Act, Walk};
 use std::alloc::Global;
@@ -54,6 +55,7 @@ pub(super) fn try_call(
         | "index_judge"
         | "index_judge_from" => is_judging_refused(alloc, call, recording),
         "build" => is_build_refused(alloc, recording),
+        "evidence" => is_evidence_refused(alloc, recording),
         "audit" | "audit_from" => is_audit_refused(alloc, call, recording),
         _ => return Ok(None),
     };
@@ -72,6 +74,15 @@ fn is_verdict_refused(
     index: &Index<'_>,
 ) -> Result<bool, Fault> {
     Ok(is_refused!(alloc, judged(alloc, call, recording, index)))
+}
+
+fn is_evidence_refused(alloc: Global, recording: &[&[u8]]) -> Result<bool, Fault> {
+    let index = Index::build(alloc, recording)?;
+    is_why_refused(alloc, &index)
+}
+
+fn is_why_refused(alloc: Global, index: &Index<'_>) -> Result<bool, Fault> {
+    Ok(is_refused!(alloc, Evidence::of_from(alloc, index, PAIR, asked_from())))
 }
 
 // The verdict on the pair by a call; by the index alone where it is none of the others.

@@ -15,6 +15,7 @@ pub(super) fn try_input(alloc: Global, call: &str, input: &[u8]) -> Result<Optio
         "audit_run" => is_run_refused(alloc, Run::Audit, input),
         "audit_from_run" => is_run_refused(alloc, Run::AuditFrom, input),
         "why_run" => is_run_refused(alloc, Run::Why, input),
+        "json_run" => is_run_refused(alloc, Run::Json, input),
         _ => return Ok(None),
     };
     Ok(Some(refused?))
