@@ -12,6 +12,10 @@
                                                 table: seconds, MB, and the ratios. Recordings stay in the folder
                                                 RTPS_BENCH_DIR, where that is set
 
+    ratios.py kinds PROGRAM [MEGABYTES] [-- OTHER]
+                                                `audit` of recordings that could cost much, beside that of HEARTBEATs of
+                                                one writer in as many octets, and beside `audit` of another program
+
     ratios.py writing REWRITE FILE..            writing messages beside reading the same ones, by the program of
                                                 crates/rtps_rewrite: each message of FILE many times, less what it takes
                                                 to read the recording and do neither
@@ -81,6 +85,21 @@ def writing(rewrite, paths, rounds=50000):
         print(f'{os.path.basename(path)}: reading {rounds} times {reading:.3f} s, writing {written:.3f} s, {written / reading:.2f} of it')
 
 
+def kinds(program, megabytes, other):
+    """What each octet of a recording of some kind costs, in nanoseconds, and the ratios."""
+    plain = None
+    with tempfile.TemporaryDirectory() as folder:
+        path = os.path.join(folder, 'recording')
+        for kind in ('packed', 'answers', 'readers', 'writers', 'hostile', 'one_data', 'pairs'):
+            make.write(path, make.datagrams(kind, megabytes * 1000000))
+            others = [[other, 'audit', path]] if other else []
+            times, _ = best([[program, 'audit', path]] + others, 3)
+            cost = times[0] * 1e9 / os.path.getsize(path)
+            plain = plain or cost
+            print(f'{kind}: {cost:.1f} ns an octet, {cost / plain:.1f} of packed'
+                  + (f', {times[0] / times[1]:.2f} of the other' if other else ''), flush=True)
+
+
 def beside(program, other, maker, names, folder):
     print('| Recording | Run | Time, peak memory | Times the other\'s time | Times its memory |')
     print('|---|---|---|---|---|')
@@ -106,6 +125,8 @@ def main():
     elif words[:1] == ['beside'] and len(words) > 3:
         with tempfile.TemporaryDirectory() as folder:
             beside(words[1], words[2], words[3], words[4:] or NAMES, os.environ.get('RTPS_BENCH_DIR', folder))
+    elif words[:1] == ['kinds'] and len(words) in (2, 3):
+        kinds(words[1], int(words[2]) if len(words) == 3 else 200, other)
     elif words[:1] == ['writing'] and len(words) > 2:
         writing(words[1], words[2:])
     elif words[:1] == ['orders'] and len(words) in (2, 3):
