@@ -1,8 +1,9 @@
 ghost use Rattle.std.specs.Prelude.{◌≡◌, ◌*◌, ◌++◌, ◌∷◌, length, Some, refl};
-ghost use Rattle.std.specs.Cmp.{on_po, on_total};
-ghost use Rattle.std.specs.Cmp.Lexicographic.{nat_list_cmp_total, slice_cmp, texts_po, texts_ties};
+ghost use Rattle.std.specs.Cmp.{on_equiv, on_per, on_po, on_total, partial_equiv_from_equiv};
+ghost use Rattle.std.specs.Cmp.Lexicographic.{nat_list_cmp_total, nat_list_eq_equiv, slice_cmp, texts_po, texts_ties};
 ghost use Rattle.std.specs.Fmt.{WritesOnOk};
 ghost use Rattle.std.specs.Ordering.{nat_cmp};
+ghost use Rattle.std.specs.Str.{bytes_eq};
 ghost use Rattle.hex.specs.Hex.{encode_lower};
 
 use byteorder::{BigEndian, ByteOrder};
@@ -11,8 +12,24 @@ use std::fmt;
 
 /// The prefix of a GUID, which all endpoints of one participant share (DDSI-RTPS 2.5, 8.2.4.1 "Identifying RTPS
 /// entities: The GUID"). Prefixes compare octet by octet. It prints 24 lower-case hexadecimal digits.
-#[derive(Clone, Copy, PartialEq, Eq, Debug)]
+#[derive(Clone, Copy, Debug)]
 pub struct GuidPrefix(pub [u8; 12]);
+
+impl PartialEq for GuidPrefix {
+    ghost eq = { λ x y. bytes_eq x.0 y.0 };
+
+    ghost laws = { on_per (λ prefix. prefix.0) (partial_equiv_from_equiv nat_list_eq_equiv) };
+
+    // As numbers, as their order: an equality of arrays takes octet by octet.
+    #[inline]
+    fn eq(&self, other: &GuidPrefix) -> bool {
+        self.cmp(other).is_eq()
+    }
+}
+
+impl Eq for GuidPrefix {
+    ghost laws = { on_equiv (λ prefix. prefix.0) nat_list_eq_equiv };
+}
 
 impl PartialOrd for GuidPrefix {
     ghost partial_cmp = { λ x y. Some (slice_cmp nat_cmp x.0 y.0) };
@@ -51,8 +68,24 @@ impl fmt::Display for GuidPrefix {
 }
 
 /// Which entity of its participant a GUID names (DDSI-RTPS 2.5, 8.2.4.1). It prints 8 lower-case hexadecimal digits.
-#[derive(Clone, Copy, PartialEq, Eq, Debug)]
+#[derive(Clone, Copy, Debug)]
 pub struct EntityId(pub [u8; 4]);
+
+impl PartialEq for EntityId {
+    ghost eq = { λ x y. bytes_eq x.0 y.0 };
+
+    ghost laws = { on_per (λ entity. entity.0) (partial_equiv_from_equiv nat_list_eq_equiv) };
+
+    // As of a prefix.
+    #[inline]
+    fn eq(&self, other: &EntityId) -> bool {
+        self.cmp(other).is_eq()
+    }
+}
+
+impl Eq for EntityId {
+    ghost laws = { on_equiv (λ entity. entity.0) nat_list_eq_equiv };
+}
 
 impl PartialOrd for EntityId {
     ghost partial_cmp = { λ x y. Some (slice_cmp nat_cmp x.0 y.0) };

@@ -11,7 +11,7 @@ mod text;
 
 pub use datagram_list::{DatagramList, Datagrams};
 pub use ending::Ending;
-pub use places::{Place, push_octets, push_place};
+pub use places::{Place, make_room, push_octets, push_place};
 pub use recording::Recording;
 pub use rtps_audit::{Unwatched, Watch};
 pub use text::audit::audit_text;

@@ -84,7 +84,7 @@ pub fn push_octets(octets: &mut Vec<u8>, more: &[u8]) -> Result<(), AllocError>
 
 /// Makes room for so many items more, and besides for an eighth of those that are there, `ROOM_MIN` at least: so the room
 /// of a recording is never much more than what it needs, and is seldom asked for. Nothing changes after an `Err`.
-pub(crate) fn make_room<T>(items: &mut Vec<T>, more: usize) -> Result<(), AllocError>
+pub fn make_room<T>(items: &mut Vec<T>, more: usize) -> Result<(), AllocError>
     ensures items { items.new.items ≡ items.old.items }
     ensures room { OnOk result (vec_len items.new + more ≤ vec_capacity items.new) }
     ensures sparing { vec_capacity items.new ≤ max (vec_capacity items.old) (roomy_size (vec_len items.old) more) }

@@ -1,6 +1,6 @@
 -- Facts on texts that begin as a capture does.
-use Rattle.std.proofs.Common.{◌≡◌, ◌==◌, ℕ, zero, suc, ◌-◌, ◌<◌, true, false, Bool, List, [], ◌∷◌, length, take, map, None, Some, Err, refl, ap, ◌∙◌, ◌⊎◌, inl, inr, arith, subst, sym}
-use Rattle.std.specs.Prelude.{◌&&◌, ◌%◌, nat_le, nat_lt, not, is_err, slice_index, if◌then◌else◌, Option, All}
+use Rattle.std.proofs.Common.{◌≡◌, ◌==◌, ℕ, suc, ◌-◌, ◌<◌, true, false, Bool, List, [], ◌∷◌, length, take, map, None, Some, Err, refl, ap, ◌∙◌, ◌⊎◌, inl, inr, arith, subst, sym}
+use Rattle.std.specs.Prelude.{◌%◌, nat_le, nat_lt, is_err, slice_index, if◌then◌else◌, All}
 use Rattle.std.specs.Str.Lines.{strip_carriage_return}
 use Rattle.std.proofs.lemmas.Bool.Decides.{nat_tests}
 use Rattle.hex.specs.Hex.{decode_of, decode_pairs, hex_digit_value}
@@ -9,7 +9,7 @@ use Rattle.rtps_ids.specs.Octets.{number_of}
 use Rattle.rtps_ids.specs.declared.order.Order.{Order}
 use Rattle.rtps_capture.specs.Opening.{order_of}
 use Rattle.rtps_tool.specs.Lines.{is_line_feed, parts_of, onto_first_line, lines_of}
-use Rattle.rtps_tool.specs.RecordingText.{is_datagram_line, line_fault, recording_of_lines, recording_of_text, without_frames}
+use Rattle.rtps_tool.specs.RecordingText.{is_datagram_line, recording_of_lines, recording_of_text, without_frames}
 use Rattle.rtps_tool.specs.declared.faults.RecFault.{RecFault}
 use Rattle.rtps_tool.specs.declared.faults.RecFault.TheVariants.{BadHex, TooLong, TooMany}
 use Rattle.rtps_tool.proofs.RecordingLemmas.{recording_of_lines-faulty}

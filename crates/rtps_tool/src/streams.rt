@@ -1,8 +1,9 @@
-ghost use Rattle.std.specs.Prelude.{◌≡◌, ◌≢◌, [], ◌+◌, ◌≤◌, ◌<◌, ℕ, List, Option, None, length, take, vec_len, MatchResult, IfOk};
+ghost use Rattle.std.specs.Prelude.{◌≡◌, ◌≢◌, [], ◌+◌, ◌++◌, ◌≤◌, ◌<◌, ℕ, List, Option, None, length, take, drop, vec_len, MatchResult, IfErr, IfOk, OnOk};
 ghost use Rattle.std.specs.Io.KnownBytes.{Appends, Consumes, IsAtEnd};
 ghost use Rattle.rtps_capture.specs.Opening.{order_of};
 ghost use Rattle.rtps_tool.specs.Runs.{ReadsRecording, FailsReading, FailsWriting};
 ghost use Rattle.rtps_tool.specs.Unfinished.{ReadsOn};
+ghost use Rattle.rtps_tool.specs.declared.limits.Limits.{Limits as LimitsValue};
 ghost use Rattle.rtps_tool.specs.declared.faults.RunFault.TheVariants.{Input};
 
 use crate::faults::{RecFault, RunFault};
@@ -11,7 +12,7 @@ use crate::form::either::read_recording_within;
 use crate::form::line_reader::{KEPT_MAX, LineReader};
 use crate::limits::Limits;
 use rtps_capture::capture_order;
-use rtps_text::{Recording, push_octets};
+use rtps_text::{Recording, make_room, push_octets};
 use std::alloc::{AllocError, Global};
 use std::io::{Read, Write};
 
@@ -44,7 +45,7 @@ pub fn read_input<R: Read>(
     }
     match capture_order(&held[..start]) {
         None => read_text_input(alloc, limits, input, &mut held, start),
-        Some(_) => read_capture_input(alloc, limits, input, &mut held, start),
+        Some(_) => read_capture_input(alloc, limits, input, &held[..start]),
     }
 }
 
@@ -174,51 +175,78 @@ fn read_on<R: Read>(
     Ok(total)
 }
 
-// Reads the recording that is a capture, of which so many octets were read.
+// Reads the recording that is a capture, of which these octets were read.
 fn read_capture_input<R: Read>(
     alloc: Global,
     limits: Limits,
     input: &mut R,
-    held: &mut [u8],
-    start: usize,
+    begun: &[u8],
 ) -> Result<Recording, RunFault>
-    requires begun { (4 ≤ start) × (start ≤ length held.old) }
-    requires form { order_of (take start held.old) ≢ None }
-    ensures { (before : Option (List ℕ)) → Consumes before (R.remaining input.old) (take start held.old)
+    requires begun { 4 ≤ length begun.now }
+    requires form { order_of begun.now ≢ None }
+    ensures { (before : Option (List ℕ)) → Consumes before (R.remaining input.old) begun.now
         → MatchResult result (ReadsRecording limits before (R.remaining input.new)) (FailsReading limits before (R.remaining input.new)) }
 {
-    let octets = read_whole(alloc, limits, input, held, start)?;
+    let octets = read_whole(alloc, limits, input, begun)?;
     Ok(read_capture(alloc, limits.datagrams, octets)?)
 }
 
-// Reads all the input, of which so many octets were read. It has the form of these.
+// Reads all the input, of which these octets were read. It has their form.
 fn read_whole<R: Read>(
     alloc: Global,
     limits: Limits,
     input: &mut R,
-    piece: &mut [u8],
-    start: usize,
+    begun: &[u8],
 ) -> Result<Vec<u8>, RunFault>
-    requires { (4 ≤ start) × (start ≤ length piece.old) }
-    ensures form { IfOk result (λ octets. order_of octets.items ≡ order_of (take start piece.old)) }
+    requires { 4 ≤ length begun.now }
+    ensures form { IfOk result (λ octets. order_of octets.items ≡ order_of begun.now) }
     ensures small { IfOk result (λ octets. length octets.items ≤ limits.octets) }
-    ensures read { (before : Option (List ℕ)) → Consumes before (R.remaining input.old) (take start piece.old) → MatchResult result
+    ensures read { (before : Option (List ℕ)) → Consumes before (R.remaining input.old) begun.now → MatchResult result
         (λ octets. Consumes before (R.remaining input.new) octets.items × IsAtEnd (R.remaining input.new))
         (FailsReading limits before (R.remaining input.new)) }
 {
     let mut octets = Vec::new(alloc);
-    let mut got = start;
-    'pieces: while octets.len() as u128 + got as u128 <= limits.octets as u128 {
-        push_octets(&mut octets, &piece[..got])?;
-        got = match input.read(piece) {
-            Ok(got) => got,
-            Err(_) => return Err(RunFault::Input),
-        };
-        if got == 0 {
+    push_octets(&mut octets, begun)?;
+    'pieces: while octets.len() as u64 <= limits.octets {
+        if read_behind(input, &mut octets)? == 0 {
             return Ok(octets);
         }
     }
     Err(RunFault::Recording(RecFault::TooMany))
+}
+
+// Reads what comes next behind these octets, and answers how many came.
+fn read_behind<R: Read>(input: &mut R, octets: &mut Vec<u8>) -> Result<usize, RunFault>
+    ensures size { IfOk result (λ got. length octets.new.items ≡ length octets.old.items + got) }
+    ensures front { IfOk result (λ got. take (length octets.old.items) octets.new.items ≡ octets.old.items) }
+    ensures read { OnOk result
+        (Consumes (R.remaining input.old) (R.remaining input.new) (drop (length octets.old.items) octets.new.items)) }
+    ensures end { IfOk result (λ got. got ≡ 0 → IsAtEnd (R.remaining input.new)) }
+    ensures err { IfErr result (λ fault. (limits : LimitsValue) (old new : Option (List ℕ)) → FailsReading limits old new fault) }
+{
+    let front = octets.len();
+    make_room(octets, PIECE)?;
+    octets.resize(front + PIECE, 0)?;
+    let got = read_over(input, octets.as_mut_slice(), front)?;
+    octets.truncate(front + got);
+    Ok(got)
+}
+
+// Reads what comes next over the octets from place `from` on, and answers how many came.
+fn read_over<R: Read>(input: &mut R, octets: &mut [u8], from: usize) -> Result<usize, RunFault>
+    requires { from < length octets.old }
+    ensures within { IfOk result (λ got. from + got ≤ length octets.new) }
+    ensures front { take from octets.new ≡ take from octets.old }
+    ensures size { length octets.new ≡ length octets.old }
+    ensures read { IfOk result
+        (λ got. Consumes (R.remaining input.old) (R.remaining input.new) (take got (drop from octets.new))) }
+    ensures end { IfOk result (λ got. got ≡ 0 → IsAtEnd (R.remaining input.new)) }
+    ensures err { IfErr result (λ fault. fault ≡ Input) }
+{
+    match input.read(&mut octets[from..]) {
+        Ok(got) => Ok(got),
+        Err(_) => Err(RunFault::Input),
+    }
 }
 
 /// Writes this text.

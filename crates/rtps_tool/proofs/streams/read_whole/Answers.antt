@@ -1,20 +1,25 @@
-use Rattle.std.proofs.Common.{◌≡◌, ◌++◌, ◌∙◌, List, ℕ, length, take, subst, sym, ap, arith}
+use Rattle.std.proofs.Common.{◌≡◌, ◌++◌, ◌∙◌, List, ℕ, drop, length, subst, sym, ap, arith, take-append-drop}
 use Rattle.std.specs.Io.KnownBytes.{Consumes}
 use Rattle.std.proofs.KnownBytes.{Consumes-trans}
-use Rattle.std.proofs.lemmas.List.{length-append}
+use Rattle.std.proofs.lemmas.Result.{err_from_is_err_and}
 use Rattle.rtps_capture.specs.Opening.{order_of}
 use Rattle.rtps_capture.proofs.Offered.{order_of-append}
 use Rattle.rtps_tool.proofs.streams.read_whole.Goals as goal
 
+pub returns-in_err-read_behind-clause-read : goal.returns-in_err-read_behind-clause-read
+returns-in_err-read_behind-clause-read g c = λ before taken.
+    let p = err_from_is_err_and c.from_residual-in_err-read_behind.result c.from_residual-in_err-read_behind.ensures.1 in
+    rw (p.1, p.2) (c.in_err-read_behind.ensures.err c.args.limits before _)
+
 pub pieces-preserved : goal.pieces-preserved
 pieces-preserved g c =
-    let text = c.pieces.octets.items ++ take c.pieces.got c.pieces.piece in
-    let more = take c.in-Ok.got c.read.new.buf in
-    let kept : c.push_octets.new.octets.items ≡ text = c.in_ok-push_octets.ensures.ok in
-    let joined = ap (λ (octets : List ℕ). octets ++ more) (sym kept) in
+    let octets = c.pieces.octets.items in
+    let came = c.in_ok-read_behind.ensures in
+    let more = drop (length octets) c.read_behind.new.octets.items in
+    let joined : octets ++ more ≡ c.read_behind.new.octets.items =
+    ap (λ (front : List ℕ). front ++ more) (sym came.front) ∙ take-append-drop (length octets) c.read_behind.new.octets.items in
     let invariant = c.pieces.invariant in (
-      c.in-Ok.ensures.bound.0,
-      omega (arith, ap length joined, length-append text more, invariant.1),
-      ap order_of (sym joined) ∙ order_of-append text more invariant.1 ∙ invariant.2,
-      λ before taken. subst (Consumes before _) joined (Consumes-trans before _ _ text more (invariant.3 before taken) c.in-Ok.ensures.bytes.0),
+      omega (arith, came.size, invariant.0),
+      ap order_of (sym joined) ∙ order_of-append octets more invariant.0 ∙ invariant.1,
+      λ before taken. subst (Consumes before _) joined (Consumes-trans before _ _ octets more (invariant.2 before taken) came.read),
     )

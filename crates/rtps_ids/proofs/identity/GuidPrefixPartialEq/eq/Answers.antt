@@ -1,0 +1,8 @@
+use Rattle.std.proofs.Common.{◌≡◌, ◌∙◌, ap, sym}
+use Rattle.std.specs.Cmp.Lexicographic.{texts_ties}
+use Rattle.std.specs.Ordering.{is_eq}
+use Rattle.rtps_ids.proofs.identity.GuidPrefixPartialEq.eq.Goals as goal
+
+pub returns : goal.returns
+returns c =
+    c.is_eq.ensures ∙ ap is_eq c.cmp.ensures ∙ sym (texts_ties c.args.self.now.0 c.args.other.now.0)
