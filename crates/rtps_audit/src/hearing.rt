@@ -72,7 +72,7 @@ impl Hearing {
         ensures hears { IfOk result (λ hearing. IsNonDecreasingBy (λ placed. placed.datagram) acts.now
             → Hears hearing pair.writer pair.reader (map placed_value acts.now)) }
     {
-        let mut listener = Listener::<BitRanges>::new(alloc, from)?;
+        let mut listener = Listener::<BitRanges>::new(alloc, from, acts.len())?;
         for placed in acts {
             listener.note(placed, pair)?;
         }

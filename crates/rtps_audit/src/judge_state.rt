@@ -39,7 +39,7 @@ impl<'a, C: Coverage> Judge<'a, C> {
     pub(crate) fn new(alloc: Global, from: SeqNum) -> Result<Self, Memory>
         ensures { IfOk result (λ judge. Knows C.covered from judge []) }
     {
-        let words = Words::new(alloc, from)?;
+        let words = Words::new(alloc, from, 0)?;
         Ok(Judge {
             words,
             claims: Claims::new(from),

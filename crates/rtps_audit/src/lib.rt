@@ -21,7 +21,6 @@ mod placed;
 mod reader_answers;
 mod report;
 mod said;
-mod same_guid;
 mod verdict;
 mod watch;
 mod words;

@@ -26,14 +26,15 @@ impl<'a, C: Coverage> Listener<'a, C> {
     ghost use Rattle.rtps_audit.specs.Hearing.{Hears, IsListening, Marks};
     ghost use Rattle.rtps_audit.specs.Placed.{PlacedValue, placed_value};
 
-    /// It has heard nothing, and asks for the numbers from `from` on.
-    pub(crate) fn new(alloc: Global, from: SeqNum) -> Result<Self, Memory>
+    /// It has heard nothing, and asks for the numbers from `from` on. There is room for what it keeps of so many acts,
+    /// which then need not be moved as they grow.
+    pub(crate) fn new(alloc: Global, from: SeqNum, room: usize) -> Result<Self, Memory>
         ensures { IfOk result (λ listener. (writer reader : GuidValue) → IsListening C.covered from listener writer reader [] 0) }
     {
-        let words = Words::new(alloc, from)?;
+        let words = Words::new(alloc, from, room)?;
         Ok(Listener {
             words,
-            fronts: Vec::new(alloc),
+            fronts: Vec::with_capacity(alloc, room)?,
             front: from.get(),
             last: from.get().cast_unsigned() - 1,
         })

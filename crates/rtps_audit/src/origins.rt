@@ -11,7 +11,6 @@ ghost use Rattle.rtps_audit.specs.Placed.{AddsActs, AddsAnswers, placed_at, plac
 use crate::all_answers::AllAnswers;
 use crate::groups::Groups;
 use crate::placed::{Placed, append_placed};
-use crate::same_guid::is_same_guid;
 use rtps_ids::{Guid, Memory};
 use rtps_receiver::Act;
 use std::alloc::Global;
@@ -74,7 +73,7 @@ fn run_end(acts: &[Act<'_>], start: usize, origin: Guid) -> usize
     ensures run { AllWithin (λ act. origin_of (act_value act) ≡ origin) acts.now start result }
 {
     for place in start..acts.len() {
-        if !is_same_guid(acts[place].origin(), origin) {
+        if acts[place].origin() != origin {
             return place;
         }
     }

@@ -10,7 +10,6 @@ ghost use Rattle.rtps_audit.specs.Placed.{answers_among, placed_at};
 
 use crate::answers::{Answer, answer_in};
 use crate::groups::{Groups, append};
-use crate::same_guid::is_same_guid;
 use rtps_ids::{Guid, Memory};
 use rtps_receiver::Act;
 use std::alloc::Global;
@@ -40,7 +39,7 @@ impl ReaderAnswers {
         ensures { OnOk result ((other : GuidValue) → answers_to self.new other
             ≡ answers_to self.old other ++ cond (is_eq (guid_cmp other writer)) (answer ∷ []) []) }
     {
-        if is_same_guid(self.writer, writer) {
+        if self.writer == writer {
             append(&mut self.answers, answer)?;
         } else {
             self.others.push(writer, answer)?;
@@ -77,7 +76,7 @@ impl ReaderAnswers {
     pub(crate) fn of(&self, writer: Guid) -> &[Answer]
         ensures { result.now ≡ answers_to self.now writer }
     {
-        if is_same_guid(self.writer, writer) {
+        if self.writer == writer {
             &self.answers
         } else {
             self.others.of(writer)

@@ -32,8 +32,8 @@ pub(crate) struct Words<'a, C> {
 }
 
 impl<'a, C: Coverage> Words<'a, C> {
-    /// No words. The numbers from `from` on are asked for.
-    pub(crate) fn new(alloc: Global, from: SeqNum) -> Result<Self, Memory>
+    /// No words. The numbers from `from` on are asked for. There is room for so many payloads.
+    pub(crate) fn new(alloc: Global, from: SeqNum, room: usize) -> Result<Self, Memory>
         ensures from { IfOk result (λ words. words.from ≡ from) }
         ensures told { IfOk result (λ words. (n : ℕ) → 1 ≤ n → n < 2 ^ 63 - 1 → C.covered words.told n ≡ nat_lt n from) }
         ensures payloads { IfOk result (λ words. words.payloads.items ≡ []) }
@@ -44,7 +44,7 @@ impl<'a, C: Coverage> Words<'a, C> {
         Ok(Words {
             from,
             told,
-            payloads: Vec::new(alloc),
+            payloads: Vec::with_capacity(alloc, room)?,
         })
     }
 

@@ -1,2 +1,3 @@
+pub mod ComingLemmas
 pub mod FrameLemmas
 pub mod Offered

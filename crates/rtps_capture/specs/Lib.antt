@@ -1,3 +1,4 @@
+pub mod Coming
 pub mod Datagrams
 pub mod Frames
 pub mod Laws

@@ -1,5 +1,6 @@
 ghost use Rattle.std.specs.Prelude.{◌≡◌, ◌≤◌, drop, false, length, true, IfSome, MatchOption};
 ghost use Rattle.std.specs.Iterator.{item_count};
+ghost use Rattle.rtps_capture.specs.Datagrams.{datagram_at};
 ghost use Rattle.rtps_capture.specs.Frames.{GivesNext, StandsWithin, frame_at as frame_at_lem, frames_left, given_at, is_whole, opened};
 
 use crate::datagram::datagram_of_frame;
@@ -88,7 +89,7 @@ impl<'a> Iterator for Frames<'a> {
 
 // Where the frame stands whose header begins at this place, if both are whole.
 #[inline]
-fn frame_at(order: Order, octets: &[u8], at: usize) -> Option<Place>
+pub(crate) fn frame_at(order: Order, octets: &[u8], at: usize) -> Option<Place>
     requires { at ≤ length octets.now }
     ensures { MatchOption result
         (is_whole order (drop at octets.now) ≡ false)
@@ -117,11 +118,23 @@ fn frame_given(link: Link, octets: &[u8], frame: Place) -> Frame
     ensures given { result ≡ given_at link octets.now frame }
     ensures within { StandsWithin (length octets.now) result }
 {
-    match datagram_of_frame(link, &octets[frame.from..frame.to]) {
-        Some(place) => Frame::Datagram(Place {
-            from: frame.from + place.from,
-            to: frame.from + place.to,
-        }),
+    match datagram_given(link, octets, frame) {
+        Some(place) => Frame::Datagram(place),
         None => Frame::Ignored,
     }
+}
+
+// Where the datagram stands that the frame at this place gives, if it gives one.
+#[inline]
+pub(crate) fn datagram_given(link: Link, octets: &[u8], frame: Place) -> Option<Place>
+    requires ordered { frame.from ≤ frame.to }
+    requires within { frame.to ≤ length octets.now }
+    ensures given { result ≡ datagram_at link octets.now frame }
+    ensures within { IfSome result (λ place. (place.from ≤ place.to) × (place.to ≤ length octets.now)) }
+{
+    let place = datagram_of_frame(link, &octets[frame.from..frame.to])?;
+    Some(Place {
+        from: frame.from + place.from,
+        to: frame.from + place.to,
+    })
 }

@@ -10,6 +10,7 @@ use Rattle.rtps_capture.specs.declared.place.Place.{Place as FilePlace}
 use Rattle.rtps_text.specs.Places.{ArePlaces, StandsWithin, end_of, piece, pieces, start_of}
 use Rattle.rtps_text.specs.Recording.{RecordingValue}
 use Rattle.rtps_text.specs.declared.places.Place.{Place}
+use Rattle.rtps_tool.specs.CaptureFront.{HasPushed}
 use Rattle.rtps_tool.specs.Outcomes.{IsFaultOf}
 use Rattle.rtps_tool.specs.RecordingCapture.{cut_among, datagrams_among, ignored_among, recording_of_frames, unless_cut}
 use Rattle.rtps_tool.specs.declared.faults.RecFault.{RecFault}
@@ -20,16 +21,6 @@ abbrev pub IsReadFrom : List ℕ → Result RecordingValue RecFault → List Pla
 IsReadFrom octets defined places result = MatchResult result
     (λ ignored. ArePlaces octets places × (defined ≡ Ok (record { datagrams = pieces octets places; ignored = Some ignored })))
     (IsFaultOf defined)
-
--- of all frames so many were read, which gave these places and so many that are ignored, and the others are left
-pub record HasPushed (most : ℕ) (octets : List ℕ) (all : List Frame) (places : List Place) (number ignored : ℕ) (left : List Frame) : Type 0 where
-  pub few : length places ≤ most
-  pub within : ArePlaces octets places
-  pub counted : number + length left ≡ length all
-  pub least : ignored ≤ number
-  pub given : pieces octets places ++ datagrams_among octets left ≡ datagrams_among octets all
-  pub passed : ignored + ignored_among left ≡ ignored_among all
-  pub cut : cut_among (number + 1) left ≡ cut_among 1 all
 
 pub HasPushed-start : (most : ℕ) (octets : List ℕ) (all : List Frame) (places : List Place) → places ≡ [] → HasPushed most octets all places 0 0 all
 HasPushed-start most octets all places none =

@@ -1,3 +1,4 @@
+pub mod CaptureFrontLemmas
 pub mod CaptureLemmas
 pub mod LimitsLemmas
 pub mod LinesLemmas

@@ -1,4 +1,5 @@
 pub mod Outcomes
+pub mod CaptureFront
 pub mod Choices
 pub mod FaultText
 pub mod Forms

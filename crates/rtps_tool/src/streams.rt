@@ -1,13 +1,14 @@
 ghost use Rattle.std.specs.Prelude.{◌≡◌, ◌≢◌, [], ◌+◌, ◌++◌, ◌≤◌, ◌<◌, ℕ, List, Option, None, length, take, drop, vec_len, MatchResult, IfErr, IfOk, OnOk};
 ghost use Rattle.std.specs.Io.KnownBytes.{Appends, Consumes, IsAtEnd};
 ghost use Rattle.rtps_capture.specs.Opening.{order_of};
+ghost use Rattle.rtps_tool.specs.CaptureFront.{HasReadFront};
 ghost use Rattle.rtps_tool.specs.Runs.{ReadsRecording, FailsReading, FailsWriting};
 ghost use Rattle.rtps_tool.specs.Unfinished.{ReadsOn};
 ghost use Rattle.rtps_tool.specs.declared.limits.Limits.{Limits as LimitsValue};
 ghost use Rattle.rtps_tool.specs.declared.faults.RunFault.TheVariants.{Input};
 
 use crate::faults::{RecFault, RunFault};
-use crate::form::capture::read_capture;
+use crate::form::capture_reader::CaptureReader;
 use crate::form::either::read_recording_within;
 use crate::form::line_reader::{KEPT_MAX, LineReader};
 use crate::limits::Limits;
@@ -187,20 +188,24 @@ fn read_capture_input<R: Read>(
     ensures { (before : Option (List ℕ)) → Consumes before (R.remaining input.old) begun.now
         → MatchResult result (ReadsRecording limits before (R.remaining input.new)) (FailsReading limits before (R.remaining input.new)) }
 {
-    let octets = read_whole(alloc, limits, input, begun)?;
-    Ok(read_capture(alloc, limits.datagrams, octets)?)
+    let mut reader = CaptureReader::new(alloc);
+    let octets = read_whole(alloc, limits, input, begun, &mut reader)?;
+    Ok(reader.finish(alloc, limits.datagrams, octets)?)
 }
 
-// Reads all the input, of which these octets were read. It has their form.
+// Reads all the input, of which these octets were read, and gives the reader what comes. It has their form.
 fn read_whole<R: Read>(
     alloc: Global,
     limits: Limits,
     input: &mut R,
     begun: &[u8],
+    reader: &mut CaptureReader,
 ) -> Result<Vec<u8>, RunFault>
-    requires { 4 ≤ length begun.now }
+    requires begun { 4 ≤ length begun.now }
+    requires fresh { (octets : List ℕ) → HasReadFront limits.datagrams reader.old octets }
     ensures form { IfOk result (λ octets. order_of octets.items ≡ order_of begun.now) }
     ensures small { IfOk result (λ octets. length octets.items ≤ limits.octets) }
+    ensures front { IfOk result (λ octets. HasReadFront limits.datagrams reader.new octets.items) }
     ensures read { (before : Option (List ℕ)) → Consumes before (R.remaining input.old) begun.now → MatchResult result
         (λ octets. Consumes before (R.remaining input.new) octets.items × IsAtEnd (R.remaining input.new))
         (FailsReading limits before (R.remaining input.new)) }
@@ -208,6 +213,7 @@ fn read_whole<R: Read>(
     let mut octets = Vec::new(alloc);
     push_octets(&mut octets, begun)?;
     'pieces: while octets.len() as u64 <= limits.octets {
+        reader.feed(limits.datagrams, &octets)?;
         if read_behind(input, &mut octets)? == 0 {
             return Ok(octets);
         }

@@ -1,6 +1,6 @@
 use Rattle.std.proofs.Common.{◌≡◌}
 use Rattle.rtps_capture.specs.Frames.{frames_left}
-use Rattle.rtps_tool.proofs.CaptureLemmas.{HasPushed}
+use Rattle.rtps_tool.specs.CaptureFront.{HasPushed}
 use Rattle.rtps_tool.proofs.form.capture.push_places.Given as goal
 
 -- what was read of the frames, and what is left
