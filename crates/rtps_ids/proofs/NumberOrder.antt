@@ -1,5 +1,6 @@
 -- Octets compare as the numbers that they spell, the highest first.
-use Rattle.std.proofs.Common.{Fits, w8, ◌≡◌, ℕ, ◌+◌, ◌*◌, ◌^◌, ◌<◌, ◌≤◌, suc, List, [], ◌∷◌, ◌++◌, length, get_or, refl, sym, ap, ◌∙◌, arith, inl, inr}
+use Rattle.std.proofs.Common.{Fits, w8, take, drop, ◌≡◌, ℕ, ◌+◌, ◌*◌, ◌^◌, ◌<◌, suc, List, [], ◌∷◌, ◌++◌, length, get_or, refl, sym, ap, ◌∙◌, arith, inl, inr}
+use Rattle.std.proofs.lemmas.List.{length-drop, length-take-le, take-append-drop}
 use Rattle.std.specs.Cmp.{nat_cmp_is}
 use Rattle.std.specs.Cmp.Lexicographic.{slice_cmp}
 use Rattle.std.specs.Ordering.{nat_cmp, ordering_then}
@@ -99,3 +100,61 @@ slice_cmp-append [] (y ∷ ys) more others e = absurd (omega (arith, e))
 slice_cmp-append (x ∷ xs) [] more others e = absurd (omega (arith, e))
 slice_cmp-append (x ∷ xs) (y ∷ ys) more others e =
     ap (ordering_then (nat_cmp x y)) (slice_cmp-append xs ys more others (omega (arith, e))) ∙ sym (then_assoc (nat_cmp x y) (slice_cmp nat_cmp xs ys) (slice_cmp nat_cmp more others))
+
+-- numbers and the octets behind them
+spelled_then : (m n : ℕ) (xs ys : List ℕ) → length xs ≡ length ys → AreOctets xs → AreOctets ys
+    → nat_cmp (spelled m xs) (spelled n ys) ≡ ordering_then (nat_cmp m n) (slice_cmp nat_cmp xs ys)
+spelled_then m n xs ys same one other = elim (cases_lt m n) [
+  | inl lt ↦
+      less _ _ (below m n xs ys same one other lt) ∙ ap (λ o. ordering_then o (slice_cmp nat_cmp xs ys)) (sym (less m n lt))
+  | inr not ↦ elim (cases_lt n m) [
+    | inl gt ↦
+        greater _ _ (below n m ys xs (sym same) other one gt)
+        ∙ ap (λ o. ordering_then o (slice_cmp nat_cmp xs ys)) (sym (greater m n gt))
+    | inr not' ↦
+        let equal : n ≡ m = omega (arith, not, not') in
+        ap (λ k. nat_cmp (spelled m xs) (spelled k ys)) equal
+        ∙ spelled_order m xs ys same one other
+        ∙ ap (λ o. ordering_then o (slice_cmp nat_cmp xs ys)) (nat_cmp_is m n Equal (sym equal))
+  ]
+]
+
+four_behind : (n : ℕ) (xs : List ℕ) → length xs ≡ 4 → spelled n xs ≡ n * 2 ^ 32 + big_number 4 xs
+four_behind n [] e = absurd (omega (arith, e))
+four_behind n (a ∷ []) e = absurd (omega (arith, e))
+four_behind n (a ∷ b ∷ []) e = absurd (omega (arith, e))
+four_behind n (a ∷ b ∷ c ∷ []) e = absurd (omega (arith, e))
+four_behind n (a ∷ b ∷ c ∷ d ∷ []) e = omega arith
+four_behind n (a ∷ b ∷ c ∷ d ∷ x ∷ xs) e = absurd (omega (arith, e))
+
+-- the number that twelve octets and four more spell
+abbrev pub identity_number : List ℕ → List ℕ → ℕ
+identity_number prefix entity = big_number 8 (take 8 prefix) * 2 ^ 64 + big_number 4 (drop 8 prefix) * 2 ^ 32 + big_number 4 entity
+
+spelled_append : (n : ℕ) (xs ys : List ℕ) → spelled n (xs ++ ys) ≡ spelled (spelled n xs) ys
+spelled_append n [] ys = refl
+spelled_append n (x ∷ xs) ys = spelled_append (n * 256 + x) xs ys
+
+identity_spelled : (prefix entity : List ℕ) → length prefix ≡ 12 → length entity ≡ 4
+    → identity_number prefix entity ≡ spelled (spelled 0 prefix) entity
+identity_spelled prefix entity twelve four_more =
+    let front : length (take 8 prefix) ≡ 8 = length-take-le 8 prefix (omega (arith, twelve)) in
+    let back : length (drop 8 prefix) ≡ 4 = omega (arith, length-drop 8 prefix, twelve) in
+    let whole : spelled 0 prefix ≡ big_number 8 (take 8 prefix) * 2 ^ 32 + big_number 4 (drop 8 prefix) =
+    ap (spelled 0) (sym (take-append-drop 8 prefix))
+    ∙ spelled_append 0 (take 8 prefix) (drop 8 prefix)
+    ∙ four_behind (spelled 0 (take 8 prefix)) (drop 8 prefix) back
+    ∙ ap (λ n. n * 2 ^ 32 + big_number 4 (drop 8 prefix)) (sym (eight (take 8 prefix) front)) in
+    omega (arith, whole, four_behind (spelled 0 prefix) entity four_more)
+
+-- twelve octets and four compare as the numbers that they spell
+pub identity_order : (prefix other : List ℕ) (entity other_entity : List ℕ)
+    → length prefix ≡ 12 → length other ≡ 12 → length entity ≡ 4 → length other_entity ≡ 4
+    → AreOctets prefix → AreOctets other → AreOctets entity → AreOctets other_entity
+    → nat_cmp (identity_number prefix entity) (identity_number other other_entity)
+    ≡ ordering_then (slice_cmp nat_cmp prefix other) (slice_cmp nat_cmp entity other_entity)
+identity_order prefix other entity other_entity a b c d o p q r =
+    ap (λ n. nat_cmp n (identity_number other other_entity)) (identity_spelled prefix entity a c)
+    ∙ ap (nat_cmp (spelled (spelled 0 prefix) entity)) (identity_spelled other other_entity b d)
+    ∙ spelled_then (spelled 0 prefix) (spelled 0 other) entity other_entity (c ∙ sym d) q r
+    ∙ ap (λ order. ordering_then order (slice_cmp nat_cmp entity other_entity)) (spelled_order 0 prefix other (a ∙ sym b) o p)

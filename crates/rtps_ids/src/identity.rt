@@ -1,9 +1,10 @@
-ghost use Rattle.std.specs.Prelude.{◌≡◌, ◌*◌, ◌++◌, ◌∷◌, length, Some, refl};
-ghost use Rattle.std.specs.Cmp.{on_equiv, on_per, on_po, on_total, partial_equiv_from_equiv};
+ghost use Rattle.std.specs.Prelude.{◌≡◌, ◌+◌, ◌*◌, ◌^◌, ◌&&◌, ◌++◌, ◌∷◌, drop, length, take, Some, refl};
+ghost use Rattle.std.specs.Cmp.{and_equiv, and_per, both_tied, on_equiv, on_per, on_po, on_total, partial_equiv_from_equiv, then_agrees, then_po, then_total};
 ghost use Rattle.std.specs.Cmp.Lexicographic.{nat_list_cmp_total, nat_list_eq_equiv, slice_cmp, texts_po, texts_ties};
 ghost use Rattle.std.specs.Fmt.{WritesOnOk};
-ghost use Rattle.std.specs.Ordering.{nat_cmp};
+ghost use Rattle.std.specs.Ordering.{nat_cmp, ordering_then, partial_ordering_then};
 ghost use Rattle.std.specs.Str.{bytes_eq};
+ghost use Rattle.byteorder.specs.Endian.{big_number};
 ghost use Rattle.hex.specs.Hex.{encode_lower};
 
 use byteorder::{BigEndian, ByteOrder};
@@ -124,10 +125,58 @@ impl fmt::Display for EntityId {
 
 /// The identity of an entity: prefixes are compared first, and then entity ids (DDSI-RTPS 2.5, 8.2.4.1). It prints
 /// the digits of the prefix, a dot and the digits of the entity id.
-#[derive(Clone, Copy, PartialEq, Eq, PartialOrd, Ord, Debug)]
+#[derive(Clone, Copy, Debug)]
 pub struct Guid {
     pub prefix: GuidPrefix,
     pub entity: EntityId,
+}
+
+impl PartialEq for Guid {
+    ghost eq = { λ x y. bytes_eq x.prefix.0 y.prefix.0 && bytes_eq x.entity.0 y.entity.0 };
+
+    ghost laws = { and_per (on_per (λ guid. guid.prefix.0) (partial_equiv_from_equiv nat_list_eq_equiv))
+        (on_per (λ guid. guid.entity.0) (partial_equiv_from_equiv nat_list_eq_equiv)) };
+
+    // As a prefix.
+    #[inline]
+    fn eq(&self, other: &Guid) -> bool {
+        self.cmp(other).is_eq()
+    }
+}
+
+impl Eq for Guid {
+    ghost laws = { and_equiv (on_equiv (λ guid. guid.prefix.0) nat_list_eq_equiv)
+        (on_equiv (λ guid. guid.entity.0) nat_list_eq_equiv) };
+}
+
+impl PartialOrd for Guid {
+    ghost partial_cmp = { λ x y. partial_ordering_then (Some (slice_cmp nat_cmp x.prefix.0 y.prefix.0)) (Some (slice_cmp nat_cmp x.entity.0 y.entity.0)) };
+
+    ghost laws = { then_po (on_po (λ guid. guid.prefix.0) texts_po) (on_po (λ guid. guid.entity.0) texts_po) };
+
+    fn partial_cmp(&self, other: &Guid) -> Option<Ordering> {
+        Some(self.cmp(other))
+    }
+}
+
+impl Ord for Guid {
+    ghost cmp = { λ x y. ordering_then (slice_cmp nat_cmp x.prefix.0 y.prefix.0) (slice_cmp nat_cmp x.entity.0 y.entity.0) };
+
+    ghost total = { then_total (on_total (λ guid. guid.prefix.0) nat_list_cmp_total) (on_total (λ guid. guid.entity.0) nat_list_cmp_total) };
+
+    ghost matches_partial_cmp = { then_agrees (λ x y. refl) (λ x y. refl) };
+
+    ghost matches_eq = { λ x y. both_tied _ _ _ _ (texts_ties x.prefix.0 y.prefix.0) (texts_ties x.entity.0 y.entity.0) };
+
+    #[inline]
+    fn cmp(&self, other: &Guid) -> Ordering {
+        identity_order(
+            &self.prefix.0,
+            &self.entity.0,
+            &other.prefix.0,
+            &other.entity.0,
+        )
+    }
 }
 
 impl fmt::Display for Guid {
@@ -184,6 +233,38 @@ fn long_order(one: &[u8], other: &[u8]) -> Ordering
     ensures { result ≡ slice_cmp nat_cmp one.now other.now }
 {
     BigEndian::read_u64(one).cmp(&BigEndian::read_u64(other))
+}
+
+/// The number that twelve octets and four more spell, the highest first.
+#[inline(always)]
+fn identity_number(prefix: &[u8], entity: &[u8]) -> u128
+    requires prefix { length prefix.now ≡ 12 }
+    requires entity { length entity.now ≡ 4 }
+    ensures { result ≡ big_number 8 (take 8 prefix.now) * 2 ^ 64 + big_number 4 (drop 8 prefix.now) * 2 ^ 32
+        + big_number 4 entity.now }
+{
+    let (first, last) = prefix.split_at(8);
+    let high = u128::from(BigEndian::read_u64(first)) * (1 << 64);
+    let middle = u128::from(BigEndian::read_u32(last)) * (1 << 32);
+    high + middle + u128::from(BigEndian::read_u32(entity))
+}
+
+/// The order of twelve octets, and then of four more: that of the numbers that all spell, which is one comparison.
+#[inline(always)]
+fn identity_order(
+    prefix: &[u8],
+    entity: &[u8],
+    other_prefix: &[u8],
+    other_entity: &[u8],
+) -> Ordering
+    requires prefix { length prefix.now ≡ 12 }
+    requires entity { length entity.now ≡ 4 }
+    requires other_prefix { length other_prefix.now ≡ 12 }
+    requires other_entity { length other_entity.now ≡ 4 }
+    ensures { result ≡ ordering_then (slice_cmp nat_cmp prefix.now other_prefix.now) (slice_cmp nat_cmp entity.now other_entity.now) }
+{
+    let number = identity_number(prefix, entity);
+    number.cmp(&identity_number(other_prefix, other_entity))
 }
 
 /// Writes octets in lower-case hexadecimal, by way of `digits`, of which there are two for each octet.
