@@ -113,6 +113,9 @@ fn range_with(kept: &BTreeMap<u64, Span>, n: u64) -> Option<Span>
     requires { IsApart kept.now }
     ensures { MatchOption result (kept_has kept.now n ≡ false) (IsRangeWith kept.now n) }
 {
+    if kept.is_empty() {
+        return None;
+    }
     if let Some((_, span)) = last_up_to(kept, n) {
         if n < span.hi {
             return Some(span);
