@@ -15,19 +15,20 @@ use Rattle.rtps_ids.specs.declared.identity.Guid.{Guid}
 use Rattle.rtps_wire.specs.Values.{PayloadValue}
 use Rattle.rtps_receiver.specs.Speech.{is_for, is_for_all, is_heard_by, is_spoken_by, names, reader_named, unknown_entity}
 use Rattle.rtps_ids.specs.declared.identity.GuidPrefix.{GuidPrefix}
-use Rattle.rtps_receiver.specs.Values.{ActValue, act_value}
+use Rattle.rtps_receiver.specs.Values.{ActValue}
 use Rattle.rtps_coverage.specs.Coverage.{IsFront, TellsMore}
 use Rattle.rtps_audit.specs.Common.{is_for_everyone, nobody}
 use Rattle.rtps_audit.specs.Delivery.{Word, IsAsked}
 use Rattle.rtps_audit.specs.Delivery.Word.{Told}
 use Rattle.rtps_audit.specs.Hearing.{HearsTwo, IsCut, IsFrontBy, IsHeard, IsListening, IsTimeline, IsToldBy, Hears, Marks, front_after}
 use Rattle.rtps_audit.specs.KeptPayloads.{IsKept, KeepsMore, KeepsTwo}
-use Rattle.rtps_audit.specs.Placed.{PlacedValue, placed_value}
+use Rattle.rtps_audit.specs.Brief.{brief_value}
+use Rattle.rtps_audit.specs.Placed.{PlacedValue}
 use Rattle.rtps_audit.specs.RunVerdict.{IsLeast}
 use Rattle.rtps_audit.specs.Speech.{announced_for, word_for, word_of}
 use Rattle.rtps_audit.specs.declared.hearing.Front.{Front}
 use Rattle.rtps_audit.specs.declared.hearing.Hearing.{Hearing}
-use Rattle.rtps_audit.specs.declared.placed.Placed.{Placed}
+use Rattle.rtps_audit.specs.declared.brief.Brief.{Brief}
 use Rattle.rtps_audit.specs.declared.listener.Listener.{Listener}
 use Rattle.rtps_audit.proofs.Greatest.{greatest_more}
 use Rattle.rtps_audit.proofs.WordLemmas.{or_cases, or_left, or_right, some_word, word_some}
@@ -306,29 +307,29 @@ front_at from fronts (suc k) front some within at =
     let last : suc k - 1 ≡ k = omega arith in
     ap (λ (f : Front). f.number) (sym (get_or_read fronts k front (omega arith) (at ∙ ap (λ i. get_or fronts i front) last) _))
 
--- the datagram of the last of the first k acts
-abbrev pub reached : List Placed → ℕ → ℕ
-reached acts zero = 0
-reached acts (suc k) = slice_index_or (map (λ (placed : Placed). placed.datagram) acts) k 0
+-- the datagram of the last of the first k briefs
+abbrev pub reached : List Brief → ℕ → ℕ
+reached briefs zero = 0
+reached briefs (suc k) = slice_index_or (map (λ (brief : Brief). brief.datagram) briefs) k 0
 
-pub reached_so_far : (acts : List Placed) (k : ℕ) (placed : Placed) → IsNonDecreasingBy (λ (placed : Placed). placed.datagram) acts → k < length acts → placed ≡ get_or acts k placed → reached acts k ≤ placed.datagram
-reached_so_far acts zero placed rising lt at = omega arith
-reached_so_far acts (suc k) placed rising lt at =
-    let here : reached acts (suc k) ≡ (get_or acts k placed).datagram = get_or-map (λ (placed : Placed). placed.datagram) acts k placed 0 (omega arith) in
-    let le = rising k (suc k) placed (omega arith) lt in
-    let same : placed.datagram ≡ (get_or acts (suc k) placed).datagram = ap (λ (p : Placed). p.datagram) at in
+pub reached_so_far : (briefs : List Brief) (k : ℕ) (brief : Brief) → IsNonDecreasingBy (λ (brief : Brief). brief.datagram) briefs → k < length briefs → brief ≡ get_or briefs k brief → reached briefs k ≤ brief.datagram
+reached_so_far briefs zero brief rising lt at = omega arith
+reached_so_far briefs (suc k) brief rising lt at =
+    let here : reached briefs (suc k) ≡ (get_or briefs k brief).datagram = get_or-map (λ (brief : Brief). brief.datagram) briefs k brief 0 (omega arith) in
+    let le = rising k (suc k) brief (omega arith) lt in
+    let same : brief.datagram ≡ (get_or briefs (suc k) brief).datagram = ap (λ (p : Brief). p.datagram) at in
     omega arith
 
-pub reached_next : (acts : List Placed) (k : ℕ) (placed : Placed) → k < length acts → placed ≡ get_or acts k placed → placed.datagram ≡ reached acts (k + 1)
-reached_next acts k placed lt at =
-    ap (λ (p : Placed). p.datagram) at ∙ sym (get_or-map (λ (placed : Placed). placed.datagram) acts k placed 0 lt) ∙ ap (reached acts) (next k)
+pub reached_next : (briefs : List Brief) (k : ℕ) (brief : Brief) → k < length briefs → brief ≡ get_or briefs k brief → brief.datagram ≡ reached briefs (k + 1)
+reached_next briefs k brief lt at =
+    ap (λ (p : Brief). p.datagram) at ∙ sym (get_or-map (λ (brief : Brief). brief.datagram) briefs k brief 0 lt) ∙ ap (reached briefs) (next k)
   where
     next : (k : ℕ) → suc k ≡ k + 1
     next k = omega arith
 
-pub placed_next : (acts : List Placed) (k : ℕ) (placed : Placed) → k < length acts → placed ≡ get_or acts k placed → map placed_value (take (k + 1) acts) ≡ map placed_value (take k acts) ++ placed_value placed ∷ []
-placed_next acts k placed lt at =
-    ap (map placed_value) (take_more acts k placed lt ∙ ap (λ p. take k acts ++ p ∷ []) (sym at)) ∙ map-append placed_value (take k acts) (placed ∷ [])
+pub brief_next : (writer : Guid) (briefs : List Brief) (k : ℕ) (brief : Brief) → k < length briefs → brief ≡ get_or briefs k brief → map (brief_value writer) (take (k + 1) briefs) ≡ map (brief_value writer) (take k briefs) ++ brief_value writer brief ∷ []
+brief_next writer briefs k brief lt at =
+    ap (map (brief_value writer)) (take_more briefs k brief lt ∙ ap (λ p. take k briefs ++ p ∷ []) (sym at)) ∙ map-append (brief_value writer) (take k briefs) (brief ∷ [])
 
 -- ---- who hears alike
 
@@ -372,10 +373,10 @@ hears_too hearing writer one other placed alike known = record {
     by_cases None never = λ n two. never n (two_too writer other one placed n back two)
     by_cases (Some n) least = record { holds = two_too writer one other placed n alike least.holds; least = λ m two. least.least m (two_too writer other one placed m back two) }
 
--- and so of acts in the code
-pub alike_values : (acts : List Placed) (one other : Guid) → All (λ (placed : Placed). is_heard_by (act_value placed.act) one ≡ is_heard_by (act_value placed.act) other) acts
-    → All (λ at. is_heard_by at.act one ≡ is_heard_by at.act other) (map placed_value acts)
-alike_values acts one other alike = All-map (λ (at : PlacedValue). is_heard_by at.act one ≡ is_heard_by at.act other) placed_value acts alike
+-- and so of what is said in the code
+pub alike_values : (writer : Guid) (briefs : List Brief) (one other : Guid) → All (λ (brief : Brief). is_heard_by (brief_value writer brief).act one ≡ is_heard_by (brief_value writer brief).act other) briefs
+    → All (λ at. is_heard_by at.act one ≡ is_heard_by at.act other) (map (brief_value writer) briefs)
+alike_values writer briefs one other alike = All-map (λ (at : PlacedValue). is_heard_by at.act one ≡ is_heard_by at.act other) (brief_value writer) briefs alike
 
 -- tests that are not told apart
 pub same_tests : (a b : Bool) → not (beq a b) ≡ false → a ≡ b

@@ -53,10 +53,10 @@ at_contained [] k x e = cc
 at_contained (y ∷ xs) zero x e = let same : y ≡ x = (let h = e in cc) in subst (Contains (y ∷ xs)) same (contains_head y xs)
 at_contained (y ∷ xs) (suc k) x e = contains_tail y xs x (at_contained xs k x e)
 
-contains_mapped : {X Y : Type 0} (f : X → Y) (xs : List X) (y : Y) → Contains (map f xs) y → (x : X) × Contains xs x × (f x ≡ y)
+pub contains_mapped : {X Y : Type 0} (f : X → Y) (xs : List X) (y : Y) → Contains (map f xs) y → (x : X) × Contains xs x × (f x ≡ y)
 contains_mapped f xs y among = let at = contained_at (map f xs) y among in let from = mapped_get f xs at.0 y at.1 in (from.0, at_contained xs at.0 from.0 from.1, from.2)
 
-mapped_contains : {X Y : Type 0} (f : X → Y) (xs : List X) (x : X) → Contains xs x → Contains (map f xs) (f x)
+pub mapped_contains : {X Y : Type 0} (f : X → Y) (xs : List X) (x : X) → Contains xs x → Contains (map f xs) (f x)
 mapped_contains f xs x among = let at = contained_at xs x among in at_contained (map f xs) at.0 (f x) (get_mapped f xs at.0 x at.1)
 
 pub if_some : {X : Type 0} (b : Bool) (o : Option X) (x : X) → (if b then o else None) ≡ Some x → (b ≡ true) × (o ≡ Some x)

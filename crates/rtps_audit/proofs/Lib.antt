@@ -18,6 +18,7 @@ pub mod HearingLemmas
 pub mod AnswerLemmas
 pub mod PlacedActs
 pub mod IndexSpeech
+pub mod BriefLemmas
 pub mod IndexVerdict
 pub mod JudgeLemmas
 pub mod FullRunLemmas

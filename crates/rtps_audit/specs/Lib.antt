@@ -11,6 +11,8 @@ pub mod OneDatagram
 pub mod Groups
 pub mod KeptAnswers
 pub mod Placed
+pub mod Brief
+pub mod Origins
 pub mod Hearing
 pub mod Answered
 pub mod Index

@@ -1,23 +1,16 @@
 -- The acts of a recording, each with the datagram that it stands in. own: what one GUID said stands together, so that a
 -- pair costs no more than what its two said.
-use Rattle.std.specs.Prelude.{ℕ, pos, Bool, ◌+◌, ◌≡◌, ◌&&◌, List, [], ◌∷◌, ◌++◌, filter, map, Option, Some, None}
-use Rattle.std.specs.BTreeMap.{BTreeMap}
-use Rattle.std.specs.Global.{Vec}
+use Rattle.std.specs.Prelude.{ℕ, pos, Bool, ◌+◌, ◌&&◌, List, [], ◌∷◌, ◌++◌, map, Option, Some, None}
 use Rattle.std.specs.List.{filter_map}
 use Rattle.rtps_ids.specs.declared.identity.Guid.{Guid}
 use Rattle.rtps_wire.specs.Reading.{reading_of}
 use Rattle.rtps_receiver.specs.Acts.{acts_of}
 use Rattle.rtps_receiver.specs.Speech.{is_entity, is_prefix, origin_of}
 use Rattle.rtps_receiver.specs.Values.{ActValue, act_value}
-use Rattle.rtps_discovery.specs.GuidOrder.{guid_cmp}
 use Rattle.rtps_discovery.specs.declared.matching.Pair.{Pair}
-use Rattle.rtps_audit.specs.Groups.{values_at}
-use Rattle.rtps_audit.specs.KeptAnswers.{answers_in}
 use Rattle.rtps_audit.specs.Speech.{base_for}
 use Rattle.rtps_audit.specs.declared.answers.Answer.{Answer}
-use Rattle.rtps_audit.specs.declared.origins.Origins.{Origins}
 use Rattle.rtps_audit.specs.declared.placed.Placed.{Placed}
-use Rattle.rtps_audit.specs.declared.reader_answers.ReaderAnswers.{ReaderAnswers}
 
 -- an act, and the datagram that it stands in, counted from 1
 pub record PlacedValue : Type 0 where
@@ -57,15 +50,3 @@ answer_of pair placed = answer_at placed.datagram placed.act.at (base_for pair.w
 
 abbrev pub answers_among : Pair → List PlacedValue → List Answer
 answers_among pair placed = filter_map (answer_of pair) placed
-
--- the new lists have the acts of the old ones, and then these, and so the answers
-abbrev pub AddsActs : BTreeMap Guid (Vec Placed) → BTreeMap Guid (Vec Placed) → List PlacedValue → Type 0
-AddsActs old new placed = (origin : Guid) → map placed_value (values_at guid_cmp new origin) ≡ map placed_value (values_at guid_cmp old origin) ++ filter (is_from origin) placed
-
-abbrev pub AddsAnswers : BTreeMap Guid ReaderAnswers → BTreeMap Guid ReaderAnswers → List PlacedValue → Type 0
-AddsAnswers old new placed = (pair : Pair) → answers_in new pair ≡ answers_in old pair ++ answers_among pair placed
-
--- the lists are of these acts, by origin, and of their answers, by pair
-pub record AreOf (origins : Origins) (placed : List PlacedValue) : Type 0 where
-  pub acts : (origin : Guid) → map placed_value (values_at guid_cmp origins.acts.map origin) ≡ filter (is_from origin) placed
-  pub answers : (pair : Pair) → answers_in origins.answers.readers pair ≡ answers_among pair placed

@@ -3,7 +3,8 @@ ghost use Rattle.rtps_receiver.specs.Speech.{origin_of};
 ghost use Rattle.rtps_receiver.specs.Values.{act_value};
 ghost use Rattle.rtps_discovery.specs.declared.matching.Pair.{Pair as PairValue};
 ghost use Rattle.rtps_audit.specs.KeptAnswers.{answers_in};
-ghost use Rattle.rtps_audit.specs.Placed.{AddsAnswers, placed_at};
+ghost use Rattle.rtps_audit.specs.Origins.{AddsAnswers};
+ghost use Rattle.rtps_audit.specs.Placed.{placed_at};
 ghost use Rattle.rtps_audit.specs.Speech.{base_for};
 
 use crate::answers::{Answer, answer_in};

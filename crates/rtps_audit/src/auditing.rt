@@ -1,7 +1,7 @@
 ghost use Rattle.std.specs.Prelude.{ℤ, ℕ, ◌≡◌, ◌↔◌, map, All, IfOk, List};
 ghost use Rattle.rtps_audit.specs.Delivered.{IsDelivered, IsDeliveredFrom};
 ghost use Rattle.rtps_audit.specs.FullRun.{HasFullRun, HasFullRunFrom};
-ghost use Rattle.rtps_audit.specs.Index.{IsIndexOf};
+ghost use Rattle.rtps_audit.specs.Index.{IsBriefOf};
 ghost use Rattle.rtps_audit.specs.Report.{IsJudgedFrom, IsReport, IsReportFrom};
 ghost use Rattle.rtps_audit.specs.Speech.{speech_of};
 
@@ -22,13 +22,13 @@ fn rows_of<P: Watch>(
     watch: &mut P,
 ) -> Result<Vec<Row>, Memory>
     ensures pairs { IfOk result (λ rows. map (λ row. row.pair) rows.items ≡ pairs.now) }
-    ensures judged { (recording : List (List ℕ)) → IsIndexOf recording index.now
+    ensures judged { (recording : List (List ℕ)) → IsBriefOf recording index.now
         → IfOk result (λ rows. All (IsJudgedFrom from recording) rows.items) }
 {
     let mut rows = Vec::new(index.alloc);
-    let mut common = Common::new(index, from)?;
+    let mut common = Common::new(index, from);
     for pair in pairs {
-        common.turn_to(index, pair.writer)?;
+        common.turn_to(index, pair.writer);
         let verdict = common.judge(index, *pair)?;
         rows.push(Row {
             pair: *pair,
@@ -43,7 +43,7 @@ impl<'a> Index<'a> {
     ghost use Rattle.std.specs.Prelude.{ℕ, List, IfOk};
     ghost use Rattle.rtps_receiver.specs.Acts.{acts_in};
     ghost use Rattle.rtps_discovery.specs.Directory.{IsMapOf};
-    ghost use Rattle.rtps_audit.specs.Index.{IsIndexOf};
+    ghost use Rattle.rtps_audit.specs.Index.{IsBriefOf, IsIndexOf};
     ghost use Rattle.rtps_audit.specs.Report.{IsReportFrom};
 
     /// What the recording announces. It takes no memory.
@@ -56,6 +56,14 @@ impl<'a> Index<'a> {
     /// The report on the recording by the numbers from `from` on, as [`audit_from`] answers it. It tells how far it is.
     pub fn report_from<P: Watch>(&self, from: SeqNum, watch: &mut P) -> Result<Report, Memory>
         ensures { (recording : List (List ℕ)) → IsIndexOf recording self.now → IfOk result (IsReportFrom from recording) }
+    {
+        let report = self.reported(from, watch)?;
+        Ok(report)
+    }
+
+    /// The report, as of [`Index::report_from`].
+    fn reported<P: Watch>(&self, from: SeqNum, watch: &mut P) -> Result<Report, Memory>
+        ensures { (recording : List (List ℕ)) → IsBriefOf recording self.now → IfOk result (IsReportFrom from recording) }
     {
         let pairs = self.directory.pairs()?;
         let rows = rows_of(self, &pairs, from, watch)?;
@@ -84,8 +92,8 @@ pub fn audit_watched<P: Watch>(
     ensures full_run { let octets = map (λ datagram. datagram.now) recording.now in
         IfOk result (λ report. All (λ row. HasFullRunFrom from (speech_of row.pair.writer row.pair.reader octets) row.verdict) report.rows.items) }
 {
-    let index = Index::build(alloc, recording)?;
-    let report = index.report_from(from, watch)?;
+    let index = Index::build_brief(alloc, recording)?;
+    let report = index.reported(from, watch)?;
     Ok(report)
 }
 

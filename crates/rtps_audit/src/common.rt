@@ -1,9 +1,12 @@
 ghost use Rattle.std.specs.Prelude.{◌≡◌, ◌↔◌, ℕ, All, IfOk, IsTrue, List, OnOk};
 ghost use Rattle.std.specs.List.{list_all};
+ghost use Rattle.rtps_ids.specs.declared.identity.Guid.{Guid as GuidValue};
 ghost use Rattle.rtps_receiver.specs.Speech.{is_heard_by};
 ghost use Rattle.rtps_receiver.specs.Values.{act_value};
+ghost use Rattle.rtps_audit.specs.Brief.{brief_value};
 ghost use Rattle.rtps_audit.specs.Common.{is_for_everyone as is_for_everyone_lem, nobody};
 
+use crate::brief::Brief;
 use crate::hearing::Hearing;
 use crate::index::Index;
 use crate::placed::Placed;
@@ -22,18 +25,21 @@ const NOBODY: Guid = Guid {
 #[derive(Drop)]
 pub(crate) struct Common {
     pub(crate) writer: Guid,
-    pub(crate) hearing: Hearing,
+    /// The first number that is asked for.
+    pub(crate) from: SeqNum,
+    /// What they hear, once it was asked for: many a writer names each of its readers.
+    pub(crate) hearing: Option<Hearing>,
     /// It names no reader at all, so that they are all readers.
     pub(crate) for_all: bool,
 }
 
-/// Whether a reader hears of these acts just those that are for all readers.
-fn hears_as_all(acts: &[Placed<'_>], reader: Guid) -> bool
-    ensures { IsTrue result ↔ All (λ placed. is_heard_by (act_value placed.act) reader
-        ≡ is_heard_by (act_value placed.act) nobody) acts.now }
+/// Whether a reader hears of what a writer says just that which is for all readers.
+fn hears_as_all(briefs: &[Brief<'_>], reader: Guid) -> bool
+    ensures { (writer : GuidValue) → IsTrue result ↔ All (λ brief. is_heard_by (brief_value writer brief).act reader
+        ≡ is_heard_by (brief_value writer brief).act nobody) briefs.now }
 {
-    for placed in acts {
-        if placed.act.heard_by(reader) != placed.act.heard_by(NOBODY) {
+    for brief in briefs {
+        if brief.heard_by(reader) != brief.heard_by(NOBODY) {
             return false;
         }
     }
@@ -54,76 +60,100 @@ pub(crate) fn are_for_all(acts: &[Placed<'_>]) -> bool
     acts.iter().all(|placed| is_for_everyone(&placed.act))
 }
 
+/// Whether all that a writer says is for every reader, so that all hear the same.
+fn says_to_all(briefs: &[Brief<'_>]) -> bool
+    ensures { (writer : GuidValue) → result ≡ list_all (λ brief. is_for_everyone_lem (brief_value writer brief).act) briefs.now }
+{
+    briefs
+        .iter()
+        .all(|brief| brief.dest.is_none() && brief.heard_by(NOBODY))
+}
+
 impl Common {
-    ghost use Rattle.std.specs.Prelude.{filter};
-    ghost use Rattle.rtps_audit.specs.Placed.{is_from, placed_in};
+    ghost use Rattle.rtps_audit.specs.Brief.{spoken_from};
+    ghost use Rattle.rtps_audit.specs.Placed.{placed_in};
     ghost use Rattle.rtps_audit.specs.Common.{IsCommon};
-    ghost use Rattle.rtps_audit.specs.Index.{IsIndexOf};
+    ghost use Rattle.rtps_audit.specs.Index.{IsBriefOf};
     ghost use Rattle.rtps_audit.specs.RunVerdict.{IsVerdictFrom};
     ghost use Rattle.rtps_audit.specs.Speech.{speech_of};
 
-    /// What is heard from a writer of the numbers from `from` on.
-    fn of(index: &Index<'_>, writer: Guid, from: SeqNum) -> Result<Common, Memory>
-        ensures common { (recording : List (List ℕ)) → IsIndexOf recording index.now
-            → IfOk result (IsCommon recording) }
-        ensures writer { IfOk result (λ common. common.writer ≡ writer) }
-        ensures from { IfOk result (λ common. common.hearing.from ≡ from) }
+    /// Of a writer, where the numbers from `from` on are asked for.
+    fn of(index: &Index<'_>, writer: Guid, from: SeqNum) -> Common
+        ensures common { (recording : List (List ℕ)) → IsBriefOf recording index.now → IsCommon recording result }
+        ensures writer { result.writer ≡ writer }
+        ensures from { result.from ≡ from }
     {
-        let everyone = Pair {
+        Common {
             writer,
-            reader: NOBODY,
-        };
-        let acts = index.acts_of(writer);
-        let hearing = Hearing::of(index.alloc, acts, everyone, from)?;
-        let for_all = are_for_all(acts);
-        Ok(Common {
-            writer,
-            hearing,
-            for_all,
-        })
+            from,
+            hearing: None,
+            for_all: says_to_all(index.briefs_of(writer)),
+        }
     }
 
     /// Of no writer yet.
-    pub(crate) fn new(index: &Index<'_>, from: SeqNum) -> Result<Common, Memory>
-        ensures common { (recording : List (List ℕ)) → IsIndexOf recording index.now → IfOk result (IsCommon recording) }
-        ensures from { IfOk result (λ common. common.hearing.from ≡ from) }
+    pub(crate) fn new(index: &Index<'_>, from: SeqNum) -> Common
+        ensures common { (recording : List (List ℕ)) → IsBriefOf recording index.now → IsCommon recording result }
+        ensures from { result.from ≡ from }
     {
-        let common = Common::of(index, NOBODY, from)?;
-        Ok(common)
+        Common::of(index, NOBODY, from)
     }
 
     /// Turns to a writer, if it is another one.
-    pub(crate) fn turn_to(&mut self, index: &Index<'_>, writer: Guid) -> Result<(), Memory>
-        ensures writer { OnOk result (self.new.writer ≡ writer) }
-        ensures from { self.new.hearing.from ≡ self.old.hearing.from }
-        ensures common { (recording : List (List ℕ)) → IsIndexOf recording index.now → IsCommon recording self.old
+    pub(crate) fn turn_to(&mut self, index: &Index<'_>, writer: Guid)
+        ensures writer { self.new.writer ≡ writer }
+        ensures from { self.new.from ≡ self.old.from }
+        ensures common { (recording : List (List ℕ)) → IsBriefOf recording index.now → IsCommon recording self.old
             → IsCommon recording self.new }
     {
         if self.writer != writer {
-            *self = Common::of(index, writer, self.hearing.from)?;
+            *self = Common::of(index, writer, self.from);
         }
-        Ok(())
     }
 
     /// Whether this is what the reader of a pair of this writer hears.
     fn is_heard_by(&self, index: &Index<'_>, pair: Pair) -> bool
-        ensures { (recording : List (List ℕ)) → IsIndexOf recording index.now → IsCommon recording self.now
+        ensures { (recording : List (List ℕ)) → IsBriefOf recording index.now → IsCommon recording self.now
             → self.now.writer ≡ pair.writer → IsTrue result
-            → All (λ at. is_heard_by at.act pair.reader ≡ is_heard_by at.act nobody) (filter (is_from pair.writer) (placed_in recording)) }
+            → All (λ at. is_heard_by at.act pair.reader ≡ is_heard_by at.act nobody) (spoken_from pair.writer (placed_in recording)) }
     {
-        self.for_all || hears_as_all(index.acts_of(pair.writer), pair.reader)
+        self.for_all || hears_as_all(index.briefs_of(pair.writer), pair.reader)
+    }
+
+    /// Hears the writer, if it did not yet.
+    fn listen(&mut self, index: &Index<'_>) -> Result<(), Memory>
+        ensures writer { self.new.writer ≡ self.old.writer }
+        ensures from { self.new.from ≡ self.old.from }
+        ensures common { OnOk result ((recording : List (List ℕ)) → IsBriefOf recording index.now → IsCommon recording self.old
+            → IsCommon recording self.new) }
+    {
+        if self.hearing.is_none() {
+            let everyone = Pair {
+                writer: self.writer,
+                reader: NOBODY,
+            };
+            let briefs = index.briefs_of(self.writer);
+            let hearing = Hearing::of(index.alloc, briefs, everyone, self.from)?;
+            self.hearing = Some(hearing);
+        }
+        Ok(())
     }
 
     /// Judges a pair of this writer by the numbers that are asked for.
-    pub(crate) fn judge(&self, index: &Index<'_>, pair: Pair) -> Result<Verdict, Memory>
-        ensures { (recording : List (List ℕ)) → IsIndexOf recording index.now → IsCommon recording self.now
-            → self.now.writer ≡ pair.writer → IfOk result (IsVerdictFrom self.now.hearing.from (speech_of pair.writer pair.reader recording)) }
+    pub(crate) fn judge(&mut self, index: &Index<'_>, pair: Pair) -> Result<Verdict, Memory>
+        ensures from { self.new.from ≡ self.old.from }
+        ensures common { OnOk result ((recording : List (List ℕ)) → IsBriefOf recording index.now → IsCommon recording self.old
+            → IsCommon recording self.new) }
+        ensures verdict { (recording : List (List ℕ)) → IsBriefOf recording index.now → IsCommon recording self.old
+            → self.old.writer ≡ pair.writer → IfOk result (IsVerdictFrom self.old.from (speech_of pair.writer pair.reader recording)) }
     {
         if self.is_heard_by(index, pair) {
-            Ok(self.hearing.verdict(index.answers_of(pair)))
-        } else {
-            let verdict = index.judge_from(pair, self.hearing.from)?;
-            Ok(verdict)
+            self.listen(index)?;
+            if let Some(hearing) = &self.hearing {
+                return Ok(hearing.verdict(index.answered(pair)));
+            }
         }
+        let verdict = index.judged(pair, self.from)?;
+        Ok(verdict)
     }
 }

@@ -3,9 +3,9 @@ ghost use Rattle.std.specs.Option.{ForSome};
 ghost use Rattle.rtps_ids.specs.declared.identity.Guid.{Guid as GuidValue};
 
 use crate::answers::Answer;
+use crate::brief::Brief;
 use crate::claims::Claims;
 use crate::listener::Listener;
-use crate::placed::Placed;
 use crate::verdict::Verdict;
 use rtps_coverage::BitRanges;
 use rtps_discovery::Pair;
@@ -35,7 +35,8 @@ impl Hearing {
     ghost use Rattle.rtps_audit.specs.Answered.{IsAnsweredBy};
     ghost use Rattle.rtps_audit.specs.Hearing.{Hears, IsCut, IsFrontBy};
     ghost use Rattle.std.specs.List.Sorted.{IsNonDecreasingBy};
-    ghost use Rattle.rtps_audit.specs.Placed.{PlacedValue, placed_value};
+    ghost use Rattle.rtps_audit.specs.Brief.{brief_value};
+    ghost use Rattle.rtps_audit.specs.Placed.{PlacedValue};
 
     /// How many fronts stand before a datagram, counted from 1.
     fn count_before(&self, datagram: usize) -> usize
@@ -60,21 +61,21 @@ impl Hearing {
         }
     }
 
-    /// What the pair's reader hears from its writer of the numbers from `from` on by these acts, which are from the writer
-    /// and in the order of sending.
+    /// What the pair's reader hears from its writer of the numbers from `from` on, where this is what the writer says, in
+    /// the order of sending.
     pub(crate) fn of(
         alloc: Global,
-        acts: &[Placed<'_>],
+        briefs: &[Brief<'_>],
         pair: Pair,
         from: SeqNum,
     ) -> Result<Hearing, Memory>
         ensures from { IfOk result (λ hearing. hearing.from ≡ from) }
-        ensures hears { IfOk result (λ hearing. IsNonDecreasingBy (λ placed. placed.datagram) acts.now
-            → Hears hearing pair.writer pair.reader (map placed_value acts.now)) }
+        ensures hears { IfOk result (λ hearing. IsNonDecreasingBy (λ brief. brief.datagram) briefs.now
+            → Hears hearing pair.writer pair.reader (map (brief_value pair.writer) briefs.now)) }
     {
-        let mut listener = Listener::<BitRanges>::new(alloc, from, acts.len())?;
-        for placed in acts {
-            listener.note(placed, pair)?;
+        let mut listener = Listener::<BitRanges>::new(alloc, from, briefs.len())?;
+        for brief in briefs {
+            listener.note(brief, pair)?;
         }
         let hearing = listener.end(from)?;
         Ok(hearing)

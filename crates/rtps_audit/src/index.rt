@@ -4,12 +4,14 @@ ghost use Rattle.rtps_audit.specs.Common.{is_for_everyone};
 ghost use Rattle.rtps_audit.specs.Delivered.{IsDelivered, IsDeliveredFrom, IsPlain, IsPlainFrom};
 ghost use Rattle.rtps_audit.specs.Delivery.{last_announced, last_announced_from};
 ghost use Rattle.rtps_audit.specs.FullRun.{HasFullRun, HasFullRunFrom};
-ghost use Rattle.rtps_audit.specs.Index.{IsIndexOf};
+ghost use Rattle.rtps_audit.specs.Brief.{brief_value, spoken_from};
+ghost use Rattle.rtps_audit.specs.Index.{IsBriefOf, IsIndexOf};
 ghost use Rattle.rtps_audit.specs.Placed.{answers_among, is_from, placed_in, placed_value};
 ghost use Rattle.rtps_audit.specs.RunVerdict.{IsVerdict, IsVerdictFrom};
 ghost use Rattle.rtps_audit.specs.Speech.{speech_of};
 
 use crate::answers::Answer;
+use crate::brief::Brief;
 use crate::common::are_for_all;
 use crate::counting::{one_if, undirected_among};
 use crate::hearing::Hearing;
@@ -39,7 +41,24 @@ impl<'a> Index<'a> {
     pub fn build(alloc: Global, recording: &[&'a [u8]]) -> Result<Index<'a>, Memory>
         ensures { IfOk result (IsIndexOf (map (λ datagram. datagram.now) recording.now)) }
     {
-        let mut origins = Origins::new(alloc);
+        let index = Index::of(alloc, recording, true)?;
+        Ok(index)
+    }
+
+    /// The index of a recording for judging its pairs, which keeps no acts but what is said by them.
+    pub(crate) fn build_brief(alloc: Global, recording: &[&'a [u8]]) -> Result<Index<'a>, Memory>
+        ensures { IfOk result (IsBriefOf (map (λ datagram. datagram.now) recording.now)) }
+    {
+        let index = Index::of(alloc, recording, false)?;
+        Ok(index)
+    }
+
+    /// The one walk over a recording.
+    fn of(alloc: Global, recording: &[&'a [u8]], keeps_acts: bool) -> Result<Index<'a>, Memory>
+        ensures brief { IfOk result (IsBriefOf (map (λ datagram. datagram.now) recording.now)) }
+        ensures keeps_acts { IfOk result (λ index. index.origins.keeps_acts ≡ keeps_acts) }
+    {
+        let mut origins = Origins::new(alloc, keeps_acts);
         let mut directory = Directory::new(alloc);
         let mut walk = Walk::new(alloc);
         let mut place = 0usize;
@@ -78,6 +97,14 @@ impl<'a> Index<'a> {
         self.origins.acts.of(origin)
     }
 
+    /// What this writer says in the recording, in the order of sending.
+    pub(crate) fn briefs_of(&self, writer: Guid) -> &[Brief<'a>]
+        ensures { (recording : List (List ℕ)) → IsBriefOf recording self.now
+            → map (brief_value writer) result.now ≡ spoken_from writer (placed_in recording) }
+    {
+        self.origins.briefs.of(writer)
+    }
+
     /// Whether each act from this GUID is for every reader, so that all readers hear the same from it. It takes no memory.
     pub fn is_for_all(&self, origin: Guid) -> bool
         ensures { (recording : List (List ℕ)) → IsIndexOf recording self.now
@@ -89,6 +116,14 @@ impl<'a> Index<'a> {
     /// The answers of a pair's reader to its writer, in the order of sending. It takes no memory.
     pub fn answers_of(&self, pair: Pair) -> &[Answer]
         ensures { (recording : List (List ℕ)) → IsIndexOf recording self.now
+            → result.now ≡ answers_among pair (placed_in recording) }
+    {
+        self.answered(pair)
+    }
+
+    /// The answers of a pair's reader to its writer, as of [`Index::answers_of`].
+    pub(crate) fn answered(&self, pair: Pair) -> &[Answer]
+        ensures { (recording : List (List ℕ)) → IsBriefOf recording self.now
             → result.now ≡ answers_among pair (placed_in recording) }
     {
         self.origins.answers.of(pair)
@@ -145,11 +180,11 @@ impl<'a> Index<'a> {
     }
 
     /// The verdict on a pair.
-    fn judged(&self, pair: Pair, from: SeqNum) -> Result<Verdict, Memory>
-        ensures { (recording : List (List ℕ)) → IsIndexOf recording self.now
+    pub(crate) fn judged(&self, pair: Pair, from: SeqNum) -> Result<Verdict, Memory>
+        ensures { (recording : List (List ℕ)) → IsBriefOf recording self.now
             → IfOk result (IsVerdictFrom from (speech_of pair.writer pair.reader recording)) }
     {
-        let hearing = Hearing::of(self.alloc, self.acts_of(pair.writer), pair, from)?;
-        Ok(hearing.verdict(self.answers_of(pair)))
+        let hearing = Hearing::of(self.alloc, self.briefs_of(pair.writer), pair, from)?;
+        Ok(hearing.verdict(self.answered(pair)))
     }
 }

@@ -5,6 +5,7 @@
 mod all_answers;
 mod answers;
 mod auditing;
+mod brief;
 mod claims;
 mod common;
 mod counting;

@@ -1,9 +1,8 @@
 ghost use Rattle.std.specs.Prelude.{◌≡◌, ◌<◌, ◌≤◌, ◌^◌, ◌++◌, ◌∷◌, [], ℕ, IfOk, List, OnOk};
 ghost use Rattle.rtps_ids.specs.declared.identity.Guid.{Guid as GuidValue};
 
+use crate::brief::{Brief, note_brief};
 use crate::hearing::{Front, Hearing};
-use crate::placed::Placed;
-use crate::said::{note_heard, number_in};
 use crate::words::Words;
 use rtps_coverage::Coverage;
 use rtps_discovery::Pair;
@@ -24,7 +23,8 @@ impl<'a, C: Coverage> Listener<'a, C> {
     ghost use Rattle.std.specs.Prelude.{IfSome};
     ghost use Rattle.rtps_coverage.specs.Coverage.{IsFront};
     ghost use Rattle.rtps_audit.specs.Hearing.{Hears, IsListening, Marks};
-    ghost use Rattle.rtps_audit.specs.Placed.{PlacedValue, placed_value};
+    ghost use Rattle.rtps_audit.specs.Brief.{brief_value};
+    ghost use Rattle.rtps_audit.specs.Placed.{PlacedValue};
 
     /// It has heard nothing, and asks for the numbers from `from` on. There is room for what it keeps of so many acts,
     /// which then need not be moved as they grow.
@@ -40,15 +40,15 @@ impl<'a, C: Coverage> Listener<'a, C> {
         })
     }
 
-    /// Hears the next act, if the pair's reader does. After `Memory` the listener is of no use.
-    pub(crate) fn note(&mut self, placed: &Placed<'a>, pair: Pair) -> Result<(), Memory>
-        ensures { OnOk result ((from : ℕ) (before : List PlacedValue) (datagram : ℕ) → datagram ≤ placed.now.datagram
+    /// Hears what the pair's writer says by its next act, if the reader does. After `Memory` the listener is of no use.
+    pub(crate) fn note(&mut self, brief: &Brief<'a>, pair: Pair) -> Result<(), Memory>
+        ensures { OnOk result ((from : ℕ) (before : List PlacedValue) (datagram : ℕ) → datagram ≤ brief.now.datagram
             → IsListening C.covered from self.old pair.writer pair.reader before datagram
-            → IsListening C.covered from self.new pair.writer pair.reader (before ++ placed_value placed.now ∷ []) placed.now.datagram) }
+            → IsListening C.covered from self.new pair.writer pair.reader (before ++ brief_value pair.writer brief.now ∷ []) brief.now.datagram) }
     {
-        self.last = self.last.max(number_in(&placed.act, pair));
-        note_heard(&mut self.words, &placed.act, pair)?;
-        self.mark(placed.datagram)?;
+        self.last = self.last.max(brief.number());
+        note_brief(&mut self.words, brief, pair)?;
+        self.mark(brief.datagram)?;
         Ok(())
     }
 

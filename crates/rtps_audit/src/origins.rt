@@ -1,36 +1,47 @@
-ghost use Rattle.std.specs.Prelude.{◌≡◌, ◌≤◌, ◌++◌, [], cond, length, map, All, List, OnOk};
-ghost use Rattle.std.specs.List.{AllWithin};
+ghost use Rattle.std.specs.Prelude.{◌≡◌, ◌≤◌, ◌++◌, [], true, cond, filter, length, map, not, All, List, OnOk};
+ghost use Rattle.std.specs.List.{AllWithin, list_all};
 ghost use Rattle.std.specs.Ordering.{is_eq};
 ghost use Rattle.rtps_ids.specs.declared.identity.Guid.{Guid as GuidValue};
 ghost use Rattle.rtps_receiver.specs.Speech.{origin_of};
 ghost use Rattle.rtps_receiver.specs.Values.{act_value};
 ghost use Rattle.rtps_discovery.specs.GuidOrder.{guid_cmp};
 ghost use Rattle.rtps_audit.specs.Groups.{values_at};
-ghost use Rattle.rtps_audit.specs.Placed.{AddsActs, AddsAnswers, placed_at, placed_value};
+ghost use Rattle.rtps_audit.specs.Brief.{bare, brief_value, is_speech};
+ghost use Rattle.rtps_audit.specs.Origins.{AddsActs, AddsAnswers, AddsBriefs};
+ghost use Rattle.rtps_audit.specs.Placed.{placed_at, placed_value};
 
 use crate::all_answers::AllAnswers;
+use crate::brief::{Brief, append_briefs};
 use crate::groups::Groups;
 use crate::placed::{Placed, append_placed};
 use rtps_ids::{Guid, Memory};
-use rtps_receiver::Act;
+use rtps_receiver::{Act, ActBody};
 use std::alloc::Global;
 
-/// Acts by the GUID that they are from, and answers by the pair that they are of.
+/// Acts by the GUID that they are from, whole or what is said by them, and answers by the pair that they are of.
 #[derive(Drop)]
 pub(crate) struct Origins<'a> {
+    /// Whether whole acts are kept, too.
+    pub(crate) keeps_acts: bool,
     pub(crate) acts: Groups<Guid, Placed<'a>>,
+    /// What a writer says by its acts.
+    pub(crate) briefs: Groups<Guid, Brief<'a>>,
     pub(crate) answers: AllAnswers,
 }
 
 impl<'a> Origins<'a> {
-    ghost use Rattle.rtps_audit.specs.Placed.{AreOf, PlacedValue};
+    ghost use Rattle.rtps_audit.specs.Origins.{AreOf};
+    ghost use Rattle.rtps_audit.specs.Placed.{PlacedValue};
 
     /// No acts.
-    pub(crate) fn new(alloc: Global) -> Self
-        ensures { AreOf result [] }
+    pub(crate) fn new(alloc: Global, keeps_acts: bool) -> Self
+        ensures empty { AreOf result [] }
+        ensures keeps_acts { result.keeps_acts ≡ keeps_acts }
     {
         Origins {
+            keeps_acts,
             acts: Groups::new(alloc),
+            briefs: Groups::new(alloc),
             answers: AllAnswers::new(alloc),
         }
     }
@@ -38,7 +49,8 @@ impl<'a> Origins<'a> {
     /// Adds the acts of one datagram more. Those of one GUID that follow one another are added at once. After `Memory`
     /// the lists are of no use.
     pub(crate) fn note_all(&mut self, datagram: usize, acts: &[Act<'a>]) -> Result<(), Memory>
-        ensures { OnOk result ((before : List PlacedValue) → AreOf self.old before
+        ensures keeps_acts { self.new.keeps_acts ≡ self.old.keeps_acts }
+        ensures noted { OnOk result ((before : List PlacedValue) → AreOf self.old before
             → AreOf self.new (before ++ placed_at datagram (map act_value acts.now))) }
     {
         let mut start = 0;
@@ -51,15 +63,35 @@ impl<'a> Origins<'a> {
         Ok(())
     }
 
+    /// Adds acts of a datagram that are all from this GUID to the whole ones, where such are kept.
+    fn keep_run(&mut self, origin: Guid, datagram: usize, run: &[Act<'a>]) -> Result<(), Memory>
+        requires { All (λ act. origin_of (act_value act) ≡ origin) run.now }
+        ensures keeps_acts { self.new.keeps_acts ≡ self.old.keeps_acts }
+        ensures acts { OnOk result (self.old.keeps_acts ≡ true
+            → AddsActs self.old.acts.map self.new.acts.map (placed_at datagram (map act_value run.now))) }
+        ensures briefs { self.new.briefs ≡ self.old.briefs }
+        ensures answers { self.new.answers ≡ self.old.answers }
+    {
+        if !self.keeps_acts {
+            return Ok(());
+        }
+        place_run(&mut self.acts, origin, datagram, run)?;
+        Ok(())
+    }
+
     /// Adds acts of a datagram that are all from this GUID.
     fn note_run(&mut self, origin: Guid, datagram: usize, run: &[Act<'a>]) -> Result<(), Memory>
         requires { All (λ act. origin_of (act_value act) ≡ origin) run.now }
-        ensures acts { OnOk result
-            (AddsActs self.old.acts.map self.new.acts.map (placed_at datagram (map act_value run.now))) }
+        ensures keeps_acts { self.new.keeps_acts ≡ self.old.keeps_acts }
+        ensures acts { OnOk result (self.old.keeps_acts ≡ true
+            → AddsActs self.old.acts.map self.new.acts.map (placed_at datagram (map act_value run.now))) }
+        ensures briefs { OnOk result
+            (AddsBriefs self.old.briefs.map self.new.briefs.map (placed_at datagram (map act_value run.now))) }
         ensures answers { OnOk result
             (AddsAnswers self.old.answers.readers self.new.answers.readers (placed_at datagram (map act_value run.now))) }
     {
-        place_run(&mut self.acts, origin, datagram, run)?;
+        self.keep_run(origin, datagram, run)?;
+        brief_run(&mut self.briefs, origin, datagram, run)?;
         self.answers.note_run(origin, datagram, run)?;
         Ok(())
     }
@@ -93,5 +125,33 @@ fn place_run<'a>(
 {
     let placed = groups.map.entry(origin)?.or_insert(Vec::new(groups.alloc));
     append_placed(placed, datagram, run)?;
+    Ok(())
+}
+
+/// Whether none of these acts is of a writer.
+fn are_answers(acts: &[Act<'_>]) -> bool
+    ensures { result ≡ list_all (λ act. not (is_speech (act_value act))) acts.now }
+{
+    acts.iter()
+        .all(|act| matches!(act.body, ActBody::AckNack(_)))
+}
+
+/// Adds what this GUID says by acts of a datagram.
+fn brief_run<'a>(
+    groups: &mut Groups<Guid, Brief<'a>>,
+    origin: Guid,
+    datagram: usize,
+    run: &[Act<'a>],
+) -> Result<(), Memory>
+    ensures { OnOk result ((other : GuidValue) → map (brief_value other) (values_at guid_cmp groups.new.map other)
+        ≡ map (brief_value other) (values_at guid_cmp groups.old.map other)
+        ++ cond (is_eq (guid_cmp other origin)) (map (bare other) (filter (λ at. is_speech at.act) (placed_at datagram (map act_value run.now)))) []) }
+{
+    if are_answers(run) {
+        // Most GUIDs of readers say nothing, and then have no list.
+        return Ok(());
+    }
+    let briefs = groups.map.entry(origin)?.or_insert(Vec::new(groups.alloc));
+    append_briefs(briefs, datagram, run)?;
     Ok(())
 }

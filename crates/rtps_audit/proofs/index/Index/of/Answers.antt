@@ -3,11 +3,12 @@ use Rattle.std.proofs.lemmas.Grind.{common_steps}
 use Rattle.std.specs.Prelude.{count_by}
 use Rattle.rtps_receiver.specs.Acts.{acts_in}
 use Rattle.rtps_discovery.specs.Directory.{IsMapOf}
-use Rattle.rtps_audit.specs.Placed.{AreOf, placed_in}
+use Rattle.rtps_audit.specs.Origins.{AreOf}
+use Rattle.rtps_audit.specs.Placed.{placed_in}
 use Rattle.rtps_audit.specs.Report.{is_undirected}
 use Rattle.rtps_audit.proofs.PlacedActs.{placed_on}
 use Rattle.rtps_audit.proofs.RecordingActs.{acts_in_more}
-use Rattle.rtps_audit.proofs.index.Index.build.Goals as goal
+use Rattle.rtps_audit.proofs.index.Index.of.Goals as goal
 
 pub loop-datagram-preserved : goal.loop-datagram-preserved
 loop-datagram-preserved c =
@@ -22,7 +23,8 @@ loop-datagram-preserved c =
     let more = placed_on recording i _ c.loop-datagram.place _ c.loop-datagram-test.true old.place said in
     record {
       place = ap (λ n. n + 1) old.place;
-      origins = subst (AreOf c.note_all.new.self) more (c.in_ok-note_all.ensures placed old.origins);
+      origins = subst (AreOf c.note_all.new.self) more (c.in_ok-note_all.ensures.noted placed old.origins);
+      keeps_acts = c.note_all.ensures.keeps_acts ∙ old.keeps_acts;
       map = subst (λ l. IsMapOf l c.note_all-in-loop-datagram.new.self) (ap (λ l. before ++ l) heard ∙ sym (acts_in_more recording i _ c.loop-datagram-test.true)) (c.in_ok-note_all-2.ensures.map before old.map);
       datagrams = old.datagrams;
       unsettled = old.unsettled;

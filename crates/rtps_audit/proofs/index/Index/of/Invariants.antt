@@ -4,9 +4,10 @@ use Rattle.rtps_receiver.specs.Acts.{acts_in, acts_of}
 use Rattle.rtps_discovery.specs.Directory.{IsMapOf}
 use Rattle.rtps_wire.specs.Reading.{reading_of}
 use Rattle.rtps_wire.specs.Tally.{tally_of}
-use Rattle.rtps_audit.specs.Placed.{AreOf, placed_in}
+use Rattle.rtps_audit.specs.Origins.{AreOf}
+use Rattle.rtps_audit.specs.Placed.{placed_in}
 use Rattle.rtps_audit.specs.Report.{is_undirected}
-use Rattle.rtps_audit.proofs.index.Index.build.Given as goal
+use Rattle.rtps_audit.proofs.index.Index.of.Given as goal
 
 -- the acts, the directory and the counts of the datagrams so far
 abbrev pub invariant-loop-datagram : goal.invariant-loop-datagram
@@ -14,6 +15,7 @@ invariant-loop-datagram l =
     let so_far = take l.datagram-index l.recording in
     record {
       place : l.place ≡ l.datagram-index;
+      keeps_acts : l.origins.keeps_acts ≡ l.keeps_acts;
       origins : AreOf l.origins (placed_in (map (λ datagram. datagram.now) so_far));
       map : IsMapOf (acts_in (map (λ datagram. datagram.now) so_far)) l.directory;
       datagrams : l.counts.datagrams ≡ length l.recording;
