@@ -27,16 +27,18 @@ module _ {K A : Type 0} {cmp : K → K → Ordering} (total : IsTotalOrder cmp) 
       ap (λ order. cond (is_eq order) (Some entry.1) (lookup (is_at (cmp x)) entries)) (total.congr x y entry.0 e)
       ∙ ap (λ found. cond (is_eq (cmp y entry.0)) (Some entry.1) found) (found_alike x y e entries)
 
+  -- what a map has, where a value is written under a key
+  pub entry_written : (old new : BTreeMap K A) (key other : K) (value : A) → Updates cmp old new key (Some value) → get cmp new other ≡ cond (is_eq (cmp other key)) (Some value) (get cmp old other)
+  entry_written old new key other value updates =
+      updates.0 other ∙ ap (λ b. cond b (Some value) (get cmp old other)) (ap is_eq (total.antisymm key other) ∙ is_eq-reversed (cmp other key))
+
   -- what is seen at a key grows where the value is written under that key
   pub entry_grown : {X : Type 0} (seen : Option A → List X) (old new : BTreeMap K A) (key other : K) (value : A) (added : List X) → Updates cmp old new key (Some value)
       → (is_eq (cmp other key) ≡ true → seen (Some value) ≡ seen (get cmp old key) ++ added) → seen (get cmp new other) ≡ seen (get cmp old other) ++ cond (is_eq (cmp other key)) added []
   entry_grown seen old new key other value added updates grown = by_test (is_eq (cmp other key)) refl
     where
-      at : is_eq (cmp key other) ≡ is_eq (cmp other key)
-      at = ap is_eq (total.antisymm key other) ∙ is_eq-reversed (cmp other key)
-
       now : get cmp new other ≡ cond (is_eq (cmp other key)) (Some value) (get cmp old other)
-      now = updates.0 other ∙ ap (λ b. cond b (Some value) (get cmp old other)) at
+      now = entry_written old new key other value updates
 
       by_test : (b : Bool) → is_eq (cmp other key) ≡ b → seen (get cmp new other) ≡ seen (get cmp old other) ++ cond b added []
       by_test true e =

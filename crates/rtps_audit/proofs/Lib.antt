@@ -13,6 +13,8 @@ pub mod OneVerdict
 pub mod SameSaid
 pub mod GroupLemmas
 pub mod PlacedLemmas
+pub mod ShelfLemmas
+pub mod ByGuidLemmas
 pub mod AnswerMapLemmas
 pub mod HearingLemmas
 pub mod AnswerLemmas

@@ -9,6 +9,8 @@ pub mod KeptPayloads
 pub mod Claims
 pub mod OneDatagram
 pub mod Groups
+pub mod Shelves
+pub mod ByGuid
 pub mod KeptAnswers
 pub mod Placed
 pub mod Brief

@@ -1,36 +1,36 @@
-ghost use Rattle.std.specs.Prelude.{◌≡◌, [], None, map, All, OnOk};
+ghost use Rattle.std.specs.Prelude.{◌≡◌, [], None, map, All, IfOk, OnOk};
 ghost use Rattle.rtps_receiver.specs.Speech.{origin_of};
 ghost use Rattle.rtps_receiver.specs.Values.{act_value};
 ghost use Rattle.rtps_discovery.specs.declared.matching.Pair.{Pair as PairValue};
+ghost use Rattle.rtps_audit.specs.ByGuid.{StandInPlace};
 ghost use Rattle.rtps_audit.specs.KeptAnswers.{answers_in};
 ghost use Rattle.rtps_audit.specs.Origins.{AddsAnswers};
 ghost use Rattle.rtps_audit.specs.Placed.{placed_at};
 ghost use Rattle.rtps_audit.specs.Speech.{base_for};
 
 use crate::answers::{Answer, answer_in};
+use crate::by_guid::ByGuid;
 use crate::reader_answers::ReaderAnswers;
 use rtps_discovery::Pair;
 use rtps_ids::{Guid, Memory};
 use rtps_receiver::Act;
 use std::alloc::Global;
-use std::collections::BTreeMap;
 
 /// Answers by reader, and then by writer.
 #[derive(Drop)]
 pub(crate) struct AllAnswers {
-    pub(crate) readers: BTreeMap<Guid, ReaderAnswers>,
+    pub(crate) readers: ByGuid<ReaderAnswers>,
     alloc: Global,
 }
 
 impl AllAnswers {
-    /// No answers.
-    pub(crate) fn new(alloc: Global) -> Self
-        ensures { (pair : PairValue) → answers_in result.readers pair ≡ [] }
+    /// No answers. There are so many shelves for the places of readers.
+    pub(crate) fn new(alloc: Global, shelves: usize) -> Result<Self, Memory>
+        ensures none { IfOk result (λ answers. (pair : PairValue) → answers_in answers.readers pair ≡ []) }
+        ensures placed { IfOk result (λ answers. StandInPlace answers.readers) }
     {
-        AllAnswers {
-            readers: BTreeMap::new(alloc),
-            alloc,
-        }
+        let readers = ByGuid::new(alloc, shelves)?;
+        Ok(AllAnswers { readers, alloc })
     }
 
     /// Adds the answers among acts of a datagram that are all from this reader. After `Memory` the answers are of no use.
@@ -40,18 +40,18 @@ impl AllAnswers {
         datagram: usize,
         run: &[Act<'_>],
     ) -> Result<(), Memory>
-        requires { All (λ act. origin_of (act_value act) ≡ reader) run.now }
-        ensures { OnOk result
+        requires placed { StandInPlace self.old.readers }
+        requires run { All (λ act. origin_of (act_value act) ≡ reader) run.now }
+        ensures placed { OnOk result (StandInPlace self.new.readers) }
+        ensures added { OnOk result
             (AddsAnswers self.old.readers self.new.readers (placed_at datagram (map act_value run.now))) }
     {
         let Some(writer) = first_answered(run) else {
             return Ok(());
         };
-        let kept = self
-            .readers
-            .entry(reader)?
-            .or_insert(ReaderAnswers::new(self.alloc, writer));
-        kept.note_all(datagram, run)?;
+        let fresh = ReaderAnswers::new(self.alloc, writer);
+        let place = self.readers.place(reader, fresh)?;
+        self.readers.named[place].value.note_all(datagram, run)?;
         Ok(())
     }
 
@@ -59,7 +59,7 @@ impl AllAnswers {
     pub(crate) fn of(&self, pair: Pair) -> &[Answer]
         ensures { result.now ≡ answers_in self.now.readers pair }
     {
-        match self.readers.get(&pair.reader) {
+        match self.readers.of(pair.reader) {
             Some(kept) => kept.of(pair.writer),
             None => &[],
         }

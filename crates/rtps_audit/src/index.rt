@@ -12,6 +12,7 @@ ghost use Rattle.rtps_audit.specs.Speech.{speech_of};
 
 use crate::answers::Answer;
 use crate::brief::Brief;
+use crate::by_guid::list_of;
 use crate::common::are_for_all;
 use crate::counting::{one_if, undirected_among};
 use crate::hearing::Hearing;
@@ -58,7 +59,7 @@ impl<'a> Index<'a> {
         ensures brief { IfOk result (IsBriefOf (map (λ datagram. datagram.now) recording.now)) }
         ensures keeps_acts { IfOk result (λ index. index.origins.keeps_acts ≡ keeps_acts) }
     {
-        let mut origins = Origins::new(alloc, keeps_acts);
+        let mut origins = Origins::new(alloc, keeps_acts, shelves_for(recording))?;
         let mut directory = Directory::new(alloc);
         let mut walk = Walk::new(alloc);
         let mut place = 0usize;
@@ -94,7 +95,7 @@ impl<'a> Index<'a> {
         ensures { (recording : List (List ℕ)) → IsIndexOf recording self.now
             → map placed_value result.now ≡ filter (is_from origin) (placed_in recording) }
     {
-        self.origins.acts.of(origin)
+        list_of(&self.origins.acts, origin)
     }
 
     /// What this writer says in the recording, in the order of sending.
@@ -102,7 +103,7 @@ impl<'a> Index<'a> {
         ensures { (recording : List (List ℕ)) → IsBriefOf recording self.now
             → map (brief_value writer) result.now ≡ spoken_from writer (placed_in recording) }
     {
-        self.origins.briefs.of(writer)
+        list_of(&self.origins.briefs, writer)
     }
 
     /// Whether each act from this GUID is for every reader, so that all readers hear the same from it. It takes no memory.
@@ -187,4 +188,17 @@ impl<'a> Index<'a> {
         let hearing = Hearing::of(self.alloc, self.briefs_of(pair.writer), pair, from)?;
         Ok(hearing.verdict(self.answered(pair)))
     }
+}
+
+// A shelf for so many octets of a recording.
+const OCTETS_A_SHELF: usize = 1 << 10;
+
+/// How many shelves the places of the GUIDs of a recording are shared out among: a recording of so many octets names only
+/// so many GUIDs.
+fn shelves_for(recording: &[&[u8]]) -> usize {
+    let mut octets = 0usize;
+    for datagram in recording {
+        octets = octets.saturating_add(datagram.len());
+    }
+    (octets / OCTETS_A_SHELF).clamp(1 << 6, 1 << 16)
 }

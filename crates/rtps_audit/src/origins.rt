@@ -1,18 +1,18 @@
-ghost use Rattle.std.specs.Prelude.{◌≡◌, ◌≤◌, ◌++◌, [], true, cond, filter, length, map, not, All, List, OnOk};
+ghost use Rattle.std.specs.Prelude.{◌≡◌, ◌≤◌, ◌++◌, [], true, cond, filter, length, map, not, All, IfOk, List, OnOk};
 ghost use Rattle.std.specs.List.{AllWithin, list_all};
 ghost use Rattle.std.specs.Ordering.{is_eq};
 ghost use Rattle.rtps_ids.specs.declared.identity.Guid.{Guid as GuidValue};
 ghost use Rattle.rtps_receiver.specs.Speech.{origin_of};
 ghost use Rattle.rtps_receiver.specs.Values.{act_value};
 ghost use Rattle.rtps_discovery.specs.GuidOrder.{guid_cmp};
-ghost use Rattle.rtps_audit.specs.Groups.{values_at};
+ghost use Rattle.rtps_audit.specs.ByGuid.{StandInPlace, list_at};
 ghost use Rattle.rtps_audit.specs.Brief.{bare, brief_value, is_speech};
 ghost use Rattle.rtps_audit.specs.Origins.{AddsActs, AddsAnswers, AddsBriefs};
 ghost use Rattle.rtps_audit.specs.Placed.{placed_at, placed_value};
 
 use crate::all_answers::AllAnswers;
 use crate::brief::{Brief, append_briefs};
-use crate::groups::Groups;
+use crate::by_guid::ByGuid;
 use crate::placed::{Placed, append_placed};
 use rtps_ids::{Guid, Memory};
 use rtps_receiver::{Act, ActBody};
@@ -23,33 +23,37 @@ use std::alloc::Global;
 pub(crate) struct Origins<'a> {
     /// Whether whole acts are kept, too.
     pub(crate) keeps_acts: bool,
-    pub(crate) acts: Groups<Guid, Placed<'a>>,
+    pub(crate) acts: ByGuid<Vec<Placed<'a>>>,
     /// What a writer says by its acts.
-    pub(crate) briefs: Groups<Guid, Brief<'a>>,
+    pub(crate) briefs: ByGuid<Vec<Brief<'a>>>,
     pub(crate) answers: AllAnswers,
+    alloc: Global,
 }
 
 impl<'a> Origins<'a> {
-    ghost use Rattle.rtps_audit.specs.Origins.{AreOf};
+    ghost use Rattle.rtps_audit.specs.Origins.{AreOf, IsInPlace};
     ghost use Rattle.rtps_audit.specs.Placed.{PlacedValue};
 
-    /// No acts.
-    pub(crate) fn new(alloc: Global, keeps_acts: bool) -> Self
-        ensures empty { AreOf result [] }
-        ensures keeps_acts { result.keeps_acts ≡ keeps_acts }
+    /// No acts. There are so many shelves for the places of GUIDs.
+    pub(crate) fn new(alloc: Global, keeps_acts: bool, shelves: usize) -> Result<Self, Memory>
+        ensures empty { IfOk result (λ origins. AreOf origins []) }
+        ensures keeps_acts { IfOk result (λ origins. origins.keeps_acts ≡ keeps_acts) }
     {
-        Origins {
+        Ok(Origins {
             keeps_acts,
-            acts: Groups::new(alloc),
-            briefs: Groups::new(alloc),
-            answers: AllAnswers::new(alloc),
-        }
+            acts: ByGuid::new(alloc, if keeps_acts { shelves } else { 1 })?,
+            briefs: ByGuid::new(alloc, shelves)?,
+            answers: AllAnswers::new(alloc, shelves)?,
+            alloc,
+        })
     }
 
     /// Adds the acts of one datagram more. Those of one GUID that follow one another are added at once. After `Memory`
     /// the lists are of no use.
     pub(crate) fn note_all(&mut self, datagram: usize, acts: &[Act<'a>]) -> Result<(), Memory>
+        requires { IsInPlace self.old }
         ensures keeps_acts { self.new.keeps_acts ≡ self.old.keeps_acts }
+        ensures placed { OnOk result (IsInPlace self.new) }
         ensures noted { OnOk result ((before : List PlacedValue) → AreOf self.old before
             → AreOf self.new (before ++ placed_at datagram (map act_value acts.now))) }
     {
@@ -65,33 +69,37 @@ impl<'a> Origins<'a> {
 
     /// Adds acts of a datagram that are all from this GUID to the whole ones, where such are kept.
     fn keep_run(&mut self, origin: Guid, datagram: usize, run: &[Act<'a>]) -> Result<(), Memory>
-        requires { All (λ act. origin_of (act_value act) ≡ origin) run.now }
+        requires placed { StandInPlace self.old.acts }
+        requires run { All (λ act. origin_of (act_value act) ≡ origin) run.now }
         ensures keeps_acts { self.new.keeps_acts ≡ self.old.keeps_acts }
+        ensures placed { OnOk result (StandInPlace self.new.acts) }
         ensures acts { OnOk result (self.old.keeps_acts ≡ true
-            → AddsActs self.old.acts.map self.new.acts.map (placed_at datagram (map act_value run.now))) }
+            → AddsActs self.old.acts self.new.acts (placed_at datagram (map act_value run.now))) }
         ensures briefs { self.new.briefs ≡ self.old.briefs }
         ensures answers { self.new.answers ≡ self.old.answers }
     {
         if !self.keeps_acts {
             return Ok(());
         }
-        place_run(&mut self.acts, origin, datagram, run)?;
+        place_run(self.alloc, &mut self.acts, origin, datagram, run)?;
         Ok(())
     }
 
     /// Adds acts of a datagram that are all from this GUID.
     fn note_run(&mut self, origin: Guid, datagram: usize, run: &[Act<'a>]) -> Result<(), Memory>
-        requires { All (λ act. origin_of (act_value act) ≡ origin) run.now }
+        requires placed { IsInPlace self.old }
+        requires run { All (λ act. origin_of (act_value act) ≡ origin) run.now }
         ensures keeps_acts { self.new.keeps_acts ≡ self.old.keeps_acts }
+        ensures placed { OnOk result (IsInPlace self.new) }
         ensures acts { OnOk result (self.old.keeps_acts ≡ true
-            → AddsActs self.old.acts.map self.new.acts.map (placed_at datagram (map act_value run.now))) }
+            → AddsActs self.old.acts self.new.acts (placed_at datagram (map act_value run.now))) }
         ensures briefs { OnOk result
-            (AddsBriefs self.old.briefs.map self.new.briefs.map (placed_at datagram (map act_value run.now))) }
+            (AddsBriefs self.old.briefs self.new.briefs (placed_at datagram (map act_value run.now))) }
         ensures answers { OnOk result
             (AddsAnswers self.old.answers.readers self.new.answers.readers (placed_at datagram (map act_value run.now))) }
     {
         self.keep_run(origin, datagram, run)?;
-        brief_run(&mut self.briefs, origin, datagram, run)?;
+        brief_run(self.alloc, &mut self.briefs, origin, datagram, run)?;
         self.answers.note_run(origin, datagram, run)?;
         Ok(())
     }
@@ -114,17 +122,20 @@ fn run_end(acts: &[Act<'_>], start: usize, origin: Guid) -> usize
 
 /// Adds acts of a datagram to those of this GUID.
 fn place_run<'a>(
-    groups: &mut Groups<Guid, Placed<'a>>,
+    alloc: Global,
+    acts: &mut ByGuid<Vec<Placed<'a>>>,
     origin: Guid,
     datagram: usize,
     run: &[Act<'a>],
 ) -> Result<(), Memory>
-    ensures { OnOk result ((other : GuidValue) → map placed_value (values_at guid_cmp groups.new.map other)
-        ≡ map placed_value (values_at guid_cmp groups.old.map other)
+    requires { StandInPlace acts.old }
+    ensures placed { OnOk result (StandInPlace acts.new) }
+    ensures added { OnOk result ((other : GuidValue) → map placed_value (list_at acts.new other)
+        ≡ map placed_value (list_at acts.old other)
         ++ cond (is_eq (guid_cmp other origin)) (placed_at datagram (map act_value run.now)) []) }
 {
-    let placed = groups.map.entry(origin)?.or_insert(Vec::new(groups.alloc));
-    append_placed(placed, datagram, run)?;
+    let place = acts.place(origin, Vec::new(alloc))?;
+    append_placed(&mut acts.named[place].value, datagram, run)?;
     Ok(())
 }
 
@@ -138,20 +149,23 @@ fn are_answers(acts: &[Act<'_>]) -> bool
 
 /// Adds what this GUID says by acts of a datagram.
 fn brief_run<'a>(
-    groups: &mut Groups<Guid, Brief<'a>>,
+    alloc: Global,
+    briefs: &mut ByGuid<Vec<Brief<'a>>>,
     origin: Guid,
     datagram: usize,
     run: &[Act<'a>],
 ) -> Result<(), Memory>
-    ensures { OnOk result ((other : GuidValue) → map (brief_value other) (values_at guid_cmp groups.new.map other)
-        ≡ map (brief_value other) (values_at guid_cmp groups.old.map other)
+    requires { StandInPlace briefs.old }
+    ensures placed { OnOk result (StandInPlace briefs.new) }
+    ensures added { OnOk result ((other : GuidValue) → map (brief_value other) (list_at briefs.new other)
+        ≡ map (brief_value other) (list_at briefs.old other)
         ++ cond (is_eq (guid_cmp other origin)) (map (bare other) (filter (λ at. is_speech at.act) (placed_at datagram (map act_value run.now)))) []) }
 {
     if are_answers(run) {
         // Most GUIDs of readers say nothing, and then have no list.
         return Ok(());
     }
-    let briefs = groups.map.entry(origin)?.or_insert(Vec::new(groups.alloc));
-    append_briefs(briefs, datagram, run)?;
+    let place = briefs.place(origin, Vec::new(alloc))?;
+    append_briefs(&mut briefs.named[place].value, datagram, run)?;
     Ok(())
 }

@@ -1,11 +1,13 @@
 use Rattle.std.proofs.Common.{ap, map}
 use Rattle.rtps_audit.specs.Brief.{brief_value}
+use Rattle.rtps_audit.specs.Groups.{items_or_none}
 use Rattle.rtps_audit.specs.Placed.{placed_value}
 use Rattle.rtps_audit.proofs.origins.Origins.new.Goals as goal
 
 pub returns-clause-empty : goal.returns-clause-empty
 returns-clause-empty c = record {
-  acts = λ keeps origin. ap (map placed_value) (c.new.ensures origin);
-  briefs = λ writer. ap (map (brief_value writer)) (c.new-2.ensures writer);
-  answers = c.new-3.ensures;
+  in_place = record { acts = c.in_ok-new.ensures.placed; briefs = c.in_ok-new-2.ensures.placed; answers = c.in_ok-new-3.ensures.placed };
+  acts = λ keeps origin. ap (λ found. map placed_value (items_or_none found)) (c.in_ok-new.ensures.none origin);
+  briefs = λ writer. ap (λ found. map (brief_value writer) (items_or_none found)) (c.in_ok-new-2.ensures.none writer);
+  answers = c.in_ok-new-3.ensures.none;
 }

@@ -11,13 +11,13 @@ use Rattle.rtps_audit.proofs.BriefLemmas.{said_joined}
 use Rattle.rtps_audit.proofs.PlacedLemmas.{acts_joined, all_between, all_with_first, answers_joined, placed_both}
 use Rattle.rtps_audit.proofs.origins.Origins.note_all.Goals as goal
 
-pub note_run-requires : goal.note_run-requires
-note_run-requires c =
+pub note_run-requires-clause-run : goal.note_run-requires-clause-run
+note_run-requires-clause-run c =
     let from = λ (a : Act). origin_of (act_value a) ≡ c.origin-origin.result in
     all_between from c.args.acts.now c.runs.start c.run_end-end.result (all_with_first from c.args.acts.now c.runs.start c.run_end-end.result _ c.index-acts-start.is c.runs-test.true (sym c.origin-origin.ensures) c.run_end-end.ensures.run)
 
 pub runs-init : goal.runs-init
-runs-init c = record { keeps_acts = refl; acts = λ keeps origin. sym (append-nil _); briefs = λ writer. sym (append-nil _); answers = λ pair. sym (append-nil _) }
+runs-init c = record { placed = c.requires; keeps_acts = refl; acts = λ keeps origin. sym (append-nil _); briefs = λ writer. sym (append-nil _); answers = λ pair. sym (append-nil _) }
 
 pub runs-preserved : goal.runs-preserved
 runs-preserved c =
@@ -30,19 +30,21 @@ runs-preserved c =
     let joined : take start acts ++ slice_range acts start end ≡ take end acts = sym (take-add start (end - start) acts) ∙ ap (λ n. take n acts) whole in
     let more = sym (placed_both c.args.datagram (take start acts) (slice_range acts start end)) ∙ ap (λ l. placed_at c.args.datagram (map act_value l)) joined in
     record {
+      placed = c.in_ok-note_run.ensures.placed;
       keeps_acts = c.note_run.ensures.keeps_acts ∙ c.runs.invariant.keeps_acts;
-      acts = λ keeps. subst (AddsActs old.acts.map new.acts.map) more (λ origin. acts_joined origin _ _ _ _ _ (c.runs.invariant.acts keeps origin) (c.in_ok-note_run.ensures.acts (c.runs.invariant.keeps_acts ∙ keeps) origin));
-      briefs = subst (AddsBriefs old.briefs.map new.briefs.map) more (λ writer. said_joined writer _ _ _ _ _ (c.runs.invariant.briefs writer) (c.in_ok-note_run.ensures.briefs writer));
+      acts = λ keeps. subst (AddsActs old.acts new.acts) more (λ origin. acts_joined origin _ _ _ _ _ (c.runs.invariant.acts keeps origin) (c.in_ok-note_run.ensures.acts (c.runs.invariant.keeps_acts ∙ keeps) origin));
+      briefs = subst (AddsBriefs old.briefs new.briefs) more (λ writer. said_joined writer _ _ _ _ _ (c.runs.invariant.briefs writer) (c.in_ok-note_run.ensures.briefs writer));
       answers = subst (AddsAnswers old.answers.readers new.answers.readers) more (λ pair. answers_joined pair _ _ _ _ _ (c.runs.invariant.answers pair) (c.in_ok-note_run.ensures.answers pair));
     }
 
 pub returns-clause-noted : goal.returns-clause-noted
 returns-clause-noted c = λ before known.
     let all : take c.runs.start c.args.acts.now ≡ c.args.acts.now = take_all c.runs.start c.args.acts.now (omega (arith, c.runs-test.false)) in
-    let briefs = subst (λ l. AddsBriefs c.args.self.now.briefs.map c.runs.self.briefs.map (placed_at c.args.datagram (map act_value l))) all c.runs.invariant.briefs in
+    let briefs = subst (λ l. AddsBriefs c.args.self.now.briefs c.runs.self.briefs (placed_at c.args.datagram (map act_value l))) all c.runs.invariant.briefs in
     let answers = subst (λ l. AddsAnswers c.args.self.now.answers.readers c.runs.self.answers.readers (placed_at c.args.datagram (map act_value l))) all c.runs.invariant.answers in
     record {
-      acts = λ keeps origin. let kept = sym c.runs.invariant.keeps_acts ∙ keeps in acts_joined origin [] _ _ before _ (known.acts kept origin) (subst (λ l. AddsActs c.args.self.now.acts.map c.runs.self.acts.map (placed_at c.args.datagram (map act_value l))) all (c.runs.invariant.acts kept) origin);
+      in_place = c.runs.invariant.placed;
+      acts = λ keeps origin. let kept = sym c.runs.invariant.keeps_acts ∙ keeps in acts_joined origin [] _ _ before _ (known.acts kept origin) (subst (λ l. AddsActs c.args.self.now.acts c.runs.self.acts (placed_at c.args.datagram (map act_value l))) all (c.runs.invariant.acts kept) origin);
       briefs = λ writer. said_joined writer [] _ _ before _ (known.briefs writer) (briefs writer);
       answers = λ pair. answers_joined pair [] _ _ before _ (known.answers pair) (answers pair);
     }

@@ -1,6 +1,6 @@
 use Rattle.std.proofs.Common.{◌≡◌, ◌-◌, true, length, map, take}
 use Rattle.rtps_receiver.specs.Values.{act_value}
-use Rattle.rtps_audit.specs.Origins.{AddsActs, AddsAnswers, AddsBriefs}
+use Rattle.rtps_audit.specs.Origins.{AddsActs, AddsAnswers, AddsBriefs, IsInPlace}
 use Rattle.rtps_audit.specs.Placed.{placed_at}
 use Rattle.rtps_audit.proofs.origins.Origins.note_all.Given as goal
 
@@ -9,9 +9,10 @@ abbrev pub invariant-runs : goal.invariant-runs
 invariant-runs l =
     let so_far = placed_at l.datagram (map act_value (take l.start l.acts)) in
     record {
+      placed : IsInPlace l.self;
       keeps_acts : l.self.keeps_acts ≡ l.fn.self.keeps_acts;
-      acts : l.fn.self.keeps_acts ≡ true → AddsActs l.fn.self.acts.map l.self.acts.map so_far;
-      briefs : AddsBriefs l.fn.self.briefs.map l.self.briefs.map so_far;
+      acts : l.fn.self.keeps_acts ≡ true → AddsActs l.fn.self.acts l.self.acts so_far;
+      briefs : AddsBriefs l.fn.self.briefs l.self.briefs so_far;
       answers : AddsAnswers l.fn.self.answers.readers l.self.answers.readers so_far;
     }
 

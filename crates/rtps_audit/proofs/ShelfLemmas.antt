@@ -1,0 +1,81 @@
+-- Places of GUIDs that are shared out among maps, one of which is written back.
+use Rattle.std.proofs.Common.{◌≡◌, ℕ, zero, suc, ◌+◌, ◌%◌, ◌<◌, Bool, true, false, cond, List, [], ◌∷◌, ◌++◌, length, ◌⊎◌, inl, inr, Option, Some, None, refl, sym, ap, ◌∙◌, arith}
+use Rattle.std.proofs.Math.ListN.{set}
+use Rattle.std.specs.BTreeMap.{BTreeMap, get, is_at}
+use Rattle.std.specs.Map.{lookup}
+use Rattle.std.specs.List.{slice_get}
+use Rattle.std.specs.Ordering.{is_eq}
+use Rattle.std.proofs.lemmas.Bool.{cases_eq}
+use Rattle.std.proofs.lemmas.List.{length-set}
+use Rattle.rtps_ids.specs.declared.identity.Guid.{Guid}
+use Rattle.rtps_discovery.specs.GuidOrder.{guid_cmp}
+use Rattle.rtps_audit.specs.Shelves.{place_in, place_on, shelf_of}
+use Rattle.rtps_audit.proofs.GroupLemmas.{equal_of}
+use Rattle.rtps_audit.proofs.PlacedLemmas.{exact_guids}
+
+pub get_set : {X : Type 0} (xs : List X) (i : ℕ) (x : X) → i < length xs → slice_get (set xs i x) i ≡ Some x
+get_set [] i x lt = let no : ⊥ = omega (arith, lt) in absurd no
+get_set (y ∷ xs) zero x lt = refl
+get_set (y ∷ xs) (suc i) x lt = get_set xs i x (omega (arith, lt))
+
+pub get_set_apart : {X : Type 0} (xs : List X) (i j : ℕ) (x : X) → (j ≡ i → ⊥) → slice_get (set xs i x) j ≡ slice_get xs j
+get_set_apart [] i j x apart = refl
+get_set_apart (y ∷ xs) zero zero x apart = absurd (apart refl)
+get_set_apart (y ∷ xs) zero (suc j) x apart = refl
+get_set_apart (y ∷ xs) (suc i) zero x apart = refl
+get_set_apart (y ∷ xs) (suc i) (suc j) x apart = get_set_apart xs i j x (λ e. apart (ap suc e))
+
+pub get_pushed : {X : Type 0} (xs : List X) (x : X) → slice_get (xs ++ x ∷ []) (length xs) ≡ Some x
+get_pushed [] x = refl
+get_pushed (y ∷ xs) x = get_pushed xs x
+
+pub get_before : {X : Type 0} (xs : List X) (x y : X) (i : ℕ) → slice_get xs i ≡ Some y → slice_get (xs ++ x ∷ []) i ≡ Some y
+get_before [] x y i e = cc
+get_before (z ∷ xs) x y zero e = e
+get_before (z ∷ xs) x y (suc i) e = get_before xs x y i e
+
+-- what stands in a list with one more stood there before, or is that one
+pub before_or_last : {X : Type 0} (xs : List X) (x y : X) (i : ℕ) → slice_get (xs ++ x ∷ []) i ≡ Some y → (slice_get xs i ≡ Some y) ⊎ (y ≡ x)
+before_or_last [] x y zero e = inr (let h = e in cc)
+before_or_last [] x y (suc i) e = cc
+before_or_last (z ∷ xs) x y zero e = inl e
+before_or_last (z ∷ xs) x y (suc i) e = before_or_last xs x y i e
+
+-- maps without entries have no place for a GUID
+pub none_in_empty : (maps : List (BTreeMap Guid ℕ)) → ((i : ℕ) (map : BTreeMap Guid ℕ) → slice_get maps i ≡ Some map → map.entries ≡ []) → (guid : Guid) → place_in maps guid ≡ None
+none_in_empty maps empty guid = by_map (slice_get maps (shelf_of guid (length maps))) refl
+  where
+    by_map : (found : Option (BTreeMap Guid ℕ)) → slice_get maps (shelf_of guid (length maps)) ≡ found → place_on found guid ≡ None
+    by_map None e = refl
+    by_map (Some map) e = ap (λ (l : List (Guid × ℕ)). lookup (is_at (guid_cmp guid)) l) (empty (shelf_of guid (length maps)) map e)
+
+-- a place more in the map of its shelf
+pub shelf_written : (maps : List (BTreeMap Guid ℕ)) (guid : Guid) (shelf : ℕ) (old new : BTreeMap Guid ℕ) (place : Option ℕ) → shelf ≡ shelf_of guid (length maps) → shelf < length maps → slice_get maps shelf ≡ Some old
+    → ((other : Guid) → get guid_cmp new other ≡ cond (is_eq (guid_cmp other guid)) place (get guid_cmp old other))
+    → (other : Guid) → place_in (set maps shelf new) other ≡ cond (is_eq (guid_cmp other guid)) place (place_in maps other)
+shelf_written maps guid shelf old new place at within there written other = by_test (is_eq (guid_cmp other guid)) refl
+  where
+    theirs : ℕ
+    theirs = shelf_of other (length maps)
+
+    now : place_in (set maps shelf new) other ≡ place_on (slice_get (set maps shelf new) theirs) other
+    now = ap (λ n. place_on (slice_get (set maps shelf new) (shelf_of other n)) other) (length-set maps shelf new)
+
+    here : theirs ≡ shelf → place_in (set maps shelf new) other ≡ get guid_cmp new other
+    here e = now ∙ ap (λ i. place_on (slice_get (set maps shelf new) i) other) e ∙ ap (λ m. place_on m other) (get_set maps shelf new within)
+
+    before : theirs ≡ shelf → place_in maps other ≡ get guid_cmp old other
+    before e = ap (λ i. place_on (slice_get maps i) other) e ∙ ap (λ m. place_on m other) there
+
+    apart : (theirs ≡ shelf → ⊥) → place_in (set maps shelf new) other ≡ place_in maps other
+    apart ne = now ∙ ap (λ m. place_on m other) (get_set_apart maps shelf theirs new ne)
+
+    by_shelf : (theirs ≡ shelf) ⊎ (theirs ≡ shelf → ⊥) → is_eq (guid_cmp other guid) ≡ false → place_in (set maps shelf new) other ≡ place_in maps other
+    by_shelf (inl e) never = here e ∙ written other ∙ ap (λ b. cond b place (get guid_cmp old other)) never ∙ sym (before e)
+    by_shelf (inr ne) never = apart ne
+
+    by_test : (b : Bool) → is_eq (guid_cmp other guid) ≡ b → place_in (set maps shelf new) other ≡ cond b place (place_in maps other)
+    by_test true alike =
+        let same : other ≡ guid = exact_guids other guid (equal_of _ alike) in
+        here (ap (λ g. shelf_of g (length maps)) same ∙ sym at) ∙ written other ∙ ap (λ b. cond b place (get guid_cmp old other)) alike
+    by_test false never = by_shelf (cases_eq theirs shelf) never
