@@ -1,12 +1,11 @@
 -- Answers by reader and then by writer, with one more.
-use Rattle.std.proofs.Common.{◌≡◌, Bool, true, false, cond, List, [], ◌∷◌, ◌++◌, append-nil, Option, Some, None, refl, sym, subst, ap, ◌∙◌}
-use Rattle.std.specs.Option.{unwrap_or}
+use Rattle.std.proofs.Common.{◌≡◌, Bool, true, false, cond, List, [], ◌∷◌, ◌++◌, append-nil, refl, sym, subst, ap, ◌∙◌}
 use Rattle.std.specs.Ordering.{is_eq}
 use Rattle.std.proofs.lemmas.Cmp.{eq_by_cmp_equiv}
 use Rattle.rtps_ids.specs.declared.identity.Guid.{Guid}
 use Rattle.rtps_discovery.specs.GuidOrder.{guid_cmp}
 use Rattle.rtps_audit.specs.Groups.{values_at}
-use Rattle.rtps_audit.specs.KeptAnswers.{answers_or_none, answers_to}
+use Rattle.rtps_audit.specs.KeptAnswers.{answers_to}
 use Rattle.rtps_audit.specs.declared.answers.Answer.{Answer}
 use Rattle.rtps_audit.specs.declared.reader_answers.ReaderAnswers.{ReaderAnswers}
 use Rattle.rtps_audit.proofs.GroupLemmas.{equal_of}
@@ -41,8 +40,3 @@ other_of kept writer differ = by_test (is_eq (guid_cmp writer kept.writer)) refl
     by_test : (b : Bool) → is_eq (guid_cmp writer kept.writer) ≡ b → values_at guid_cmp kept.others.map writer ≡ cond b kept.answers.items (values_at guid_cmp kept.others.map writer)
     by_test true e = absurd (differ (sym (exact_guids writer kept.writer (equal_of _ e))))
     by_test false e = refl
-
--- the answers that an entry lends
-pub lent_answers : (found value : Option ReaderAnswers) (fresh kept : ReaderAnswers) (writer : Guid) → answers_to fresh writer ≡ [] → value ≡ found → kept ≡ unwrap_or value fresh → answers_to kept writer ≡ answers_or_none found writer
-lent_answers found None fresh kept writer none same is = ap (λ (k : ReaderAnswers). answers_to k writer) is ∙ none ∙ ap (λ f. answers_or_none f writer) same
-lent_answers found (Some held) fresh kept writer none same is = ap (λ (k : ReaderAnswers). answers_to k writer) is ∙ ap (λ f. answers_or_none f writer) same

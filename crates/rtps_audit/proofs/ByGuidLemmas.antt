@@ -1,30 +1,23 @@
 -- Values by GUID, with one more, and with one that is written.
 use Rattle.std.proofs.Common.{◌≡◌, ℕ, ◌<◌, Bool, true, false, cond, List, [], ◌∷◌, ◌++◌, length, get_or, append-nil, Option, Some, None, ◌⊎◌, inl, inr, refl, sym, subst, ap, ◌∙◌, arith}
 use Rattle.std.proofs.Math.ListN.{set}
-use Rattle.std.specs.BTreeMap.{BTreeMap}
-use Rattle.std.specs.Global.{Vec}
 use Rattle.std.specs.List.{slice_get}
 use Rattle.std.specs.Option.{unwrap_or}
 use Rattle.std.specs.Ordering.{is_eq}
 use Rattle.std.proofs.lemmas.Bool.{cases_eq}
-use Rattle.std.proofs.lemmas.Cmp.{eq_by_cmp_equiv}
 use Rattle.std.proofs.lemmas.Option.{get_or_from_slice_get, slice_get_within}
 use Rattle.rtps_ids.specs.declared.identity.Guid.{Guid}
 use Rattle.rtps_discovery.specs.GuidOrder.{guid_cmp}
 use Rattle.rtps_audit.specs.ByGuid.{ArePlaced, value_from, value_of_named}
-use Rattle.rtps_audit.specs.Groups.{items_or_none}
 use Rattle.rtps_audit.specs.Shelves.{place_in}
 use Rattle.rtps_audit.specs.declared.by_guid.Named.{Named}
+use Rattle.rtps_audit.specs.declared.shelves.Shelf.{Shelf}
 use Rattle.rtps_audit.proofs.GroupLemmas.{equal_of}
-use Rattle.rtps_audit.proofs.PlacedLemmas.{exact_guids, guids_total}
-use Rattle.rtps_audit.proofs.ShelfLemmas.{get_before, get_pushed, get_set, get_set_apart}
+use Rattle.rtps_audit.proofs.PlacedLemmas.{exact_guids}
+use Rattle.rtps_audit.proofs.ShelfLemmas.{get_before, get_pushed, get_set, get_set_apart, itself}
 
-pub itself : (guid : Guid) → is_eq (guid_cmp guid guid) ≡ true
-itself guid = (eq_by_cmp_equiv guids_total).refl guid
-
-module _ {V : Type 0} (old new : List (BTreeMap Guid ℕ)) (named : List (Named V)) (guid : Guid) (place : ℕ) (fresh : V) (placed : ArePlaced old named) (at : place ≡ unwrap_or (place_in old guid) (length named))
-  (written : (other : Guid) → place_in new other ≡ cond (is_eq (guid_cmp other guid)) (Some place) (place_in old other)) where
-
+module _ {V : Type 0} (old new : List Shelf) (named : List (Named V)) (guid : Guid) (place : ℕ) (fresh : V) (placed : ArePlaced old named) (at : place ≡ unwrap_or (place_in old guid) (length named))
+    (written : (other : Guid) → place_in new other ≡ cond (is_eq (guid_cmp other guid)) (Some place) (place_in old other)) where
   pub here : place_in new guid ≡ Some place
   here = written guid ∙ ap (λ b. cond b (Some place) (place_in old guid)) (itself guid)
 
@@ -99,9 +92,8 @@ module _ {V : Type 0} (old new : List (BTreeMap Guid ℕ)) (named : List (Named 
 
 -- ---- a value that is written at its place
 
-module _ {V : Type 0} (maps : List (BTreeMap Guid ℕ)) (named : List (Named V)) (guid : Guid) (place : ℕ) (value before : V) (placed : ArePlaced maps named) (here : place_in maps guid ≡ Some place)
-  (stands : slice_get named place ≡ Some (record { guid = guid; value = before })) where
-
+module _ {V : Type 0} (maps : List Shelf) (named : List (Named V)) (guid : Guid) (place : ℕ) (value before : V) (placed : ArePlaced maps named) (here : place_in maps guid ≡ Some place)
+    (stands : slice_get named place ≡ Some (record { guid = guid; value = before })) where
   abbrev written_named : Named V
   written_named = record { guid = guid; value = value }
 

@@ -1,17 +1,19 @@
--- Places of GUIDs that are shared out among maps, one of which is written back.
-use Rattle.std.proofs.Common.{◌≡◌, ℕ, zero, suc, ◌+◌, ◌%◌, ◌<◌, Bool, true, false, cond, List, [], ◌∷◌, ◌++◌, length, ◌⊎◌, inl, inr, Option, Some, None, refl, sym, ap, ◌∙◌, arith}
+-- Places of GUIDs that are shared out among shelves, one of which is written back.
+use Rattle.std.proofs.Common.{◌≡◌, ℕ, zero, suc, ◌<◌, Bool, true, false, cond, List, [], ◌∷◌, ◌++◌, length, ◌⊎◌, inl, inr, Option, Some, None, refl, sym, ap, ◌∙◌, arith}
 use Rattle.std.proofs.Math.ListN.{set}
-use Rattle.std.specs.BTreeMap.{BTreeMap, get, is_at}
-use Rattle.std.specs.Map.{lookup}
 use Rattle.std.specs.List.{slice_get}
 use Rattle.std.specs.Ordering.{is_eq}
+use Rattle.std.specs.BTreeMap.{BTreeMap, get}
 use Rattle.std.proofs.lemmas.Bool.{cases_eq}
+use Rattle.std.proofs.lemmas.Cmp.{eq_by_cmp_equiv}
 use Rattle.std.proofs.lemmas.List.{length-set}
 use Rattle.rtps_ids.specs.declared.identity.Guid.{Guid}
 use Rattle.rtps_discovery.specs.GuidOrder.{guid_cmp}
-use Rattle.rtps_audit.specs.Shelves.{place_in, place_on, shelf_of}
+use Rattle.rtps_audit.specs.Shelves.{place_at, place_beside, place_in, place_on, shelf_of}
+use Rattle.rtps_audit.specs.declared.shelves.Placing.{Placing}
+use Rattle.rtps_audit.specs.declared.shelves.Shelf.{Shelf}
 use Rattle.rtps_audit.proofs.GroupLemmas.{equal_of}
-use Rattle.rtps_audit.proofs.PlacedLemmas.{exact_guids}
+use Rattle.rtps_audit.proofs.PlacedLemmas.{exact_guids, guids_total}
 
 pub get_set : {X : Type 0} (xs : List X) (i : ℕ) (x : X) → i < length xs → slice_get (set xs i x) i ≡ Some x
 get_set [] i x lt = let no : ⊥ = omega (arith, lt) in absurd no
@@ -41,17 +43,17 @@ before_or_last [] x y (suc i) e = cc
 before_or_last (z ∷ xs) x y zero e = inl e
 before_or_last (z ∷ xs) x y (suc i) e = before_or_last xs x y i e
 
--- maps without entries have no place for a GUID
-pub none_in_empty : (maps : List (BTreeMap Guid ℕ)) → ((i : ℕ) (map : BTreeMap Guid ℕ) → slice_get maps i ≡ Some map → map.entries ≡ []) → (guid : Guid) → place_in maps guid ≡ None
+-- shelves on which nothing stands have no place for a GUID
+pub none_in_empty : (maps : List Shelf) → ((i : ℕ) (shelf : Shelf) → slice_get maps i ≡ Some shelf → (guid : Guid) → place_at shelf guid ≡ None) → (guid : Guid) → place_in maps guid ≡ None
 none_in_empty maps empty guid = by_map (slice_get maps (shelf_of guid (length maps))) refl
   where
-    by_map : (found : Option (BTreeMap Guid ℕ)) → slice_get maps (shelf_of guid (length maps)) ≡ found → place_on found guid ≡ None
+    by_map : (found : Option Shelf) → slice_get maps (shelf_of guid (length maps)) ≡ found → place_on found guid ≡ None
     by_map None e = refl
-    by_map (Some map) e = ap (λ (l : List (Guid × ℕ)). lookup (is_at (guid_cmp guid)) l) (empty (shelf_of guid (length maps)) map e)
+    by_map (Some shelf) e = empty (shelf_of guid (length maps)) shelf e guid
 
--- a place more in the map of its shelf
-pub shelf_written : (maps : List (BTreeMap Guid ℕ)) (guid : Guid) (shelf : ℕ) (old new : BTreeMap Guid ℕ) (place : Option ℕ) → shelf ≡ shelf_of guid (length maps) → shelf < length maps → slice_get maps shelf ≡ Some old
-    → ((other : Guid) → get guid_cmp new other ≡ cond (is_eq (guid_cmp other guid)) place (get guid_cmp old other))
+-- a place more on its shelf
+pub shelf_written : (maps : List Shelf) (guid : Guid) (shelf : ℕ) (old new : Shelf) (place : Option ℕ) → shelf ≡ shelf_of guid (length maps) → shelf < length maps → slice_get maps shelf ≡ Some old
+    → ((other : Guid) → place_at new other ≡ cond (is_eq (guid_cmp other guid)) place (place_at old other))
     → (other : Guid) → place_in (set maps shelf new) other ≡ cond (is_eq (guid_cmp other guid)) place (place_in maps other)
 shelf_written maps guid shelf old new place at within there written other = by_test (is_eq (guid_cmp other guid)) refl
   where
@@ -61,21 +63,59 @@ shelf_written maps guid shelf old new place at within there written other = by_t
     now : place_in (set maps shelf new) other ≡ place_on (slice_get (set maps shelf new) theirs) other
     now = ap (λ n. place_on (slice_get (set maps shelf new) (shelf_of other n)) other) (length-set maps shelf new)
 
-    here : theirs ≡ shelf → place_in (set maps shelf new) other ≡ get guid_cmp new other
+    here : theirs ≡ shelf → place_in (set maps shelf new) other ≡ place_at new other
     here e = now ∙ ap (λ i. place_on (slice_get (set maps shelf new) i) other) e ∙ ap (λ m. place_on m other) (get_set maps shelf new within)
 
-    before : theirs ≡ shelf → place_in maps other ≡ get guid_cmp old other
+    before : theirs ≡ shelf → place_in maps other ≡ place_at old other
     before e = ap (λ i. place_on (slice_get maps i) other) e ∙ ap (λ m. place_on m other) there
 
     apart : (theirs ≡ shelf → ⊥) → place_in (set maps shelf new) other ≡ place_in maps other
     apart ne = now ∙ ap (λ m. place_on m other) (get_set_apart maps shelf theirs new ne)
 
     by_shelf : (theirs ≡ shelf) ⊎ (theirs ≡ shelf → ⊥) → is_eq (guid_cmp other guid) ≡ false → place_in (set maps shelf new) other ≡ place_in maps other
-    by_shelf (inl e) never = here e ∙ written other ∙ ap (λ b. cond b place (get guid_cmp old other)) never ∙ sym (before e)
+    by_shelf (inl e) never = here e ∙ written other ∙ ap (λ b. cond b place (place_at old other)) never ∙ sym (before e)
     by_shelf (inr ne) never = apart ne
 
     by_test : (b : Bool) → is_eq (guid_cmp other guid) ≡ b → place_in (set maps shelf new) other ≡ cond b place (place_in maps other)
     by_test true alike =
         let same : other ≡ guid = exact_guids other guid (equal_of _ alike) in
-        here (ap (λ g. shelf_of g (length maps)) same ∙ sym at) ∙ written other ∙ ap (λ b. cond b place (get guid_cmp old other)) alike
+        here (ap (λ g. shelf_of g (length maps)) same ∙ sym at) ∙ written other ∙ ap (λ b. cond b place (place_at old other)) alike
     by_test false never = by_shelf (cases_eq theirs shelf) never
+
+-- ---- one shelf
+
+pub itself : (guid : Guid) → is_eq (guid_cmp guid guid) ≡ true
+itself guid = (eq_by_cmp_equiv guids_total).refl guid
+
+pub first_here : (first : Placing) (more : BTreeMap Guid ℕ) (guid : Guid) → first.guid ≡ guid → Some first.place ≡ place_beside (Some first) more guid
+first_here first more guid same = sym (ap (λ b. cond b (Some first.place) (get guid_cmp more guid)) (ap (λ g. is_eq (guid_cmp guid g)) same ∙ itself guid))
+
+pub first_apart : (first : Placing) (more : BTreeMap Guid ℕ) (guid : Guid) → (first.guid ≡ guid → ⊥) → get guid_cmp more guid ≡ place_beside (Some first) more guid
+first_apart first more guid differ = by_test (is_eq (guid_cmp guid first.guid)) refl
+  where
+    by_test : (b : Bool) → is_eq (guid_cmp guid first.guid) ≡ b → get guid_cmp more guid ≡ cond b (Some first.place) (get guid_cmp more guid)
+    by_test true e = absurd (differ (sym (exact_guids guid first.guid (equal_of _ e))))
+    by_test false e = refl
+
+-- it has the place already
+pub placed_before : (shelf : Shelf) (guid : Guid) (place : ℕ) → Some place ≡ place_at shelf guid → (other : Guid) → place_at shelf other ≡ cond (is_eq (guid_cmp other guid)) (Some place) (place_at shelf other)
+placed_before shelf guid place has other = by_test (is_eq (guid_cmp other guid)) refl
+  where
+    by_test : (b : Bool) → is_eq (guid_cmp other guid) ≡ b → place_at shelf other ≡ cond b (Some place) (place_at shelf other)
+    by_test true e = ap (place_at shelf) (exact_guids other guid (equal_of _ e)) ∙ sym has
+    by_test false e = refl
+
+-- it gets a place in the map
+pub placed_in_map : (first : Option Placing) (old new : BTreeMap Guid ℕ) (guid : Guid) (place : ℕ) → None ≡ place_beside first old guid → ((other : Guid) → get guid_cmp new other ≡ cond (is_eq (guid_cmp other guid)) (Some place) (get guid_cmp old other))
+    → (other : Guid) → place_beside first new other ≡ cond (is_eq (guid_cmp other guid)) (Some place) (place_beside first old other)
+placed_in_map None old new guid place none written other = written other
+placed_in_map (Some first) old new guid place none written other = by_test (is_eq (guid_cmp other first.guid)) refl (is_eq (guid_cmp other guid)) refl
+  where
+    by_test : (b : Bool) → is_eq (guid_cmp other first.guid) ≡ b → (t : Bool) → is_eq (guid_cmp other guid) ≡ t → cond b (Some first.place) (get guid_cmp new other) ≡ cond t (Some place) (cond b (Some first.place) (get guid_cmp old other))
+    by_test true e true f =
+        let same : guid ≡ first.guid = sym (exact_guids other guid (equal_of _ f)) ∙ exact_guids other first.guid (equal_of _ e) in
+        let has = none ∙ sym (first_here first old guid (sym same)) in
+        let never : ⊥ = (let h = has in cc) in
+        absurd never
+    by_test true e false f = refl
+    by_test false e t f = written other ∙ ap (λ u. cond u (Some place) (get guid_cmp old other)) f

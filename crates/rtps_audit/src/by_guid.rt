@@ -42,7 +42,7 @@ impl<V: Drop> ByGuid<V> {
     pub(crate) fn place(&mut self, guid: Guid, fresh: V) -> Result<usize, Memory>
         requires { StandInPlace self.old }
         ensures placed { IfOk result (λ place. StandInPlace self.new) }
-        ensures place { IfOk result (λ place. place_in self.new.shelves.maps.items guid ≡ Some place) }
+        ensures place { IfOk result (λ place. place_in self.new.shelves.shelves.items guid ≡ Some place) }
         ensures value { IfOk result (λ place. slice_get self.new.named.items place
             ≡ Some (record { guid = guid; value = unwrap_or (value_at self.old guid) fresh })) }
         ensures values { IfOk result (λ place. (other : GuidValue) → value_at self.new other

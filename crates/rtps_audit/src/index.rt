@@ -191,7 +191,7 @@ impl<'a> Index<'a> {
 }
 
 // A shelf for so many octets of a recording.
-const OCTETS_A_SHELF: usize = 1 << 10;
+const OCTETS_A_SHELF: usize = 1 << 8;
 
 /// How many shelves the places of the GUIDs of a recording are shared out among: a recording of so many octets names only
 /// so many GUIDs.
@@ -200,5 +200,5 @@ fn shelves_for(recording: &[&[u8]]) -> usize {
     for datagram in recording {
         octets = octets.saturating_add(datagram.len());
     }
-    (octets / OCTETS_A_SHELF).clamp(1 << 6, 1 << 16)
+    (octets / OCTETS_A_SHELF).clamp(1 << 6, 1 << 14)
 }

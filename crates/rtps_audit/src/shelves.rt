@@ -1,5 +1,4 @@
 ghost use Rattle.std.specs.Prelude.{◌≡◌, ◌<◌, ◌%◌, None, Some, cond, length, unwrap_or, IfOk};
-ghost use Rattle.std.specs.BTreeMap.{get};
 ghost use Rattle.std.specs.Ordering.{is_eq};
 ghost use Rattle.rtps_ids.specs.declared.identity.Guid.{Guid as GuidValue};
 ghost use Rattle.rtps_discovery.specs.GuidOrder.{guid_cmp};
@@ -10,43 +9,106 @@ use std::alloc::Global;
 use std::collections::BTreeMap;
 use std::hash::{FoldHasher, Hasher};
 
-/// At which place each GUID stands. The places are shared out among many small maps by a hash of the GUID, so that one is
+/// A GUID and its place.
+#[derive(Clone, Copy)]
+pub(crate) struct Placing {
+    pub(crate) guid: Guid,
+    pub(crate) place: usize,
+}
+
+/// The places of some GUIDs. One stands beside the map, since most shelves have no more.
+#[derive(Drop)]
+pub(crate) struct Shelf {
+    pub(crate) first: Option<Placing>,
+    pub(crate) more: BTreeMap<Guid, usize>,
+}
+
+/// At which place each GUID stands. The places are shared out among many shelves by a hash of the GUID, so that one is
 /// found by a look or two. Where GUIDs hash alike on purpose, they stand in one map, which is slower by its height alone.
 #[derive(Drop)]
 pub(crate) struct Shelves {
-    pub(crate) maps: Vec<BTreeMap<Guid, usize>>,
-    ghost some: { 0 < length maps.items },
+    pub(crate) shelves: Vec<Shelf>,
+    ghost some: { 0 < length shelves.items },
+}
+
+impl Shelf {
+    ghost use Rattle.std.specs.Prelude.{◌≡◌, None, Some, cond, unwrap_or, IfOk};
+    ghost use Rattle.std.specs.Ordering.{is_eq};
+    ghost use Rattle.rtps_ids.specs.declared.identity.Guid.{Guid as GuidValue};
+    ghost use Rattle.rtps_discovery.specs.GuidOrder.{guid_cmp};
+    ghost use Rattle.rtps_audit.specs.Shelves.{place_at};
+
+    /// No GUID has a place.
+    fn new(alloc: Global) -> Self
+        ensures { (guid : GuidValue) → place_at result guid ≡ None }
+    {
+        Shelf {
+            first: None,
+            more: BTreeMap::new(alloc),
+        }
+    }
+
+    /// The place of a GUID, if it has one.
+    fn place_of(&self, guid: Guid) -> Option<usize>
+        ensures { result ≡ place_at self.now guid }
+    {
+        let Some(first) = self.first else {
+            return self.more.get(&guid).copied();
+        };
+        if first.guid == guid {
+            Some(first.place)
+        } else {
+            self.more.get(&guid).copied()
+        }
+    }
+
+    /// The place of a GUID, which is this one from now on, where it had none. After `Memory` the places are of no use.
+    fn place_or(&mut self, guid: Guid, next: usize) -> Result<usize, Memory>
+        ensures place { IfOk result (λ place. place ≡ unwrap_or (place_at self.old guid) next) }
+        ensures places { IfOk result (λ place. (other : GuidValue) → place_at self.new other
+            ≡ cond (is_eq (guid_cmp other guid)) (Some place) (place_at self.old other)) }
+    {
+        if let Some(place) = self.place_of(guid) {
+            return Ok(place);
+        }
+        if self.first.is_none() {
+            self.first = Some(Placing { guid, place: next });
+            return Ok(next);
+        }
+        self.more.insert(guid, next)?;
+        Ok(next)
+    }
 }
 
 impl Shelves {
     /// No GUID has a place. There are so many shelves, one at least.
     pub(crate) fn new(alloc: Global, count: usize) -> Result<Self, Memory>
-        ensures { IfOk result (λ shelves. (guid : GuidValue) → place_in shelves.maps.items guid ≡ None) }
+        ensures { IfOk result (λ shelves. (guid : GuidValue) → place_in shelves.shelves.items guid ≡ None) }
     {
-        let mut maps = Vec::with_capacity(alloc, count)?;
-        maps.push(BTreeMap::new(alloc))?;
+        let mut shelves = Vec::with_capacity(alloc, count)?;
+        shelves.push(Shelf::new(alloc))?;
         for _ in 1..count {
-            maps.push(BTreeMap::new(alloc))?;
+            shelves.push(Shelf::new(alloc))?;
         }
-        Ok(Shelves { maps })
+        Ok(Shelves { shelves })
     }
 
     /// The place of a GUID, if it has one.
     pub(crate) fn place_of(&self, guid: Guid) -> Option<usize>
-        ensures { result ≡ place_in self.now.maps.items guid }
+        ensures { result ≡ place_in self.now.shelves.items guid }
     {
-        let shelf = shelf_of(guid, self.maps.len());
-        self.maps[shelf].get(&guid).copied()
+        let shelf = shelf_of(guid, self.shelves.len());
+        self.shelves[shelf].place_of(guid)
     }
 
     /// The place of a GUID, which is this one from now on, where it had none. After `Memory` the places are of no use.
     pub(crate) fn place_or(&mut self, guid: Guid, next: usize) -> Result<usize, Memory>
-        ensures place { IfOk result (λ place. place ≡ unwrap_or (place_in self.old.maps.items guid) next) }
-        ensures places { IfOk result (λ place. (other : GuidValue) → place_in self.new.maps.items other
-            ≡ cond (is_eq (guid_cmp other guid)) (Some place) (place_in self.old.maps.items other)) }
+        ensures place { IfOk result (λ place. place ≡ unwrap_or (place_in self.old.shelves.items guid) next) }
+        ensures places { IfOk result (λ place. (other : GuidValue) → place_in self.new.shelves.items other
+            ≡ cond (is_eq (guid_cmp other guid)) (Some place) (place_in self.old.shelves.items other)) }
     {
-        let shelf = shelf_of(guid, self.maps.len());
-        place_on(&mut self.maps[shelf], guid, next)
+        let shelf = shelf_of(guid, self.shelves.len());
+        self.shelves[shelf].place_or(guid, next)
     }
 }
 
@@ -67,14 +129,4 @@ fn shelf_of(guid: Guid, count: usize) -> usize
     ensures within { result < count }
 {
     (hash_of(guid) % count as u64) as usize
-}
-
-/// The place that a map has for a GUID, which is this one from now on, where it had none.
-fn place_on(map: &mut BTreeMap<Guid, usize>, guid: Guid, next: usize) -> Result<usize, Memory>
-    ensures place { IfOk result (λ place. place ≡ unwrap_or (get guid_cmp map.old guid) next) }
-    ensures places { IfOk result (λ place. (other : GuidValue) → get guid_cmp map.new other
-        ≡ cond (is_eq (guid_cmp other guid)) (Some place) (get guid_cmp map.old other)) }
-{
-    let place = map.entry(guid)?.or_insert(next);
-    Ok(*place)
 }

@@ -1,4 +1,4 @@
-use Rattle.std.proofs.Common.{◌++◌, ap, filter, map, refl, ◌∙◌, rules}
+use Rattle.std.proofs.Common.{◌++◌, ap, filter, map, ◌∙◌, rules}
 use Rattle.rtps_receiver.specs.Values.{act_value}
 use Rattle.rtps_audit.specs.Brief.{bare, brief_value, is_speech}
 use Rattle.rtps_audit.specs.ByGuid.{value_at}

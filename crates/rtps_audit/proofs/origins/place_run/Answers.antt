@@ -1,10 +1,8 @@
-use Rattle.std.proofs.Common.{◌++◌, ap, map, refl, ◌∙◌}
-use Rattle.std.specs.Global.{Vec}
+use Rattle.std.proofs.Common.{◌++◌, ap, map, ◌∙◌}
 use Rattle.rtps_receiver.specs.Values.{act_value}
-use Rattle.rtps_audit.specs.ByGuid.{value_at, value_from}
+use Rattle.rtps_audit.specs.ByGuid.{value_at}
 use Rattle.rtps_audit.specs.Groups.{items_or_none}
 use Rattle.rtps_audit.specs.Placed.{placed_at, placed_value}
-use Rattle.rtps_audit.specs.Shelves.{place_in}
 use Rattle.rtps_audit.proofs.ByGuidLemmas.{lent_is, lent_placed, lent_values, seen_grown}
 use Rattle.rtps_audit.proofs.origins.place_run.Goals as goal
 

@@ -1,4 +1,4 @@
-use Rattle.std.proofs.Common.{◌≡◌, ◌++◌, [], Option, Some, None, true, ap, append-nil, map, refl, sym, ◌∙◌}
+use Rattle.std.proofs.Common.{◌≡◌, ◌++◌, Some, None, true, ap, append-nil, map, sym, ◌∙◌}
 use Rattle.std.specs.Ordering.{is_eq}
 use Rattle.std.proofs.lemmas.List.Elements.{All-weaker}
 use Rattle.rtps_receiver.specs.Speech.{origin_of}
@@ -10,7 +10,6 @@ use Rattle.rtps_audit.specs.ByGuid.{value_at}
 use Rattle.rtps_audit.specs.KeptAnswers.{answers_in, answers_or_none}
 use Rattle.rtps_audit.specs.Placed.{answers_among, placed_at}
 use Rattle.rtps_audit.specs.Speech.{base_for}
-use Rattle.rtps_audit.specs.declared.reader_answers.ReaderAnswers.{ReaderAnswers}
 use Rattle.rtps_audit.proofs.ByGuidLemmas.{lent_is, lent_placed, lent_values, seen_grown}
 use Rattle.rtps_audit.proofs.GroupLemmas.{equal_of}
 use Rattle.rtps_audit.proofs.PlacedLemmas.{exact_guids, none_answered, run_answered}
