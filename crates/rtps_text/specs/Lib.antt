@@ -7,4 +7,5 @@ pub mod Recording
 pub mod Room
 pub mod SampleText
 pub mod ShowText
+pub mod ShowTail
 pub mod Laws

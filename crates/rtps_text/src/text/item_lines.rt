@@ -5,10 +5,11 @@ ghost use Rattle.std.specs.String.{string_bytes};
 ghost use Rattle.hex.specs.Hex.{encode_lower};
 ghost use Rattle.rtps_params.specs.Lists.{list_value};
 ghost use Rattle.rtps_wire.specs.Values.{data_value, item_value};
+ghost use Rattle.rtps_text.specs.ShowTail.{IsTailIn};
 ghost use Rattle.rtps_text.specs.ShowText.{ack_nack_line, data_line, gap_line, heartbeat_line, info_dst_line, info_src_line, info_ts_line, item_line, bitmap_text, order_text, qos_octets as qos_octets_lem, skipped_line, version_text};
 
 use crate::text::parts::{
-    order_name, push_bitmap, push_digits, push_field, push_flag, push_id, push_payload, push_state,
+    order_name, push_bitmap, push_digits, push_field, push_flag, push_id, push_payload, push_tail,
     push_time, push_version,
 };
 use rtps_ids::{EntityId, GuidPrefix, NumberSet, Order, Stamp, Vendor, Version};
@@ -17,16 +18,23 @@ use rtps_receiver::State;
 use rtps_wire::{AckNackBody, Body, DataBody, GapBody, HeartbeatBody, Item};
 use std::alloc::AllocError;
 
-/// Appends the line of a submessage, at whose place the receiver is in this state.
-pub(crate) fn push_item(text: &mut String, state: &State, item: &Item<'_>) -> Result<(), AllocError>
-    ensures { OnOk result (string_bytes text.new ≡ string_bytes text.old ++ item_line state.now (item_value item.now)) }
+/// Appends the line of a submessage, at whose place the receiver is in this state. The tail is kept from line to line.
+pub(crate) fn push_item(
+    text: &mut String,
+    tail: &mut String,
+    state: &State,
+    item: &Item<'_>,
+) -> Result<(), AllocError>
+    requires { IsTailIn state.now (string_bytes tail.old) }
+    ensures line { OnOk result (string_bytes text.new ≡ string_bytes text.old ++ item_line state.now (item_value item.now)) }
+    ensures tail { OnOk result (IsTailIn state.now (string_bytes tail.new)) }
 {
     let Item { at, order, body } = item;
     match body {
-        Body::Data(data) => push_data(text, state, *at, *order, data),
-        Body::Heartbeat(heartbeat) => push_heartbeat(text, state, *at, *order, heartbeat),
-        Body::AckNack(ack_nack) => push_ack_nack(text, state, *at, *order, ack_nack),
-        Body::Gap(gap) => push_gap(text, state, *at, *order, gap),
+        Body::Data(data) => push_data(text, tail, state, *at, *order, data),
+        Body::Heartbeat(heartbeat) => push_heartbeat(text, tail, state, *at, *order, heartbeat),
+        Body::AckNack(ack_nack) => push_ack_nack(text, tail, state, *at, *order, ack_nack),
+        Body::Gap(gap) => push_gap(text, tail, state, *at, *order, gap),
         Body::InfoTs(time) => push_info_ts(text, *at, *order, *time),
         Body::InfoDst(prefix) => push_info_dst(text, *at, *order, *prefix),
         Body::InfoSrc {
@@ -71,18 +79,21 @@ fn push_act(
 
 fn push_data(
     text: &mut String,
+    tail: &mut String,
     state: &State,
     at: usize,
     order: Order,
     data: &DataBody<'_>,
 ) -> Result<(), AllocError>
-    ensures { OnOk result (string_bytes text.new ≡ string_bytes text.old ++ data_line state.now at order (data_value data.now)) }
+    requires { IsTailIn state.now (string_bytes tail.old) }
+    ensures line { OnOk result (string_bytes text.new ≡ string_bytes text.old ++ data_line state.now at order (data_value data.now)) }
+    ensures tail { OnOk result (IsTailIn state.now (string_bytes tail.new)) }
 {
     push_act(text, "data ", at, order, data.reader, data.writer)?;
     push_field(text, " number ", data.number.get())?;
     push_field(text, " qos ", qos_octets(&data.qos))?;
     push_payload(text, data.payload)?;
-    push_state(text, state)
+    push_tail(text, tail, state)
 }
 
 // How many octets the inline QoS has.
@@ -98,12 +109,15 @@ fn qos_octets(qos: &Option<ParamList>) -> usize
 
 fn push_heartbeat(
     text: &mut String,
+    tail: &mut String,
     state: &State,
     at: usize,
     order: Order,
     heartbeat: &HeartbeatBody,
 ) -> Result<(), AllocError>
-    ensures { OnOk result (string_bytes text.new ≡ string_bytes text.old ++ heartbeat_line state.now at order heartbeat.now) }
+    requires { IsTailIn state.now (string_bytes tail.old) }
+    ensures line { OnOk result (string_bytes text.new ≡ string_bytes text.old ++ heartbeat_line state.now at order heartbeat.now) }
+    ensures tail { OnOk result (IsTailIn state.now (string_bytes tail.new)) }
 {
     push_act(
         text,
@@ -116,7 +130,7 @@ fn push_heartbeat(
     push_numbers(text, heartbeat)?;
     push_flag(text, " final ", heartbeat.is_final)?;
     push_flag(text, " live ", heartbeat.live)?;
-    push_state(text, state)
+    push_tail(text, tail, state)
 }
 
 // Appends the fields of a heartbeat that are numbers.
@@ -132,12 +146,15 @@ fn push_numbers(text: &mut String, heartbeat: &HeartbeatBody) -> Result<(), Allo
 
 fn push_ack_nack(
     text: &mut String,
+    tail: &mut String,
     state: &State,
     at: usize,
     order: Order,
     ack_nack: &AckNackBody,
 ) -> Result<(), AllocError>
-    ensures { OnOk result (string_bytes text.new ≡ string_bytes text.old ++ ack_nack_line state.now at order ack_nack.now) }
+    requires { IsTailIn state.now (string_bytes tail.old) }
+    ensures line { OnOk result (string_bytes text.new ≡ string_bytes text.old ++ ack_nack_line state.now at order ack_nack.now) }
+    ensures tail { OnOk result (IsTailIn state.now (string_bytes tail.new)) }
 {
     push_act(
         text,
@@ -150,22 +167,25 @@ fn push_ack_nack(
     push_set(text, &ack_nack.set)?;
     push_field(text, " count ", ack_nack.count)?;
     push_flag(text, " final ", ack_nack.is_final)?;
-    push_state(text, state)
+    push_tail(text, tail, state)
 }
 
 fn push_gap(
     text: &mut String,
+    tail: &mut String,
     state: &State,
     at: usize,
     order: Order,
     gap: &GapBody,
 ) -> Result<(), AllocError>
-    ensures { OnOk result (string_bytes text.new ≡ string_bytes text.old ++ gap_line state.now at order gap.now) }
+    requires { IsTailIn state.now (string_bytes tail.old) }
+    ensures line { OnOk result (string_bytes text.new ≡ string_bytes text.old ++ gap_line state.now at order gap.now) }
+    ensures tail { OnOk result (IsTailIn state.now (string_bytes tail.new)) }
 {
     push_act(text, "gap ", at, order, gap.reader, gap.writer)?;
     push_field(text, " start ", gap.start.get())?;
     push_set(text, &gap.list)?;
-    push_state(text, state)
+    push_tail(text, tail, state)
 }
 
 // Appends the base of a set, how many bits it has, and the bits.

@@ -4,6 +4,7 @@ ghost use Rattle.std.specs.Prelude.{◌≡◌, ◌++◌, ◌∷◌, [], ◌*◌,
 ghost use Rattle.std.specs.String.{string_bytes};
 ghost use Rattle.hex.specs.Hex.{encode_lower};
 ghost use Rattle.rtps_wire.specs.Values.{payload_value};
+ghost use Rattle.rtps_text.specs.ShowTail.{IsTailIn, tail_text};
 ghost use Rattle.rtps_text.specs.ShowText.{bitmap_text, destination_text, digit_of, order_text, payload_text, state_text, time_text, version_text};
 
 use itoa::{Buffer, Integer};
@@ -158,9 +159,36 @@ fn push_destination(text: &mut String, dest: Option<GuidPrefix>) -> Result<(), A
     }
 }
 
-/// Appends the end of a line: from whom, for whom and when an act in this state is.
+/// Appends the end of a line: from whom, for whom and when an act in this state is. It is one copy, since many acts can
+/// stand in one state: the tail is that end, or empty where none was made since the state last changed.
+pub(crate) fn push_tail(
+    text: &mut String,
+    tail: &mut String,
+    state: &State,
+) -> Result<(), AllocError>
+    requires { IsTailIn state.now (string_bytes tail.old) }
+    ensures line { OnOk result (string_bytes text.new ≡ string_bytes text.old ++ tail_text state.now) }
+    ensures tail { OnOk result (IsTailIn state.now (string_bytes tail.new)) }
+{
+    make_tail(tail, state)?;
+    text.push_str(tail)
+}
+
+// Makes the tail where there is none.
+#[inline(always)]
+fn make_tail(tail: &mut String, state: &State) -> Result<(), AllocError>
+    requires { IsTailIn state.now (string_bytes tail.old) }
+    ensures { OnOk result (string_bytes tail.new ≡ tail_text state.now) }
+{
+    if !tail.is_empty() {
+        return Ok(());
+    }
+    push_state(tail, state)
+}
+
+// Appends from whom, for whom and when an act in this state is.
 #[tactic(auto, unfolding(crate::specs::ShowText::state_text))]
-pub(crate) fn push_state(text: &mut String, state: &State) -> Result<(), AllocError>
+fn push_state(text: &mut String, state: &State) -> Result<(), AllocError>
     ensures { OnOk result (string_bytes text.new ≡ string_bytes text.old ++ (codes " " ++ (state_text state.now ++ codes "\n"))) }
 {
     text.push_str(" from ")?;
