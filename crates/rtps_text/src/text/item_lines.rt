@@ -9,8 +9,8 @@ ghost use Rattle.rtps_text.specs.ShowTail.{IsTailIn};
 ghost use Rattle.rtps_text.specs.ShowText.{ack_nack_line, data_line, gap_line, heartbeat_line, info_dst_line, info_src_line, info_ts_line, item_line, bitmap_text, order_text, qos_octets as qos_octets_lem, skipped_line, version_text};
 
 use crate::text::parts::{
-    order_name, push_bitmap, push_digits, push_field, push_flag, push_id, push_payload, push_tail,
-    push_time, push_version,
+    order_name, push_bitmap, push_digits, push_entities, push_field, push_final, push_id,
+    push_live, push_payload, push_tail, push_time, push_version,
 };
 use rtps_ids::{EntityId, GuidPrefix, NumberSet, Order, Stamp, Vendor, Version};
 use rtps_params::ParamList;
@@ -70,11 +70,8 @@ fn push_act(
         ≡ string_bytes text.old ++ (name.now ++ (decimal at ++ (codes " " ++ (order_text order
         ++ (codes " reader " ++ (encode_lower reader.0 ++ (codes " writer " ++ encode_lower writer.0)))))))) }
 {
-    push_head(text, name, at, order)?;
-    text.push_str(" reader ")?;
-    push_digits(text, &reader.0)?;
-    text.push_str(" writer ")?;
-    push_digits(text, &writer.0)
+    push_field(text, name, at)?;
+    push_entities(text, order, reader, writer)
 }
 
 fn push_data(
@@ -128,8 +125,8 @@ fn push_heartbeat(
         heartbeat.writer,
     )?;
     push_numbers(text, heartbeat)?;
-    push_flag(text, " final ", heartbeat.is_final)?;
-    push_flag(text, " live ", heartbeat.live)?;
+    push_final(text, heartbeat.is_final)?;
+    push_live(text, heartbeat.live)?;
     push_tail(text, tail, state)
 }
 
@@ -166,7 +163,7 @@ fn push_ack_nack(
     )?;
     push_set(text, &ack_nack.set)?;
     push_field(text, " count ", ack_nack.count)?;
-    push_flag(text, " final ", ack_nack.is_final)?;
+    push_final(text, ack_nack.is_final)?;
     push_tail(text, tail, state)
 }
 
