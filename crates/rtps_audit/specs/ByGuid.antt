@@ -25,10 +25,12 @@ pub record StandInPlace {V : Type 0} (values : ByGuid V) : Type 0 where
   pub placed : ArePlaced values.shelves.shelves.items values.named.items
   pub found : AreFound values.shelves.shelves.items values.named.items
 
+-- the value that stands somewhere
 abbrev pub value_of_named : {V : Type 0} → Option (Named V) → Option V
 value_of_named (Some named) = Some named.value
 value_of_named None = None
 
+-- the value at the place of a GUID
 abbrev pub value_from : {V : Type 0} → List (Named V) → Option ℕ → Option V
 value_from named (Some place) = value_of_named (slice_get named place)
 value_from named None = None
