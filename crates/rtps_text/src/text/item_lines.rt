@@ -9,8 +9,8 @@ ghost use Rattle.rtps_text.specs.ShowTail.{IsTailIn};
 ghost use Rattle.rtps_text.specs.ShowText.{ack_nack_line, data_line, gap_line, heartbeat_line, info_dst_line, info_src_line, info_ts_line, item_line, bitmap_text, order_text, qos_octets as qos_octets_lem, skipped_line, version_text};
 
 use crate::text::parts::{
-    order_name, push_bitmap, push_digits, push_entities, push_field, push_final, push_id,
-    push_live, push_payload, push_tail, push_time, push_version,
+    order_name, push_bitmap, push_digits, push_field, push_final, push_id, push_live, push_payload,
+    push_tail, push_time, push_version,
 };
 use rtps_ids::{EntityId, GuidPrefix, NumberSet, Order, Stamp, Vendor, Version};
 use rtps_params::ParamList;
@@ -70,8 +70,11 @@ fn push_act(
         ≡ string_bytes text.old ++ (name.now ++ (decimal at ++ (codes " " ++ (order_text order
         ++ (codes " reader " ++ (encode_lower reader.0 ++ (codes " writer " ++ encode_lower writer.0)))))))) }
 {
-    push_field(text, name, at)?;
-    push_entities(text, order, reader, writer)
+    push_head(text, name, at, order)?;
+    text.push_str(" reader ")?;
+    push_digits(text, &reader.0)?;
+    text.push_str(" writer ")?;
+    push_digits(text, &writer.0)
 }
 
 fn push_data(

@@ -8,7 +8,7 @@ ghost use Rattle.rtps_text.specs.ShowTail.{IsTailIn, tail_text};
 ghost use Rattle.rtps_text.specs.ShowText.{bitmap_text, destination_text, digit_of, order_text, payload_text, state_text, time_text, version_text};
 
 use itoa::{Buffer, Integer};
-use rtps_ids::{EntityId, GuidPrefix, NumberSet, Order, Stamp, Version};
+use rtps_ids::{GuidPrefix, NumberSet, Order, Stamp, Version};
 use rtps_receiver::State;
 use rtps_wire::Payload;
 use std::alloc::AllocError;
@@ -105,54 +105,7 @@ pub(crate) fn order_name(order: Order) -> &'static str
     }
 }
 
-/// Appends the order of an act's octets, and whom it names. It is one copy, since acts can be very many.
-#[inline(always)]
-pub(crate) fn push_entities(
-    text: &mut String,
-    order: Order,
-    reader: EntityId,
-    writer: EntityId,
-) -> Result<(), AllocError>
-    ensures { OnOk result (string_bytes text.new
-        ≡ string_bytes text.old ++ (codes " " ++ (order_text order ++ (codes " reader " ++ (encode_lower reader.0
-        ++ (codes " writer " ++ encode_lower writer.0)))))) }
-{
-    text.push_str(text_of(&entities_field(order, reader, writer)))
-}
-
-#[inline(always)]
-fn entities_field(order: Order, reader: EntityId, writer: EntityId) -> [u8; 35]
-    ensures { result ≡ codes " " ++ (order_text order ++ (codes " reader " ++ (encode_lower reader.0
-        ++ (codes " writer " ++ encode_lower writer.0)))) }
-{
-    let mut field = reader_field(order, reader);
-    field[27..].copy_from_slice(&digits_from(&writer.0)[..8]);
-    field
-}
-
-// The field, with the digits of the writer still to be written.
-#[inline(always)]
-fn reader_field(order: Order, reader: EntityId) -> [u8; 35]
-    ensures { result ≡ codes " " ++ (order_text order ++ (codes " reader " ++ (encode_lower reader.0 ++ codes " writer ........"))) }
-{
-    let mut field = blank_entities(order);
-    field[11..19].copy_from_slice(&digits_from(&reader.0)[..8]);
-    field
-}
-
-// The field, with all digits still to be written.
-#[tactic(auto, unfolding(crate::specs::ShowText::order_text))]
-#[inline(always)]
-fn blank_entities(order: Order) -> [u8; 35]
-    ensures { result ≡ codes " " ++ (order_text order ++ codes " reader ........ writer ........") }
-{
-    match order {
-        Order::Big => *b" be reader ........ writer ........",
-        Order::Little => *b" le reader ........ writer ........",
-    }
-}
-
-/// Appends whether an answer is asked for.
+/// Appends the flag by which someone asks for no answer.
 #[tactic(auto, unfolding(crate::specs::ShowText::digit_of))]
 #[inline(always)]
 pub(crate) fn push_final(text: &mut String, flag: bool) -> Result<(), AllocError>
@@ -161,7 +114,7 @@ pub(crate) fn push_final(text: &mut String, flag: bool) -> Result<(), AllocError
     text.push_str(if flag { " final 1" } else { " final 0" })
 }
 
-/// Appends whether a writer says that it lives.
+/// Appends the flag by which a writer says that it lives.
 #[tactic(auto, unfolding(crate::specs::ShowText::digit_of))]
 #[inline(always)]
 pub(crate) fn push_live(text: &mut String, flag: bool) -> Result<(), AllocError>
