@@ -43,12 +43,6 @@ before_or_last [] x y (suc i) e = cc
 before_or_last (z ∷ xs) x y zero e = inl e
 before_or_last (z ∷ xs) x y (suc i) e = before_or_last xs x y i e
 
-pub only_last : {X : Type 0} (xs : List X) (x y : X) (i : ℕ) → slice_get (xs ++ x ∷ []) i ≡ Some y → (slice_get xs i ≡ Some y → ⊥) → i ≡ length xs
-only_last [] x y zero e apart = refl
-only_last [] x y (suc i) e apart = cc
-only_last (z ∷ xs) x y zero e apart = absurd (apart e)
-only_last (z ∷ xs) x y (suc i) e apart = ap suc (only_last xs x y i e apart)
-
 -- shelves on which nothing stands have no place for a GUID
 pub none_in_empty : (maps : List Shelf) → ((i : ℕ) (shelf : Shelf) → slice_get maps i ≡ Some shelf → (guid : Guid) → place_at shelf guid ≡ None) → (guid : Guid) → place_in maps guid ≡ None
 none_in_empty maps empty guid = by_map (slice_get maps (shelf_of guid (length maps))) refl

@@ -12,18 +12,8 @@ use Rattle.rtps_audit.specs.declared.shelves.Shelf.{Shelf}
 abbrev pub ArePlaced : {V : Type 0} → List Shelf → List (Named V) → Type 0
 ArePlaced {V} shelves named = (guid : Guid) (place : ℕ) → place_in shelves guid ≡ Some place → (value : V) × (slice_get named place ≡ Some (record { guid = guid; value = value }))
 
--- what stands there has that place
-abbrev pub AreFound : {V : Type 0} → List Shelf → List (Named V) → Type 0
-AreFound {V} shelves named = (place : ℕ) (one : Named V) → slice_get named place ≡ Some one → place_in shelves one.guid ≡ Some place
-
--- so no GUID stands twice
-abbrev pub AreDistinct : {V : Type 0} → List (Named V) → Type 0
-AreDistinct {V} named = (i j : ℕ) (one other : Named V) → slice_get named i ≡ Some one → slice_get named j ≡ Some other → one.guid ≡ other.guid → i ≡ j
-
--- each value stands where its GUID has its place
-pub record StandInPlace {V : Type 0} (values : ByGuid V) : Type 0 where
-  pub placed : ArePlaced values.shelves.shelves.items values.named.items
-  pub found : AreFound values.shelves.shelves.items values.named.items
+abbrev pub StandInPlace : {V : Type 0} → ByGuid V → Type 0
+StandInPlace values = ArePlaced values.shelves.shelves.items values.named.items
 
 -- the value that stands somewhere
 abbrev pub value_of_named : {V : Type 0} → Option (Named V) → Option V

@@ -24,12 +24,12 @@ pub(crate) struct AllAnswers {
 }
 
 impl AllAnswers {
-    /// No answers.
-    pub(crate) fn new(alloc: Global) -> Result<Self, Memory>
+    /// No answers. There are so many shelves for the places of readers.
+    pub(crate) fn new(alloc: Global, shelves: usize) -> Result<Self, Memory>
         ensures none { IfOk result (λ answers. (pair : PairValue) → answers_in answers.readers pair ≡ []) }
         ensures placed { IfOk result (λ answers. StandInPlace answers.readers) }
     {
-        let readers = ByGuid::new(alloc)?;
+        let readers = ByGuid::new(alloc, shelves)?;
         Ok(AllAnswers { readers, alloc })
     }
 

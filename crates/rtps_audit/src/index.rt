@@ -59,7 +59,7 @@ impl<'a> Index<'a> {
         ensures brief { IfOk result (IsBriefOf (map (λ datagram. datagram.now) recording.now)) }
         ensures keeps_acts { IfOk result (λ index. index.origins.keeps_acts ≡ keeps_acts) }
     {
-        let mut origins = Origins::new(alloc, keeps_acts)?;
+        let mut origins = Origins::new(alloc, keeps_acts, shelves_for(recording))?;
         let mut directory = Directory::new(alloc);
         let mut walk = Walk::new(alloc);
         let mut place = 0usize;
@@ -188,4 +188,17 @@ impl<'a> Index<'a> {
         let hearing = Hearing::of(self.alloc, self.briefs_of(pair.writer), pair, from)?;
         Ok(hearing.verdict(self.answered(pair)))
     }
+}
+
+// A shelf for so many octets of a recording.
+const OCTETS_A_SHELF: usize = 1 << 8;
+
+/// How many shelves the places of the GUIDs of a recording are shared out among: a recording of so many octets names only
+/// so many GUIDs.
+fn shelves_for(recording: &[&[u8]]) -> usize {
+    let mut octets = 0usize;
+    for datagram in recording {
+        octets = octets.saturating_add(datagram.len());
+    }
+    (octets / OCTETS_A_SHELF).clamp(1 << 6, 1 << 14)
 }

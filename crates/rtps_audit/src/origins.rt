@@ -34,16 +34,16 @@ impl<'a> Origins<'a> {
     ghost use Rattle.rtps_audit.specs.Origins.{AreOf, IsInPlace};
     ghost use Rattle.rtps_audit.specs.Placed.{PlacedValue};
 
-    /// No acts.
-    pub(crate) fn new(alloc: Global, keeps_acts: bool) -> Result<Self, Memory>
+    /// No acts. There are so many shelves for the places of GUIDs.
+    pub(crate) fn new(alloc: Global, keeps_acts: bool, shelves: usize) -> Result<Self, Memory>
         ensures empty { IfOk result (λ origins. AreOf origins []) }
         ensures keeps_acts { IfOk result (λ origins. origins.keeps_acts ≡ keeps_acts) }
     {
         Ok(Origins {
             keeps_acts,
-            acts: ByGuid::new(alloc)?,
-            briefs: ByGuid::new(alloc)?,
-            answers: AllAnswers::new(alloc)?,
+            acts: ByGuid::new(alloc, if keeps_acts { shelves } else { 1 })?,
+            briefs: ByGuid::new(alloc, shelves)?,
+            answers: AllAnswers::new(alloc, shelves)?,
             alloc,
         })
     }

@@ -93,13 +93,6 @@ impl Shelves {
         Ok(Shelves { shelves })
     }
 
-    /// How many shelves there are.
-    pub(crate) fn len(&self) -> usize
-        ensures { result ≡ length self.now.shelves.items }
-    {
-        self.shelves.len()
-    }
-
     /// The place of a GUID, if it has one.
     pub(crate) fn place_of(&self, guid: Guid) -> Option<usize>
         ensures { result ≡ place_in self.now.shelves.items guid }
