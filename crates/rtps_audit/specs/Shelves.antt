@@ -18,11 +18,12 @@ hash_of guid = folding.finish (folding.write (folding.write folding.initial guid
 abbrev pub shelf_of : Guid → ℕ → ℕ
 shelf_of guid count = hash_of guid % count
 
--- where a shelf has it: beside the map, or in it
+-- where it stands: beside the map, or in it
 abbrev pub place_beside : Option Placing → BTreeMap Guid ℕ → Guid → Option ℕ
 place_beside (Some first) more guid = cond (is_eq (guid_cmp guid first.guid)) (Some first.place) (get guid_cmp more guid)
 place_beside None more guid = get guid_cmp more guid
 
+-- where a shelf has it
 abbrev pub place_at : Shelf → Guid → Option ℕ
 place_at shelf guid = place_beside shelf.first shelf.more guid
 
