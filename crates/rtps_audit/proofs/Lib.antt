@@ -15,6 +15,7 @@ pub mod GroupLemmas
 pub mod PlacedLemmas
 pub mod ShelfLemmas
 pub mod ByGuidLemmas
+pub mod ApartLemmas
 pub mod AnswerMapLemmas
 pub mod HearingLemmas
 pub mod AnswerLemmas

@@ -11,6 +11,7 @@ pub mod OneDatagram
 pub mod Groups
 pub mod Shelves
 pub mod ByGuid
+pub mod Apart
 pub mod KeptAnswers
 pub mod Placed
 pub mod Brief

@@ -2,6 +2,7 @@ ghost use Rattle.std.specs.Prelude.{ℤ, ℕ, ◌≡◌, ◌↔◌, map, All, If
 ghost use Rattle.rtps_audit.specs.Delivered.{IsDelivered, IsDeliveredFrom};
 ghost use Rattle.rtps_audit.specs.FullRun.{HasFullRun, HasFullRunFrom};
 ghost use Rattle.rtps_audit.specs.Index.{IsBriefOf};
+ghost use Rattle.rtps_audit.specs.Origins.{IsAtHand};
 ghost use Rattle.rtps_audit.specs.Report.{IsJudgedFrom, IsReport, IsReportFrom};
 ghost use Rattle.rtps_audit.specs.Speech.{speech_of};
 
@@ -22,11 +23,11 @@ fn rows_of<P: Watch>(
     watch: &mut P,
 ) -> Result<Vec<Row>, Memory>
     ensures pairs { IfOk result (λ rows. map (λ row. row.pair) rows.items ≡ pairs.now) }
-    ensures judged { (recording : List (List ℕ)) → IsBriefOf recording index.now
+    ensures judged { (recording : List (List ℕ)) → IsBriefOf recording index.now → All (IsAtHand index.now.origins) pairs.now
         → IfOk result (λ rows. All (IsJudgedFrom from recording) rows.items) }
 {
     let mut rows = Vec::new(index.alloc);
-    let mut common = Common::new(index, from);
+    let mut common = Common::new(from);
     for pair in pairs {
         common.turn_to(index, pair.writer);
         let verdict = common.judge(index, *pair)?;
@@ -40,10 +41,12 @@ fn rows_of<P: Watch>(
 }
 
 impl<'a> Index<'a> {
-    ghost use Rattle.std.specs.Prelude.{ℕ, List, IfOk};
+    ghost use Rattle.std.specs.Prelude.{◌≡◌, ℕ, All, List, IfOk};
     ghost use Rattle.rtps_receiver.specs.Acts.{acts_in};
-    ghost use Rattle.rtps_discovery.specs.Directory.{IsMapOf};
+    ghost use Rattle.rtps_discovery.specs.Directory.{IsMapOf, settled_in};
+    ghost use Rattle.rtps_discovery.specs.Matching.{matches_among, reliable_pairs};
     ghost use Rattle.rtps_audit.specs.Index.{IsBriefOf, IsIndexOf};
+    ghost use Rattle.rtps_audit.specs.Origins.{IsAtHand};
     ghost use Rattle.rtps_audit.specs.Report.{IsReportFrom};
 
     /// What the recording announces. It takes no memory.
@@ -57,16 +60,23 @@ impl<'a> Index<'a> {
     pub fn report_from<P: Watch>(&self, from: SeqNum, watch: &mut P) -> Result<Report, Memory>
         ensures { (recording : List (List ℕ)) → IsIndexOf recording self.now → IfOk result (IsReportFrom from recording) }
     {
-        let report = self.reported(from, watch)?;
+        let pairs = self.directory.pairs()?;
+        let report = self.reported(&pairs, from, watch)?;
         Ok(report)
     }
 
-    /// The report, as of [`Index::report_from`].
-    fn reported<P: Watch>(&self, from: SeqNum, watch: &mut P) -> Result<Report, Memory>
-        ensures { (recording : List (List ℕ)) → IsBriefOf recording self.now → IfOk result (IsReportFrom from recording) }
+    /// The report, as of [`Index::report_from`], where these are the pairs of the directory.
+    fn reported<P: Watch>(
+        &self,
+        pairs: &[Pair],
+        from: SeqNum,
+        watch: &mut P,
+    ) -> Result<Report, Memory>
+        requires { pairs.now ≡ reliable_pairs (matches_among (settled_in self.now.directory.endpoints)) }
+        ensures { (recording : List (List ℕ)) → IsBriefOf recording self.now → All (IsAtHand self.now.origins) pairs.now
+            → IfOk result (IsReportFrom from recording) }
     {
-        let pairs = self.directory.pairs()?;
-        let rows = rows_of(self, &pairs, from, watch)?;
+        let rows = rows_of(self, pairs, from, watch)?;
         let mut counts = self.counts;
         counts.unsettled = self.directory.unsettled() as u64;
         Ok(Report { rows, counts })
@@ -93,7 +103,9 @@ pub fn audit_watched<P: Watch>(
         IfOk result (λ report. All (λ row. HasFullRunFrom from (speech_of row.pair.writer row.pair.reader octets) row.verdict) report.rows.items) }
 {
     let index = Index::build_brief(alloc, recording)?;
-    let report = index.reported(from, watch)?;
+    let pairs = index.directory.pairs()?;
+    let index = index.settled(&pairs)?;
+    let report = index.reported(&pairs, from, watch)?;
     Ok(report)
 }
 

@@ -52,7 +52,7 @@ pub(crate) struct Brief<'a> {
 
 impl<'a> Brief<'a> {
     /// What an act says; None of an ACKNACK.
-    fn of(datagram: usize, act: &Act<'a>) -> Option<Brief<'a>>
+    pub(crate) fn of(datagram: usize, act: &Act<'a>) -> Option<Brief<'a>>
         ensures { MatchOption result (is_speech (act_value act.now) ≡ false) (λ brief. (is_speech (act_value act.now) ≡ true)
             × ((writer : GuidValue) → brief_value writer brief ≡ bare writer (record { datagram = datagram; act = act_value act.now }))) }
     {

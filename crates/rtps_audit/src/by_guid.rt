@@ -56,6 +56,14 @@ impl<V: Drop> ByGuid<V> {
         Ok(place)
     }
 
+    /// The place of the value of a GUID, if it has one.
+    #[inline]
+    pub(crate) fn place_of(&self, guid: Guid) -> Option<usize>
+        ensures { result ≡ place_in self.now.shelves.shelves.items guid }
+    {
+        self.shelves.place_of(guid)
+    }
+
     /// The value of a GUID, if it has one.
     pub(crate) fn of(&self, guid: Guid) -> Option<&V>
         ensures { option_copied result ≡ value_at self.now guid }

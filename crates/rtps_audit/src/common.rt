@@ -74,12 +74,14 @@ impl Common {
     ghost use Rattle.rtps_audit.specs.Placed.{placed_in};
     ghost use Rattle.rtps_audit.specs.Common.{IsCommon};
     ghost use Rattle.rtps_audit.specs.Index.{IsBriefOf};
+    ghost use Rattle.rtps_audit.specs.Origins.{IsAtHand, IsListed};
     ghost use Rattle.rtps_audit.specs.RunVerdict.{IsVerdictFrom};
     ghost use Rattle.rtps_audit.specs.Speech.{speech_of};
 
     /// Of a writer, where the numbers from `from` on are asked for.
     fn of(index: &Index<'_>, writer: Guid, from: SeqNum) -> Common
-        ensures common { (recording : List (List ℕ)) → IsBriefOf recording index.now → IsCommon recording result }
+        ensures common { (recording : List (List ℕ)) → IsBriefOf recording index.now → IsListed index.now.origins writer
+            → IsCommon recording result }
         ensures writer { result.writer ≡ writer }
         ensures from { result.from ≡ from }
     {
@@ -92,19 +94,24 @@ impl Common {
     }
 
     /// Of no writer yet.
-    pub(crate) fn new(index: &Index<'_>, from: SeqNum) -> Common
-        ensures common { (recording : List (List ℕ)) → IsBriefOf recording index.now → IsCommon recording result }
+    pub(crate) fn new(from: SeqNum) -> Common
+        ensures common { (recording : List (List ℕ)) → IsCommon recording result }
         ensures from { result.from ≡ from }
     {
-        Common::of(index, NOBODY, from)
+        Common {
+            writer: NOBODY,
+            from,
+            hearing: None,
+            for_all: false,
+        }
     }
 
     /// Turns to a writer, if it is another one.
     pub(crate) fn turn_to(&mut self, index: &Index<'_>, writer: Guid)
         ensures writer { self.new.writer ≡ writer }
         ensures from { self.new.from ≡ self.old.from }
-        ensures common { (recording : List (List ℕ)) → IsBriefOf recording index.now → IsCommon recording self.old
-            → IsCommon recording self.new }
+        ensures common { (recording : List (List ℕ)) → IsBriefOf recording index.now → IsListed index.now.origins writer
+            → IsCommon recording self.old → IsCommon recording self.new }
     {
         if self.writer != writer {
             *self = Common::of(index, writer, self.from);
@@ -113,8 +120,8 @@ impl Common {
 
     /// Whether this is what the reader of a pair of this writer hears.
     fn is_heard_by(&self, index: &Index<'_>, pair: Pair) -> bool
-        ensures { (recording : List (List ℕ)) → IsBriefOf recording index.now → IsCommon recording self.now
-            → self.now.writer ≡ pair.writer → IsTrue result
+        ensures { (recording : List (List ℕ)) → IsBriefOf recording index.now → IsListed index.now.origins pair.writer
+            → IsCommon recording self.now → self.now.writer ≡ pair.writer → IsTrue result
             → All (λ at. is_heard_by at.act pair.reader ≡ is_heard_by at.act nobody) (spoken_from pair.writer (placed_in recording)) }
     {
         self.for_all || hears_as_all(index.briefs_of(pair.writer), pair.reader)
@@ -124,8 +131,8 @@ impl Common {
     fn listen(&mut self, index: &Index<'_>) -> Result<(), Memory>
         ensures writer { self.new.writer ≡ self.old.writer }
         ensures from { self.new.from ≡ self.old.from }
-        ensures common { OnOk result ((recording : List (List ℕ)) → IsBriefOf recording index.now → IsCommon recording self.old
-            → IsCommon recording self.new) }
+        ensures common { OnOk result ((recording : List (List ℕ)) → IsBriefOf recording index.now
+            → IsListed index.now.origins self.old.writer → IsCommon recording self.old → IsCommon recording self.new) }
     {
         if self.hearing.is_none() {
             let everyone = Pair {
@@ -142,10 +149,10 @@ impl Common {
     /// Judges a pair of this writer by the numbers that are asked for.
     pub(crate) fn judge(&mut self, index: &Index<'_>, pair: Pair) -> Result<Verdict, Memory>
         ensures from { self.new.from ≡ self.old.from }
-        ensures common { OnOk result ((recording : List (List ℕ)) → IsBriefOf recording index.now → IsCommon recording self.old
-            → IsCommon recording self.new) }
-        ensures verdict { (recording : List (List ℕ)) → IsBriefOf recording index.now → IsCommon recording self.old
-            → self.old.writer ≡ pair.writer → IfOk result (IsVerdictFrom self.old.from (speech_of pair.writer pair.reader recording)) }
+        ensures common { OnOk result ((recording : List (List ℕ)) → IsBriefOf recording index.now
+            → IsAtHand index.now.origins pair → self.old.writer ≡ pair.writer → IsCommon recording self.old → IsCommon recording self.new) }
+        ensures verdict { (recording : List (List ℕ)) → IsBriefOf recording index.now → IsAtHand index.now.origins pair
+            → IsCommon recording self.old → self.old.writer ≡ pair.writer → IfOk result (IsVerdictFrom self.old.from (speech_of pair.writer pair.reader recording)) }
     {
         if self.is_heard_by(index, pair) {
             self.listen(index)?;

@@ -1,4 +1,4 @@
-ghost use Rattle.std.specs.Prelude.{ℤ, ℕ, ◌≡◌, ◌↔◌, pos, filter, map, IfOk, List};
+ghost use Rattle.std.specs.Prelude.{ℤ, ℕ, ◌≡◌, ◌↔◌, pos, false, filter, map, All, IfOk, List};
 ghost use Rattle.std.specs.List.{list_all};
 ghost use Rattle.rtps_audit.specs.Common.{is_for_everyone};
 ghost use Rattle.rtps_audit.specs.Delivered.{IsDelivered, IsDeliveredFrom, IsPlain, IsPlainFrom};
@@ -6,6 +6,7 @@ ghost use Rattle.rtps_audit.specs.Delivery.{last_announced, last_announced_from}
 ghost use Rattle.rtps_audit.specs.FullRun.{HasFullRun, HasFullRunFrom};
 ghost use Rattle.rtps_audit.specs.Brief.{brief_value, spoken_from};
 ghost use Rattle.rtps_audit.specs.Index.{IsBriefOf, IsIndexOf};
+ghost use Rattle.rtps_audit.specs.Origins.{IsAtHand, IsInPlace, IsListed};
 ghost use Rattle.rtps_audit.specs.Placed.{answers_among, is_from, placed_in, placed_value};
 ghost use Rattle.rtps_audit.specs.RunVerdict.{IsVerdict, IsVerdictFrom};
 ghost use Rattle.rtps_audit.specs.Speech.{speech_of};
@@ -46,9 +47,12 @@ impl<'a> Index<'a> {
         Ok(index)
     }
 
-    /// The index of a recording for judging its pairs, which keeps no acts but what is said by them.
+    /// The index of a recording for judging its pairs, which keeps no acts but what is said by them. Of a pair that is not
+    /// settled nothing is found.
     pub(crate) fn build_brief(alloc: Global, recording: &[&'a [u8]]) -> Result<Index<'a>, Memory>
-        ensures { IfOk result (IsBriefOf (map (λ datagram. datagram.now) recording.now)) }
+        ensures brief { IfOk result (IsBriefOf (map (λ datagram. datagram.now) recording.now)) }
+        ensures keeps_acts { IfOk result (λ index. index.origins.keeps_acts ≡ false) }
+        ensures placed { IfOk result (λ index. IsInPlace index.origins) }
     {
         let index = Index::of(alloc, recording, false)?;
         Ok(index)
@@ -58,6 +62,7 @@ impl<'a> Index<'a> {
     fn of(alloc: Global, recording: &[&'a [u8]], keeps_acts: bool) -> Result<Index<'a>, Memory>
         ensures brief { IfOk result (IsBriefOf (map (λ datagram. datagram.now) recording.now)) }
         ensures keeps_acts { IfOk result (λ index. index.origins.keeps_acts ≡ keeps_acts) }
+        ensures placed { IfOk result (λ index. IsInPlace index.origins) }
     {
         let mut origins = Origins::new(alloc, keeps_acts, shelves_for(recording))?;
         let mut directory = Directory::new(alloc);
@@ -74,7 +79,7 @@ impl<'a> Index<'a> {
         for datagram in recording {
             place += 1;
             let tally = walk.read(datagram)?;
-            origins.note_all(place, walk.acts())?;
+            origins.note_all(place, walk.acts(), &directory)?;
             let _ = directory.note_all(walk.acts())?;
             counts.refused += one_if(tally.refused);
             counts.skipped += u128::from(tally.skipped);
@@ -83,6 +88,28 @@ impl<'a> Index<'a> {
         }
         Ok(Index {
             origins,
+            directory,
+            counts,
+            alloc,
+        })
+    }
+
+    /// The same, where what these pairs say is found.
+    pub(crate) fn settled(self, pairs: &[Pair]) -> Result<Self, Memory>
+        requires placed { IsInPlace self.origins }
+        requires brief { self.origins.keeps_acts ≡ false }
+        ensures same { IfOk result (λ index. (recording : List (List ℕ)) → IsBriefOf recording self.entry → IsBriefOf recording index) }
+        ensures directory { IfOk result (λ index. index.directory ≡ self.entry.directory) }
+        ensures at_hand { IfOk result (λ index. All (IsAtHand index.origins) pairs.now) }
+    {
+        let Index {
+            origins,
+            directory,
+            counts,
+            alloc,
+        } = self;
+        Ok(Index {
+            origins: origins.settled(pairs)?,
             directory,
             counts,
             alloc,
@@ -100,10 +127,10 @@ impl<'a> Index<'a> {
 
     /// What this writer says in the recording, in the order of sending.
     pub(crate) fn briefs_of(&self, writer: Guid) -> &[Brief<'a>]
-        ensures { (recording : List (List ℕ)) → IsBriefOf recording self.now
+        ensures { (recording : List (List ℕ)) → IsBriefOf recording self.now → IsListed self.now.origins writer
             → map (brief_value writer) result.now ≡ spoken_from writer (placed_in recording) }
     {
-        list_of(&self.origins.briefs, writer)
+        self.origins.spoken.of(writer)
     }
 
     /// Whether each act from this GUID is for every reader, so that all readers hear the same from it. It takes no memory.
@@ -124,7 +151,7 @@ impl<'a> Index<'a> {
 
     /// The answers of a pair's reader to its writer, as of [`Index::answers_of`].
     pub(crate) fn answered(&self, pair: Pair) -> &[Answer]
-        ensures { (recording : List (List ℕ)) → IsBriefOf recording self.now
+        ensures { (recording : List (List ℕ)) → IsBriefOf recording self.now → IsAtHand self.now.origins pair
             → result.now ≡ answers_among pair (placed_in recording) }
     {
         self.origins.answers.of(pair)
@@ -182,7 +209,7 @@ impl<'a> Index<'a> {
 
     /// The verdict on a pair.
     pub(crate) fn judged(&self, pair: Pair, from: SeqNum) -> Result<Verdict, Memory>
-        ensures { (recording : List (List ℕ)) → IsBriefOf recording self.now
+        ensures { (recording : List (List ℕ)) → IsBriefOf recording self.now → IsAtHand self.now.origins pair
             → IfOk result (IsVerdictFrom from (speech_of pair.writer pair.reader recording)) }
     {
         let hearing = Hearing::of(self.alloc, self.briefs_of(pair.writer), pair, from)?;

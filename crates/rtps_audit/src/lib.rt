@@ -3,7 +3,9 @@
 #![tactic(auto)]
 
 mod all_answers;
+mod all_spoken;
 mod answers;
+mod apart;
 mod auditing;
 mod brief;
 mod by_guid;
@@ -24,6 +26,7 @@ mod reader_answers;
 mod report;
 mod said;
 mod shelves;
+mod strangers;
 mod verdict;
 mod watch;
 mod words;

@@ -1,67 +1,79 @@
-ghost use Rattle.std.specs.Prelude.{◌≡◌, ◌≤◌, ◌++◌, [], true, cond, filter, length, map, not, All, IfOk, List, OnOk};
-ghost use Rattle.std.specs.List.{AllWithin, list_all};
+ghost use Rattle.std.specs.Prelude.{◌≡◌, ◌≤◌, ◌++◌, [], false, true, cond, filter, length, map, All, IfOk, List, OnOk};
+ghost use Rattle.std.specs.List.{AllWithin};
 ghost use Rattle.std.specs.Ordering.{is_eq};
 ghost use Rattle.rtps_ids.specs.declared.identity.Guid.{Guid as GuidValue};
 ghost use Rattle.rtps_receiver.specs.Speech.{origin_of};
 ghost use Rattle.rtps_receiver.specs.Values.{act_value};
 ghost use Rattle.rtps_discovery.specs.GuidOrder.{guid_cmp};
 ghost use Rattle.rtps_audit.specs.ByGuid.{StandInPlace, list_at};
-ghost use Rattle.rtps_audit.specs.Brief.{bare, brief_value, is_speech};
-ghost use Rattle.rtps_audit.specs.Origins.{AddsActs, AddsAnswers, AddsBriefs};
+ghost use Rattle.rtps_audit.specs.Origins.{AddsActs, AddsAnswers, AddsSaid, IsAtHand};
 ghost use Rattle.rtps_audit.specs.Placed.{placed_at, placed_value};
 
 use crate::all_answers::AllAnswers;
-use crate::brief::{Brief, append_briefs};
+use crate::all_spoken::AllSpoken;
 use crate::by_guid::ByGuid;
 use crate::placed::{Placed, append_placed};
+use crate::strangers::Known;
+use rtps_discovery::{Directory, Pair};
 use rtps_ids::{Guid, Memory};
-use rtps_receiver::{Act, ActBody};
+use rtps_receiver::Act;
 use std::alloc::Global;
 
-/// Acts by the GUID that they are from, whole or what is said by them, and answers by the pair that they are of.
+/// Acts by the GUID that they are from, whole or what is said by them, and answers by the pair that they are of. Where
+/// acts are not kept whole, what GUIDs say that are not announced stands apart, until it is asked for.
 #[derive(Drop)]
 pub(crate) struct Origins<'a> {
     /// Whether whole acts are kept, too.
     pub(crate) keeps_acts: bool,
     pub(crate) acts: ByGuid<Vec<Placed<'a>>>,
-    /// What a writer says by its acts.
-    pub(crate) briefs: ByGuid<Vec<Brief<'a>>>,
+    pub(crate) spoken: AllSpoken<'a>,
     pub(crate) answers: AllAnswers,
     alloc: Global,
 }
 
 impl<'a> Origins<'a> {
-    ghost use Rattle.rtps_audit.specs.Origins.{AreOf, IsInPlace};
+    ghost use Rattle.rtps_audit.specs.Origins.{AreOf, IsInPlace, IsWhole};
     ghost use Rattle.rtps_audit.specs.Placed.{PlacedValue};
 
     /// No acts. There are so many shelves for the places of GUIDs.
     pub(crate) fn new(alloc: Global, keeps_acts: bool, shelves: usize) -> Result<Self, Memory>
+        ensures placed { IfOk result IsInPlace }
         ensures empty { IfOk result (λ origins. AreOf origins []) }
         ensures keeps_acts { IfOk result (λ origins. origins.keeps_acts ≡ keeps_acts) }
     {
         Ok(Origins {
             keeps_acts,
             acts: ByGuid::new(alloc, if keeps_acts { shelves } else { 1 })?,
-            briefs: ByGuid::new(alloc, shelves)?,
+            spoken: AllSpoken::new(alloc, shelves)?,
             answers: AllAnswers::new(alloc, shelves)?,
             alloc,
         })
     }
 
-    /// Adds the acts of one datagram more. Those of one GUID that follow one another are added at once. After `Memory`
-    /// the lists are of no use.
-    pub(crate) fn note_all(&mut self, datagram: usize, acts: &[Act<'a>]) -> Result<(), Memory>
-        requires { IsInPlace self.old }
+    /// Adds the acts of one datagram more, where this is what was announced before it. Those of one GUID that follow one
+    /// another are added at once. After `Memory` the lists are of no use.
+    pub(crate) fn note_all(
+        &mut self,
+        datagram: usize,
+        acts: &[Act<'a>],
+        directory: &Directory<'_>,
+    ) -> Result<(), Memory>
+        requires placed { IsInPlace self.old }
+        requires whole { self.old.keeps_acts ≡ true → IsWhole self.old }
         ensures keeps_acts { self.new.keeps_acts ≡ self.old.keeps_acts }
         ensures placed { OnOk result (IsInPlace self.new) }
         ensures noted { OnOk result ((before : List PlacedValue) → AreOf self.old before
             → AreOf self.new (before ++ placed_at datagram (map act_value acts.now))) }
     {
+        let known = Known {
+            all: self.keeps_acts,
+            directory,
+        };
         let mut start = 0;
         'runs: while start < acts.len() {
             let origin = acts[start].origin();
             let end = run_end(acts, start + 1, origin);
-            self.note_run(origin, datagram, &acts[start..end])?;
+            self.note_run(origin, datagram, &acts[start..end], known)?;
             start = end;
         }
         Ok(())
@@ -75,7 +87,7 @@ impl<'a> Origins<'a> {
         ensures placed { OnOk result (StandInPlace self.new.acts) }
         ensures acts { OnOk result (self.old.keeps_acts ≡ true
             → AddsActs self.old.acts self.new.acts (placed_at datagram (map act_value run.now))) }
-        ensures briefs { self.new.briefs ≡ self.old.briefs }
+        ensures spoken { self.new.spoken ≡ self.old.spoken }
         ensures answers { self.new.answers ≡ self.old.answers }
     {
         if !self.keeps_acts {
@@ -86,22 +98,53 @@ impl<'a> Origins<'a> {
     }
 
     /// Adds acts of a datagram that are all from this GUID.
-    fn note_run(&mut self, origin: Guid, datagram: usize, run: &[Act<'a>]) -> Result<(), Memory>
+    fn note_run(
+        &mut self,
+        origin: Guid,
+        datagram: usize,
+        run: &[Act<'a>],
+        known: Known<'_, '_>,
+    ) -> Result<(), Memory>
         requires placed { IsInPlace self.old }
+        requires all { known.all ≡ self.old.keeps_acts }
+        requires whole { self.old.keeps_acts ≡ true → IsWhole self.old }
         requires run { All (λ act. origin_of (act_value act) ≡ origin) run.now }
         ensures keeps_acts { self.new.keeps_acts ≡ self.old.keeps_acts }
         ensures placed { OnOk result (IsInPlace self.new) }
+        ensures whole { OnOk result (self.old.keeps_acts ≡ true → IsWhole self.new) }
         ensures acts { OnOk result (self.old.keeps_acts ≡ true
             → AddsActs self.old.acts self.new.acts (placed_at datagram (map act_value run.now))) }
-        ensures briefs { OnOk result
-            (AddsBriefs self.old.briefs self.new.briefs (placed_at datagram (map act_value run.now))) }
+        ensures said { OnOk result
+            (AddsSaid self.old.spoken self.new.spoken (placed_at datagram (map act_value run.now))) }
         ensures answers { OnOk result
-            (AddsAnswers self.old.answers.readers self.new.answers.readers (placed_at datagram (map act_value run.now))) }
+            (AddsAnswers self.old.answers self.new.answers (placed_at datagram (map act_value run.now))) }
     {
         self.keep_run(origin, datagram, run)?;
-        brief_run(self.alloc, &mut self.briefs, origin, datagram, run)?;
-        self.answers.note_run(origin, datagram, run)?;
+        self.spoken.note_run(origin, datagram, run, known)?;
+        self.answers.note_run(origin, datagram, run, known)?;
         Ok(())
+    }
+
+    /// The same, where what these pairs say is at hand.
+    pub(crate) fn settled(self, pairs: &[Pair]) -> Result<Self, Memory>
+        requires { IsInPlace self }
+        ensures same { IfOk result (λ origins. (placed : List PlacedValue) → self.entry.keeps_acts ≡ false → AreOf self.entry placed → AreOf origins placed) }
+        ensures at_hand { IfOk result (λ origins. All (IsAtHand origins) pairs.now) }
+    {
+        let Origins {
+            keeps_acts,
+            acts,
+            spoken,
+            answers,
+            alloc,
+        } = self;
+        Ok(Origins {
+            keeps_acts,
+            acts,
+            spoken: spoken.settled(pairs)?,
+            answers: answers.settled(pairs)?,
+            alloc,
+        })
     }
 }
 
@@ -136,36 +179,5 @@ fn place_run<'a>(
 {
     let place = acts.place(origin, Vec::new(alloc))?;
     append_placed(&mut acts.named[place].value, datagram, run)?;
-    Ok(())
-}
-
-/// Whether none of these acts is of a writer.
-fn are_answers(acts: &[Act<'_>]) -> bool
-    ensures { result ≡ list_all (λ act. not (is_speech (act_value act))) acts.now }
-{
-    acts.iter()
-        .all(|act| matches!(act.body, ActBody::AckNack(_)))
-}
-
-/// Adds what this GUID says by acts of a datagram.
-fn brief_run<'a>(
-    alloc: Global,
-    briefs: &mut ByGuid<Vec<Brief<'a>>>,
-    origin: Guid,
-    datagram: usize,
-    run: &[Act<'a>],
-) -> Result<(), Memory>
-    requires { StandInPlace briefs.old }
-    ensures placed { OnOk result (StandInPlace briefs.new) }
-    ensures added { OnOk result ((other : GuidValue) → map (brief_value other) (list_at briefs.new other)
-        ≡ map (brief_value other) (list_at briefs.old other)
-        ++ cond (is_eq (guid_cmp other origin)) (map (bare other) (filter (λ at. is_speech at.act) (placed_at datagram (map act_value run.now)))) []) }
-{
-    if are_answers(run) {
-        // Most GUIDs of readers say nothing, and then have no list.
-        return Ok(());
-    }
-    let place = briefs.place(origin, Vec::new(alloc))?;
-    append_briefs(&mut briefs.named[place].value, datagram, run)?;
     Ok(())
 }

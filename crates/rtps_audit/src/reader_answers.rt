@@ -35,7 +35,7 @@ impl ReaderAnswers {
     }
 
     /// Appends an answer to those to its writer. After `Memory` the answers are of no use.
-    fn push(&mut self, writer: Guid, answer: Answer) -> Result<(), Memory>
+    pub(crate) fn push(&mut self, writer: Guid, answer: Answer) -> Result<(), Memory>
         ensures { OnOk result ((other : GuidValue) → answers_to self.new other
             ≡ answers_to self.old other ++ cond (is_eq (guid_cmp other writer)) (answer ∷ []) []) }
     {

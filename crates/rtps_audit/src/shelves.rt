@@ -123,7 +123,7 @@ fn hash_of(guid: Guid) -> u64
 }
 
 /// Which of so many shelves a GUID stands on.
-fn shelf_of(guid: Guid, count: usize) -> usize
+pub(crate) fn shelf_of(guid: Guid, count: usize) -> usize
     requires { 0 < count }
     ensures value { result ≡ hash_of_lem guid % count }
     ensures within { result < count }

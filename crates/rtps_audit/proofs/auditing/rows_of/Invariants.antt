@@ -1,6 +1,7 @@
 use Rattle.std.proofs.Common.{◌≡◌, ℕ, All, List, map, take}
 use Rattle.rtps_audit.specs.Common.{IsCommon}
 use Rattle.rtps_audit.specs.Index.{IsBriefOf}
+use Rattle.rtps_audit.specs.Origins.{IsAtHand}
 use Rattle.rtps_audit.specs.Report.{IsJudgedFrom}
 use Rattle.rtps_audit.proofs.auditing.rows_of.Given as goal
 
@@ -8,7 +9,7 @@ use Rattle.rtps_audit.proofs.auditing.rows_of.Given as goal
 abbrev pub invariant-loop-pair : goal.invariant-loop-pair
 invariant-loop-pair g l = record {
   pairs : map (λ row. row.pair) l.rows.items ≡ take l.pair-index l.pairs;
-  judged : (recording : List (List ℕ)) → IsBriefOf recording l.index → All (IsJudgedFrom l.fn.from recording) l.rows.items;
-  common : (recording : List (List ℕ)) → IsBriefOf recording l.index → IsCommon recording l.common;
+  judged : (recording : List (List ℕ)) → IsBriefOf recording l.index → All (IsAtHand l.index.origins) l.pairs → All (IsJudgedFrom l.fn.from recording) l.rows.items;
+  common : (recording : List (List ℕ)) → IsBriefOf recording l.index → All (IsAtHand l.index.origins) l.pairs → IsCommon recording l.common;
   from : l.common.from ≡ l.fn.from;
 }

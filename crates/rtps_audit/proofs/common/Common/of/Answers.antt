@@ -8,10 +8,10 @@ use Rattle.rtps_audit.proofs.HearingLemmas.{all_alike}
 use Rattle.rtps_audit.proofs.common.Common.of.Goals as goal
 
 pub returns-clause-common : goal.returns-clause-common
-returns-clause-common c = λ recording is.
+returns-clause-common c = λ recording is listed.
     let writer = c.args.writer in
     let briefs = c.briefs_of.result.now in
-    let are = c.briefs_of.ensures recording is in
+    let are = c.briefs_of.ensures recording is listed in
     let test = λ (at : PlacedValue). is_for_everyone at.act in
     record {
       hearing = tt;

@@ -1,6 +1,10 @@
-use Rattle.std.proofs.Common.{◌+◌, ◌++◌, ◌∙◌, ap, arith, map, subst, sym, take}
+use Rattle.std.proofs.Common.{ℕ, ◌+◌, ◌++◌, ◌∙◌, Bor, List, ap, arith, cond, map, subst, sym, take}
 use Rattle.std.proofs.lemmas.Grind.{common_steps}
 use Rattle.std.specs.Prelude.{count_by}
+use Rattle.std.proofs.lemmas.List.Sums.{sum_by_more}
+use Rattle.rtps_wire.specs.Reading.{reading_of}
+use Rattle.rtps_wire.specs.Tally.{tally_of}
+use Rattle.rtps_wire.specs.declared.counts.Tally.{Tally}
 use Rattle.rtps_receiver.specs.Acts.{acts_in}
 use Rattle.rtps_discovery.specs.Directory.{IsMapOf}
 use Rattle.rtps_audit.specs.Origins.{AreOf}
@@ -21,14 +25,19 @@ loop-datagram-preserved c =
     let said = c.acts.ensures ∙ c.in_ok-tally.ensures.acts in
     let counted = c.undirected_among.ensures ∙ ap (count_by is_undirected) (c.acts-in-loop-datagram-2.ensures ∙ c.in_ok-tally.ensures.acts) in
     let more = placed_on recording i _ c.loop-datagram.place _ c.loop-datagram-test.true old.place said in
+    let refuses = λ (datagram : Bor (List ℕ)). (tally_of (reading_of datagram.now)).refused in
     record {
       place = ap (λ n. n + 1) old.place;
+      placed = c.in_ok-note_all.ensures.placed;
       origins = subst (AreOf c.note_all.new.self) more (c.in_ok-note_all.ensures.noted placed old.origins);
       keeps_acts = c.note_all.ensures.keeps_acts ∙ old.keeps_acts;
       map = subst (λ l. IsMapOf l c.note_all-in-loop-datagram.new.self) (ap (λ l. before ++ l) heard ∙ sym (acts_in_more recording i _ c.loop-datagram-test.true)) (c.in_ok-note_all-2.ensures.map before old.map);
       datagrams = old.datagrams;
       unsettled = old.unsettled;
-      refused = grind (arith, common_steps);
+      refused =
+          ap (λ n. n + c.one_if.result) old.refused
+          ∙ ap (λ n. count_by refuses (take i recording) + n) (c.one_if.ensures ∙ ap (λ (t : Tally). cond t.refused 1 0) c.in_ok-tally.ensures.tally)
+          ∙ sym (sum_by_more (λ datagram. cond (refuses datagram) 1 0) recording i _ c.loop-datagram-test.true);
       skipped = grind (arith, common_steps);
       fragments = grind (arith, common_steps);
       undirected = grind (arith, common_steps, counted);

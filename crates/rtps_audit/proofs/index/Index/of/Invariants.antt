@@ -4,7 +4,7 @@ use Rattle.rtps_receiver.specs.Acts.{acts_in, acts_of}
 use Rattle.rtps_discovery.specs.Directory.{IsMapOf}
 use Rattle.rtps_wire.specs.Reading.{reading_of}
 use Rattle.rtps_wire.specs.Tally.{tally_of}
-use Rattle.rtps_audit.specs.Origins.{AreOf}
+use Rattle.rtps_audit.specs.Origins.{AreOf, IsInPlace}
 use Rattle.rtps_audit.specs.Placed.{placed_in}
 use Rattle.rtps_audit.specs.Report.{is_undirected}
 use Rattle.rtps_audit.proofs.index.Index.of.Given as goal
@@ -16,6 +16,7 @@ invariant-loop-datagram l =
     record {
       place : l.place ≡ l.datagram-index;
       keeps_acts : l.origins.keeps_acts ≡ l.keeps_acts;
+      placed : IsInPlace l.origins;
       origins : AreOf l.origins (placed_in (map (λ datagram. datagram.now) so_far));
       map : IsMapOf (acts_in (map (λ datagram. datagram.now) so_far)) l.directory;
       datagrams : l.counts.datagrams ≡ length l.recording;

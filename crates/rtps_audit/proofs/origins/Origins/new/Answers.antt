@@ -6,8 +6,8 @@ use Rattle.rtps_audit.proofs.origins.Origins.new.Goals as goal
 
 pub returns-clause-empty : goal.returns-clause-empty
 returns-clause-empty c = record {
-  in_place = record { acts = c.in_ok-new.ensures.placed; briefs = c.in_ok-new-2.ensures.placed; answers = c.in_ok-new-3.ensures.placed };
+  whole = λ keeps. record { said = c.in_ok-new-2.ensures.noted; answers = c.in_ok-new-3.ensures.noted };
   acts = λ keeps origin. ap (λ found. map placed_value (items_or_none found)) (c.in_ok-new.ensures.none origin);
-  briefs = λ writer. ap (λ found. map (brief_value writer) (items_or_none found)) (c.in_ok-new-2.ensures.none writer);
+  said = λ writer. ap (map (brief_value writer)) (c.in_ok-new-2.ensures.none writer);
   answers = c.in_ok-new-3.ensures.none;
 }

@@ -5,7 +5,7 @@ use Rattle.std.proofs.lemmas.List.{take_all}
 use Rattle.rtps_receiver.specs.Speech.{origin_of}
 use Rattle.rtps_receiver.specs.Values.{act_value}
 use Rattle.rtps_receiver.specs.declared.act.Act.{Act}
-use Rattle.rtps_audit.specs.Origins.{AddsActs, AddsAnswers, AddsBriefs}
+use Rattle.rtps_audit.specs.Origins.{AddsActs, AddsAnswers, AddsSaid}
 use Rattle.rtps_audit.specs.Placed.{placed_at}
 use Rattle.rtps_audit.proofs.BriefLemmas.{said_joined}
 use Rattle.rtps_audit.proofs.PlacedLemmas.{acts_joined, all_between, all_with_first, answers_joined, placed_both}
@@ -17,7 +17,7 @@ note_run-requires-clause-run c =
     all_between from c.args.acts.now c.runs.start c.run_end-end.result (all_with_first from c.args.acts.now c.runs.start c.run_end-end.result _ c.index-acts-start.is c.runs-test.true (sym c.origin-origin.ensures) c.run_end-end.ensures.run)
 
 pub runs-init : goal.runs-init
-runs-init c = record { placed = c.requires; keeps_acts = refl; acts = λ keeps origin. sym (append-nil _); briefs = λ writer. sym (append-nil _); answers = λ pair. sym (append-nil _) }
+runs-init c = record { placed = c.requires.placed; whole = c.requires.whole; keeps_acts = refl; acts = λ keeps origin. sym (append-nil _); said = λ writer. sym (append-nil _); answers = λ pair. sym (append-nil _) }
 
 pub runs-preserved : goal.runs-preserved
 runs-preserved c =
@@ -31,20 +31,21 @@ runs-preserved c =
     let more = sym (placed_both c.args.datagram (take start acts) (slice_range acts start end)) ∙ ap (λ l. placed_at c.args.datagram (map act_value l)) joined in
     record {
       placed = c.in_ok-note_run.ensures.placed;
+      whole = λ keeps. c.in_ok-note_run.ensures.whole (c.runs.invariant.keeps_acts ∙ keeps);
       keeps_acts = c.note_run.ensures.keeps_acts ∙ c.runs.invariant.keeps_acts;
       acts = λ keeps. subst (AddsActs old.acts new.acts) more (λ origin. acts_joined origin _ _ _ _ _ (c.runs.invariant.acts keeps origin) (c.in_ok-note_run.ensures.acts (c.runs.invariant.keeps_acts ∙ keeps) origin));
-      briefs = subst (AddsBriefs old.briefs new.briefs) more (λ writer. said_joined writer _ _ _ _ _ (c.runs.invariant.briefs writer) (c.in_ok-note_run.ensures.briefs writer));
-      answers = subst (AddsAnswers old.answers.readers new.answers.readers) more (λ pair. answers_joined pair _ _ _ _ _ (c.runs.invariant.answers pair) (c.in_ok-note_run.ensures.answers pair));
+      said = subst (AddsSaid old.spoken new.spoken) more (λ writer. said_joined writer _ _ _ _ _ (c.runs.invariant.said writer) (c.in_ok-note_run.ensures.said writer));
+      answers = subst (AddsAnswers old.answers new.answers) more (λ pair. answers_joined pair _ _ _ _ _ (c.runs.invariant.answers pair) (c.in_ok-note_run.ensures.answers pair));
     }
 
 pub returns-clause-noted : goal.returns-clause-noted
 returns-clause-noted c = λ before known.
     let all : take c.runs.start c.args.acts.now ≡ c.args.acts.now = take_all c.runs.start c.args.acts.now (omega (arith, c.runs-test.false)) in
-    let briefs = subst (λ l. AddsBriefs c.args.self.now.briefs c.runs.self.briefs (placed_at c.args.datagram (map act_value l))) all c.runs.invariant.briefs in
-    let answers = subst (λ l. AddsAnswers c.args.self.now.answers.readers c.runs.self.answers.readers (placed_at c.args.datagram (map act_value l))) all c.runs.invariant.answers in
+    let said = subst (λ l. AddsSaid c.args.self.now.spoken c.runs.self.spoken (placed_at c.args.datagram (map act_value l))) all c.runs.invariant.said in
+    let answers = subst (λ l. AddsAnswers c.args.self.now.answers c.runs.self.answers (placed_at c.args.datagram (map act_value l))) all c.runs.invariant.answers in
     record {
-      in_place = c.runs.invariant.placed;
+      whole = λ keeps. c.runs.invariant.whole (sym c.runs.invariant.keeps_acts ∙ keeps);
       acts = λ keeps origin. let kept = sym c.runs.invariant.keeps_acts ∙ keeps in acts_joined origin [] _ _ before _ (known.acts kept origin) (subst (λ l. AddsActs c.args.self.now.acts c.runs.self.acts (placed_at c.args.datagram (map act_value l))) all (c.runs.invariant.acts kept) origin);
-      briefs = λ writer. said_joined writer [] _ _ before _ (known.briefs writer) (briefs writer);
+      said = λ writer. said_joined writer [] _ _ before _ (known.said writer) (said writer);
       answers = λ pair. answers_joined pair [] _ _ before _ (known.answers pair) (answers pair);
     }
