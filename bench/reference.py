@@ -856,8 +856,10 @@ START = [announced(b'\0\0\3\xc2', A, b'\0\0\1\3', b''), announced(b'\0\0\4\xc2',
 
 
 def some_recording(rng):
-    datagrams = list(START) if rng.random() < 0.9 else []
-    datagrams += [some_datagram(rng) for _ in range(rng.randrange(8))]
+    datagrams = [some_datagram(rng) for _ in range(rng.randrange(8))]
+    for d in reversed(START) if rng.random() < 0.9 else []:
+        # Mostly the two are announced first, and sometimes behind what they say.
+        datagrams.insert(0 if rng.random() < 0.6 else rng.randrange(len(datagrams) + 1), d)
     lines = []
     for d in datagrams:
         line = d.hex().encode()

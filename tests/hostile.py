@@ -90,6 +90,26 @@ def audits_of_changed(tests):
     print(f'audits of changed octets, and why: {count}, of which {told}')
 
 
+def announced_late(tests):
+    count = 0
+    for name, recording in recordings():
+        if len(recording) > 40:
+            continue
+        for first in range(1, min(6, len(recording))):
+            orders = [recording[first:] + recording[:first], recording[:first - 1] + recording[first:] + recording[first - 1:first]]
+            for order in orders:
+                text = text_of(order)
+                for view in ('audit', 'why'):
+                    tests.answers(f'{name} in another order', view, text, *reference.answer(view, text))
+                count += 1
+    entities = [((0x103 + 256 * i).to_bytes(4, 'big'), (0x104 + 256 * i).to_bytes(4, 'big')) for i in range(60)]
+    said = [datagram for writer, reader in entities for datagram in make.samples(range(1, 4), 3, writer, reader)]
+    known = list(make.announcements(len(entities)))
+    for place in (0, len(said) // 2, len(said)):
+        tests.agrees(f'120 announcements behind {place} datagrams', text_of(said[:place] + known + said[place:]), ('audit', 'why'))
+    print(f'recordings whose first datagrams, or one of them, come last: {count}; 60 pairs that are announced behind what they say: 3')
+
+
 # ---- large datagrams
 
 def submessage(sid, flags, body):
@@ -193,5 +213,5 @@ def many_datagrams(tests):
 
 
 if __name__ == '__main__':
-    sys.exit(program.main(__doc__, (cut_by_table, cut_and_changed, audits_of_changed, empty_submessages, parameter_lists,
+    sys.exit(program.main(__doc__, (cut_by_table, cut_and_changed, audits_of_changed, announced_late, empty_submessages, parameter_lists,
                                     endpoints_that_disagree, topics_of_every_octet, acknowledgements, many_datagrams)))
