@@ -49,13 +49,13 @@ first_true false b e = e
 pub brief_spoken : (writer : Guid) (brief : Brief) → is_spoken_by (brief_value writer brief).act writer ≡ true
 brief_spoken writer brief = and_both _ _ (itself writer.prefix.0) (by_said brief.said)
   where
-    by_said : (s : Said) → names (writer_named (said_body brief.reader writer.entity s)) writer.entity ≡ true
+    by_said : (s : Said) → names (writer_named (said_body brief.audience.reader writer.entity s)) writer.entity ≡ true
     by_said (said.Data number payload) = itself writer.entity.0
     by_said (said.Heartbeat first last) = itself writer.entity.0
     by_said (said.Gap start list) = itself writer.entity.0
 
 -- so the reader hears its words, if it hears it
-pub brief_heard : (writer reader : Guid) (brief : Brief) (body : ActBodyValue) (n : ℕ) → is_heard_by (brief_value writer brief).act reader ≡ true → body ≡ said_body brief.reader writer.entity brief.said
+pub brief_heard : (writer reader : Guid) (brief : Brief) (body : ActBodyValue) (n : ℕ) → is_heard_by (brief_value writer brief).act reader ≡ true → body ≡ said_body brief.audience.reader writer.entity brief.said
     → word_for writer reader (brief_value writer brief).act n ≡ word_of body n
 brief_heard writer reader brief body n heard is =
     ap (λ b. if b then word_of (brief_value writer brief).act.body n else None) (and_both _ _ (brief_spoken writer brief) heard) ∙ ap (λ b. word_of b n) (sym is)
@@ -65,20 +65,20 @@ brief_unheard writer reader brief n unheard =
     ap (λ b. if is_spoken_by (brief_value writer brief).act writer && b then word_of (brief_value writer brief).act.body n else None) unheard
     ∙ ap (λ b. if b && false then word_of (brief_value writer brief).act.body n else None) (brief_spoken writer brief)
 
-pub brief_announced : (writer : Guid) (brief : Brief) → announced_for writer (brief_value writer brief).act ≡ announced_of_body (said_body brief.reader writer.entity brief.said)
+pub brief_announced : (writer : Guid) (brief : Brief) → announced_for writer (brief_value writer brief).act ≡ announced_of_body (said_body brief.audience.reader writer.entity brief.said)
 brief_announced writer brief = ap (λ b. if b then announced_of_body (brief_value writer brief).act.body else None) (brief_spoken writer brief)
 
-pub brief_reader : (writer : Guid) (brief : Brief) → reader_named (brief_value writer brief).act.body ≡ Some brief.reader
+pub brief_reader : (writer : Guid) (brief : Brief) → reader_named (brief_value writer brief).act.body ≡ Some brief.audience.reader
 brief_reader writer brief = by_said brief.said
   where
-    by_said : (s : Said) → reader_named (said_body brief.reader writer.entity s) ≡ Some brief.reader
+    by_said : (s : Said) → reader_named (said_body brief.audience.reader writer.entity s) ≡ Some brief.audience.reader
     by_said (said.Data number payload) = refl
     by_said (said.Heartbeat first last) = refl
     by_said (said.Gap start list) = refl
 
 pub brief_is_heard : (writer reader : Guid) (brief : Brief)
-    → is_heard_by (brief_value writer brief).act reader ≡ ((is_for_all brief.dest || is_for brief.dest reader.prefix) && (is_entity brief.reader unknown_entity || is_entity brief.reader reader.entity))
-brief_is_heard writer reader brief = ap (λ named. (is_for_all brief.dest || is_for brief.dest reader.prefix) && (names named unknown_entity || names named reader.entity)) (brief_reader writer brief)
+    → is_heard_by (brief_value writer brief).act reader ≡ ((is_for_all brief.audience.dest || is_for brief.audience.dest reader.prefix) && (is_entity brief.audience.reader unknown_entity || is_entity brief.audience.reader reader.entity))
+brief_is_heard writer reader brief = ap (λ named. (is_for_all brief.audience.dest || is_for brief.audience.dest reader.prefix) && (names named unknown_entity || names named reader.entity)) (brief_reader writer brief)
 
 -- ---- the words that are kept of it
 

@@ -1,8 +1,9 @@
 -- What a writer says by an act, to whom, and in which datagram. own: no verdict rests on the rest of an act, so an audit
 -- keeps nothing else of it.
-use Rattle.std.specs.Prelude.{Bool, false, not, List, [], ◌∷◌, filter, map, None}
+use Rattle.std.specs.Prelude.{Bool, false, not, List, [], ◌∷◌, filter, map, Option, None}
 use Rattle.rtps_ids.specs.declared.identity.EntityId.{EntityId}
 use Rattle.rtps_ids.specs.declared.identity.Guid.{Guid}
+use Rattle.rtps_ids.specs.declared.identity.GuidPrefix.{GuidPrefix}
 use Rattle.rtps_ids.specs.declared.order.Order.TheVariants.{Big}
 use Rattle.rtps_wire.specs.Values.{payload_value}
 use Rattle.rtps_receiver.specs.Speech.{is_ack_nack, is_spoken_by}
@@ -24,18 +25,22 @@ bare_body writer (Heartbeat value) = Heartbeat (record { reader = value.reader; 
 bare_body writer (AckNack value) = AckNack value
 bare_body writer (Gap value) = Gap (record { reader = value.reader; writer = writer; start = value.start; list = value.list })
 
-abbrev pub bare_act : Guid → ActValue → ActValue
-bare_act writer act =
+-- an act of this writer for this destination, of which nothing else is known
+abbrev pub act_saying : Guid → Option GuidPrefix → ActBodyValue → ActValue
+act_saying writer dest body =
     record {
       at = 0;
       source = writer.prefix;
       version = record { major = 0; minor = 0 };
       vendor = record { 0 = 0 ∷ 0 ∷ [] };
-      dest = act.dest;
+      dest = dest;
       stamp = None;
       order = Big;
-      body = bare_body writer.entity act.body;
+      body = body;
     }
+
+abbrev pub bare_act : Guid → ActValue → ActValue
+bare_act writer act = act_saying writer act.dest (bare_body writer.entity act.body)
 
 abbrev pub bare : Guid → PlacedValue → PlacedValue
 bare writer placed = record { datagram = placed.datagram; act = bare_act writer placed.act }
@@ -54,15 +59,5 @@ abbrev pub brief_value : Guid → Brief → PlacedValue
 brief_value writer brief =
     record {
       datagram = brief.datagram;
-      act =
-          record {
-            at = 0;
-            source = writer.prefix;
-            version = record { major = 0; minor = 0 };
-            vendor = record { 0 = 0 ∷ 0 ∷ [] };
-            dest = brief.dest;
-            stamp = None;
-            order = Big;
-            body = said_body brief.reader writer.entity brief.said;
-          };
+      act = act_saying writer brief.audience.dest (said_body brief.audience.reader writer.entity brief.said);
     }

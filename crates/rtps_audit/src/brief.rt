@@ -12,13 +12,10 @@ ghost use Rattle.rtps_audit.specs.Speech.{announced_for, word_for};
 use crate::words::Words;
 use rtps_coverage::Coverage;
 use rtps_discovery::Pair;
-use rtps_ids::{EntityId, Guid, GuidPrefix, Memory, NumberSet, SeqNum};
-use rtps_receiver::{Act, ActBody};
+use rtps_ids::{EntityId, Guid, Memory, NumberSet, SeqNum};
+use rtps_receiver::{Act, ActBody, Audience};
 use rtps_wire::{DataBody, GapBody, HeartbeatBody, Payload};
 use std::slice;
-
-/// The entity id that names every reader.
-const UNKNOWN: EntityId = EntityId([0; 4]);
 
 /// What a writer says by an act.
 #[derive(Clone, Copy)]
@@ -43,10 +40,7 @@ pub(crate) enum Said<'a> {
 pub(crate) struct Brief<'a> {
     /// The datagram of the recording, counted from 1.
     pub(crate) datagram: usize,
-    /// The participant that it is for, or None for everyone.
-    pub(crate) dest: Option<GuidPrefix>,
-    /// The reader that it names, or all of them.
-    reader: EntityId,
+    pub(crate) audience: Audience,
     said: Said<'a>,
 }
 
@@ -59,8 +53,10 @@ impl<'a> Brief<'a> {
         match said_by(&act.body) {
             Some((reader, said)) => Some(Brief {
                 datagram,
-                dest: act.dest,
-                reader,
+                audience: Audience {
+                    dest: act.dest,
+                    reader,
+                },
                 said,
             }),
             None => None,
@@ -79,23 +75,18 @@ impl<'a> Brief<'a> {
         }
     }
 
-    /// Whether this reader hears it: it is for everyone or for the reader's participant, and names the reader or every
-    /// reader.
+    /// Whether this reader hears it.
     pub(crate) fn heard_by(&self, reader: Guid) -> bool
         ensures { (writer : GuidValue) → result ≡ is_heard_by (brief_value writer self.now).act reader }
     {
-        let for_it = match self.dest {
-            None => true,
-            Some(prefix) => prefix == reader.prefix,
-        };
-        for_it && (self.reader == UNKNOWN || self.reader == reader.entity)
+        self.audience.has(reader)
     }
 
     /// What it says, where this writer says it.
     fn body(&self, writer: EntityId) -> ActBody<'a>
-        ensures { act_body_value result ≡ said_body self.now.reader writer self.now.said }
+        ensures { act_body_value result ≡ said_body self.now.audience.reader writer self.now.said }
     {
-        let reader = self.reader;
+        let reader = self.audience.reader;
         match self.said {
             Said::Data { number, payload } => ActBody::Data(DataBody {
                 reader,

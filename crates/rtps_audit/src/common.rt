@@ -66,7 +66,7 @@ fn says_to_all(briefs: &[Brief<'_>]) -> bool
 {
     briefs
         .iter()
-        .all(|brief| brief.dest.is_none() && brief.heard_by(NOBODY))
+        .all(|brief| brief.audience.dest.is_none() && brief.heard_by(NOBODY))
 }
 
 impl Common {

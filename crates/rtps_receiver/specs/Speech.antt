@@ -88,9 +88,12 @@ is_for_all None = true
 abbrev pub is_spoken_by : ActValue → Guid → Bool
 is_spoken_by act writer = is_prefix act.source writer.prefix && names (writer_named act.body) writer.entity
 
+-- whether what is for this destination and names this reader is for a reader
+abbrev pub is_among : Option GuidPrefix → Option EntityId → Guid → Bool
+is_among dest named reader = (is_for_all dest || is_for dest reader.prefix) && (names named unknown_entity || names named reader.entity)
+
 abbrev pub is_heard_by : ActValue → Guid → Bool
-is_heard_by act reader =
-    (is_for_all act.dest || is_for act.dest reader.prefix) && (names (reader_named act.body) unknown_entity || names (reader_named act.body) reader.entity)
+is_heard_by act reader = is_among act.dest (reader_named act.body) reader
 
 abbrev pub names_pair : ActBodyValue → EntityId → EntityId → Bool
 names_pair (AckNack value) reader writer = is_entity value.reader reader && is_entity value.writer writer

@@ -11,5 +11,6 @@ mod walk;
 
 pub use act::{Act, ActBody};
 pub use receiver::Acts;
+pub use speech::Audience;
 pub use state::State;
 pub use walk::Walk;

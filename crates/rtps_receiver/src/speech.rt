@@ -1,8 +1,36 @@
 use crate::act::{Act, ActBody};
-use rtps_ids::{EntityId, Guid};
+use rtps_ids::{EntityId, Guid, GuidPrefix};
 
 /// The entity id that names every reader.
 const UNKNOWN: EntityId = EntityId([0; 4]);
+
+/// Whom it is for that a writer says something: of everyone or of one participant, each reader or one (DDSI-RTPS 2.5,
+/// 8.3.4 "The RTPS Message Receiver").
+#[derive(Clone, Copy)]
+pub struct Audience {
+    /// The participant, or None for everyone.
+    pub dest: Option<GuidPrefix>,
+    /// The reader that is named. Zeros name every reader (9.3.1.2 "Mapping of the EntityId_t").
+    pub reader: EntityId,
+}
+
+impl Audience {
+    ghost use Rattle.std.specs.Prelude.{◌≡◌, Some};
+    ghost use Rattle.rtps_receiver.specs.Speech.{is_among};
+
+    /// Whether this reader is among them: it is for everyone or for the reader's participant, and names the reader or
+    /// every reader.
+    #[inline]
+    pub fn has(&self, reader: Guid) -> bool
+        ensures { result ≡ is_among self.now.dest (Some self.now.reader) reader }
+    {
+        let for_it = match self.dest {
+            None => true,
+            Some(prefix) => prefix == reader.prefix,
+        };
+        for_it && (self.reader == UNKNOWN || self.reader == reader.entity)
+    }
+}
 
 impl<'a> Act<'a> {
     ghost use Rattle.std.specs.Prelude.{◌↔◌, ◌≡◌, IsTrue};
@@ -41,14 +69,14 @@ impl<'a> Act<'a> {
         ensures relation { IsTrue result ↔ IsHeardBy (act_value self.now) reader }
         ensures test { result ≡ is_heard_by (act_value self.now) reader }
     {
-        let for_it = match self.dest {
-            None => true,
-            Some(prefix) => prefix == reader.prefix,
+        let Some(named) = self.reader_named() else {
+            return false;
         };
-        match self.reader_named() {
-            None => false,
-            Some(entity) => for_it && (entity == UNKNOWN || entity == reader.entity),
-        }
+        let audience = Audience {
+            dest: self.dest,
+            reader: named,
+        };
+        audience.has(reader)
     }
 
     /// Whether the act is an ACKNACK of this reader that answers this writer: its destination is the writer's
