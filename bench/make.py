@@ -3,6 +3,8 @@
 
     make.py heartbeats|packed|large|hostile|one_data|pairs FILE [MEGABYTES]
     make.py answers|readers|writers FILE [MEGABYTES]    of ACKNACKs of one reader; each of another; HEARTBEATs, each of another writer
+    make.py announced|announced_first FILE [MEGABYTES]  of writers, each announced and with a HEARTBEAT behind that, in the
+                                                        same datagram or when all are announced
     make.py in_order|odd_then_even|random|descending|inside_out FILE [THOUSANDS]    of numbers, each in a sample
 """
 import random
@@ -91,7 +93,23 @@ def datagrams(kind, octets):
         return (*announcements(20), *sent)
     if kind in ONE_EACH:
         return one_each(ONE_EACH[kind], octets)
+    if kind == 'announced':
+        entities = [scattered(i) for i in range(1, octets // 273 + 1)]
+        return (announcement(entity) + heartbeat(entity, 1, 3) for entity in entities)
+    if kind == 'announced_first':
+        entities = [scattered(i) for i in range(1, octets // 274 + 1)]
+        spoken = (header(A) + b''.join(heartbeat(entity, 1, 3) for entity in entities[i:i + 40]) for i in range(0, len(entities), 40))
+        return (*map(announcement, entities), *spoken)
     raise SystemExit(__doc__)
+
+
+def scattered(place):
+    """Entity ids in no order."""
+    return (place * 0x9e3779b1 % (1 << 32)).to_bytes(4, 'big')
+
+
+def announcement(entity):
+    return announced(b'\0\0\3\xc2', A, entity, b'')
 
 
 ONE_EACH = {
@@ -108,7 +126,7 @@ def one_each(submessage, octets):
         sent = header(B) + to(A)
         for _ in range(2032):
             place += 1
-            sent += submessage((place * 0x9e3779b1 % (1 << 32)).to_bytes(4, 'big'))
+            sent += submessage(scattered(place))
         yield sent
 
 

@@ -227,5 +227,5 @@ fn shelves_for(recording: &[&[u8]]) -> usize {
     for datagram in recording {
         octets = octets.saturating_add(datagram.len());
     }
-    (octets / OCTETS_A_SHELF).clamp(1 << 6, 1 << 14)
+    (octets / OCTETS_A_SHELF).clamp(1 << 6, 1 << 15)
 }

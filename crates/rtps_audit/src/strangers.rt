@@ -55,7 +55,7 @@ impl<N: Drop> Strangers<N> {
         ensures none { IsTrue result → noted_of self.now.noted.items guid ≡ [] }
         ensures all { known.entry.all ≡ true → result ≡ true }
     {
-        known.all || (known.directory.endpoint(guid).is_some() && !self.may_have(guid))
+        known.all || (!self.may_have(guid) && known.directory.endpoint(guid).is_some())
     }
 
     /// Notes something of a GUID. After `Memory` nothing that is noted is of use.
