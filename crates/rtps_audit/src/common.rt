@@ -64,9 +64,7 @@ pub(crate) fn are_for_all(acts: &[Placed<'_>]) -> bool
 fn says_to_all(briefs: &[Brief<'_>]) -> bool
     ensures { (writer : GuidValue) → result ≡ list_all (λ brief. is_for_everyone_lem (brief_value writer brief).act) briefs.now }
 {
-    briefs
-        .iter()
-        .all(|brief| brief.audience.dest.is_none() && brief.heard_by(NOBODY))
+    briefs.iter().all(|brief| brief.audience.dest.is_none() && brief.heard_by(NOBODY))
 }
 
 impl Common {
