@@ -18,3 +18,5 @@ pub mod Faults
 pub mod Payloads
 pub mod OtherWriters
 pub mod DataAlone
+pub mod OfferedReaders
+pub mod ReliablePairs

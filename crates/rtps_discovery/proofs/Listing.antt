@@ -30,11 +30,11 @@ within_first x true false once twice p e h f = absurd (false≢true (h refl))
 within_first x false true once twice p e h f = rw e f
 within_first x false false once twice p e h f = f
 
-filter_within : {X : Type 0} (p q : X → Bool) → ((x : X) → p x ≡ true → q x ≡ true) → (xs : List X) → filter p (filter q xs) ≡ filter p xs
+pub filter_within : {X : Type 0} (p q : X → Bool) → ((x : X) → p x ≡ true → q x ≡ true) → (xs : List X) → filter p (filter q xs) ≡ filter p xs
 filter_within p q h [] = refl
 filter_within p q h (x ∷ xs) = within_first x (p x) (q x) (filter p xs) (filter q xs) p refl (h x) (filter_within p q h xs)
 
-filter-map : {X Y : Type 0} (p : Y → Bool) (f : X → Y) (xs : List X) → filter p (map f xs) ≡ map f (filter (λ x. p (f x)) xs)
+pub filter-map : {X Y : Type 0} (p : Y → Bool) (f : X → Y) (xs : List X) → filter p (map f xs) ≡ map f (filter (λ x. p (f x)) xs)
 filter-map p f [] = refl
 filter-map p f (x ∷ xs) = at_first (p (f x)) (filter-map p f xs)
   where
@@ -66,7 +66,7 @@ swapped_first x true false p q ps qs e f h = rw f h
 swapped_first x false true p q ps qs e f h = rw e h
 swapped_first x false false p q ps qs e f h = h
 
-filter_swap : {X : Type 0} (p q : X → Bool) (xs : List X) → filter p (filter q xs) ≡ filter q (filter p xs)
+pub filter_swap : {X : Type 0} (p q : X → Bool) (xs : List X) → filter p (filter q xs) ≡ filter q (filter p xs)
 filter_swap p q [] = refl
 filter_swap p q (x ∷ xs) = swapped_first x (p x) (q x) p q (filter p xs) (filter q xs) refl refl (filter_swap p q xs)
 
@@ -130,21 +130,14 @@ pub listed_all : (all endpoints : List Endpoint) → listed all endpoints ≡ fl
 listed_all all [] = refl
 listed_all all (endpoint ∷ endpoints) = ap (λ found. matches_of (endpoint_value endpoint) (map endpoint_value all) ++ found) (listed_all all endpoints)
 
-listed_more : (endpoints : List Endpoint) (i : ℕ) (d : Endpoint) → i < length endpoints
+pub listed_more : (endpoints : List Endpoint) (i : ℕ) (d : Endpoint) → i < length endpoints
     → listed endpoints (take (i + 1) endpoints) ≡ listed endpoints (take i endpoints) ++ matches_of (endpoint_value (get_or endpoints i d)) (map endpoint_value endpoints)
 listed_more endpoints i d lt =
     ap (listed endpoints) (take_more endpoints i d lt)
     ∙ flat_map-append (λ writer. matches_of (endpoint_value writer) (map endpoint_value endpoints)) (take i endpoints) (get_or endpoints i d ∷ [])
     ∙ ap (λ found. listed endpoints (take i endpoints) ++ found) (append-nil _)
 
--- a turn at a writer, and a turn at another endpoint
-pub listed_writer : (endpoints readers : List Endpoint) (i : ℕ) (d : Endpoint) (before after : List Match) (found : List Endpoint) → i < length endpoints
-    → KeepsTypes (readers_among endpoints) readers → found ≡ filter (has_type (get_or endpoints i d).type_name.now) (filter (has_topic (get_or endpoints i d).topic.now) readers)
-    → before ≡ listed endpoints (take i endpoints) → after ≡ before ++ matches_of (endpoint_value (get_or endpoints i d)) (map endpoint_value found)
-    → after ≡ listed endpoints (take (i + 1) endpoints)
-listed_writer endpoints readers i d before after found lt kept topic was is =
-    rw (is, was, topic, matches_of-readers endpoints readers (get_or endpoints i d) kept) (sym (listed_more endpoints i d lt))
-
+-- a turn at another endpoint than a writer
 pub listed_other : (endpoints : List Endpoint) (i : ℕ) (d : Endpoint) (before : List Match) → i < length endpoints → ((get_or endpoints i d).side ≢ Writer)
     → before ≡ listed endpoints (take i endpoints) → before ≡ listed endpoints (take (i + 1) endpoints)
 listed_other endpoints i d before lt other was =

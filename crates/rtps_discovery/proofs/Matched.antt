@@ -16,7 +16,7 @@ reader_decides : (side : Side) → Decides (is_reader side) (side ≡ Reader)
 reader_decides Writer = (λ e. absurd (false≢true e), λ e. cc)
 reader_decides Reader = (λ _. refl, λ _. refl)
 
-le_decides : (a b : ℕ) → Decides (nat_le a b) (a ≤ b)
+pub le_decides : (a b : ℕ) → Decides (nat_le a b) (a ≤ b)
 le_decides a b =
     elim (leb_tells a b) [ inl h ↦ (λ _. h.1, λ _. h.0) | inr h ↦ (λ e. absurd (false≢true (sym h.0 ∙ e)), λ le. absurd (omega arith)) ]
 

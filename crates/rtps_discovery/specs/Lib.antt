@@ -8,6 +8,7 @@ pub mod Laws
 pub mod Listings
 pub mod Matching
 pub mod Notice
+pub mod Offers
 pub mod Payload
 pub mod TopicIndex
 pub mod Described

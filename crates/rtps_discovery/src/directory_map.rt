@@ -9,7 +9,7 @@ ghost use Rattle.rtps_discovery.specs.Notice.{RepeatsOneOf, announcement_of, ans
 use crate::announcement::{read_endpoint, read_participant};
 use crate::endpoint::Endpoint;
 use crate::kept::{Kept, count_unsettled, keep_endpoint, keep_participant, settled, settled_at};
-use crate::matching::{Match, Pair, reliable_pairs};
+use crate::matching::{Match, Pair, reliable_among, reliable_pairs};
 use crate::notice::{Noted, Subject, notice};
 use crate::topic_index::matches_among;
 use rtps_ids::{Guid, Memory};
@@ -123,12 +123,15 @@ impl<'a> Directory<'a> {
         matches_among(self.alloc, &endpoints)
     }
 
-    /// The pairs of those matches in which both are RELIABLE, in the same order.
+    /// The pairs of those matches in which both are RELIABLE, in the same order. It takes no memory for other matches.
+    #[tactic(auto, using(crate::proofs::ReliablePairs::of_the_reliable))]
     pub fn pairs(&self) -> Result<Vec<Pair>, Memory>
         ensures { IfOk result (λ pairs. pairs.items
             ≡ reliable_pairs (matches_among (settled_in self.now.endpoints))) }
     {
-        reliable_pairs(self.alloc, &self.matched()?)
+        // Of the others there may be many matches, and no pair.
+        let reliable = reliable_among(self.alloc, &self.endpoints()?)?;
+        reliable_pairs(self.alloc, &matches_among(self.alloc, &reliable)?)
     }
 
     /// How many GUIDs have announcements that disagree.

@@ -13,6 +13,7 @@ mod layout;
 mod matching;
 mod notice;
 mod noting;
+mod offers;
 mod topic_index;
 
 pub use announcement::{read_endpoint, read_participant};

@@ -1,6 +1,6 @@
-ghost use Rattle.std.specs.Prelude.{◌≡◌, ◌↔◌, IfOk, IsTrue};
+ghost use Rattle.std.specs.Prelude.{◌≡◌, ◌↔◌, filter, IfOk, IsTrue};
 ghost use Rattle.rtps_discovery.specs.Endpoint.{endpoint_value};
-ghost use Rattle.rtps_discovery.specs.Matching.{Matches, is_match, match_of as match_of_lem, reliable_pairs as reliable_pairs_lem};
+ghost use Rattle.rtps_discovery.specs.Matching.{Matches, is_match, is_reliable, match_of as match_of_lem, reliable_pairs as reliable_pairs_lem};
 
 use crate::endpoint::{Endpoint, Reliability, Side};
 use rtps_ids::{Guid, Memory};
@@ -55,6 +55,22 @@ pub(crate) fn match_of(writer: &Endpoint<'_>, reader: &Endpoint<'_>) -> Match
         reliable: writer.reliability == Reliability::Reliable
             && reader.reliability == Reliability::Reliable,
     }
+}
+
+/// The endpoints that are RELIABLE, in the order that they had.
+pub(crate) fn reliable_among<'a>(
+    alloc: Global,
+    endpoints: &[Endpoint<'a>],
+) -> Result<Vec<Endpoint<'a>>, Memory>
+    ensures { IfOk result (λ reliable. reliable.items ≡ filter (λ endpoint. is_reliable endpoint.reliability) endpoints.now) }
+{
+    let mut reliable = Vec::new(alloc);
+    for endpoint in endpoints {
+        if endpoint.reliability == Reliability::Reliable {
+            reliable.push(*endpoint)?;
+        }
+    }
+    Ok(reliable)
 }
 
 /// The pairs of the reliable matches.

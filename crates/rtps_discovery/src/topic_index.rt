@@ -5,19 +5,21 @@ ghost use Rattle.rtps_discovery.specs.TopicIndex.{IsByTopic, IsByType, IsByTypeI
 
 use crate::endpoint::{Endpoint, Side};
 use crate::matching::{Match, match_of, matches};
+use crate::offers::{offer_of, readers_by_offer};
 use rtps_ids::Memory;
 use std::alloc::Global;
 
 /// The matches among endpoints, each writer's in turn. A writer is compared with the readers of its topic and its type
-/// alone.
+/// alone that ask for no more than it offers.
 pub(crate) fn matches_among(alloc: Global, endpoints: &[Endpoint<'_>]) -> Result<Vec<Match>, Memory>
     ensures { IfOk result (λ found. found.items ≡ matches_among_lem (map endpoint_value endpoints.now)) }
 {
     let readers = readers_by_topic(alloc, endpoints)?;
+    let by_offer = readers_by_offer(alloc, endpoints, &readers)?;
     let mut found = Vec::new(alloc);
     for writer in endpoints {
         if writer.side == Side::Writer {
-            let of_topic = readers_of(&readers, writer.topic);
+            let of_topic = readers_of(&by_offer[offer_of(writer)], writer.topic);
             push_matches(&mut found, writer, of_one_type(of_topic, writer.type_name))?;
         }
     }
