@@ -1,7 +1,7 @@
 -- Delivery of one writer's numbers to one reader. DDSI-RTPS 2.5, 8.4 "Behavior Module", and 8.3.8.1 "AckNack",
 -- 8.3.8.2 "Data", 8.3.8.4 "Gap" and 8.3.8.6 "Heartbeat", which say what each submessage tells. A definition with a number
 -- `from` speaks of the writer's numbers from that one on, and of no smaller one; with 1 it speaks of all.
-use Rattle.std.specs.Prelude.{ℕ, suc, ◌<◌, ◌≤◌, ◌≡◌, ◌-◌, List, [], ◌∷◌, ◌++◌, length, max, Option, Some, slice_get, Contains}
+use Rattle.std.specs.Prelude.{ℕ, suc, ◌<◌, ◌≤◌, ◌≡◌, ◌-◌, List, [], ◌∷◌, ◌++◌, length, max, Option, Some, slice_get, Contains, Bool, ◌&&◌, nat_le}
 use Rattle.rtps_wire.specs.Values.{PayloadValue}
 
 -- what a reader may be told of a number: its payload, or that it will not come
@@ -25,6 +25,10 @@ Speech = List Datagram
 -- the number n is asked for: it is one of those from `from` on. Numbers begin at 1
 abbrev pub IsAsked : ℕ → ℕ → Type 0
 IsAsked from n = (1 ≤ n) × (from ≤ n)
+
+-- the same as a test
+abbrev pub is_asked : ℕ → ℕ → Bool
+is_asked from n = nat_le 1 n && nat_le from n
 
 -- by the act at place k of the datagram at place i, the number n, which is asked for, has this word
 pub record Gives (from : ℕ) (speech : Speech) (i k n : ℕ) (word : Word) : Type 0 where

@@ -1,7 +1,7 @@
 -- The run that takes all that it can after each send. own: a reader never loses a word, so where any run is
 -- allowed this one is, and it decides.
-use Rattle.std.specs.Prelude.{ℕ, zero, suc, ◌<◌, ◌≡◌, ◌&&◌, nat_le, if◌then◌else◌, List, [], ◌∷◌, ◌++◌, length, Option, Some, None}
-use Rattle.rtps_audit.specs.Delivery.{Word, Speech, DeliveryState, start, Event, Gives, Follows}
+use Rattle.std.specs.Prelude.{ℕ, zero, suc, ◌<◌, ◌≡◌, if◌then◌else◌, List, [], ◌∷◌, ◌++◌, length, Option, Some, None}
+use Rattle.rtps_audit.specs.Delivery.{Word, Speech, DeliveryState, start, Event, Gives, Follows, is_asked}
 use Rattle.rtps_audit.specs.Delivery.Event.{Send, Take}
 use Rattle.rtps_audit.specs.declared.verdict.Verdict.{Verdict}
 use Rattle.rtps_audit.specs.declared.verdict.Verdict.TheVariants.{Unfounded, Conflict, Open, Complete}
@@ -13,7 +13,7 @@ take_of i k n (Some word) = Take i k n word ∷ []
 
 -- the word that the act has for a number that is asked for
 abbrev pub asked_word : ℕ → (ℕ → Option Word) → ℕ → Option Word
-asked_word from act n = if nat_le 1 n && nat_le from n then act n else None
+asked_word from act n = if is_asked from n then act n else None
 
 -- a take for each number below the bound that is asked for and that the act has a word for
 abbrev pub takes_of_act : ℕ → ℕ → ℕ → (ℕ → Option Word) → ℕ → List Event
