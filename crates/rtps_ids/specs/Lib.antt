@@ -1,3 +1,4 @@
+pub mod Layout
 pub mod NumberSet
 pub mod Octets
 pub mod Ranges

@@ -5,6 +5,7 @@ use Rattle.std.specs.Int.{bit_at}
 use Rattle.std.specs.Int.RustNames.{unsigned_abs}
 use Rattle.std.specs.List.{range_with_len}
 use Rattle.rtps_ids.specs.Octets.{number_of, sequence_number_of}
+use Rattle.rtps_ids.specs.declared.layout.set.TheConstants.{COUNT, MOST_BITS, WORDS, WORD_SIZE}
 use Rattle.rtps_ids.specs.declared.order.Order.{Order}
 use Rattle.rtps_ids.specs.declared.set_fault.SetFault.{SetFault}
 use Rattle.rtps_ids.specs.declared.set_fault.SetFault.TheVariants.{BadSet, CutWords}
@@ -46,7 +47,7 @@ cleared_words count word = map (λ i. cleared count (word i) i) (range_with_len 
 -- own: base 0 with no bit is a set, since readers send it before they have seen anything.
 unfoldable pub is_bad : ℤ → ℕ → Bool
 is_bad base count =
-    int_lt base (pos 0) || nat_lt 256 count || (int_lt base (pos 1) && nat_lt 0 count)
+    int_lt base (pos 0) || nat_lt MOST_BITS count || (int_lt base (pos 1) && nat_lt 0 count)
     || (int_lt (pos 0) base && int_lt (pos (2 ^ 63)) (base +ℤ pos count))
 
 -- the base, the count and word i that octets spell
@@ -54,19 +55,19 @@ abbrev pub spelled_base : Order → List ℕ → ℤ
 spelled_base order octets = sequence_number_of order octets
 
 abbrev pub spelled_count : Order → List ℕ → ℕ
-spelled_count order octets = number_of order 4 (drop 8 octets)
+spelled_count order octets = number_of order 4 (drop COUNT octets)
 
 abbrev pub spelled_word : Order → List ℕ → ℕ → ℕ
-spelled_word order octets i = number_of order 4 (drop (12 + 4 * i) octets)
+spelled_word order octets i = number_of order 4 (drop (WORDS + WORD_SIZE * i) octets)
 
 -- how many octets a set of so many bits takes: the base, the count, and as many words as hold the bits
 abbrev pub octets_of_count : ℕ → ℕ
-octets_of_count count = 12 + 4 * ((count + 31) / 32)
+octets_of_count count = WORDS + WORD_SIZE * ((count + 31) / 32)
 
 -- why octets begin with no set: they end before the count does, the set is bad, or they end before its words do
 unfoldable pub set_fault : Order → List ℕ → Option SetFault
 set_fault order octets =
-    if nat_lt (length octets) 12 then Some CutWords
+    if nat_lt (length octets) WORDS then Some CutWords
     else if is_bad (spelled_base order octets) (spelled_count order octets) then Some BadSet
     else if nat_lt (length octets) (octets_of_count (spelled_count order octets)) then Some CutWords
     else None

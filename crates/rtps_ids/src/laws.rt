@@ -2,6 +2,7 @@
 
 ghost use Rattle.std.specs.Prelude.{◌≡◌, ◌↔◌, ◌<◌, ◌+◌, ◌/◌, ◌%◌, ◌-◌, ◌^◌, ◌++◌, ℕ, ℤ, List, FitsSigned, None, length, pos, true};
 ghost use Rattle.std.specs.Int.{bit_at, w64};
+ghost use Rattle.rtps_ids.specs.Layout.{set_is};
 ghost use Rattle.rtps_ids.specs.NumberSet.{IsMember, NumberSetValue, bit_of, cleared_words, is_member, set_fault, spelled_count, spelled_set, spelled_word};
 ghost use Rattle.rtps_ids.specs.Octets.{number_of, octets_of, sequence_number_octets, sequence_number_of};
 ghost use Rattle.rtps_ids.specs.declared.order.Order.{Order};
@@ -43,4 +44,9 @@ pub fn octets_of_a_sequence_number_are_read_as_it()
     ensures length { (order : Order) (value : ℤ) → length (sequence_number_octets order value) ≡ 8 }
     ensures number { (order : Order) (value : ℤ) (rest : List ℕ) → FitsSigned w64 value
         → sequence_number_of order (sequence_number_octets order value ++ rest) ≡ value }
+{}
+
+/// The sizes and places that readers, writers and definitions name are those of the standard.
+pub fn layout_is_that_of_the_standard()
+    ensures { set_is }
 {}

@@ -4,6 +4,7 @@
 mod bits;
 mod identity;
 pub mod laws;
+pub mod layout;
 mod memory;
 mod number;
 mod octets;

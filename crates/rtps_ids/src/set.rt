@@ -3,6 +3,7 @@ ghost use Rattle.rtps_ids.specs.NumberSet.{IsKeptSet, IsMember, cleared_words, b
 ghost use Rattle.rtps_ids.specs.Ranges.{IsRangeFrom, HasNoneFrom};
 
 use crate::bits::first_bit;
+use crate::layout::set;
 use crate::octets::{number_at, u32_at};
 use crate::order::Order;
 use crate::set_fault::SetFault;
@@ -59,13 +60,16 @@ impl NumberSet {
             (λ found. (set_fault order bytes.now ≡ None) × (found.0 ≡ spelled_set order bytes.now) × (found.1 ≡ octets_of_count found.0.count))
             (λ fault. set_fault order bytes.now ≡ Some fault) }
     {
-        let (Some(base), Some(count)) = (number_at(order, bytes, 0), u32_at(order, bytes, 8)) else {
+        let (Some(base), Some(count)) = (
+            number_at(order, bytes, 0),
+            u32_at(order, bytes, set::COUNT),
+        ) else {
             return Err(SetFault::CutWords);
         };
         if is_bad(base, count) {
             return Err(SetFault::BadSet);
         }
-        let used = 12 + 4 * count.div_ceil(32) as usize;
+        let used = set::WORDS + set::WORD_SIZE * count.div_ceil(32) as usize;
         if bytes.len() < used {
             return Err(SetFault::CutWords);
         }
@@ -149,7 +153,7 @@ fn is_set(words: &[u32], bit: usize) -> bool
 fn is_bad(base: i64, count: u32) -> bool
     ensures { result ≡ is_bad_lem base count }
 {
-    if base < 0 || count > 256 {
+    if base < 0 || count > set::MOST_BITS {
         return true;
     }
     if base == 0 {
@@ -193,7 +197,7 @@ fn word_at(order: Order, bytes: &[u8], count: u32, i: usize) -> u32
     requires whole { octets_of_count count ≤ length bytes.now }
     ensures { result ≡ cleared_lem count (spelled_word order bytes.now i) i }
 {
-    let Some(word) = u32_at(order, bytes, 12 + 4 * i) else {
+    let Some(word) = u32_at(order, bytes, set::WORDS + set::WORD_SIZE * i) else {
         return 0;
     };
     cleared(count, word, i)

@@ -7,6 +7,7 @@ ghost use Rattle.rtps_wire.specs.Flags.{flag_if, order_flag as order_flag_lem};
 ghost use Rattle.rtps_wire.specs.SetField.{set_octets};
 
 use crate::layout::submessage;
+use rtps_ids::layout::set::{WORD_SIZE, WORDS};
 use rtps_ids::{EntityId, Memory, NumberSet, Order, SeqNum, put_number, put_u32};
 
 /// A flag, where it is set.
@@ -52,7 +53,7 @@ pub(crate) fn set_size(set: NumberSet) -> u16
     ensures size { result ≡ octets_of_count set.count }
     ensures small { result ≤ 44 }
 {
-    12 + 4 * set.count().div_ceil(32) as u16
+    (WORDS + WORD_SIZE * set.count().div_ceil(32) as usize) as u16
 }
 
 /// Appends a sequence number set.
