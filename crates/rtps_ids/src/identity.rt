@@ -55,7 +55,7 @@ impl Ord for GuidPrefix {
     fn cmp(&self, other: &GuidPrefix) -> Ordering {
         let (first, last) = self.0.split_at(8);
         let (other_first, other_last) = other.0.split_at(8);
-        long_order(first, other_first).then(word_order(last, other_last))
+        eight_octets_order(first, other_first).then(four_octets_order(last, other_last))
     }
 }
 
@@ -77,7 +77,7 @@ impl PartialEq for EntityId {
 
     ghost laws = { on_per (λ entity. entity.0) (partial_equiv_from_equiv nat_list_eq_equiv) };
 
-    // As of a prefix.
+    // By their order, which is one comparison of numbers.
     #[inline]
     fn eq(&self, other: &EntityId) -> bool {
         self.cmp(other).is_eq()
@@ -107,10 +107,10 @@ impl Ord for EntityId {
 
     ghost matches_eq = { λ x y. texts_ties x.0 y.0 };
 
-    // As of a prefix.
+    // The four octets are compared as one number.
     #[inline]
     fn cmp(&self, other: &EntityId) -> Ordering {
-        word_order(&self.0, &other.0)
+        four_octets_order(&self.0, &other.0)
     }
 }
 
@@ -137,7 +137,7 @@ impl PartialEq for Guid {
     ghost laws = { and_per (on_per (λ guid. guid.prefix.0) (partial_equiv_from_equiv nat_list_eq_equiv))
         (on_per (λ guid. guid.entity.0) (partial_equiv_from_equiv nat_list_eq_equiv)) };
 
-    // As a prefix.
+    // By their order, which is one comparison of numbers.
     #[inline]
     fn eq(&self, other: &Guid) -> bool {
         self.cmp(other).is_eq()
@@ -217,7 +217,7 @@ pub struct Stamp {
 
 /// The order of four octets: that of the numbers that they spell, the highest first, which is one comparison.
 #[inline(always)]
-fn word_order(one: &[u8], other: &[u8]) -> Ordering
+fn four_octets_order(one: &[u8], other: &[u8]) -> Ordering
     requires one { length one.now ≡ 4 }
     requires other { length other.now ≡ 4 }
     ensures { result ≡ slice_cmp nat_cmp one.now other.now }
@@ -225,9 +225,9 @@ fn word_order(one: &[u8], other: &[u8]) -> Ordering
     BigEndian::read_u32(one).cmp(&BigEndian::read_u32(other))
 }
 
-/// The order of eight octets.
+/// The order of eight octets: that of the numbers that they spell, the highest first, which is one comparison.
 #[inline(always)]
-fn long_order(one: &[u8], other: &[u8]) -> Ordering
+fn eight_octets_order(one: &[u8], other: &[u8]) -> Ordering
     requires one { length one.now ≡ 8 }
     requires other { length other.now ≡ 8 }
     ensures { result ≡ slice_cmp nat_cmp one.now other.now }

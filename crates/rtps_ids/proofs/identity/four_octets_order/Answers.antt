@@ -1,7 +1,7 @@
 use Rattle.std.proofs.Common.{ap, ◌∙◌}
 use Rattle.std.specs.Ordering.{nat_cmp}
 use Rattle.rtps_ids.proofs.NumberOrder.{four_order}
-use Rattle.rtps_ids.proofs.identity.word_order.Goals as goal
+use Rattle.rtps_ids.proofs.identity.four_octets_order.Goals as goal
 
 pub returns : goal.returns
 returns c =
