@@ -9,7 +9,7 @@ use Rattle.rtps_ids.specs.Octets.{number_of}
 use Rattle.rtps_ids.specs.declared.order.Order.{Order}
 use Rattle.rtps_params.specs.declared.fault.ParamFault.{ParamFault}
 use Rattle.rtps_params.specs.declared.fault.ParamFault.TheVariants.{CutHeader, CutValue}
-use Rattle.rtps_params.specs.declared.layout.parameter.TheConstants.{HEADER}
+use Rattle.rtps_params.specs.declared.layout.parameter.TheConstants.{HEADER, LENGTH}
 use Rattle.rtps_params.specs.declared.layout.pid.TheConstants.{PAD, SENTINEL}
 
 -- the id that a header spells
@@ -18,7 +18,7 @@ pid_of order octets = number_of order 2 octets
 
 -- the length that a header spells
 abbrev pub length_of : Order → List ℕ → ℕ
-length_of order octets = number_of order 2 (drop 2 octets)
+length_of order octets = number_of order 2 (drop LENGTH octets)
 
 -- ids and values, in order
 abbrev pub Pairs : Type 0

@@ -4,6 +4,7 @@ use Rattle.std.specs.Prelude.{◌≡◌, ◌==◌, ◌⊎◌, ℕ, ◌+◌, ◌-
 use Rattle.rtps_ids.specs.Octets.{number_of}
 use Rattle.rtps_ids.specs.declared.identity.Guid.{Guid}
 use Rattle.rtps_ids.specs.declared.order.Order.{Order}
+use Rattle.rtps_params.specs.declared.layout.value.TheConstants.{ENTITY_SIZE, NAME, NUMBER_SIZE, PREFIX_SIZE}
 
 -- a value that spells this name: a length of four octets, which counts the name and the NUL that closes it, then the
 -- name and the NUL. What stands behind it says nothing. own: a length of 0, which has no room for the NUL, spells the
@@ -11,7 +12,7 @@ use Rattle.rtps_ids.specs.declared.order.Order.{Order}
 pub record SpellsText (order : Order) (name value : List ℕ) : Type 0 where
   pub size : List ℕ
   pub behind : List ℕ
-  pub four_octets : length size ≡ 4
+  pub four_octets : length size ≡ NAME
   pub whole : value ≡ size ++ behind
   pub named :
       ((number_of order 4 size ≡ length name + 1) × ((ignored : List ℕ) × (behind ≡ name ++ 0 ∷ ignored))) ⊎ ((number_of order 4 size ≡ 0) × (name ≡ []))
@@ -23,10 +24,10 @@ text_size order value = number_of order 4 value
 -- the name that a value spells, if it spells one
 abbrev pub text_of : Order → List ℕ → Option (List ℕ)
 text_of order value =
-    if nat_le 4 (length value)
+    if nat_le NAME (length value)
     then (if text_size order value == 0 then Some []
-    else if nat_le (4 + text_size order value) (length value) && (slice_index value (3 + text_size order value) == 0)
-    then Some (take (text_size order value - 1) (drop 4 value))
+    else if nat_le (NAME + text_size order value) (length value) && (slice_index value (NAME - 1 + text_size order value) == 0)
+    then Some (take (text_size order value - 1) (drop NAME value))
     else None)
     else None
 
@@ -34,10 +35,10 @@ text_of order value =
 -- Identifier (GUID)")
 abbrev pub guid_of : List ℕ → Option Guid
 guid_of value =
-    if nat_le 16 (length value)
-    then Some (record { prefix = record { 0 = take 12 value }; entity = record { 0 = take 4 (drop 12 value) } })
+    if nat_le (PREFIX_SIZE + ENTITY_SIZE) (length value)
+    then Some (record { prefix = record { 0 = take PREFIX_SIZE value }; entity = record { 0 = take ENTITY_SIZE (drop PREFIX_SIZE value) } })
     else None
 
 -- the number in the first four octets
 abbrev pub u32_of : Order → List ℕ → Option ℕ
-u32_of order value = if nat_le 4 (length value) then Some (number_of order 4 value) else None
+u32_of order value = if nat_le NUMBER_SIZE (length value) then Some (number_of order 4 value) else None

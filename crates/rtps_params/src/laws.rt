@@ -3,7 +3,7 @@
 ghost use Rattle.std.specs.Prelude.{◌≡◌, ◌<◌, ◌≤◌, ◌⊎◌, ◌↔◌, ◌^◌, ◌++◌, ℕ, List, All, Some, None, Ok, Err, length, take};
 ghost use Rattle.rtps_ids.specs.declared.order.Order.{Order};
 ghost use Rattle.rtps_params.specs.Grammar.{BeginsWithList, HasFault, IsList, Pairs};
-ghost use Rattle.rtps_params.specs.Layout.{parameter_is, pid_is};
+ghost use Rattle.rtps_params.specs.Layout.{parameter_is, pid_is, value_is};
 ghost use Rattle.rtps_params.specs.Reading.{list_end, pairs_of};
 ghost use Rattle.rtps_params.specs.Values.{SpellsText, text_of};
 ghost use Rattle.rtps_params.specs.Writing.{list_fault, written_list};
@@ -55,8 +55,9 @@ pub fn written_lists_are_read_as_they_are()
         → list_end order (written_list order pairs ++ rest) ≡ Ok (length (written_list order pairs)) }
 {}
 
-/// The ids and sizes that readers, writers and definitions name are those of the standard.
+/// The ids, sizes and places that readers, writers and definitions name are those of the standard.
 pub fn layout_is_that_of_the_standard()
     ensures pid { pid_is }
     ensures parameter { parameter_is }
+    ensures value { value_is }
 {}

@@ -4,7 +4,7 @@ ghost use Rattle.rtps_params.specs.Parameter.{BeginsWith, BeginsWithSentinel};
 ghost use Rattle.rtps_params.specs.Reading.{list_end};
 
 use crate::fault::ParamFault;
-use crate::layout::parameter::HEADER;
+use crate::layout::parameter::{HEADER, LENGTH};
 use crate::layout::pid::SENTINEL;
 use rtps_ids::{Order, u16_at};
 
@@ -23,7 +23,7 @@ pub(crate) fn front(octets: &[u8], order: Order) -> Result<Option<Parameter<'_>>
         (λ parameter. BeginsWith order octets.now parameter))
         (λ fault. IsCut order fault octets.now) }
 {
-    let (Some(pid), Some(length)) = (u16_at(order, octets, 0), u16_at(order, octets, 2)) else {
+    let (Some(pid), Some(length)) = (u16_at(order, octets, 0), u16_at(order, octets, LENGTH)) else {
         return Err(ParamFault::CutHeader);
     };
     if pid == SENTINEL {

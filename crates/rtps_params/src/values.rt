@@ -1,6 +1,7 @@
 ghost use Rattle.std.specs.Prelude.{◌≡◌, ℕ, List, IfSome, IfNone, option_copied};
 ghost use Rattle.rtps_params.specs.Values.{SpellsText, guid_of, text_of, u32_of};
 
+use crate::layout::value::{ENTITY_SIZE, NAME, PREFIX_SIZE};
 use rtps_ids::{EntityId, Guid, GuidPrefix, Order, u32_at};
 
 /// The name that a value spells: a length of four octets, which counts the NUL that closes the name, then the name and
@@ -15,7 +16,7 @@ pub fn read_text(value: &[u8], order: Order) -> Option<&[u8]>
     name_in(value, order)
 }
 
-/// The name, by the function that says it.
+/// The name that `text_of` gives, for [`read_text`], which says of it what it spells.
 fn name_in(value: &[u8], order: Order) -> Option<&[u8]>
     ensures { option_copied result ≡ text_of order value.now }
 {
@@ -23,10 +24,10 @@ fn name_in(value: &[u8], order: Order) -> Option<&[u8]>
     if size == 0 {
         return Some(&[]);
     }
-    if value.len() < 4 + size || value[3 + size] != 0 {
+    if value.len() < NAME + size || value[NAME - 1 + size] != 0 {
         return None;
     }
-    Some(&value[4..3 + size])
+    Some(&value[NAME..NAME - 1 + size])
 }
 
 /// The GUID in the first 16 octets of a value, 12 of the prefix and 4 of the entity id (DDSI-RTPS 2.5, 9.3.1 "The
@@ -34,8 +35,8 @@ fn name_in(value: &[u8], order: Order) -> Option<&[u8]>
 pub fn read_guid(value: &[u8]) -> Option<Guid>
     ensures { result ≡ guid_of value.now }
 {
-    let (prefix, rest) = value.split_first_chunk()?;
-    let (entity, _) = rest.split_first_chunk()?;
+    let (prefix, rest) = value.split_first_chunk::<PREFIX_SIZE>()?;
+    let (entity, _) = rest.split_first_chunk::<ENTITY_SIZE>()?;
     Some(Guid {
         prefix: GuidPrefix(*prefix),
         entity: EntityId(*entity),

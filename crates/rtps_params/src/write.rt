@@ -1,6 +1,7 @@
 ghost use Rattle.std.specs.Prelude.{◌≡◌, ◌≤◌, ◌<◌, ◌+◌, ◌++◌, List, map, take, length, Some, None, Err, OnOk, OnErr, MatchResult, vec_capacity, vec_len};
 ghost use Rattle.rtps_params.specs.Item.{pair_of};
 ghost use Rattle.rtps_params.specs.Writing.{list_fault, parameter_fault, parameter_octets, written_list};
+ghost use Rattle.rtps_params.specs.declared.layout.parameter.TheConstants.{LONGEST_VALUE as longest_value};
 ghost use Rattle.rtps_params.specs.declared.list_fault.ListFault.{ListFault as Fault};
 ghost use Rattle.rtps_params.specs.declared.list_fault.ListFault.TheVariants.{Memory as NoRoom};
 
@@ -79,7 +80,7 @@ fn put_params(params: &[(u16, &[u8])], order: Order, out: &mut Vec<u8>) -> Resul
 /// Appends a parameter. Where its octets have no room, some of them may be added.
 #[tactic(auto, using(crate::proofs::Written::lengths))]
 fn put_param(pid: u16, value: &[u8], order: Order, out: &mut Vec<u8>) -> Result<(), Memory>
-    requires { length value.now ≤ 65532 }
+    requires { length value.now ≤ longest_value }
     ensures ok { OnOk result (out.new.items ≡ out.old.items ++ parameter_octets order (pid, value.now)) }
     ensures front { take (vec_len out.old) out.new.items ≡ out.old.items }
     ensures full { OnErr result (vec_capacity out.old < vec_len out.old + length (parameter_octets order (pid, value.now))) }
