@@ -7,7 +7,7 @@ abbrev pub first_fault : List (WireFault × Bool) → Option WireFault
 first_fault [] = None
 first_fault (row ∷ rows) = if row.1 then Some row.0 else first_fault rows
 
--- A reader answers the fault where there is one, and else what `view` sees as the value.
-abbrev pub Answers : {X Y : Type 0} → (X → Y) → Result X WireFault → Option WireFault → Y → Type 0
-Answers view (Ok x) fault value = (fault ≡ None) × (view x ≡ value)
-Answers view (Err e) fault value = fault ≡ Some e
+-- A reader gives the fault where there is one, and else what `view` sees as the value.
+abbrev pub ReadsOrFaults : {X Y : Type 0} → (X → Y) → Result X WireFault → Option WireFault → Y → Type 0
+ReadsOrFaults view (Ok x) fault value = (fault ≡ None) × (view x ≡ value)
+ReadsOrFaults view (Err e) fault value = fault ≡ Some e

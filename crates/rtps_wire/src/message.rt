@@ -1,7 +1,7 @@
 ghost use Rattle.std.specs.Prelude.{◌≡◌, ◌≤◌, ◌+◌, drop, false, length, true, IfOk, IfSome, MatchBool, MatchOption, MatchResult, None, Some};
 ghost use Rattle.std.specs.Iterator.{YieldsFirstBy, item_count};
 ghost use Rattle.rtps_wire.specs.Dataless.{dataless_next, is_dataless_at, is_dataless_with};
-ghost use Rattle.rtps_wire.specs.Fault.{Answers};
+ghost use Rattle.rtps_wire.specs.Fault.{ReadsOrFaults};
 ghost use Rattle.rtps_wire.specs.Message.{body_fault, body_length, body_of, extent_of, fault_at, item_at, octets_to_next_header, order_of as order_of_lem};
 ghost use Rattle.rtps_wire.specs.Reading.{outcome_value, outcomes_left, read_as, reading_of, refused_with};
 ghost use Rattle.rtps_wire.specs.Skipped.{is_read as is_read_lem, skipped_next};
@@ -207,7 +207,7 @@ fn is_dataless(id: u8, flags: u8, octets: &[u8]) -> bool
 #[tactic(auto, unfolding(crate::specs::Message::fault_at, crate::specs::Message::item_at))]
 #[inline(always)]
 fn read_item(rest: &[u8], at: usize) -> Result<(Item<'_>, usize), WireFault>
-    ensures item { Answers (λ found. item_value found.0) result (fault_at rest.now) (item_at rest.now at) }
+    ensures item { ReadsOrFaults (λ found. item_value found.0) result (fault_at rest.now) (item_at rest.now at) }
     ensures size { IfOk result (λ found. (found.1 ≡ 4 + body_length rest.now) × (found.1 ≤ length rest.now)) }
 {
     if rest.len() < submessage::SIZE {
@@ -258,7 +258,7 @@ fn order_of(flags: u8) -> Order
 /// Reads the body of a submessage.
 #[inline(always)]
 fn read_body(id: u8, flags: u8, octets: &[u8]) -> Result<Body<'_>, WireFault>
-    ensures { Answers body_value result (body_fault id flags octets.now) (body_of id flags octets.now) }
+    ensures { ReadsOrFaults body_value result (body_fault id flags octets.now) (body_of id flags octets.now) }
 {
     let order = order_of(flags);
     match id {

@@ -1,6 +1,6 @@
 ghost use Rattle.std.specs.Prelude.{◌≡◌, MatchResult};
 ghost use Rattle.rtps_wire.specs.Data.{data_fault, data_of, payload_of as payload_of_lem};
-ghost use Rattle.rtps_wire.specs.Fault.{Answers};
+ghost use Rattle.rtps_wire.specs.Fault.{ReadsOrFaults};
 ghost use Rattle.rtps_wire.specs.InlineQos.{HasQos, LacksQos};
 ghost use Rattle.rtps_wire.specs.Values.{data_value, payload_value};
 
@@ -16,7 +16,7 @@ use rtps_params::ParamList;
 /// Reads the body of a DATA.
 #[inline(always)]
 pub(crate) fn data(order: Order, flags: u8, body: &[u8]) -> Result<DataBody<'_>, WireFault>
-    ensures { Answers data_value result (data_fault order flags body.now) (data_of order flags body.now) }
+    ensures { ReadsOrFaults data_value result (data_fault order flags body.now) (data_of order flags body.now) }
 {
     let flags = DataFlags::from_bits_retain(flags);
     let (Some(offset), Some(number)) = (

@@ -1,4 +1,4 @@
-ghost use Rattle.rtps_wire.specs.Fault.{Answers};
+ghost use Rattle.rtps_wire.specs.Fault.{ReadsOrFaults};
 ghost use Rattle.rtps_wire.specs.Heartbeat.{heartbeat_fault, heartbeat_of};
 
 use super::fields::entity_at;
@@ -10,7 +10,7 @@ use rtps_ids::{Order, SeqNum, number_at, u32_at};
 /// Reads the body of a HEARTBEAT.
 #[inline]
 pub(crate) fn heartbeat(order: Order, flags: u8, body: &[u8]) -> Result<HeartbeatBody, WireFault>
-    ensures { Answers (λ heartbeat. heartbeat) result (heartbeat_fault order body.now) (heartbeat_of order flags body.now) }
+    ensures { ReadsOrFaults (λ heartbeat. heartbeat) result (heartbeat_fault order body.now) (heartbeat_of order flags body.now) }
 {
     let (Some(first), Some(last), Some(count)) = (
         number_at(order, body, heartbeat::FIRST),
