@@ -12,18 +12,17 @@ use Rattle.rtps_wire.specs.Values.{DataValue, PayloadValue}
 use Rattle.rtps_wire.specs.Values.PayloadValue.{Absent, Whole, Key}
 use Rattle.rtps_wire.specs.declared.fault.WireFault.{WireFault}
 use Rattle.rtps_wire.specs.declared.fault.WireFault.TheVariants.{ShortBody, BadFlags, BadOffset, BadNumber, BadInlineQos}
-use Rattle.rtps_wire.specs.declared.flags.TheConstants.DataFlags.{D, K, Q}
-use Rattle.rtps_wire.specs.declared.layout.data.TheConstants.{NUMBER, OCTETS_TO_QOS, QOS_FROM, READER, SIZE, WRITER}
+use Rattle.rtps_wire.specs.declared.layout.data.TheConstants.{D, K, NUMBER, OCTETS_TO_QOS, Q, QOS_FROM, READER, SIZE, WRITER}
 
 -- flags Q (inline QoS), D (data) and K (key); N has no effect
 abbrev pub has_qos : ℕ → Bool
-has_qos flags = bit_and flags Q.0 == Q.0
+has_qos flags = bit_and flags Q == Q
 
 abbrev pub has_data : ℕ → Bool
-has_data flags = bit_and flags D.0 == D.0
+has_data flags = bit_and flags D == D
 
 abbrev pub has_key : ℕ → Bool
-has_key flags = bit_and flags K.0 == K.0
+has_key flags = bit_and flags K == K
 
 -- extraFlags (ignored), octetsToInlineQos, readerId, writerId, writerSN
 abbrev pub octets_to_inline_qos : Order → List ℕ → ℕ
@@ -80,7 +79,7 @@ is_other_order order (Some list) = not (is_same_order order list.order)
 -- the flag that tells that there is an inline QoS
 abbrev pub qos_flag : Option ListValue → ℕ
 qos_flag None = 0
-qos_flag (Some list) = Q.0
+qos_flag (Some list) = Q
 
 -- the octets of the inline QoS
 abbrev pub qos_octets : Option ListValue → List ℕ
@@ -90,8 +89,8 @@ qos_octets (Some list) = list.octets
 -- the flag that tells the kind of a payload, and its octets
 abbrev pub payload_flag : PayloadValue → ℕ
 payload_flag Absent = 0
-payload_flag (Whole octets) = D.0
-payload_flag (Key octets) = K.0
+payload_flag (Whole octets) = D
+payload_flag (Key octets) = K
 
 abbrev pub payload_octets : PayloadValue → List ℕ
 payload_octets Absent = []

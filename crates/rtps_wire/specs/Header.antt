@@ -5,14 +5,14 @@ use Rattle.rtps_wire.specs.Fields.{prefix_at, vendor_at}
 use Rattle.rtps_wire.specs.declared.fault.WireFault.{WireFault}
 use Rattle.rtps_wire.specs.declared.fault.WireFault.TheVariants.{Short, NotRtps, BadVersion}
 use Rattle.rtps_wire.specs.declared.header.Header.{Header}
-use Rattle.rtps_wire.specs.declared.layout.header.TheConstants.{MAJOR, MINOR, PREFIX, SIZE, VENDOR, VERSION}
+use Rattle.rtps_wire.specs.declared.layout.header.TheConstants.{MAJOR, MINOR, PREFIX, PROTOCOL, SIZE, VENDOR, VERSION}
 
--- octets 0 to 3 are `RTPS`, then come the version, the vendor id and the prefix
+-- octets 0 to 3 are `RTPS` (`PROTOCOL`), then come the version, the vendor id and the prefix
 -- own: of the versions before 2, too, no message is read, since theirs are laid out otherwise; every minor version is taken
 unfoldable pub header_fault : List ℕ → Option WireFault
 header_fault octets = first_fault (
     (Short, nat_lt (length octets) SIZE)
-    ∷ (NotRtps, not (slice_index octets 0 == 82) || not (slice_index octets 1 == 84) || not (slice_index octets 2 == 80) || not (slice_index octets 3 == 83))
+    ∷ (NotRtps, not (slice_index octets 0 == slice_index PROTOCOL 0) || not (slice_index octets 1 == slice_index PROTOCOL 1) || not (slice_index octets 2 == slice_index PROTOCOL 2) || not (slice_index octets 3 == slice_index PROTOCOL 3))
     ∷ (BadVersion, not (slice_index octets MAJOR == VERSION))
     ∷ [])
 
@@ -27,4 +27,4 @@ header_of octets =
 
 -- the octets of a header that is written
 abbrev pub header_octets : Header → List ℕ
-header_octets header = 82 ∷ 84 ∷ 80 ∷ 83 ∷ header.version.major ∷ header.version.minor ∷ (header.vendor.0 ++ header.prefix.0)
+header_octets header = PROTOCOL ++ (header.version.major ∷ header.version.minor ∷ (header.vendor.0 ++ header.prefix.0))

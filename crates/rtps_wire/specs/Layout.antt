@@ -1,6 +1,6 @@
 -- The numbers of the layout, as the tables of the standard have them: each stands here and in `layout` alone. DDSI-RTPS 2.5,
 -- 9.4.4 "Mapping of the RTPS Header" and 9.4.5 "Mapping of the RTPS Submessages".
-use Rattle.std.specs.Prelude.{◌≡◌}
+use Rattle.std.specs.Prelude.{◌≡◌, [], ◌∷◌}
 use Rattle.rtps_wire.specs.declared.layout.header.TheConstants as header
 use Rattle.rtps_wire.specs.declared.layout.submessage.TheConstants as submessage
 use Rattle.rtps_wire.specs.declared.layout.id.TheConstants as id
@@ -11,13 +11,14 @@ use Rattle.rtps_wire.specs.declared.layout.heartbeat.TheConstants as heartbeat
 use Rattle.rtps_wire.specs.declared.layout.info_ts.TheConstants as info_ts
 use Rattle.rtps_wire.specs.declared.layout.info_dst.TheConstants as info_dst
 
--- The header of a message (DDSI-RTPS 2.5, 9.4.4 "Mapping of the RTPS Header"), and the version of those that are read.
+-- The header of a message (DDSI-RTPS 2.5, 9.4.4 "Mapping of the RTPS Header"), which begins with `RTPS`, and the version
+-- of those that are read.
 abbrev pub header_is : Type 0
-header_is = (header.SIZE ≡ 20) × (header.MAJOR ≡ 4) × (header.MINOR ≡ 5) × (header.VENDOR ≡ 6) × (header.PREFIX ≡ 8) × (header.VERSION ≡ 2)
+header_is = (header.SIZE ≡ 20) × (header.PROTOCOL ≡ 82 ∷ 84 ∷ 80 ∷ 83 ∷ []) × (header.MAJOR ≡ 4) × (header.MINOR ≡ 5) × (header.VENDOR ≡ 6) × (header.PREFIX ≡ 8) × (header.VERSION ≡ 2)
 
 -- The header of a submessage (DDSI-RTPS 2.5, 9.4.5.1 "Submessage Header").
 abbrev pub submessage_is : Type 0
-submessage_is = (submessage.SIZE ≡ 4) × (submessage.ID ≡ 0) × (submessage.FLAGS ≡ 1) × (submessage.OCTETS_TO_NEXT ≡ 2) × (submessage.E ≡ 1)
+submessage_is = (submessage.SIZE ≡ 4) × (submessage.ID ≡ 0) × (submessage.FLAGS ≡ 1) × (submessage.OCTETS_TO_NEXT ≡ 2) × (submessage.ALIGNMENT ≡ 4) × (submessage.E ≡ 1)
 
 -- The ids of submessages (DDSI-RTPS 2.5, 9.4.5.1.1 "SubmessageId").
 abbrev pub id_is : Type 0
@@ -29,7 +30,7 @@ ack_nack_is = (ack_nack.READER ≡ 0) × (ack_nack.WRITER ≡ 4) × (ack_nack.SE
 
 -- DATA (DDSI-RTPS 2.5, 9.4.5.4 "Data Submessage").
 abbrev pub data_is : Type 0
-data_is = (data_fields.OCTETS_TO_QOS ≡ 2) × (data_fields.QOS_FROM ≡ 4) × (data_fields.READER ≡ 4) × (data_fields.WRITER ≡ 8) × (data_fields.NUMBER ≡ 12) × (data_fields.SIZE ≡ 20)
+data_is = (data_fields.OCTETS_TO_QOS ≡ 2) × (data_fields.QOS_FROM ≡ 4) × (data_fields.READER ≡ 4) × (data_fields.WRITER ≡ 8) × (data_fields.NUMBER ≡ 12) × (data_fields.SIZE ≡ 20) × (data_fields.Q ≡ 0x02) × (data_fields.D ≡ 0x04) × (data_fields.K ≡ 0x08) × (data_fields.N ≡ 0x10)
 
 -- GAP (DDSI-RTPS 2.5, 9.4.5.6 "Gap Submessage").
 abbrev pub gap_is : Type 0

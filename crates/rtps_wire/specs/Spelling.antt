@@ -24,10 +24,9 @@ use Rattle.rtps_wire.specs.Written.{written_flags, written_id}
 use Rattle.rtps_wire.specs.declared.body.AckNackBody.{AckNackBody}
 use Rattle.rtps_wire.specs.declared.body.GapBody.{GapBody}
 use Rattle.rtps_wire.specs.declared.body.HeartbeatBody.{HeartbeatBody}
-use Rattle.rtps_wire.specs.declared.flags.TheConstants.DataFlags.{D, K, Q}
 use Rattle.rtps_wire.specs.declared.header.Header.{Header}
 use Rattle.rtps_wire.specs.declared.layout.ack_nack.TheConstants as ack_nack
-use Rattle.rtps_wire.specs.declared.layout.data.TheConstants.{QOS_FROM, SIZE}
+use Rattle.rtps_wire.specs.declared.layout.data.TheConstants.{D, K, Q, QOS_FROM, SIZE}
 use Rattle.rtps_wire.specs.declared.layout.heartbeat.TheConstants as heartbeat
 use Rattle.rtps_wire.specs.declared.layout.header.TheConstants.{VERSION}
 use Rattle.rtps_wire.specs.declared.layout.info_ts.TheConstants.{INVALIDATE}
@@ -112,7 +111,7 @@ SpellsBody order (Skipped id) octets = is_read id ≡ false
 
 -- the flags that have a name for a kind; any other is ignored (9.4.5.1.2 "Flags"), and so is flag N of a DATA
 abbrev pub named_flags : BodyValue → ℕ
-named_flags (Data body) = bit_or E (bit_or Q.0 (bit_or D.0 K.0))
+named_flags (Data body) = bit_or E (bit_or Q (bit_or D K))
 named_flags (Heartbeat body) = bit_or E (bit_or heartbeat.FINAL heartbeat.LIVELINESS)
 named_flags (AckNack body) = bit_or E ack_nack.FINAL
 named_flags (InfoTs time) = bit_or E INVALIDATE

@@ -10,6 +10,7 @@ use Rattle.rtps_wire.specs.Values.BodyValue.{Data, Heartbeat, Gap, Skipped}
 use Rattle.rtps_wire.specs.Written.{written_body}
 use Rattle.rtps_wire.specs.declared.header.Header.{Header}
 use Rattle.rtps_wire.specs.declared.layout.header.TheConstants.{VERSION}
+use Rattle.rtps_wire.specs.declared.layout.submessage.TheConstants.{ALIGNMENT}
 use Rattle.rtps_wire.specs.declared.write_fault.WriteFault.{WriteFault}
 use Rattle.rtps_wire.specs.declared.write_fault.WriteFault.TheVariants.{NotWritable, TooLong, Unaligned}
 
@@ -27,7 +28,7 @@ abbrev pub item_fault : Bool → ItemValue → Option WriteFault
 item_fault is_last item =
     if is_not_writable item.order item.body then Some NotWritable
     else if nat_le (2 ^ 16) (length (written_body item.order item.body)) then Some TooLong
-    else if not is_last && not (length (written_body item.order item.body) % 4 == 0) then Some Unaligned
+    else if not is_last && not (length (written_body item.order item.body) % ALIGNMENT == 0) then Some Unaligned
     else None
 
 -- the first of two faults

@@ -1,5 +1,8 @@
 ghost use Rattle.std.specs.Prelude.{⊤, [], ◌∷◌, codes};
+ghost use Rattle.rtps_wire.specs.declared.layout.data.TheConstants.{D as whole, K as key, N as non_standard, Q as inline_qos};
+ghost use Rattle.rtps_wire.specs.declared.layout.submessage.TheConstants.{E as little};
 
+use crate::layout::{data, submessage};
 use bitflags::{Flag, Flags, bitflag_items};
 
 /// The flags of a DATA that have a name (DDSI-RTPS 2.5, 9.4.5.4 "Data Submessage").
@@ -8,11 +11,11 @@ pub struct DataFlags(u8);
 
 bitflag_items! {
     impl DataFlags: u8 {
-        const E = 1;
-        const Q = 2;
-        const D = 4;
-        const K = 8;
-        const N = 16;
+        const E = submessage::E;
+        const Q = data::Q;
+        const D = data::D;
+        const K = data::K;
+        const N = data::N;
     }
 }
 
@@ -21,7 +24,7 @@ impl Flags for DataFlags {
 
     ghost exact = { ⊤ };
 
-    ghost table = { (codes "E", 1) ∷ (codes "Q", 2) ∷ (codes "D", 4) ∷ (codes "K", 8) ∷ (codes "N", 16) ∷ [] };
+    ghost table = { (codes "E", little) ∷ (codes "Q", inline_qos) ∷ (codes "D", whole) ∷ (codes "K", key) ∷ (codes "N", non_standard) ∷ [] };
 
     ghost set_of = { λ flags. flags.0 };
 

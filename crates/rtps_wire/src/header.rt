@@ -25,7 +25,8 @@ pub(crate) fn read_header(bytes: &[u8]) -> Result<Header, WireFault>
     if bytes.len() < header::SIZE {
         return Err(WireFault::Short);
     }
-    if bytes[0] != b'R' || bytes[1] != b'T' || bytes[2] != b'P' || bytes[3] != b'S' {
+    let [r, t, p, s] = header::PROTOCOL;
+    if bytes[0] != r || bytes[1] != t || bytes[2] != p || bytes[3] != s {
         return Err(WireFault::NotRtps);
     }
     if bytes[header::MAJOR] != header::VERSION {

@@ -1,10 +1,13 @@
-//! How messages lie in octets: ids, flags, sizes and places, each named once for the readers and for the definitions.
+//! How messages lie in octets: ids, flags, sizes and places, each named once for the readers, for the writers and for the
+//! definitions.
 //! Places count from 0 at the first octet of a header or of a submessage's body.
 
 /// The header of a message (DDSI-RTPS 2.5, 9.4.4 "Mapping of the RTPS Header"). An INFO_SRC's body has its version,
 /// vendor id and prefix at the same places.
 pub(crate) mod header {
     pub(crate) const SIZE: usize = 20;
+    /// The octets that stand first, from place 0 on.
+    pub(crate) const PROTOCOL: [u8; 4] = [b'R', b'T', b'P', b'S'];
 
     pub(crate) const MAJOR: usize = 4;
 
@@ -26,6 +29,8 @@ pub(crate) mod submessage {
     pub(crate) const FLAGS: usize = 1;
 
     pub(crate) const OCTETS_TO_NEXT: usize = 2;
+    /// A submessage begins at a multiple of this many octets behind the header of the message.
+    pub(crate) const ALIGNMENT: u16 = 4;
     /// Flag E: numbers lie with the lowest octet first.
     pub(crate) const E: u8 = 1;
 }
@@ -68,7 +73,7 @@ pub(crate) mod ack_nack {
     pub(crate) const FINAL: u8 = 2;
 }
 
-/// DATA (DDSI-RTPS 2.5, 9.4.5.4 "Data Submessage"). Its flags are [`crate::DataFlags`].
+/// DATA (DDSI-RTPS 2.5, 9.4.5.4 "Data Submessage").
 pub(crate) mod data {
     pub(crate) const OCTETS_TO_QOS: usize = 2;
     /// Where octetsToInlineQos counts from.
@@ -81,6 +86,14 @@ pub(crate) mod data {
     pub(crate) const NUMBER: usize = 12;
     /// The size of the fields.
     pub(crate) const SIZE: usize = 20;
+    /// Flag Q: there is an inline QoS.
+    pub(crate) const Q: u8 = 0x02;
+    /// Flag D: the payload is data.
+    pub(crate) const D: u8 = 0x04;
+    /// Flag K: the payload is a key.
+    pub(crate) const K: u8 = 0x08;
+    /// Flag N: the payload goes by no standard representation.
+    pub(crate) const N: u8 = 0x10;
 }
 
 /// GAP (DDSI-RTPS 2.5, 9.4.5.6 "Gap Submessage").

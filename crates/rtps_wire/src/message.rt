@@ -6,6 +6,7 @@ ghost use Rattle.rtps_wire.specs.Message.{body_fault, body_length, body_of, exte
 ghost use Rattle.rtps_wire.specs.Reading.{outcome_value, outcomes_left, read_as, reading_of, refused_with};
 ghost use Rattle.rtps_wire.specs.Skipped.{is_read as is_read_lem, skipped_next};
 ghost use Rattle.rtps_wire.specs.Values.{body_value, item_value};
+ghost use Rattle.rtps_wire.specs.declared.layout.submessage.TheConstants.{SIZE};
 
 use crate::body::{Body, Item};
 use crate::fault::{Refusal, WireFault};
@@ -136,7 +137,7 @@ impl<'a> Iterator for Items<'a> {
 /// The octetsToNextHeader of the submessage at the front.
 #[inline(always)]
 fn declared_by(rest: &[u8]) -> usize
-    requires { 4 ≤ length rest.now }
+    requires { SIZE ≤ length rest.now }
     ensures { result ≡ octets_to_next_header rest.now }
 {
     let order = order_of(rest[submessage::FLAGS]);
@@ -165,7 +166,7 @@ fn is_read(id: u8) -> bool
 #[inline(always)]
 fn dataless_size(rest: &[u8]) -> Option<usize>
     ensures { MatchOption result (is_dataless_at rest.now ≡ false)
-        (λ size. (is_dataless_at rest.now ≡ true) × (size ≡ 4 + body_length rest.now) × (size ≤ length rest.now)) }
+        (λ size. (is_dataless_at rest.now ≡ true) × (size ≡ SIZE + body_length rest.now) × (size ≤ length rest.now)) }
 {
     if rest.len() < submessage::SIZE {
         return None;
@@ -208,7 +209,7 @@ fn is_dataless(id: u8, flags: u8, octets: &[u8]) -> bool
 #[inline(always)]
 fn read_item(rest: &[u8], at: usize) -> Result<(Item<'_>, usize), WireFault>
     ensures item { ReadsOrFaults (λ found. item_value found.0) result (fault_at rest.now) (item_at rest.now at) }
-    ensures size { IfOk result (λ found. (found.1 ≡ 4 + body_length rest.now) × (found.1 ≤ length rest.now)) }
+    ensures size { IfOk result (λ found. (found.1 ≡ SIZE + body_length rest.now) × (found.1 ≤ length rest.now)) }
 {
     if rest.len() < submessage::SIZE {
         return Err(WireFault::CutHeader);

@@ -6,6 +6,7 @@ ghost use Rattle.rtps_wire.specs.AckNack.{ack_nack_flags, ack_nack_octets};
 use super::fields::{flag, put_set, set_size};
 use crate::body::AckNackBody;
 use crate::layout::ack_nack;
+use rtps_ids::layout::set;
 use rtps_ids::{Memory, Order, put_u32};
 
 /// The flags of an ACKNACK.
@@ -21,7 +22,7 @@ pub(crate) fn size(body: AckNackBody) -> u16
     ensures held { IsHeldAckNack body }
     ensures size { (order : Order) → length (ack_nack_octets order body) ≡ result }
 {
-    12 + set_size(body.set)
+    (ack_nack::LEAST - set::WORDS) as u16 + set_size(body.set)
 }
 
 /// Appends the body of an ACKNACK.

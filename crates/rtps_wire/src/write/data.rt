@@ -6,9 +6,7 @@ ghost use Rattle.rtps_wire.specs.Values.{data_value, payload_value};
 
 use super::fields::{entity_size, number_size};
 use crate::body::{DataBody, Payload};
-use crate::flags::DataFlags;
 use crate::layout::data;
-use bitflags::Flags;
 use rtps_ids::{Memory, Order, put_number, put_u16};
 
 /// Whether the inline QoS has another order than this.
@@ -26,7 +24,7 @@ pub(crate) fn flags(body: &DataBody<'_>) -> u8
     ensures { result ≡ data_flags (data_value body.now) }
 {
     let qos = match body.qos {
-        Some(_) => DataFlags::Q.bits(),
+        Some(_) => data::Q,
         None => 0,
     };
     qos | payload_flag(&body.payload)
@@ -38,8 +36,8 @@ fn payload_flag(payload: &Payload<'_>) -> u8
 {
     match payload {
         Payload::Absent => 0,
-        Payload::Whole(_) => DataFlags::D.bits(),
-        Payload::Key(_) => DataFlags::K.bits(),
+        Payload::Whole(_) => data::D,
+        Payload::Key(_) => data::K,
     }
 }
 

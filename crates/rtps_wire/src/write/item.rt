@@ -8,7 +8,7 @@ ghost use Rattle.rtps_wire.specs.Written.{item_octets, own_flags as own_flags_le
 use super::fields::order_flag;
 use super::{ack_nack, data, gap, heartbeat, info};
 use crate::body::{Body, Item};
-use crate::layout::id;
+use crate::layout::{id, submessage};
 use crate::write_fault::WriteFault;
 use rtps_ids::{Memory, Order, put_u16};
 
@@ -58,7 +58,7 @@ pub(crate) fn refusal(item: &Item<'_>, is_last: bool) -> Option<WriteFault>
     let Some(size) = size else {
         return Some(WriteFault::TooLong);
     };
-    if !is_last && size % 4 != 0 {
+    if !is_last && size % submessage::ALIGNMENT != 0 {
         return Some(WriteFault::Unaligned);
     }
     None

@@ -5,6 +5,7 @@ ghost use Rattle.rtps_wire.specs.Held.{IsHeldHeader, IsHeldItem};
 ghost use Rattle.rtps_wire.specs.Reading.{reading_of};
 ghost use Rattle.rtps_wire.specs.Values.{item_value};
 ghost use Rattle.rtps_wire.specs.Writable.{items_fault, write_fault as write_fault_lem};
+ghost use Rattle.rtps_wire.specs.declared.layout.header.TheConstants.{VERSION};
 ghost use Rattle.rtps_wire.specs.Written.{clean_reading, item_octets, message_octets};
 
 use super::item;
@@ -61,7 +62,7 @@ fn refusal(header: &Header, items: &[Item<'_>]) -> Option<WriteFault>
 
 /// Whether the header is of the version that is read.
 fn has_version(header: Header) -> bool
-    ensures version { result ≡ (header.version.major == 2) }
+    ensures version { result ≡ (header.version.major == VERSION) }
     ensures held { IsHeldHeader header }
 {
     header.version.major == header::VERSION
@@ -107,7 +108,7 @@ fn put_header(header: &Header, out: &mut Vec<u8>) -> Result<(), Memory>
     ensures kept { take (vec_len out.old) out.new.items ≡ out.old.items }
 {
     let version = header.version;
-    out.extend_from_slice(b"RTPS")?;
+    out.extend_from_slice(&header::PROTOCOL)?;
     out.extend_from_slice(&[version.major, version.minor])?;
     out.extend_from_slice(&header.vendor.0)?;
     out.extend_from_slice(&header.prefix.0)?;
