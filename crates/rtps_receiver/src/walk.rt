@@ -75,7 +75,7 @@ impl<'a> Walk<'a> {
     }
 }
 
-// Appends the acts of what is unread of a datagram, from this state on, and counts its items.
+/// Appends the acts of what is unread of a datagram, from this state on, and counts its items.
 fn push_acts<'a>(acts: &mut Vec<Act<'a>>, start: State, items: Items<'a>) -> Result<Tally, Memory>
     requires empty { acts.old.items ≡ [] }
     requires few { length (outcomes_left items) < 2 ^ 64 }
@@ -110,7 +110,7 @@ fn push_acts<'a>(acts: &mut Vec<Act<'a>>, start: State, items: Items<'a>) -> Res
     }
 }
 
-// Appends the DATA of what is unread of a datagram, from this state on.
+/// Appends the DATA of what is unread of a datagram, from this state on.
 fn push_data<'a>(acts: &mut Vec<Act<'a>>, start: State, items: Items<'a>) -> Result<(), Memory>
     requires { acts.old.items ≡ [] }
     ensures { OnOk result (map act_value acts.new.items
