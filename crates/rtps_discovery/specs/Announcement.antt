@@ -148,7 +148,7 @@ endpoint_in side fields =
 abbrev pub endpoint_of : Side → List ℕ → Result EndpointValue NoticeFault
 endpoint_of side payload = or_fault (fields_of payload) (endpoint_in side)
 
--- a reader answers what is said, its value by way of `view`
-abbrev pub Answers : {X Y : Type 0} → (X → Y) → Result X NoticeFault → Result Y NoticeFault → Type 0
-Answers view (Ok x) said = said ≡ Ok (view x)
-Answers view (Err fault) said = said ≡ Err fault
+-- a reader gives what is said, its value by way of `view`, or the fault that is said
+abbrev pub ReadsOrFaults : {X Y : Type 0} → (X → Y) → Result X NoticeFault → Result Y NoticeFault → Type 0
+ReadsOrFaults view (Ok x) said = said ≡ Ok (view x)
+ReadsOrFaults view (Err fault) said = said ≡ Err fault

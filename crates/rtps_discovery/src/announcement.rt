@@ -1,6 +1,6 @@
 ghost use Rattle.std.specs.Prelude.{◌≡◌, ◌≤◌, length, option_and_then, option_copied};
 ghost use Rattle.rtps_params.specs.Values.{guid_of};
-ghost use Rattle.rtps_discovery.specs.Announcement.{Answers, default_reliability, durability_of_kind, endpoint_in, endpoint_of, fields_of as fields_of_lem, kind_in, order_of, participant_in, participant_of, reliability_of_kind};
+ghost use Rattle.rtps_discovery.specs.Announcement.{ReadsOrFaults, default_reliability, durability_of_kind, endpoint_in, endpoint_of, fields_of as fields_of_lem, kind_in, order_of, participant_in, participant_of, reliability_of_kind};
 ghost use Rattle.rtps_discovery.specs.Endpoint.{endpoint_value};
 ghost use Rattle.rtps_discovery.specs.Fields.{fields_value};
 
@@ -16,7 +16,7 @@ use rtps_params::{ParamList, read_guid, read_text, read_u32};
 /// 2.5, 8.5.3 "The Simple Participant Discovery Protocol"). It takes no memory.
 #[tactic(auto, unfolding(crate::specs::Announcement::participant_in))]
 pub fn read_participant(payload: &[u8]) -> Result<Guid, NoticeFault>
-    ensures { Answers (λ guid. guid) result (participant_of payload.now) }
+    ensures { ReadsOrFaults (λ guid. guid) result (participant_of payload.now) }
 {
     match fields_of(payload) {
         Ok(list) => guid_in(list.first(PARTICIPANT_GUID)).ok_or(NoticeFault::NoGuid),
@@ -27,7 +27,7 @@ pub fn read_participant(payload: &[u8]) -> Result<Guid, NoticeFault>
 /// The endpoint of this side that a payload announces, or the payload's first fault (DDSI-RTPS 2.5, 8.5.4 "The Simple
 /// Endpoint Discovery Protocol"). Its names are parts of the payload. It takes no memory.
 pub fn read_endpoint(payload: &[u8], side: Side) -> Result<Endpoint<'_>, NoticeFault>
-    ensures { Answers endpoint_value result (endpoint_of side payload.now) }
+    ensures { ReadsOrFaults endpoint_value result (endpoint_of side payload.now) }
 {
     match fields_of(payload) {
         Ok(list) => endpoint_of(&list, side),
@@ -39,7 +39,7 @@ pub fn read_endpoint(payload: &[u8], side: Side) -> Result<Endpoint<'_>, NoticeF
 /// names (DDSI-RTPS 2.5, 10 "Serialized Payload Representation"). What follows its sentinel is ignored.
 #[tactic(auto, unfolding(crate::specs::Announcement::fields_of))]
 fn fields_of(payload: &[u8]) -> Result<ParamList<'_>, NoticeFault>
-    ensures { Answers fields_value result (fields_of_lem payload.now) }
+    ensures { ReadsOrFaults fields_value result (fields_of_lem payload.now) }
 {
     if payload.len() < representation::SIZE {
         return Err(NoticeFault::CutRepresentation);
@@ -71,7 +71,7 @@ fn payload_order(payload: &[u8]) -> Option<Order>
 /// The endpoint that a list tells of.
 #[tactic(auto, unfolding(crate::specs::Announcement::endpoint_in))]
 fn endpoint_of<'a>(list: &ParamList<'a>, side: Side) -> Result<Endpoint<'a>, NoticeFault>
-    ensures { Answers endpoint_value result (endpoint_in side (fields_value list.now)) }
+    ensures { ReadsOrFaults endpoint_value result (endpoint_in side (fields_value list.now)) }
 {
     let order = list.order();
     let told = EndpointParameters::of(list);

@@ -31,7 +31,7 @@ pub fn matches(writer: &Endpoint<'_>, reader: &Endpoint<'_>) -> bool
     suits(writer, reader)
 }
 
-/// The same.
+/// Whether they match, as the relation says it; [`matches`] says it as a test, too.
 fn suits(writer: &Endpoint<'_>, reader: &Endpoint<'_>) -> bool
     ensures { IsTrue result ↔ Matches (endpoint_value writer.now) (endpoint_value reader.now) }
 {

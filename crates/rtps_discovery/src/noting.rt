@@ -27,7 +27,7 @@ impl<'a> Directory<'a> {
         Ok(faults)
     }
 
-    // The same.
+    /// Notes acts in their order, and says how many are announcements with a fault.
     fn note_each(&mut self, acts: &[Act<'a>]) -> Result<u64, Memory>
         ensures map { OnOk result ((before : List ActValue)
             → IsMapOf before self.old → IsMapOf (before ++ map act_value acts.now) self.new) }
@@ -42,7 +42,7 @@ impl<'a> Directory<'a> {
     }
 }
 
-// One for an act that is answered with a fault, and else none.
+/// One for an act that is answered with a fault, and else none.
 fn fault_count(noted: Noted) -> u64
     ensures { result ≡ (if is_fault noted then 1 else 0) }
 {
