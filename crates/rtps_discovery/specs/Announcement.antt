@@ -17,7 +17,9 @@ use Rattle.rtps_discovery.specs.declared.endpoint.Side.{Side}
 use Rattle.rtps_discovery.specs.declared.endpoint.Side.TheVariants.{Writer, Reader}
 use Rattle.rtps_discovery.specs.declared.fault.NoticeFault.{NoticeFault}
 use Rattle.rtps_discovery.specs.declared.fault.NoticeFault.TheVariants as fault
+use Rattle.rtps_discovery.specs.declared.layout.durability.TheConstants as durability
 use Rattle.rtps_discovery.specs.declared.layout.pid.TheConstants.{DURABILITY, ENDPOINT_GUID, PARTICIPANT_GUID, RELIABILITY, TOPIC_NAME, TYPE_NAME}
+use Rattle.rtps_discovery.specs.declared.layout.reliability.TheConstants as reliability
 use Rattle.rtps_discovery.specs.declared.layout.representation.TheConstants as representation
 
 -- the first fault whose condition holds, or else the value
@@ -92,7 +94,7 @@ abbrev pub type_name_of : Fields → Option (List ℕ)
 type_name_of = text_field TYPE_NAME
 
 abbrev pub reliability_of_kind : ℕ → Option Reliability
-reliability_of_kind kind = if kind == 1 then Some BestEffort else if kind == 2 then Some Reliable else None
+reliability_of_kind kind = if kind == reliability.BEST_EFFORT then Some BestEffort else if kind == reliability.RELIABLE then Some Reliable else None
 
 -- own: a reliability that is not told is the default of DDS, RELIABLE for a writer and BEST_EFFORT for a reader
 abbrev pub default_reliability : Side → Reliability
@@ -104,10 +106,10 @@ reliability_of side = kind_field RELIABILITY reliability_of_kind (default_reliab
 
 abbrev pub durability_of_kind : ℕ → Option Durability
 durability_of_kind kind =
-    if kind == 0 then Some Volatile
-    else if kind == 1 then Some TransientLocal
-    else if kind == 2 then Some Transient
-    else if kind == 3 then Some Persistent
+    if kind == durability.VOLATILE then Some Volatile
+    else if kind == durability.TRANSIENT_LOCAL then Some TransientLocal
+    else if kind == durability.TRANSIENT then Some Transient
+    else if kind == durability.PERSISTENT then Some Persistent
     else None
 
 -- own: a durability that is not told is the default of DDS, VOLATILE

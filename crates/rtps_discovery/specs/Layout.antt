@@ -1,9 +1,11 @@
 -- What announcements are told by, as the tables of the standard have it: each number stands here and in `layout` alone.
--- DDSI-RTPS 2.5, 9.3.1.3 "Predefined EntityIds", 9.6 "Mapping of the RTPS Protocol" and 10 "Serialized Payload
--- Representation".
+-- DDSI-RTPS 2.5, 9.3.1.3 "Predefined EntityIds", 9.3.2 "Mapping of the Types that Appear Within Submessages or Built-in
+-- Topic Data", 9.6 "Mapping of the RTPS Protocol" and 10 "Serialized Payload Representation".
 use Rattle.std.specs.Prelude.{◌≡◌, [], ◌∷◌}
+use Rattle.rtps_discovery.specs.declared.layout.durability.TheConstants as durability
 use Rattle.rtps_discovery.specs.declared.layout.entity.TheConstants as entity
 use Rattle.rtps_discovery.specs.declared.layout.pid.TheConstants as pid
+use Rattle.rtps_discovery.specs.declared.layout.reliability.TheConstants as reliability
 use Rattle.rtps_discovery.specs.declared.layout.representation.TheConstants as representation
 
 -- the built-in writers that announce participants, writers and readers (9.3.1.3)
@@ -23,3 +25,12 @@ abbrev pub pid_is : Type 0
 pid_is =
     (pid.TOPIC_NAME ≡ 0x0005) × (pid.TYPE_NAME ≡ 0x0007) × (pid.RELIABILITY ≡ 0x001a) × (pid.DURABILITY ≡ 0x001d)
     × (pid.PARTICIPANT_GUID ≡ 0x0050) × (pid.ENDPOINT_GUID ≡ 0x005a)
+
+-- the kinds of reliability (9.3.2)
+abbrev pub reliability_is : Type 0
+reliability_is = (reliability.BEST_EFFORT ≡ 1) × (reliability.RELIABLE ≡ 2)
+
+-- the kinds of durability (DDS 1.4, 2.3.3 "DCPS PSM: IDL")
+abbrev pub durability_is : Type 0
+durability_is =
+    (durability.VOLATILE ≡ 0) × (durability.TRANSIENT_LOCAL ≡ 1) × (durability.TRANSIENT ≡ 2) × (durability.PERSISTENT ≡ 3)

@@ -8,7 +8,7 @@ use crate::endpoint::{Durability, Endpoint, Reliability, Side};
 use crate::endpoint_parameters::EndpointParameters;
 use crate::fault::NoticeFault;
 use crate::layout::pid::PARTICIPANT_GUID;
-use crate::layout::representation;
+use crate::layout::{durability, reliability, representation};
 use rtps_ids::{Guid, Order};
 use rtps_params::{ParamList, read_guid, read_text, read_u32};
 
@@ -118,8 +118,8 @@ fn reliability_in(value: Option<&[u8]>, order: Order, side: Side) -> Option<Reli
         });
     };
     match read_u32(value, order)? {
-        1 => Some(Reliability::BestEffort),
-        2 => Some(Reliability::Reliable),
+        reliability::BEST_EFFORT => Some(Reliability::BestEffort),
+        reliability::RELIABLE => Some(Reliability::Reliable),
         _ => None,
     }
 }
@@ -133,10 +133,10 @@ fn durability_in(value: Option<&[u8]>, order: Order) -> Option<Durability>
         return Some(Durability::Volatile);
     };
     match read_u32(value, order)? {
-        0 => Some(Durability::Volatile),
-        1 => Some(Durability::TransientLocal),
-        2 => Some(Durability::Transient),
-        3 => Some(Durability::Persistent),
+        durability::VOLATILE => Some(Durability::Volatile),
+        durability::TRANSIENT_LOCAL => Some(Durability::TransientLocal),
+        durability::TRANSIENT => Some(Durability::Transient),
+        durability::PERSISTENT => Some(Durability::Persistent),
         _ => None,
     }
 }

@@ -4,7 +4,7 @@ ghost use Rattle.std.specs.Prelude.{◌≡◌, ◌↔◌, ◌++◌, ◌∷◌, [
 ghost use Rattle.std.specs.List.Sorted.{IsPermutation, IsStrictlySortedBy};
 ghost use Rattle.rtps_ids.specs.declared.identity.Guid.{Guid};
 ghost use Rattle.rtps_receiver.specs.Values.{ActValue};
-ghost use Rattle.rtps_discovery.specs.Layout.{entity_is, pid_is, representation_is};
+ghost use Rattle.rtps_discovery.specs.Layout.{durability_is, entity_is, pid_is, reliability_is, representation_is};
 ghost use Rattle.rtps_discovery.specs.Announcement.{Fields, endpoint_in, participant_guid, participant_in};
 ghost use Rattle.rtps_discovery.specs.Directory.{DirectoryValue, IsMapOf, IsSettled, IsUnsettled, settled_in, unsettled_in};
 ghost use Rattle.rtps_discovery.specs.Endpoint.{EndpointValue};
@@ -94,9 +94,11 @@ pub fn in_order()
         → IsStrictlySortedBy pair_cmp (reliable_pairs (matches_among (settled_in directory.endpoints))) }
 {}
 
-/// The built-in writers, representations and parameters that are read are those of the standard.
+/// The built-in writers, representations, parameters and kinds that are read are those of the standard.
 pub fn layout_is_that_of_the_standard()
     ensures entity { entity_is }
     ensures representation { representation_is }
     ensures pid { pid_is }
+    ensures reliability { reliability_is }
+    ensures durability { durability_is }
 {}

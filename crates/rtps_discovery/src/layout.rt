@@ -1,5 +1,5 @@
-//! What announcements are told by: ids of writers, of representations and of parameters, each named once for the readers
-//! and for the definitions.
+//! What announcements are told by: ids of writers, of representations and of parameters, and kinds of reliability and
+//! durability, each named once for the readers and for the definitions.
 
 /// The built-in writers that announce participants, writers and readers (DDSI-RTPS 2.5, 9.3.1.3 "Predefined
 /// EntityIds").
@@ -42,4 +42,23 @@ pub(crate) mod pid {
     pub(crate) const PARTICIPANT_GUID: u16 = 0x0050;
 
     pub(crate) const ENDPOINT_GUID: u16 = 0x005a;
+}
+
+/// The kinds of reliability (DDSI-RTPS 2.5, 9.3.2 "Mapping of the Types that Appear Within Submessages or Built-in Topic
+/// Data", "ReliabilityKind_t").
+pub(crate) mod reliability {
+    pub(crate) const BEST_EFFORT: u32 = 1;
+
+    pub(crate) const RELIABLE: u32 = 2;
+}
+
+/// The kinds of durability, numbered as DDS names them (DDS 1.4, 2.3.3 "DCPS PSM: IDL", "DurabilityQosPolicyKind").
+pub(crate) mod durability {
+    pub(crate) const VOLATILE: u32 = 0;
+
+    pub(crate) const TRANSIENT_LOCAL: u32 = 1;
+
+    pub(crate) const TRANSIENT: u32 = 2;
+
+    pub(crate) const PERSISTENT: u32 = 3;
 }
