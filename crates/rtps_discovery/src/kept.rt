@@ -83,9 +83,25 @@ pub(crate) fn settled<'a>(
         ≡ map (λ kept. kept.endpoint) (filter (λ kept. kept.settled) (values endpoints.now))) }
 {
     let mut found = Vec::with_capacity(alloc, endpoints.len())?;
-    let settled = endpoints.values().filter(|kept| kept.settled);
-    found.extend(settled.map(|kept| kept.endpoint))?;
+    push_settled(endpoints, &mut found)?;
     Ok(found)
+}
+
+/// Appends the endpoints whose announcements agree.
+fn push_settled<'a>(
+    endpoints: &BTreeMap<Guid, Kept<'a>>,
+    found: &mut Vec<Endpoint<'a>>,
+) -> Result<(), Memory>
+    ensures { OnOk result (found.new.items
+        ≡ found.old.items ++ map (λ kept. kept.endpoint) (filter (λ kept. kept.settled) (values endpoints.now))) }
+{
+    for kept in endpoints.values() {
+        if !kept.settled {
+            continue;
+        }
+        found.push(kept.endpoint)?;
+    }
+    Ok(())
 }
 
 /// The endpoint of a GUID, where its announcements agree.
