@@ -75,9 +75,15 @@ fn endpoint_of<'a>(list: &ParamList<'a>, side: Side) -> Result<Endpoint<'a>, Not
 {
     let order = list.order();
     let told = EndpointParameters::of(list);
-    let guid = guid_in(told.guid).ok_or(NoticeFault::NoGuid)?;
-    let topic = told.topic.ok_or(NoticeFault::NoTopic)?;
-    let type_name = told.type_name.ok_or(NoticeFault::NoType)?;
+    let Some(guid) = guid_in(told.guid) else {
+        return Err(NoticeFault::NoGuid);
+    };
+    let Some(topic) = told.topic else {
+        return Err(NoticeFault::NoTopic);
+    };
+    let Some(type_name) = told.type_name else {
+        return Err(NoticeFault::NoType);
+    };
     let (Some(topic), Some(type_name)) = (read_text(topic, order), read_text(type_name, order))
     else {
         return Err(NoticeFault::BadText);
@@ -102,7 +108,10 @@ fn endpoint_of<'a>(list: &ParamList<'a>, side: Side) -> Result<Endpoint<'a>, Not
 fn guid_in(value: Option<&[u8]>) -> Option<Guid>
     ensures { result ≡ option_and_then guid_of (option_copied value.entry) }
 {
-    read_guid(value?)
+    match value {
+        Some(value) => read_guid(value),
+        None => None,
+    }
 }
 
 /// The reliability that a parameter's value tells of an endpoint of this side, the default where it is absent, or None
@@ -117,9 +126,9 @@ fn reliability_in(value: Option<&[u8]>, order: Order, side: Side) -> Option<Reli
             Side::Reader => Reliability::BestEffort,
         });
     };
-    match read_u32(value, order)? {
-        reliability::BEST_EFFORT => Some(Reliability::BestEffort),
-        reliability::RELIABLE => Some(Reliability::Reliable),
+    match read_u32(value, order) {
+        Some(reliability::BEST_EFFORT) => Some(Reliability::BestEffort),
+        Some(reliability::RELIABLE) => Some(Reliability::Reliable),
         _ => None,
     }
 }
@@ -132,11 +141,11 @@ fn durability_in(value: Option<&[u8]>, order: Order) -> Option<Durability>
     let Some(value) = value else {
         return Some(Durability::Volatile);
     };
-    match read_u32(value, order)? {
-        durability::VOLATILE => Some(Durability::Volatile),
-        durability::TRANSIENT_LOCAL => Some(Durability::TransientLocal),
-        durability::TRANSIENT => Some(Durability::Transient),
-        durability::PERSISTENT => Some(Durability::Persistent),
+    match read_u32(value, order) {
+        Some(durability::VOLATILE) => Some(Durability::Volatile),
+        Some(durability::TRANSIENT_LOCAL) => Some(Durability::TransientLocal),
+        Some(durability::TRANSIENT) => Some(Durability::Transient),
+        Some(durability::PERSISTENT) => Some(Durability::Persistent),
         _ => None,
     }
 }
