@@ -40,10 +40,26 @@ abbrev pub link_type_of : List ℕ → Option ℕ
 link_type_of file = link_type_by (order_of file) file
 
 -- the link types that are read
+abbrev pub link_numbered : ℕ → Option Link
+link_numbered number = if number == ETHERNET then Some Ethernet else if number == RAW_IP then Some RawIp else None
+
 abbrev pub link_by : Option ℕ → Option Link
 link_by None = None
-link_by (Some number) = if number == ETHERNET then Some Ethernet else if number == RAW_IP then Some RawIp else None
+link_by (Some number) = link_numbered number
 
 -- what the frames are
 abbrev pub link_of : Order → List ℕ → Option Link
 link_of order file = link_by (link_type_in order file)
+
+-- this link type, unless it is one that is read
+abbrev pub unless_read : ℕ → Option Link → Option ℕ
+unless_read number None = Some number
+unless_read number (Some link) = None
+
+abbrev pub unread_by : Option ℕ → Option ℕ
+unread_by None = None
+unread_by (Some number) = unless_read number (link_numbered number)
+
+-- the link type of a capture of that version whose frames are not read
+abbrev pub unread_link_type_of : List ℕ → Option ℕ
+unread_link_type_of file = unread_by (link_type_of file)

@@ -20,7 +20,7 @@ pub(crate) fn datagram_of_frame(link: Link, frame: &[u8]) -> Option<Place>
     })
 }
 
-// Where the packet begins that a frame carries, if it carries one of IPv4.
+/// Where the packet begins that a frame carries, if it carries one of IPv4.
 #[tactic(auto, unfolding(crate::specs::Datagrams::packet_at))]
 #[inline]
 fn packet_at(link: Link, frame: &[u8]) -> Option<usize>
@@ -41,7 +41,7 @@ fn packet_at(link: Link, frame: &[u8]) -> Option<usize>
     }
 }
 
-// Where the datagram stands that a packet carries, if it carries a whole one of UDP.
+/// Where the datagram stands that a packet carries, if it carries a whole one of UDP.
 #[tactic(auto, unfolding(crate::specs::Datagrams::datagram_of_packet))]
 #[inline]
 fn datagram_of_packet(octets: &[u8]) -> Option<Place>

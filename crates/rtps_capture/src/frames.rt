@@ -87,7 +87,7 @@ impl<'a> Iterator for Frames<'a> {
     }
 }
 
-// Where the frame stands whose header begins at this place, if both are whole.
+/// Where the frame stands whose header begins at this place, if both are whole.
 #[inline]
 pub(crate) fn frame_at(order: Order, octets: &[u8], at: usize) -> Option<Place>
     requires { at ≤ length octets.now }
@@ -110,7 +110,7 @@ pub(crate) fn frame_at(order: Order, octets: &[u8], at: usize) -> Option<Place>
     })
 }
 
-// What the frame at this place gives.
+/// What the frame at this place gives.
 #[inline]
 fn frame_given(link: Link, octets: &[u8], frame: Place) -> Frame
     requires ordered { frame.from ≤ frame.to }
@@ -124,7 +124,7 @@ fn frame_given(link: Link, octets: &[u8], frame: Place) -> Frame
     }
 }
 
-// Where the datagram stands that the frame at this place gives, if it gives one.
+/// Where the datagram stands that the frame at this place gives, if it gives one.
 #[inline]
 pub(crate) fn datagram_given(link: Link, octets: &[u8], frame: Place) -> Option<Place>
     requires ordered { frame.from ≤ frame.to }

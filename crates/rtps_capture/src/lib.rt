@@ -13,5 +13,5 @@ mod place;
 pub use cursor::Cursor;
 pub use frames::{Frame, Frames};
 pub use link::Link;
-pub use opening::{capture_order, link_type};
+pub use opening::{CAPTURE_HEADER_SIZE, capture_order, unread_link_type};
 pub use place::Place;

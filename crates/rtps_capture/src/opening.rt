@@ -1,11 +1,14 @@
 ghost use Rattle.std.specs.Prelude.{◌≡◌, ◌≤◌, length};
 ghost use Rattle.rtps_ids.specs.Octets.{number_of};
-ghost use Rattle.rtps_capture.specs.Opening.{is_magic as is_magic_lem, link_of as link_of_lem, link_type_in as link_type_in_lem, link_type_of, order_of};
+ghost use Rattle.rtps_capture.specs.Opening.{is_magic as is_magic_lem, link_numbered as link_numbered_lem, link_of as link_of_lem, link_type_in as link_type_in_lem, order_of, unread_link_type_of};
 ghost use Rattle.rtps_capture.specs.declared.layout.file.TheConstants.{SIZE};
 
 use crate::layout::file;
 use crate::link::Link;
 use rtps_ids::{Order, u16_at, u32_at};
+
+/// How many octets of a capture tell whether it is one that is read: those of its header.
+pub const CAPTURE_HEADER_SIZE: usize = file::SIZE;
 
 /// The order of the numbers in the headers of a capture, by its first four octets; None where they begin no capture
 /// (PCAP Capture File Format, 4 "File Header").
@@ -26,19 +29,24 @@ pub fn capture_order(octets: &[u8]) -> Option<Order>
     None
 }
 
-// Whether a capture begins with this number.
+/// Whether a capture begins with this number.
 fn is_magic(number: u32) -> bool
     ensures { result ≡ is_magic_lem number }
 {
     number == file::MICROSECONDS || number == file::NANOSECONDS
 }
 
-/// The link type of a capture, which says what its frames are, also where these are not read. None where the octets begin
-/// no capture of major version 2, or do not reach to its end (PCAP Capture File Format, 4 "File Header").
-pub fn link_type(octets: &[u8]) -> Option<u32>
-    ensures { result ≡ link_type_of octets.now }
+/// The link type of a capture whose frames are not read, for who refuses it. None where the octets begin no capture of
+/// major version 2, or do not reach to its header's end, and where its frames are read (PCAP Capture File Format, 4 "File
+/// Header").
+pub fn unread_link_type(octets: &[u8]) -> Option<u32>
+    ensures { result ≡ unread_link_type_of octets.now }
 {
-    link_type_in(capture_order(octets)?, octets)
+    let number = link_type_in(capture_order(octets)?, octets)?;
+    match link_numbered(number) {
+        Some(_) => None,
+        None => Some(number),
+    }
 }
 
 /// What the frames of a file are whose numbers lie in this order. None where its header is cut, of another major
@@ -46,14 +54,21 @@ pub fn link_type(octets: &[u8]) -> Option<u32>
 pub(crate) fn link_of(order: Order, octets: &[u8]) -> Option<Link>
     ensures { result ≡ link_of_lem order octets.now }
 {
-    match link_type_in(order, octets)? {
+    link_numbered(link_type_in(order, octets)?)
+}
+
+/// What the frames of this link type are, if they are read.
+fn link_numbered(number: u32) -> Option<Link>
+    ensures { result ≡ link_numbered_lem number }
+{
+    match number {
         file::ETHERNET => Some(Link::Ethernet),
         file::RAW_IP => Some(Link::RawIp),
         _ => None,
     }
 }
 
-// The link type of a file whose numbers lie in this order.
+/// The link type of a file whose numbers lie in this order.
 #[tactic(auto, unfolding(crate::specs::Opening::link_type_in))]
 fn link_type_in(order: Order, octets: &[u8]) -> Option<u32>
     ensures { result ≡ link_type_in_lem order octets.now }
