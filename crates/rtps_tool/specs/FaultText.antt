@@ -1,6 +1,8 @@
 -- What is told of a fault. own: one line on standard error, the same for the same fault.
-use Rattle.std.specs.Prelude.{ℕ, List, [], ◌∷◌, ◌++◌, codes}
+use Rattle.std.specs.Prelude.{ℕ, List, [], ◌∷◌, ◌++◌, codes, Option, None, Some}
 use Rattle.std.specs.Fmt.{decimal}
+use Rattle.rtps_tool.specs.declared.command.WordFault.{WordFault}
+use Rattle.rtps_tool.specs.declared.command.WordFault.TheVariants.{Refused, Help, Version, Memory as WordMemory}
 use Rattle.rtps_tool.specs.declared.faults.RecFault.{RecFault}
 use Rattle.rtps_tool.specs.declared.faults.RecFault.TheVariants.{BadHex, TooLong, TooMany, Memory, BadCapture, CutCapture}
 use Rattle.rtps_tool.specs.declared.faults.RunFault.{RunFault}
@@ -23,3 +25,11 @@ run_fault_text RunMemory = codes "out of memory"
 -- the line of a fault, with LF (10)
 abbrev pub fault_line : RunFault → List ℕ
 fault_line fault = codes "rtps-audit: " ++ (run_fault_text fault ++ 10 ∷ [])
+
+-- Where there was no memory for the words, this is told. What `clap` answers has the text that `clap` gives it, of which no
+-- clause of `clap` speaks.
+abbrev pub word_fault_text : WordFault → Option (List ℕ)
+word_fault_text (Refused error) = None
+word_fault_text (Help error) = None
+word_fault_text (Version error) = None
+word_fault_text WordMemory = Some (codes "out of memory")

@@ -10,6 +10,8 @@ use clap::error::ErrorKind;
 use clap::{Arg, ArgAction, ArgMatches, Command};
 use rtps_ids::SeqNum;
 use std::alloc::{AllocError, Global};
+use std::fmt;
+use thiserror::Error;
 
 /// What the words ask for. A FILE of `-` is standard input; the limits are those of its recording.
 #[derive(Debug, Drop)]
@@ -44,7 +46,7 @@ pub enum Choice {
 }
 
 /// Why the words ask for nothing that can be run.
-#[derive(Debug, Drop)]
+#[derive(Debug, Drop, Error)]
 pub enum WordFault {
     /// They are refused, with a text for standard error.
     Refused(clap::Error),
@@ -54,6 +56,23 @@ pub enum WordFault {
     Version(clap::Error),
     /// There was no memory to read them.
     Memory,
+}
+
+/// The text of an error of `clap` is its own, of which no clause of `clap` says what it is; that of [`WordFault::Memory`] is
+/// given here.
+impl fmt::Display for WordFault {
+    ghost use Rattle.rtps_tool.specs.FaultText.{word_fault_text};
+
+    ghost output = { word_fault_text };
+
+    fn fmt<W: fmt::Write>(&self, f: &mut fmt::Formatter<W>) -> fmt::Result {
+        match self {
+            WordFault::Refused(error) | WordFault::Help(error) | WordFault::Version(error) => {
+                write!(f, "{error}")
+            }
+            WordFault::Memory => write!(f, "out of memory"),
+        }
+    }
 }
 
 impl From<AllocError> for WordFault {
@@ -81,10 +100,10 @@ impl From<clap::Error> for WordFault {
     }
 }
 
-// The greatest number that an option takes, which is the greatest sequence number.
+/// The greatest number that an option takes, which is the greatest sequence number.
 const GREATEST: u64 = 9_223_372_036_854_775_807;
 
-// The version of the program.
+/// The version of the program.
 const VERSION: &str = "0.1.0";
 
 const FILE_HELP: &str =
@@ -127,7 +146,7 @@ const EXPLAINS: &str = "Says of each verdict of audit what it rests on, place by
 
 const SAMPLES: &str = "Writes a recording to try, which audit finds complete";
 
-// An option of this name that takes a number from 1 to 2^63 - 1, which is called so.
+/// An option of this name that takes a number from 1 to 2^63 - 1, which is called so.
 fn number_option<'a>(alloc: Global, called: &'a str, name: &'a str, help: &'a str) -> Arg<'a>
     ensures rule { rule_of result ≡ number_rule called.now name.now }
     ensures local { result.global ≡ false }
@@ -139,7 +158,7 @@ fn number_option<'a>(alloc: Global, called: &'a str, name: &'a str, help: &'a st
         .help(help)
 }
 
-// A subcommand that reads a FILE, within two limits.
+/// A subcommand that reads a FILE, within two limits.
 fn reading_subcommand<'a>(
     alloc: Global,
     name: &'a str,
@@ -159,7 +178,7 @@ fn reading_subcommand<'a>(
     two.arg(number_option(alloc, "OCTETS", "max-octets", OCTETS_HELP))
 }
 
-// A subcommand that judges: it reads a FILE, and asks for numbers from some number on.
+/// A subcommand that judges: it reads a FILE, and asks for numbers from some number on.
 fn report_subcommand<'a>(
     alloc: Global,
     name: &'a str,
@@ -173,7 +192,7 @@ fn report_subcommand<'a>(
     reading.arg(from)
 }
 
-// The flag of `audit` that asks for JSON.
+/// The flag of `audit` that asks for JSON.
 fn json_flag<'a>(alloc: Global) -> Arg<'a>
     ensures rule { rule_of result ≡ json_rule }
     ensures local { result.global ≡ false }
@@ -184,7 +203,7 @@ fn json_flag<'a>(alloc: Global) -> Arg<'a>
         .help(JSON_HELP)
 }
 
-// The subcommand `audit`, which judges, and prints JSON where it is asked to.
+/// The subcommand `audit`, which judges, and prints JSON where it is asked to.
 fn audit_subcommand<'a>(alloc: Global) -> Result<Command<'a>, AllocError>
     ensures app { IfOk result (λ command. app_of command ≡ audit_app) }
     ensures local { IfOk result (λ command. (out-Command command).has_globals ≡ false) }
@@ -193,7 +212,7 @@ fn audit_subcommand<'a>(alloc: Global) -> Result<Command<'a>, AllocError>
     report.arg(json_flag(alloc))
 }
 
-// A subcommand that reads nothing.
+/// A subcommand that reads nothing.
 fn plain_subcommand<'a>(alloc: Global, name: &'a str, about: &'a str) -> Command<'a>
     ensures app { app_of result ≡ new_app name.now }
     ensures local { (out-Command result).has_globals ≡ false }
@@ -201,7 +220,7 @@ fn plain_subcommand<'a>(alloc: Global, name: &'a str, about: &'a str) -> Command
     Command::new(alloc, name).about(about).after_help(STATUSES)
 }
 
-// The program, with no subcommand yet.
+/// The program, with no subcommand yet.
 fn bare_program<'a>(alloc: Global) -> Command<'a>
     ensures { app_of result ≡ bare_app }
 {
@@ -212,7 +231,7 @@ fn bare_program<'a>(alloc: Global) -> Command<'a>
         .subcommand_required(true)
 }
 
-// The program's command line.
+/// The program's command line.
 fn program<'a>(alloc: Global) -> Result<Command<'a>, AllocError>
     ensures { IfOk result (λ command. app_of command ≡ program_app) }
 {
@@ -227,14 +246,14 @@ fn program<'a>(alloc: Global) -> Result<Command<'a>, AllocError>
     four.subcommand(plain_subcommand(alloc, "sample", SAMPLES))
 }
 
-// The FILE of a subcommand; empty where it has none.
+/// The FILE of a subcommand; empty where it has none.
 fn file_of(alloc: Global, found: &ArgMatches) -> Result<String, AllocError>
     ensures { IfOk result (λ file. string_bytes file ≡ unwrap_or (first_of (codes "FILE") (rows_of (found_of found.now))) []) }
 {
     String::from_str(alloc, found.get_str("FILE").unwrap_or(""))
 }
 
-// The number that a text is; 1 where it is none that a sample can have.
+/// The number that a text is; 1 where it is none that a sample can have.
 fn number_in(text: &str) -> SeqNum
     ensures { IsNumberGiven (Some text.now) result }
 {
@@ -246,7 +265,7 @@ fn number_in(text: &str) -> SeqNum
     }
 }
 
-// The number from which on is asked; 1 where none is given.
+/// The number from which on is asked; 1 where none is given.
 fn number_of(found: &ArgMatches) -> SeqNum
     ensures { IsNumberGiven (first_of (codes "N") (rows_of (found_of found.now))) result }
 {
@@ -256,7 +275,7 @@ fn number_of(found: &ArgMatches) -> SeqNum
     }
 }
 
-// The number that a text is; the usual one where it is none from 1 to 2^63 - 1.
+/// The number that a text is; the usual one where it is none from 1 to 2^63 - 1.
 fn count_in(text: &str, usually: u64) -> u64
     ensures { IsGivenOr usually (Some text.now) result }
 {
@@ -266,7 +285,7 @@ fn count_in(text: &str, usually: u64) -> u64
     }
 }
 
-// The number that is called so; the usual one where none is given.
+/// The number that is called so; the usual one where none is given.
 fn count_of(found: &ArgMatches, called: &str, usually: u64) -> u64
     ensures { IsGivenOr usually (first_of called.now (rows_of (found_of found.now))) result }
 {
@@ -276,7 +295,7 @@ fn count_of(found: &ArgMatches, called: &str, usually: u64) -> u64
     }
 }
 
-// The limits that are given, each the usual one where it is not.
+/// The limits that are given, each the usual one where it is not.
 fn limits_of(found: &ArgMatches) -> Limits
     ensures { AreLimitsGiven (rows_of (found_of found.now)) result }
 {
@@ -287,14 +306,14 @@ fn limits_of(found: &ArgMatches) -> Limits
     }
 }
 
-// Whether JSON is asked for.
+/// Whether JSON is asked for.
 fn flag_of(found: &ArgMatches) -> bool
     ensures { IsFlagGiven (one_of (codes "json") (rows_of (found_of found.now))) result }
 {
     found.get_flag("json")
 }
 
-// What the matches choose; None where they have no subcommand that can be chosen.
+/// What the matches choose; None where they have no subcommand that can be chosen.
 fn choice_of(alloc: Global, matches: &ArgMatches) -> Result<Option<Choice>, AllocError>
     ensures { IfOk result (λ choice. MatchOption choice
         ((chosen : Choice) → ¬ IsChoice (subcommand_rows_of matches.now) chosen)
@@ -358,7 +377,7 @@ pub fn read_words<'a>(alloc: Global, words: &'a [&'a str]) -> Result<Choice, Wor
     }
 }
 
-// What refuses a subcommand that `clap` takes and the program does not have.
+/// What refuses a subcommand that `clap` takes and the program does not have.
 fn no_such_subcommand(program: &mut Command) -> WordFault
     ensures { HasItsKind result }
 {
