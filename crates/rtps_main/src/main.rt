@@ -5,8 +5,8 @@ mod progress;
 
 use progress::{Progress, Wiping};
 use rtps_tool::{
-    Choice, Ending, RecFault, RunFault, Unwatched, WordFault, link_type, read_words, run_choice,
-    status, write_fault,
+    CAPTURE_HEADER_SIZE, Choice, Ending, RecFault, RunFault, Unwatched, WordFault, read_words,
+    run_choice, status, unread_link_type, write_fault,
 };
 use std::alloc::AllocError;
 use std::fs::File;
@@ -14,14 +14,14 @@ use std::io::{Read, Write};
 use std::process::ExitCode;
 use std::{env, io};
 
-// How many octets of an input tell why it is refused: those of a capture's header.
-const START: usize = 24;
+/// How many octets of an input tell why it is refused: those of a capture's header.
+const START: usize = CAPTURE_HEADER_SIZE;
 
-// The octets that a pcapng file begins with.
+/// The octets that a pcapng file begins with.
 const PCAPNG: &[u8] = b"\x0a\x0d\x0d\x0a";
 
-// An input that remembers how it began, how many octets were read of it, and why its last read failed, and tells of what
-// was read.
+/// An input that remembers how it began, how many octets were read of it, and why its last read failed, and tells of what
+/// was read.
 #[derive(Drop)]
 struct Remembering<'a, R> {
     input: R,
@@ -47,7 +47,7 @@ impl<R: Read> Read for Remembering<'_, R> {
     }
 }
 
-// Writes octets behind those that are known, as many as there is room for, and answers how many are known then.
+/// Writes octets behind those that are known, as many as there is room for, and answers how many are known then.
 fn remember(start: &mut [u8], known: usize, octets: &[u8]) -> usize {
     let mut known = known;
     for octet in octets {
@@ -60,7 +60,7 @@ fn remember(start: &mut [u8], known: usize, octets: &[u8]) -> usize {
     known
 }
 
-// The error again, with the reason that the system gave.
+/// The error again, with the reason that the system gave.
 fn same_error(error: &io::Error) -> io::Error {
     match error.raw_os_error() {
         Some(code) => io::Error::from_raw_os_error(code),
@@ -72,7 +72,7 @@ fn main(rt: HostRuntime) -> ExitCode {
     ExitCode::from(run(&rt))
 }
 
-// Runs what the words of the command line ask for, and answers the status to end with.
+/// Runs what the words of the command line ask for, and answers the status to end with.
 fn run(rt: &HostRuntime) -> u8 {
     let args = match env::args(rt) {
         Ok(args) => args,
@@ -87,7 +87,7 @@ fn run(rt: &HostRuntime) -> u8 {
     }
 }
 
-// Where the words cannot be had: one is not text, or there is no memory for them.
+/// Where the words cannot be had: one is not text, or there is no memory for them.
 fn refuse_args(rt: &HostRuntime, error: &io::Error) -> u8 {
     if error.kind() == io::ErrorKind::OutOfMemory {
         return finish(rt, &Err(RunFault::Memory));
@@ -116,7 +116,7 @@ fn run_args(rt: &HostRuntime, args: &[String]) -> Result<u8, AllocError> {
     })
 }
 
-// Runs what was chosen on its FILE, if it has one. Where that cannot be opened or read, it is named with the reason.
+/// Runs what was chosen on its FILE, if it has one. Where that cannot be opened or read, it is named with the reason.
 fn run_on_file(rt: &HostRuntime, choice: &Choice) -> Result<Ending, RunFault> {
     let Some(file) = choice.file() else {
         let mut watch = Unwatched;
@@ -140,7 +140,7 @@ fn run_on_file(rt: &HostRuntime, choice: &Choice) -> Result<Ending, RunFault> {
     }
 }
 
-// Runs what was chosen on what its FILE holds.
+/// Runs what was chosen on what its FILE holds.
 fn run_on_input<R: Read + Drop>(
     rt: &HostRuntime,
     choice: &Choice,
@@ -171,8 +171,8 @@ fn run_on_input<R: Read + Drop>(
     outcome
 }
 
-// Says which of the limits an input passes of which so many octets were read, and what raises it. Octets are looked at
-// before datagrams.
+/// Says which of the limits an input passes of which so many octets were read, and what raises it. Octets are looked at
+/// before datagrams.
 fn tell_limit(rt: &HostRuntime, choice: &Choice, file: &str, octets: u64) {
     let Some(limits) = choice.limits() else {
         return;
@@ -188,8 +188,8 @@ fn tell_limit(rt: &HostRuntime, choice: &Choice, file: &str, octets: u64) {
     );
 }
 
-// Says of an input that is refused what it is, by its first octets, where it is a capture of a kind that is not read, and
-// what makes one of it that is.
+/// Says of an input that is refused what it is, by its first octets, where it is a capture of a kind that is not read, and
+/// what makes one of it that is.
 fn tell_form(rt: &HostRuntime, file: &str, start: &[u8]) {
     if start.starts_with(PCAPNG) {
         let _ = writeln!(
@@ -197,18 +197,15 @@ fn tell_form(rt: &HostRuntime, file: &str, start: &[u8]) {
             "rtps-audit: {file}: a pcapng file; editcap -F pcap IN OUT makes a capture of it"
         );
     }
-    match link_type(start) {
-        None | Some(1 | 101) => {}
-        Some(number) => {
-            let _ = writeln!(
-                rt.stderr(),
-                "rtps-audit: {file}: frames of link type {number}; tshark -r IN -Y 'udp && !icmp' -T fields -e udp.payload >OUT makes a recording of it"
-            );
-        }
+    if let Some(number) = unread_link_type(start) {
+        let _ = writeln!(
+            rt.stderr(),
+            "rtps-audit: {file}: frames of link type {number}; tshark -r IN -Y 'udp && !icmp' -T fields -e udp.payload >OUT makes a recording of it"
+        );
     }
 }
 
-// Names a file that cannot be opened or read, with the reason but without the number that the system gives it.
+/// Names a file that cannot be opened or read, with the reason but without the number that the system gives it.
 fn tell_reason(rt: &HostRuntime, file: &str, error: &io::Error) {
     let mut text = String::new(rt.alloc());
     if write!(text, "{error}").is_err() {
@@ -218,7 +215,7 @@ fn tell_reason(rt: &HostRuntime, file: &str, error: &io::Error) {
     let _ = writeln!(rt.stderr(), "rtps-audit: {file}: {reason}");
 }
 
-// Tells of a fault, if there is one, and answers the status to end with.
+/// Tells of a fault, if there is one, and answers the status to end with.
 fn finish(rt: &HostRuntime, outcome: &Result<Ending, RunFault>) -> u8 {
     if let Err(fault) = outcome {
         let _ = write_fault(fault, &mut rt.stderr());

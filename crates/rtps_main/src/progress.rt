@@ -4,13 +4,13 @@ use rtps_tool::Watch;
 use std::io::{self, IsTerminal, Write};
 use std::time::Instant;
 
-// How many milliseconds a run is silent.
+/// How many milliseconds a run is silent.
 const SILENCE: u128 = 1000;
 
-// How many milliseconds lie between two tellings.
+/// How many milliseconds lie between two tellings.
 const PAUSE: u128 = 200;
 
-// Goes back to the start of a terminal's line and wipes it.
+/// Goes back to the start of a terminal's line and wipes it.
 const WIPE: &str = "\r\x1b[K";
 
 /// Tells on standard error how far a run is, where that is a terminal and the run takes longer than a second.
@@ -38,13 +38,13 @@ impl<'a> Progress<'a> {
         }
     }
 
-    // How many milliseconds the run took so far.
+    /// How many milliseconds the run took so far.
     fn elapsed(&self) -> Option<u128> {
         let elapsed = self.begin?.elapsed(self.rt).ok()?;
         Some(elapsed.as_millis())
     }
 
-    // Whether it is time to tell.
+    /// Whether it is time to tell.
     fn is_due(&mut self) -> bool {
         let Some(elapsed) = self.elapsed() else {
             return false;
@@ -67,7 +67,7 @@ impl<'a> Progress<'a> {
         }
     }
 
-    // Wipes what was told.
+    /// Wipes what was told.
     fn wipe(&self) {
         if self.elapsed().is_some_and(|elapsed| elapsed >= SILENCE) {
             let _ = write!(self.rt.stderr(), "{WIPE}");

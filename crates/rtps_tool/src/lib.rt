@@ -18,7 +18,7 @@ pub use faults::{RecFault, RunFault};
 pub use form::either::{read_recording, read_recording_within};
 pub use limits::Limits;
 pub use outcome::{status, write_fault};
-pub use rtps_capture::link_type;
+pub use rtps_capture::{CAPTURE_HEADER_SIZE, unread_link_type};
 pub use rtps_text::{Datagrams, Ending, Recording, Unwatched, Watch};
 pub use run::{
     run_audit, run_audit_from, run_audit_within, run_json_within, run_list, run_list_within,
