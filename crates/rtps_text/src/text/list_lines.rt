@@ -1,4 +1,4 @@
-ghost use Rattle.std.specs.Prelude.{Some};
+ghost use Rattle.std.specs.Prelude.{◌≡◌, Some};
 ghost use Rattle.std.specs.Fmt.{WritesOnOk};
 ghost use Rattle.std.specs.List.{flat_map};
 ghost use Rattle.rtps_discovery.specs.Endpoint.{endpoint_value};
@@ -33,7 +33,7 @@ impl fmt::Display for EndpointLine<'_> {
         write!(
             f,
             "{} {} topic {} ",
-            SideText(endpoint.side),
+            side_name(endpoint.side),
             endpoint.guid,
             NameText(endpoint.topic)
         )?;
@@ -41,8 +41,8 @@ impl fmt::Display for EndpointLine<'_> {
             f,
             "type {} {} {}",
             NameText(endpoint.type_name),
-            ReliabilityText(endpoint.reliability),
-            DurabilityText(endpoint.durability)
+            reliability_name(endpoint.reliability),
+            durability_name(endpoint.durability)
         )
     }
 }
@@ -61,7 +61,7 @@ impl fmt::Display for MatchLine {
             "pair {} {} {}",
             pair.writer,
             pair.reader,
-            MatchText(reliable)
+            match_name(reliable)
         )
     }
 }
@@ -118,7 +118,7 @@ impl fmt::Display for NameOctets<'_> {
     }
 }
 
-// Writes the octets of a name.
+/// Writes the octets of a name.
 fn write_name<W: fmt::Write>(name: &[u8], f: &mut fmt::Formatter<W>) -> fmt::Result
     ensures { WritesOnOk W.write_str_gives f.old result (flat_map octet_text name.now) f.new }
 {
@@ -128,7 +128,7 @@ fn write_name<W: fmt::Write>(name: &[u8], f: &mut fmt::Formatter<W>) -> fmt::Res
     Ok(())
 }
 
-// An octet of a name.
+/// An octet of a name.
 #[derive(Drop)]
 struct OctetText(u8);
 
@@ -146,61 +146,43 @@ impl fmt::Display for OctetText {
     }
 }
 
-#[derive(Drop)]
-struct SideText(Side);
-
-impl fmt::Display for SideText {
-    ghost output = { λ text. Some (side_text text.0) };
-
-    #[tactic(auto, unfolding(crate::specs::ListText::side_text))]
-    fn fmt<W: fmt::Write>(&self, f: &mut fmt::Formatter<W>) -> fmt::Result {
-        f.write_str(match self.0 {
-            Side::Writer => "writer",
-            Side::Reader => "reader",
-        })
+/// What the line of an endpoint calls its side.
+#[tactic(auto, unfolding(crate::specs::ListText::side_text))]
+fn side_name(side: Side) -> &'static str
+    ensures { result.now ≡ side_text side }
+{
+    match side {
+        Side::Writer => "writer",
+        Side::Reader => "reader",
     }
 }
 
-#[derive(Drop)]
-struct ReliabilityText(Reliability);
-
-impl fmt::Display for ReliabilityText {
-    ghost output = { λ text. Some (reliability_text text.0) };
-
-    #[tactic(auto, unfolding(crate::specs::ListText::reliability_text))]
-    fn fmt<W: fmt::Write>(&self, f: &mut fmt::Formatter<W>) -> fmt::Result {
-        f.write_str(match self.0 {
-            Reliability::BestEffort => "best-effort",
-            Reliability::Reliable => "reliable",
-        })
+#[tactic(auto, unfolding(crate::specs::ListText::reliability_text))]
+fn reliability_name(reliability: Reliability) -> &'static str
+    ensures { result.now ≡ reliability_text reliability }
+{
+    match reliability {
+        Reliability::BestEffort => "best-effort",
+        Reliability::Reliable => "reliable",
     }
 }
 
-#[derive(Drop)]
-struct DurabilityText(Durability);
-
-impl fmt::Display for DurabilityText {
-    ghost output = { λ text. Some (durability_text text.0) };
-
-    #[tactic(auto, unfolding(crate::specs::ListText::durability_text))]
-    fn fmt<W: fmt::Write>(&self, f: &mut fmt::Formatter<W>) -> fmt::Result {
-        f.write_str(match self.0 {
-            Durability::Volatile => "volatile",
-            Durability::TransientLocal => "transient-local",
-            Durability::Transient => "transient",
-            Durability::Persistent => "persistent",
-        })
+#[tactic(auto, unfolding(crate::specs::ListText::durability_text))]
+fn durability_name(durability: Durability) -> &'static str
+    ensures { result.now ≡ durability_text durability }
+{
+    match durability {
+        Durability::Volatile => "volatile",
+        Durability::TransientLocal => "transient-local",
+        Durability::Transient => "transient",
+        Durability::Persistent => "persistent",
     }
 }
 
-#[derive(Drop)]
-struct MatchText(bool);
-
-impl fmt::Display for MatchText {
-    ghost output = { λ text. Some (match_text text.0) };
-
-    #[tactic(auto, unfolding(crate::specs::ListText::match_text))]
-    fn fmt<W: fmt::Write>(&self, f: &mut fmt::Formatter<W>) -> fmt::Result {
-        f.write_str(if self.0 { "reliable" } else { "best-effort" })
-    }
+/// What the line of a match says of it: whether both are reliable.
+#[tactic(auto, unfolding(crate::specs::ListText::match_text))]
+fn match_name(reliable: bool) -> &'static str
+    ensures { result.now ≡ match_text reliable }
+{
+    if reliable { "reliable" } else { "best-effort" }
 }

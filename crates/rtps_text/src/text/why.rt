@@ -47,7 +47,7 @@ pub(crate) fn explained_of<'a, P: Watch>(
     explain_from(alloc, &datagrams, from, watch)
 }
 
-// The lines of explained rows, of a recording of which so many frames were ignored, if it has any.
+/// The lines of explained rows, of a recording of which so many frames were ignored, if it has any.
 fn text_of(
     alloc: Global,
     explained: &Explained<'_>,
@@ -62,7 +62,7 @@ fn text_of(
     Ok(text)
 }
 
-// Appends the lines of each row.
+/// Appends the lines of each row.
 fn push_rows(text: &mut String, rows: &[Explanation<'_>]) -> Result<(), AllocError>
     ensures { OnOk result (string_bytes text.new
         ≡ string_bytes text.old ++ flat_map (λ row. explanation_text (explanation_value row)) rows.now) }
@@ -73,29 +73,20 @@ fn push_rows(text: &mut String, rows: &[Explanation<'_>]) -> Result<(), AllocErr
     Ok(())
 }
 
-// Appends the lines of a row.
+/// Appends the lines of a row.
 fn push_row(text: &mut String, row: &Explanation<'_>) -> Result<(), AllocError>
     ensures { OnOk result (string_bytes text.new ≡ string_bytes text.old ++ explanation_text (explanation_value row.now)) }
 {
     let evidence = &row.evidence;
-    let names = NamesLine {
-        topic: row.topic,
-        type_name: row.type_name,
-    };
-    let amounts = AmountsLine {
-        payloads: evidence.payloads,
-        gone: evidence.gone,
-        untold: evidence.untold,
-    };
     write!(text, "{}", PairLine(row))?;
-    write!(text, "{names}")?;
+    write!(text, "{}", NamesLine(row))?;
     write!(text, "{}", AnnouncedLine(evidence.announcement))?;
     write!(text, "{}", AcknowledgedLine(evidence.acknowledgement))?;
-    write!(text, "{amounts}")?;
+    write!(text, "{}", AmountsLine(evidence))?;
     push_shown(text, evidence)
 }
 
-// Appends the lines of what the verdict rests on.
+/// Appends the lines of what the verdict rests on.
 fn push_shown(text: &mut String, evidence: &Evidence<'_>) -> Result<(), AllocError>
     ensures { OnOk result (string_bytes text.new
         ≡ string_bytes text.old ++ shown_by evidence.now.verdict (evidence_value evidence.now)) }
@@ -114,7 +105,7 @@ fn push_shown(text: &mut String, evidence: &Evidence<'_>) -> Result<(), AllocErr
     }
 }
 
-// Appends the line of what was sent for a number; nothing where nothing was.
+/// Appends the line of what was sent for a number; nothing where nothing was.
 fn push_sent(text: &mut String, number: i64, sent: Option<Sent<'_>>) -> Result<(), AllocError>
     ensures { OnOk result (string_bytes text.new ≡ string_bytes text.old ++ sent_line number (option_map sent_value sent.entry)) }
 {

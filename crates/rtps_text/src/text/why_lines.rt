@@ -4,7 +4,7 @@ ghost use Rattle.rtps_text.specs.WhyText.{acknowledged_line, amounts_line, annou
 
 use crate::text::audit_lines::VerdictText;
 use crate::text::list_lines::NameText;
-use rtps_evidence::{Announcement, Claim, Explanation, Kind, Place, Teller};
+use rtps_evidence::{Announcement, Claim, Evidence, Explanation, Kind, Place, Teller};
 use std::fmt;
 
 /// The line of a pair and its verdict.
@@ -28,20 +28,17 @@ impl fmt::Display for PairLine<'_> {
 
 /// The line of the topic and the type that a pair is about.
 #[derive(Drop)]
-pub(crate) struct NamesLine<'a> {
-    pub(crate) topic: &'a [u8],
-    pub(crate) type_name: &'a [u8],
-}
+pub(crate) struct NamesLine<'a>(pub(crate) &'a Explanation<'a>);
 
 impl fmt::Display for NamesLine<'_> {
-    ghost output = { λ line. Some (names_line line.topic.now line.type_name.now) };
+    ghost output = { λ line. Some (names_line line.0.now.topic.now line.0.now.type_name.now) };
 
     fn fmt<W: fmt::Write>(&self, f: &mut fmt::Formatter<W>) -> fmt::Result {
         writeln!(
             f,
             "  topic {} type {}",
-            NameText(self.topic),
-            NameText(self.type_name)
+            NameText(self.0.topic),
+            NameText(self.0.type_name)
         )
     }
 }
@@ -89,20 +86,17 @@ impl fmt::Display for AcknowledgedLine {
 
 /// The line of how many numbers have a payload, are gone without one, or have no word.
 #[derive(Drop)]
-pub(crate) struct AmountsLine {
-    pub(crate) payloads: u64,
-    pub(crate) gone: u64,
-    pub(crate) untold: u64,
-}
+pub(crate) struct AmountsLine<'a>(pub(crate) &'a Evidence<'a>);
 
-impl fmt::Display for AmountsLine {
-    ghost output = { λ line. Some (amounts_line line.payloads line.gone line.untold) };
+impl fmt::Display for AmountsLine<'_> {
+    ghost output = { λ line. Some (amounts_line line.0.now.payloads line.0.now.gone line.0.now.untold) };
 
     fn fmt<W: fmt::Write>(&self, f: &mut fmt::Formatter<W>) -> fmt::Result {
+        let evidence = self.0;
         writeln!(
             f,
             "  payloads {} gone {} untold {}",
-            self.payloads, self.gone, self.untold
+            evidence.payloads, evidence.gone, evidence.untold
         )
     }
 }
