@@ -127,7 +127,7 @@ body_line state at order (InfoDst prefix) = info_dst_line at order prefix
 body_line state at order (InfoSrc version vendor prefix) = info_src_line at order version vendor prefix
 body_line state at order (Skipped id) = skipped_line at id
 
--- the line of an item behind which the receiver is in this state
+-- the line of an item at whose place the receiver is in this state
 abbrev pub item_line : State → ItemValue → List ℕ
 item_line state item = body_line state item.at item.order item.body
 

@@ -50,7 +50,7 @@ pub(crate) fn push_number(writer: &mut Writer, name: &str, number: i64) -> Resul
 }
 
 /// Appends a text.
-pub(crate) fn push_word(writer: &mut Writer, name: &str, text: &str) -> Result<(), AllocError>
+pub(crate) fn push_text(writer: &mut Writer, name: &str, text: &str) -> Result<(), AllocError>
     ensures tokens { OnOk result (writer.new.tokens ≡ writer.old.tokens ++ key name.now ∷ string_token text.now ∷ []) }
     ensures before { writer.new.before ≡ writer.old.before }
 {
@@ -58,25 +58,25 @@ pub(crate) fn push_word(writer: &mut Writer, name: &str, text: &str) -> Result<(
     writer.string(text)
 }
 
-/// Appends a GUID, which is written to `word` first.
+/// Appends a GUID, which is written to `text` first.
 pub(crate) fn push_guid(
     writer: &mut Writer,
-    word: &mut String,
+    text: &mut String,
     name: &str,
     guid: Guid,
 ) -> Result<(), AllocError>
     ensures tokens { OnOk result (writer.new.tokens ≡ writer.old.tokens ++ key name.now ∷ string_token (guid_text guid) ∷ []) }
     ensures before { writer.new.before ≡ writer.old.before }
 {
-    word.clear();
-    write!(word, "{guid}")?;
-    push_word(writer, name, word)
+    text.clear();
+    write!(text, "{guid}")?;
+    push_text(writer, name, text)
 }
 
-/// Appends a topic or a type, which is written to `word` first.
+/// Appends a topic or a type, which is written to `text` first.
 pub(crate) fn push_name(
     writer: &mut Writer,
-    word: &mut String,
+    text: &mut String,
     name: &str,
     octets: &[u8],
 ) -> Result<(), AllocError>
@@ -84,12 +84,12 @@ pub(crate) fn push_name(
         ≡ writer.old.tokens ++ key name.now ∷ string_token (flat_map octet_text octets.now) ∷ []) }
     ensures before { writer.new.before ≡ writer.old.before }
 {
-    word.clear();
-    write!(word, "{}", NameOctets(octets))?;
-    push_word(writer, name, word)
+    text.clear();
+    write!(text, "{}", NameOctets(octets))?;
+    push_text(writer, name, text)
 }
 
-// Appends where a submessage stands.
+/// Appends where a submessage stands.
 fn push_place(writer: &mut Writer, place: Place) -> Result<(), AllocError>
     ensures tokens { OnOk result (writer.new.tokens ≡ writer.old.tokens ++ tokens_of (place_members place)) }
     ensures before { writer.new.before ≡ writer.old.before }
@@ -98,7 +98,7 @@ fn push_place(writer: &mut Writer, place: Place) -> Result<(), AllocError>
     push_count(writer, "at", place.at as u64)
 }
 
-// Appends the value of an announcement.
+/// Appends the value of an announcement.
 fn push_announcement(
     writer: &mut Writer,
     announcement: Option<Announcement>,
@@ -111,7 +111,7 @@ fn push_announcement(
     };
     writer.begin_object()?;
     push_number(writer, "number", announcement.number)?;
-    push_word(writer, "by", kind_name(announcement.kind))?;
+    push_text(writer, "by", kind_name(announcement.kind))?;
     push_place(writer, announcement.place)?;
     writer.end_object()
 }
@@ -145,20 +145,21 @@ pub(crate) fn push_teller(writer: &mut Writer, teller: Option<Teller>) -> Result
         return writer.null();
     };
     writer.begin_object()?;
-    push_word(writer, "by", kind_name(teller.kind))?;
+    push_text(writer, "by", kind_name(teller.kind))?;
     push_place(writer, teller.place)?;
     writer.end_object()
 }
 
-// Appends what a payload is, and how many octets it has.
+/// Appends what a payload is, and how many octets it has.
 fn push_carried(writer: &mut Writer, kind: &str, octets: usize) -> Result<(), AllocError>
     ensures tokens { OnOk result (writer.new.tokens ≡ writer.old.tokens ++ tokens_of (carried_members kind.now octets)) }
     ensures before { writer.new.before ≡ writer.old.before }
 {
-    push_word(writer, "payload", kind)?;
+    push_text(writer, "payload", kind)?;
     push_count(writer, "octets", octets as u64)
 }
 
+/// Appends which of the three a payload is, and how many octets it has.
 fn push_payload(writer: &mut Writer, payload: Payload<'_>) -> Result<(), AllocError>
     ensures tokens { OnOk result (writer.new.tokens ≡ writer.old.tokens ++ tokens_of (payload_members (Some (payload_value payload.entry)))) }
     ensures before { writer.new.before ≡ writer.old.before }

@@ -11,7 +11,7 @@ use crate::ending::Ending;
 use crate::recording::Recording;
 use crate::text::json_members::{
     push_claim, push_count, push_evidence, push_guid, push_name, push_number, push_sent,
-    push_teller, push_total, push_word,
+    push_teller, push_text, push_total,
 };
 use crate::text::why::{ending_of, explained_of};
 use json::Writer;
@@ -35,7 +35,7 @@ pub fn json_text<P: Watch>(
     Ok((text, ending_of(&explained.rows)))
 }
 
-// The line of explained rows, of a recording of which so many frames were ignored, if it has any.
+/// The line of explained rows, of a recording of which so many frames were ignored, if it has any.
 fn line_of(
     alloc: Global,
     explained: &Explained<'_>,
@@ -50,7 +50,7 @@ fn line_of(
     Ok(text)
 }
 
-// Appends the object of a report.
+/// Appends the object of a report.
 fn push_report(
     alloc: Global,
     writer: &mut Writer,
@@ -61,18 +61,18 @@ fn push_report(
         ≡ writer.old.tokens ++ json_tokens (report_json (map explanation_value explained.now.rows.items) explained.now.counts ignored)) }
     ensures before { writer.new.before ≡ writer.old.before }
 {
-    let mut word = String::new(alloc);
+    let mut text = String::new(alloc);
     writer.begin_object()?;
-    push_pairs(writer, &mut word, &explained.rows)?;
+    push_pairs(writer, &mut text, &explained.rows)?;
     push_counts(writer, explained.counts)?;
     push_ignored(writer, ignored)?;
     writer.end_object()
 }
 
-// Appends the array of rows. Names are written to `word` first.
+/// Appends the array of rows. Names are written to `text` first.
 fn push_pairs(
     writer: &mut Writer,
-    word: &mut String,
+    text: &mut String,
     rows: &[Explanation<'_>],
 ) -> Result<(), AllocError>
     ensures tokens { OnOk result (writer.new.tokens
@@ -81,14 +81,14 @@ fn push_pairs(
 {
     writer.key("pairs")?;
     writer.begin_array()?;
-    push_rows(writer, word, rows)?;
+    push_rows(writer, text, rows)?;
     writer.end_array()
 }
 
-// Appends the objects of rows.
+/// Appends the objects of rows.
 fn push_rows(
     writer: &mut Writer,
-    word: &mut String,
+    text: &mut String,
     rows: &[Explanation<'_>],
 ) -> Result<(), AllocError>
     ensures tokens { OnOk result (writer.new.tokens
@@ -96,50 +96,50 @@ fn push_rows(
     ensures before { writer.new.before ≡ writer.old.before }
 {
     for row in rows {
-        push_row(writer, word, row)?;
+        push_row(writer, text, row)?;
     }
     Ok(())
 }
 
-// Appends the object of a row.
-fn push_row(writer: &mut Writer, word: &mut String, row: &Explanation<'_>) -> Result<(), AllocError>
+/// Appends the object of a row.
+fn push_row(writer: &mut Writer, text: &mut String, row: &Explanation<'_>) -> Result<(), AllocError>
     ensures tokens { OnOk result (writer.new.tokens ≡ writer.old.tokens ++ json_tokens (row_json (explanation_value row.now))) }
     ensures before { writer.new.before ≡ writer.old.before }
 {
     writer.begin_object()?;
-    push_pair(writer, word, row)?;
+    push_pair(writer, text, row)?;
     push_verdict(writer, row.evidence.verdict)?;
     push_evidence(writer, &row.evidence)?;
     push_shown(writer, &row.evidence)?;
     writer.end_object()
 }
 
-// Appends a pair and its names.
+/// Appends a pair and its names.
 fn push_pair(
     writer: &mut Writer,
-    word: &mut String,
+    text: &mut String,
     row: &Explanation<'_>,
 ) -> Result<(), AllocError>
     ensures tokens { OnOk result (writer.new.tokens ≡ writer.old.tokens ++ tokens_of (pair_members (explanation_value row.now))) }
     ensures before { writer.new.before ≡ writer.old.before }
 {
-    push_guid(writer, word, "writer", row.pair.writer)?;
-    push_guid(writer, word, "reader", row.pair.reader)?;
-    push_name(writer, word, "topic", row.topic)?;
-    push_name(writer, word, "type", row.type_name)
+    push_guid(writer, text, "writer", row.pair.writer)?;
+    push_guid(writer, text, "reader", row.pair.reader)?;
+    push_name(writer, text, "topic", row.topic)?;
+    push_name(writer, text, "type", row.type_name)
 }
 
-// Appends the name of a verdict and its number.
+/// Appends the name of a verdict and its number.
 fn push_judged(writer: &mut Writer, name: &str, number: i64) -> Result<(), AllocError>
     ensures tokens { OnOk result (writer.new.tokens
         ≡ writer.old.tokens ++ key (codes "verdict") ∷ string_token name.now ∷ key (codes "number") ∷ number_token (signed_decimal number) ∷ []) }
     ensures before { writer.new.before ≡ writer.old.before }
 {
-    push_word(writer, "verdict", name)?;
+    push_text(writer, "verdict", name)?;
     push_number(writer, "number", number)
 }
 
-// Appends a verdict and its numbers.
+/// Appends a verdict and its numbers.
 fn push_verdict(writer: &mut Writer, verdict: Verdict) -> Result<(), AllocError>
     ensures tokens { OnOk result (writer.new.tokens ≡ writer.old.tokens ++ tokens_of (verdict_members verdict)) }
     ensures before { writer.new.before ≡ writer.old.before }
@@ -155,7 +155,7 @@ fn push_verdict(writer: &mut Writer, verdict: Verdict) -> Result<(), AllocError>
     }
 }
 
-// Appends what the verdict rests on.
+/// Appends what the verdict rests on.
 fn push_shown(writer: &mut Writer, evidence: &Evidence<'_>) -> Result<(), AllocError>
     ensures tokens { OnOk result (writer.new.tokens
         ≡ writer.old.tokens ++ tokens_of (shown_members evidence.now.verdict (evidence_value evidence.now))) }
@@ -178,7 +178,7 @@ fn push_shown(writer: &mut Writer, evidence: &Evidence<'_>) -> Result<(), AllocE
     }
 }
 
-// Appends what was counted.
+/// Appends what was counted.
 fn push_counts(writer: &mut Writer, counts: Counts) -> Result<(), AllocError>
     ensures tokens { OnOk result (writer.new.tokens ≡ writer.old.tokens ++ tokens_of (counts_members counts)) }
     ensures before { writer.new.before ≡ writer.old.before }
@@ -191,7 +191,7 @@ fn push_counts(writer: &mut Writer, counts: Counts) -> Result<(), AllocError>
     push_count(writer, "unsettled", counts.unsettled)
 }
 
-// Appends how many frames were ignored; nothing where there are no frames.
+/// Appends how many frames were ignored; nothing where there are no frames.
 fn push_ignored(writer: &mut Writer, ignored: Option<u64>) -> Result<(), AllocError>
     ensures tokens { OnOk result (writer.new.tokens ≡ writer.old.tokens ++ tokens_of (ignored_members ignored)) }
     ensures before { writer.new.before ≡ writer.old.before }
