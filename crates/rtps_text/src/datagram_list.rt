@@ -141,8 +141,8 @@ impl<'a> Iterator for Datagrams<'a> {
     }
 }
 
-// Appends the octets that these digits stand for, and answers whether they stand for any. Nothing is appended where
-// they do not, and after an `Err`.
+/// Appends the octets that these digits stand for, and answers whether they stand for any. Nothing is appended where
+/// they do not, and after an `Err`.
 fn append_hex(octets: &mut Vec<u8>, digits: &[u8]) -> Result<bool, AllocError>
     ensures found { IfOk result (λ found. found ≡ is_ok (decode_of digits.now)) }
     ensures appended { IfOk result (λ found. octets.new.items ≡ octets.old.items ++ octets_of digits.now) }
@@ -159,8 +159,8 @@ fn append_hex(octets: &mut Vec<u8>, digits: &[u8]) -> Result<bool, AllocError>
     Ok(found)
 }
 
-// Writes the octets that these digits stand for over those from place `from` on, and answers whether they stand for
-// any.
+/// Writes the octets that these digits stand for over those from place `from` on, and answers whether they stand for
+/// any.
 fn decode_behind(octets: &mut [u8], from: usize, digits: &[u8]) -> bool
     requires { length octets.old ≡ from + length digits.now / 2 }
     ensures found { result ≡ is_ok (decode_of digits.now) }

@@ -4,13 +4,13 @@ ghost use Rattle.rtps_text.specs.Room.{roomy_size};
 
 use std::alloc::AllocError;
 
-// The least that room is asked for besides what is needed, in octets or places.
+/// The least that room is asked for besides what is needed, in octets or places.
 const ROOM_MIN: usize = 1 << 16;
 
-// How many sizes a datagram may have: 0 to 65,535 octets.
+/// How many sizes a datagram may have: 0 to 65,535 octets.
 const SIZES: u64 = 1 << 16;
 
-// How many places there are where a datagram may begin.
+/// How many places there are where a datagram may begin.
 const STARTS: usize = 1 << 48;
 
 /// Where a datagram stands in octets: from the place of its first octet on, up to the place behind its last. It takes 8

@@ -25,7 +25,7 @@ pub fn audit_text<P: Watch>(
     Ok((text, ending_of(&report.rows)))
 }
 
-// The audit of a recording.
+/// The audit of a recording.
 fn report_of<P: Watch>(
     alloc: Global,
     recording: &Recording,
@@ -49,7 +49,7 @@ pub(crate) fn datagrams_of(alloc: Global, recording: &Recording) -> Result<Vec<&
     Ok(datagrams)
 }
 
-// The lines of a report on a recording of which so many frames were ignored, if it has any.
+/// The lines of a report on a recording of which so many frames were ignored, if it has any.
 fn report_text(alloc: Global, report: &Report, ignored: Option<u64>) -> Result<String, AllocError>
     ensures { IfOk result (λ text. string_bytes text ≡ text_of_report report.now.rows.items report.now.counts ignored) }
 {
@@ -60,7 +60,7 @@ fn report_text(alloc: Global, report: &Report, ignored: Option<u64>) -> Result<S
     Ok(text)
 }
 
-// Appends the lines of rows.
+/// Appends the lines of rows.
 fn push_rows(text: &mut String, rows: &[Row]) -> Result<(), AllocError>
     ensures { OnOk result (string_bytes text.new ≡ string_bytes text.old ++ flat_map row_line rows.now) }
 {
@@ -70,7 +70,7 @@ fn push_rows(text: &mut String, rows: &[Row]) -> Result<(), AllocError>
     Ok(())
 }
 
-// Clean where each row is complete.
+/// Clean where each row is complete.
 fn ending_of(rows: &[Row]) -> Ending
     ensures { result ≡ ending_of_rows rows.now }
 {

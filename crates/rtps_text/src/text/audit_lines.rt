@@ -55,7 +55,7 @@ impl fmt::Display for ReportCountsLine {
     }
 }
 
-// The counts that stand last in a report: fragments, ACKNACKs for everyone, unsettled GUIDs, and ignored frames.
+/// The counts that stand last in a report: fragments, ACKNACKs for everyone, unsettled GUIDs, and ignored frames.
 #[derive(Drop)]
 struct FurtherCounts(Counts, Option<u64>);
 
@@ -75,7 +75,7 @@ impl fmt::Display for FurtherCounts {
     }
 }
 
-// How many frames were ignored, behind a space; nothing where there are no frames.
+/// How many frames were ignored, behind a space; nothing where there are no frames.
 #[derive(Drop)]
 struct IgnoredText(Option<u64>);
 

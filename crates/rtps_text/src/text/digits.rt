@@ -17,7 +17,7 @@ impl fmt::Display for OctetDigits {
     }
 }
 
-// Writes octets in lower-case hexadecimal, by way of `digits`, of which there are two for each octet.
+/// Writes octets in lower-case hexadecimal, by way of `digits`, of which there are two for each octet.
 fn write_digits<W: fmt::Write>(
     octets: &[u8],
     digits: &mut [u8],

@@ -46,7 +46,7 @@ pub(crate) fn push_item(
     }
 }
 
-// Appends what each line but that of a skipped submessage begins with.
+/// Appends what each line but that of a skipped submessage begins with.
 #[inline(always)]
 fn push_head(text: &mut String, name: &str, at: usize, order: Order) -> Result<(), AllocError>
     ensures { OnOk result (string_bytes text.new
@@ -57,7 +57,7 @@ fn push_head(text: &mut String, name: &str, at: usize, order: Order) -> Result<(
     text.push_str(order_name(order))
 }
 
-// Appends what the line of an act begins with, up to the entities that it names.
+/// Appends what the line of an act begins with, up to the entities that it names.
 fn push_act(
     text: &mut String,
     name: &str,
@@ -77,6 +77,7 @@ fn push_act(
     push_digits(text, &writer.0)
 }
 
+/// Appends the line of a DATA.
 fn push_data(
     text: &mut String,
     tail: &mut String,
@@ -96,7 +97,7 @@ fn push_data(
     push_tail(text, tail, state)
 }
 
-// How many octets the inline QoS has.
+/// How many octets the inline QoS has.
 #[tactic(auto, unfolding(crate::specs::ShowText::qos_octets))]
 fn qos_octets(qos: &Option<ParamList>) -> usize
     ensures { result ≡ qos_octets_lem (option_map list_value qos.now) }
@@ -107,6 +108,7 @@ fn qos_octets(qos: &Option<ParamList>) -> usize
     }
 }
 
+/// Appends the line of a HEARTBEAT.
 fn push_heartbeat(
     text: &mut String,
     tail: &mut String,
@@ -133,7 +135,7 @@ fn push_heartbeat(
     push_tail(text, tail, state)
 }
 
-// Appends the fields of a heartbeat that are numbers.
+/// Appends the fields of a heartbeat that are numbers.
 fn push_numbers(text: &mut String, heartbeat: &HeartbeatBody) -> Result<(), AllocError>
     ensures { OnOk result (string_bytes text.new
         ≡ string_bytes text.old ++ (codes " first " ++ (decimal heartbeat.now.first
@@ -144,6 +146,7 @@ fn push_numbers(text: &mut String, heartbeat: &HeartbeatBody) -> Result<(), Allo
     push_field(text, " count ", heartbeat.count)
 }
 
+/// Appends the line of an ACKNACK.
 fn push_ack_nack(
     text: &mut String,
     tail: &mut String,
@@ -170,6 +173,7 @@ fn push_ack_nack(
     push_tail(text, tail, state)
 }
 
+/// Appends the line of a GAP.
 fn push_gap(
     text: &mut String,
     tail: &mut String,
@@ -188,7 +192,7 @@ fn push_gap(
     push_tail(text, tail, state)
 }
 
-// Appends the base of a set, how many bits it has, and the bits.
+/// Appends the base of a set, how many bits it has, and the bits.
 #[inline(always)]
 fn push_set(text: &mut String, set: &NumberSet) -> Result<(), AllocError>
     ensures { OnOk result (string_bytes text.new
@@ -200,6 +204,7 @@ fn push_set(text: &mut String, set: &NumberSet) -> Result<(), AllocError>
     push_bitmap(text, set)
 }
 
+/// Appends the line of an INFO_TS.
 fn push_info_ts(
     text: &mut String,
     at: usize,
@@ -214,6 +219,7 @@ fn push_info_ts(
     text.push_str("\n")
 }
 
+/// Appends the line of an INFO_DST.
 fn push_info_dst(
     text: &mut String,
     at: usize,
@@ -228,6 +234,7 @@ fn push_info_dst(
     text.push_str("\n")
 }
 
+/// Appends the line of an INFO_SRC.
 fn push_info_src(
     text: &mut String,
     at: usize,

@@ -25,7 +25,7 @@ pub fn list_text(alloc: Global, recording: &Recording) -> Result<(String, Ending
     Ok((text, Ending::Clean))
 }
 
-// Notes the acts of all datagrams, and answers how many had a fault.
+/// Notes the acts of all datagrams, and answers how many had a fault.
 fn note_datagrams<'a>(
     alloc: Global,
     directory: &mut Directory<'a>,
@@ -44,7 +44,7 @@ fn note_datagrams<'a>(
     Ok(faults)
 }
 
-// The lines of a directory, and of so many faults.
+/// The lines of a directory, and of so many faults.
 fn directory_text(alloc: Global, directory: &Directory<'_>, faults: u128) -> Result<String, Memory>
     ensures { IfOk result (λ text. string_bytes text ≡ directory_text_lem directory.now faults) }
 {
@@ -65,7 +65,7 @@ fn directory_text(alloc: Global, directory: &Directory<'_>, faults: u128) -> Res
     Ok(text)
 }
 
-// Appends the lines of participants.
+/// Appends the lines of participants.
 fn push_participants(text: &mut String, guids: &[Guid]) -> Result<(), AllocError>
     ensures { OnOk result (string_bytes text.new ≡ string_bytes text.old ++ flat_map participant_line guids.now) }
 {
@@ -75,7 +75,7 @@ fn push_participants(text: &mut String, guids: &[Guid]) -> Result<(), AllocError
     Ok(())
 }
 
-// Appends the lines of endpoints.
+/// Appends the lines of endpoints.
 fn push_endpoints(text: &mut String, endpoints: &[Endpoint<'_>]) -> Result<(), AllocError>
     ensures { OnOk result (string_bytes text.new
         ≡ string_bytes text.old ++ flat_map (λ endpoint. endpoint_line (endpoint_value endpoint)) endpoints.now) }
@@ -86,7 +86,7 @@ fn push_endpoints(text: &mut String, endpoints: &[Endpoint<'_>]) -> Result<(), A
     Ok(())
 }
 
-// Appends the lines of matches.
+/// Appends the lines of matches.
 fn push_matches(text: &mut String, matches: &[Match]) -> Result<(), AllocError>
     ensures { OnOk result (string_bytes text.new ≡ string_bytes text.old ++ flat_map match_line matches.now) }
 {

@@ -47,7 +47,7 @@ pub(crate) fn push_digits(text: &mut String, octets: &[u8]) -> Result<(), AllocE
     text.push_str(text_of(&digits[..2 * octets.len()]))
 }
 
-// The digits of octets, and behind them others, since a vector is filled.
+/// The digits of octets, and behind them others, since a vector is filled.
 #[inline(always)]
 fn digits_from(octets: &[u8]) -> [u8; 32]
     requires { length octets.now ≤ 16 }
@@ -58,7 +58,7 @@ fn digits_from(octets: &[u8]) -> [u8; 32]
     rtps_digits::encode(filled)
 }
 
-// Digits as a text.
+/// Digits as a text.
 fn text_of(digits: &[u8]) -> &str
     requires { IsAscii digits.now }
     ensures { result.now ≡ digits.now }
@@ -75,6 +75,7 @@ pub(crate) fn push_id(text: &mut String, id: u8) -> Result<(), AllocError>
     text.push_str(text_of(&id_field(id)))
 }
 
+/// The end of a line that says an id.
 #[tactic(auto, unfolding(hex::specs::Hex::encode_with))]
 #[inline(always)]
 fn id_field(id: u8) -> [u8; 7]
@@ -84,7 +85,7 @@ fn id_field(id: u8) -> [u8; 7]
     [b' ', b'i', b'd', b' ', high, low, b'\n']
 }
 
-// The digits of one octet, for which a vector is too much.
+/// The digits of one octet, for which a vector is too much.
 #[tactic(auto, unfolding(hex::specs::Hex::encode_with))]
 #[inline(always)]
 fn digit_pair(octet: u8) -> [u8; 2]
@@ -156,7 +157,7 @@ pub(crate) fn push_time(text: &mut String, time: Option<Stamp>) -> Result<(), Al
     push_field(text, " ", stamp.fraction)
 }
 
-// Appends whom an act is for.
+/// Appends whom an act is for.
 #[tactic(auto, unfolding(crate::specs::ShowText::destination_text))]
 fn push_destination(text: &mut String, dest: Option<GuidPrefix>) -> Result<(), AllocError>
     ensures { OnOk result (string_bytes text.new ≡ string_bytes text.old ++ destination_text dest) }
@@ -182,7 +183,7 @@ pub(crate) fn push_tail(
     text.push_str(tail)
 }
 
-// Makes the tail where there is none.
+/// Makes the tail where there is none.
 #[inline(always)]
 fn make_tail(tail: &mut String, state: &State) -> Result<(), AllocError>
     requires { IsTailIn state.now (string_bytes tail.old) }
@@ -194,7 +195,7 @@ fn make_tail(tail: &mut String, state: &State) -> Result<(), AllocError>
     push_state(tail, state)
 }
 
-// Appends from whom, for whom and when an act in this state is.
+/// Appends from whom, for whom and when an act in this state is.
 #[tactic(auto, unfolding(crate::specs::ShowText::state_text))]
 fn push_state(text: &mut String, state: &State) -> Result<(), AllocError>
     ensures { OnOk result (string_bytes text.new ≡ string_bytes text.old ++ (codes " " ++ (state_text state.now ++ codes "\n"))) }

@@ -26,7 +26,7 @@ pub fn show_text(alloc: Global, recording: &Recording) -> Result<(String, Ending
     Ok((text, Ending::Clean))
 }
 
-// Appends the lines of all datagrams. The tail is there for its room.
+/// Appends the lines of all datagrams. The tail is there for its room.
 fn push_datagrams(
     text: &mut String,
     tail: &mut String,
@@ -42,7 +42,7 @@ fn push_datagrams(
     Ok(())
 }
 
-// Appends the lines of a datagram of this number.
+/// Appends the lines of a datagram of this number.
 fn push_datagram(
     text: &mut String,
     tail: &mut String,
@@ -63,7 +63,7 @@ fn push_datagram(
     }
 }
 
-// Appends the line of a datagram that has a header.
+/// Appends the line of a datagram that has a header.
 fn push_opened(text: &mut String, number: usize, header: &Header) -> Result<(), AllocError>
     ensures { OnOk result (string_bytes text.new ≡ string_bytes text.old ++ datagram_line number (Some header.now)) }
 {
@@ -71,7 +71,7 @@ fn push_opened(text: &mut String, number: usize, header: &Header) -> Result<(), 
     push_origin(text, header.version, header.vendor, header.prefix)
 }
 
-// Appends the line of a datagram that has none.
+/// Appends the line of a datagram that has none.
 fn push_unread(text: &mut String, number: usize) -> Result<(), AllocError>
     ensures { OnOk result (string_bytes text.new ≡ string_bytes text.old ++ datagram_line number None) }
 {
@@ -79,8 +79,8 @@ fn push_unread(text: &mut String, number: usize) -> Result<(), AllocError>
     text.push_str(" unread\n")
 }
 
-// Appends the lines of what is left of a datagram, from a state of the receiver on. No item is made of a submessage that
-// is skipped. The end of an act's line is made once for all acts in one state, in the tail.
+/// Appends the lines of what is left of a datagram, from a state of the receiver on. No item is made of a submessage that
+/// is skipped. The end of an act's line is made once for all acts in one state, in the tail.
 fn push_items(
     text: &mut String,
     tail: &mut String,
@@ -109,7 +109,7 @@ fn push_items(
     }
 }
 
-// Takes what an item says of the state of what follows it. Where it says something, the tail is given up.
+/// Takes what an item says of the state of what follows it. Where it says something, the tail is given up.
 #[inline(always)]
 fn interpret(state: &mut State, tail: &mut String, item: &Item<'_>)
     requires { IsTailIn state.old (string_bytes tail.old) }
@@ -122,7 +122,7 @@ fn interpret(state: &mut State, tail: &mut String, item: &Item<'_>)
     }
 }
 
-// Whether a body says something of the state of what follows it.
+/// Whether a body says something of the state of what follows it.
 #[inline(always)]
 fn says_state(body: &Body<'_>) -> bool
     ensures { result ≡ says_of_state (body_value body.now) }
@@ -133,7 +133,7 @@ fn says_state(body: &Body<'_>) -> bool
     )
 }
 
-// The line of a refusal.
+/// The line of a refusal.
 #[derive(Drop)]
 struct RefusalLine(Refusal);
 
