@@ -42,6 +42,20 @@ impl Sets {
         Ok(())
     }
 
+    fn add_bits(&mut self, lo: u8, bits: u64) -> Result<(), Memory> {
+        if 1 <= lo {
+            self.plain.add_bits(u64::from(lo), bits)?;
+            self.merged.add_bits(u64::from(lo), bits)?;
+            self.bits.add_bits(u64::from(lo), bits)?;
+        }
+        for n in 1..END {
+            if lo <= n && n - lo < 64 && (bits >> (n - lo)) % 2 == 1 {
+                self.flags[usize::from(n)] = true;
+            }
+        }
+        Ok(())
+    }
+
     fn has(&self, n: u8) -> bool {
         self.flags.get(usize::from(n)) == Some(&true)
     }
@@ -130,6 +144,35 @@ fn sets_agree_in_any_order_of_ranges(rt: HostRuntime) -> Result<(), Fail> {
                     "order {order}, place {place}, seed {seed}: {lo} to {hi}"
                 );
                 assert!(rt; sets.merged.len() <= before.saturating_add(1));
+            }
+        }
+    }
+    Ok(())
+}
+
+// None of 64 numbers, the last, every other one, runs of four, and all.
+const BITS: [u64; 6] = [
+    0,
+    1 << 63,
+    0xaaaa_aaaa_aaaa_aaaa,
+    0x5555_5555_5555_5555,
+    0x0f0f_0f0f_0f0f_0f0f,
+    u64::MAX,
+];
+
+#[test]
+fn sets_agree_on_bits_with_ranges_between(rt: HostRuntime) -> Result<(), Fail> {
+    let mut chance = Chance(1);
+    for lo in 1..36u8 {
+        for first in 0..BITS.len() {
+            let mut sets = Sets::empty(rt.alloc());
+            for place in first..BITS.len() {
+                let bits = BITS[place];
+                sets.add_bits(lo, bits)?;
+                assert!(rt; sets.agree(), "{bits} from {lo}");
+                let (from, to) = range(9, 0, &mut chance);
+                sets.add(from, to)?;
+                assert!(rt; sets.agree(), "{from} to {to} behind {bits} from {lo}");
             }
         }
     }
