@@ -31,6 +31,13 @@ def ack_nack(reader, writer, base):
     return b'\x06\0\0\x18' + reader + writer + base.to_bytes(8, 'big') + bytes(4) + b'\0\0\0\1'
 
 
+def gap(writer, start, base, words, count=256):
+    """Of the numbers from `start` on and below `base`, and of those from there on that a list of so many has."""
+    body = bytes(4) + writer + start.to_bytes(8, 'big') + base.to_bytes(8, 'big') + count.to_bytes(4, 'big')
+    body += b''.join(word.to_bytes(4, 'big') for word in words)
+    return b'\x08\0' + len(body).to_bytes(2, 'big') + body
+
+
 def announced(built_in, prefix, entity, more):
     value = b'\0\2\0\0' + b'\0\x5a\0\x10' + prefix + entity + NAMES + more + b'\0\1\0\0'
     return header(prefix) + data(built_in, 1, value)

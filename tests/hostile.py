@@ -202,6 +202,50 @@ def acknowledgements(tests):
     print(f'acknowledgements: {most} in one datagram, in 3 orders, and as many to everyone')
 
 
+# ---- GAPs whose lists have many ranges
+
+# Lists of 256 numbers in many ranges, as words: of each two, each number is in one of them.
+OF_MANY_RANGES = [(0xaaaaaaaa, 0x55555555), (0xcccccccc, 0x33333333), (0x6db6db6d, 0x92492492)]
+
+
+def gaps_of_many_ranges(tests):
+    pair = f'{reference.guid_text(A + WRITER)} {reference.guid_text(B + READER)}'
+    count = 0
+    for base in (1, 2, 33, 1000, (1 << 62) - 1, 1 << 62, (1 << 63) - 257):
+        last = base + 255
+        heartbeat = make.header(A) + make.heartbeat(WRITER, 1, last)
+        for words in OF_MANY_RANGES:
+            one, other = (make.header(A) + make.gap(WRITER, 1, base, [word] * 8) for word in words)
+            cut = make.header(A) + make.gap(WRITER, 1, base, [words[0]] * 8, 250)
+            rest = [base + place for place in range(256) if words[1] >> (31 - place % 32) & 1]
+            absent = rest[60]
+            some = [number for number in rest if number != absent]
+            ends = [base + place for place in range(250, 256) if words[0] >> (31 - place % 32) & 1]
+            for what, sent, below, verdict in (
+                    ('two lists', [one, other], last + 1, f'complete {last}'),
+                    ('two lists, the other one first', [other, one], last + 1, f'complete {last}'),
+                    ('a list, and then the rest', [one, samples_of(rest)], last + 1, f'complete {last}'),
+                    ('the rest, and then a list', [samples_of(rest), one], last + 1, f'complete {last}'),
+                    ('a list twice, and then the rest', [one, one, samples_of(rest)], last + 1, f'complete {last}'),
+                    ('a number that is not told', [one, samples_of(some)], last + 1, f'unfounded 6 {absent}'),
+                    ('a number that is not acknowledged', [one, samples_of(some)], absent, f'open {absent}'),
+                    ('a list that is cut', [cut, samples_of(rest)], last + 1, f'unfounded 6 {ends[0]}'),
+                    ('a list that is cut, and what it lacks', [cut, samples_of(rest + ends)], last + 1, f'complete {last}')):
+                answer = make.header(B) + make.to(A) + make.ack_nack(READER, WRITER, below)
+                text = text_of([*make.announcements(1), *sent, heartbeat, answer])
+                name = f'a GAP of words {words[0]:08x} from {base} on: {what}'
+                row = reference.answer('audit', text)[0].splitlines()[1]
+                tests.holds(f'{name}, worked out', f'{pair} {verdict}', row)
+                tests.agrees(name, text, ('audit', 'why', 'json'))
+                count += 1
+    print(f'GAPs whose lists have many ranges: {count} recordings')
+
+
+def samples_of(numbers):
+    """a datagram with a DATA of each of these numbers"""
+    return make.header(A) + b''.join(make.data(WRITER, number, bytes(4)) for number in numbers)
+
+
 def many_datagrams(tests):
     count = 1000000
     text = (make.header(A).hex().encode() + b'\n') * count
@@ -214,4 +258,4 @@ def many_datagrams(tests):
 
 if __name__ == '__main__':
     sys.exit(program.main(__doc__, (cut_by_table, cut_and_changed, audits_of_changed, announced_late, empty_submessages, parameter_lists,
-                                    endpoints_that_disagree, topics_of_every_octet, acknowledgements, many_datagrams)))
+                                    endpoints_that_disagree, topics_of_every_octet, acknowledgements, gaps_of_many_ranges, many_datagrams)))
