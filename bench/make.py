@@ -5,6 +5,8 @@
     make.py answers|readers|writers FILE [MEGABYTES]    of ACKNACKs of one reader; each of another; HEARTBEATs, each of another writer
     make.py announced|announced_first FILE [MEGABYTES]  of writers, each announced and with a HEARTBEAT behind that, in the
                                                         same datagram or when all are announced
+    make.py one_topic|one_topic_volatile FILE [MEGABYTES]   of writers and readers of one topic, as many of each: BEST_EFFORT
+                                                        ones, or RELIABLE ones whose readers ask for what is kept
     make.py in_order|odd_then_even|random|descending|inside_out FILE [THOUSANDS]    of numbers, each in a sample
 """
 import random
@@ -49,12 +51,30 @@ def to(prefix):
 
 WRITER, READER = b'\0\0\1\3', b'\0\0\1\4'
 RELIABLE = b'\0\x1a\0\x0c\0\0\0\2' + bytes(8)
+BEST_EFFORT = b'\0\x1a\0\x0c\0\0\0\1' + bytes(8)
+VOLATILE, TRANSIENT_LOCAL = b'\0\x1d\0\4\0\0\0\0', b'\0\x1d\0\4\0\0\0\1'
 
 
 def announcements(pairs):
     for i in range(pairs):
         yield announced(b'\0\0\3\xc2', A, (0x103 + 256 * i).to_bytes(4, 'big'), b'').replace(b'pose', b'po%02d' % i)
         yield announced(b'\0\0\4\xc2', B, (0x104 + 256 * i).to_bytes(4, 'big'), RELIABLE).replace(b'pose', b'po%02d' % i)
+
+
+# Of writers and of readers of one topic, what they offer and ask for: of none of them two are a pair.
+OF_ONE_TOPIC = {
+    'one_topic': (BEST_EFFORT, BEST_EFFORT),
+    'one_topic_volatile': (RELIABLE + VOLATILE, RELIABLE + TRANSIENT_LOCAL),
+}
+
+
+def of_one_topic(kind, count):
+    """So many writers of one topic, and then as many readers of it."""
+    offered, asked = OF_ONE_TOPIC[kind]
+    for i in range(1, count + 1):
+        yield announced(b'\0\0\3\xc2', A, scattered(i), offered)
+    for i in range(1, count + 1):
+        yield announced(b'\0\0\4\xc2', B, scattered(i), asked)
 
 
 def samples(numbers, total, writer=WRITER, reader=READER):
@@ -107,6 +127,9 @@ def datagrams(kind, octets):
         entities = [scattered(i) for i in range(1, octets // 274 + 1)]
         spoken = (header(A) + b''.join(heartbeat(entity, 1, 3) for entity in entities[i:i + 40]) for i in range(0, len(entities), 40))
         return (*map(announcement, entities), *spoken)
+    if kind in OF_ONE_TOPIC:
+        one, other = (next(of_one_topic(kind, 1)) for _ in range(2))
+        return of_one_topic(kind, octets // (2 * (len(one) + 1) * 2))
     raise SystemExit(__doc__)
 
 

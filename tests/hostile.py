@@ -171,6 +171,21 @@ def endpoints_that_disagree(tests):
     print('endpoints that disagree: 1000 of one GUID')
 
 
+def endpoints_of_one_topic(tests):
+    count = 300
+    audited = f'pairs 0\ndatagrams {2 * count} refused 0 skipped 0 fragments 0 undirected 0 unsettled 0\n'
+    for kind, matches in (('one_topic', count * count), ('one_topic_volatile', 0)):
+        sent = list(make.of_one_topic(kind, count))
+        writers, readers = sent[:count], sent[count:]
+        in_turn = [one for two in zip(writers, readers) for one in two]
+        for order in (writers + readers, readers + writers, in_turn):
+            tests.answers(kind, 'audit', text_of(order), audited)
+            tests.agrees(kind, text_of(order), ('list', 'audit', 'why', 'json'))
+        listed = tests.run('list', text_of(sent))[0].splitlines()
+        tests.holds(f'list: {kind}', matches, sum(line.startswith('pair ') for line in listed))
+    print(f'endpoints of one topic: {count} writers and {count} readers of which no two are a pair, in 2 ways and 3 orders')
+
+
 def announcement(built_in, octets):
     return make.header(A) + make.data(built_in, 1, b'\0\2\0\0' + octets + END)
 
@@ -258,4 +273,5 @@ def many_datagrams(tests):
 
 if __name__ == '__main__':
     sys.exit(program.main(__doc__, (cut_by_table, cut_and_changed, audits_of_changed, announced_late, empty_submessages, parameter_lists,
-                                    endpoints_that_disagree, topics_of_every_octet, acknowledgements, gaps_of_many_ranges, many_datagrams)))
+                                    endpoints_that_disagree, endpoints_of_one_topic, topics_of_every_octet, acknowledgements,
+                                    gaps_of_many_ranges, many_datagrams)))
