@@ -1,5 +1,5 @@
 -- A writer's matches are among the readers that ask for no more than it offers.
-use Rattle.std.proofs.Common.{◌≡◌, ◌≤◌, ◌<◌, ◌+◌, ◌*◌, ◌/◌, ◌%◌, ◌&&◌, ℕ, Bool, true, false, nat_le, List, [], ◌++◌, length, take, get_or, map, filter, refl, sym, ◌∙◌, ap, cond, arith}
+use Rattle.std.proofs.Common.{◌≡◌, ◌<◌, ◌+◌, ◌*◌, ◌/◌, ◌%◌, ℕ, Bool, true, false, List, [], ◌++◌, length, take, get_or, map, filter, refl, sym, ◌∙◌, ap, cond, arith}
 use Rattle.std.specs.List.{list_any}
 use Rattle.std.proofs.lemmas.Cmp.{nat_eq_equiv, nat_list_cmp_total}
 use Rattle.std.proofs.lemmas.List.Folds.{list_any_at}
