@@ -8,7 +8,7 @@ use Rattle.rtps_capture.specs.declared.cursor.Cursor.{Cursor}
 use Rattle.rtps_capture.specs.declared.place.Place.{Place as FilePlace}
 use Rattle.rtps_text.specs.Places.{ArePlaces, pieces}
 use Rattle.rtps_text.specs.declared.places.Place.{Place}
-use Rattle.rtps_tool.specs.CaptureFront.{HasPassed, HasPushed, HasReadFront, IsReadUpTo, Keeps}
+use Rattle.rtps_tool.specs.CaptureFront.{HasPassed, HasPushed, HasReadFront, IsCaptureReadUpTo, Keeps}
 use Rattle.rtps_tool.specs.RecordingCapture.{recording_of_capture, recording_opened}
 use Rattle.rtps_tool.specs.declared.form.capture_reader.CaptureReader.{CaptureReader}
 use Rattle.rtps_tool.proofs.CaptureLemmas.{HasPushed-datagram, HasPushed-ignored, HasPushed-start, recording_of_frames-done}
@@ -32,7 +32,7 @@ passed_grown most octets more places ignored cursor h = (
   omega (arith, h.0, length-append octets more),
   h.1,
   h.2,
-  λ later. subst (λ (file : List ℕ). IsReadUpTo most file places h.2 ignored cursor) (sym (append_assoc octets more later)) (h.3 (more ++ later)),
+  λ later. subst (λ (file : List ℕ). IsCaptureReadUpTo most file places h.2 ignored cursor) (sym (append_assoc octets more later)) (h.3 (more ++ later)),
 )
 
 pub front_grown : (most : ℕ) (octets more : List ℕ) (reader : CaptureReader) → HasReadFront most reader octets → HasReadFront most reader (octets ++ more)
@@ -77,7 +77,7 @@ pub passed_all : (most : ℕ) (octets : List ℕ) (places : List Place) (ignored
     → ArePlaces octets places × (recording_of_capture most octets ≡ Ok (record { datagrams = pieces octets places; ignored = Some ignored }))
 unfolding recording_of_capture
 passed_all most octets places ignored cursor h none =
-    let read = subst (λ (file : List ℕ). IsReadUpTo most file places h.2 ignored cursor) (append-nil octets) (h.3 []) in
+    let read = subst (λ (file : List ℕ). IsCaptureReadUpTo most file places h.2 ignored cursor) (append-nil octets) (h.3 []) in
     (read.2.within, ap (recording_opened most octets) read.1 ∙ recording_of_frames-done most octets _ places h.2 ignored _ read.2 none)
 
 pub front_passed : (most : ℕ) (octets : List ℕ) (reader : CaptureReader) (cursor : Cursor) → reader.cursor ≡ Some cursor

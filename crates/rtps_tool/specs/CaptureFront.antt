@@ -23,14 +23,14 @@ pub record HasPushed (most : ℕ) (octets : List ℕ) (all : List Frame) (places
   pub cut : cut_among (number + 1) left ≡ cut_among 1 all
 
 -- so many frames of a file were read, up to a cursor
-abbrev pub IsReadUpTo : (most : ℕ) → List ℕ → List Place → (number ignored : ℕ) → Cursor → Type 0
-IsReadUpTo most file places number ignored cursor = (unread : Unread) × (opened file ≡ Some unread)
+abbrev pub IsCaptureReadUpTo : (most : ℕ) → List ℕ → List Place → (number ignored : ℕ) → Cursor → Type 0
+IsCaptureReadUpTo most file places number ignored cursor = (unread : Unread) × (opened file ≡ Some unread)
     × HasPushed most file (frames_left unread) places number ignored (frames_left (unread_behind cursor file))
 
 -- the frames up to a cursor were read, in each file that these octets begin
 abbrev pub HasPassed : (most : ℕ) → List ℕ → List Place → ℕ → Cursor → Type 0
 HasPassed most octets places ignored cursor = (cursor.at ≤ length octets) × (ignored ≤ cursor.at)
-    × (number : ℕ) × ((later : List ℕ) → IsReadUpTo most (octets ++ later) places number ignored cursor)
+    × (number : ℕ) × ((later : List ℕ) → IsCaptureReadUpTo most (octets ++ later) places number ignored cursor)
 
 -- a reader has read nothing, or the frames up to its cursor
 abbrev pub HasReadFront : (most : ℕ) → CaptureReader → List ℕ → Type 0

@@ -46,21 +46,21 @@ FailsWriting old new text Input = ⊥
 FailsWriting old new text (Output written) = (written < length text) × Appends old new (take written text)
 FailsWriting old new text Memory = ⊥
 
--- A run that writes a text of the recording that it reads within these limits, and ends as it tells; `Answers` says which
+-- A run that writes a text of the recording that it reads within these limits, and ends as it tells; `IsPrinted` says which
 -- texts and ends those are. The reader before and after it, the writer before and after it, and what the run answers.
 abbrev pub RunsWithin : Limits → (RecordingValue → List ℕ → Ending → Type 0) → (unread left held holds : Option (List ℕ)) → Result Ending RunFault → Type 0
-RunsWithin limits Answers unread left held holds (Ok ending) =
-    (recording : RecordingValue) × (text : List ℕ) × ReadsRecording limits unread left recording × Answers recording text ending × Appends held holds text
-RunsWithin limits Answers unread left held holds (Err (Recording fault)) = ReadsFault limits unread left fault × Keeps held holds
-RunsWithin limits Answers unread left held holds (Err Input) = Keeps held holds
-RunsWithin limits Answers unread left held holds (Err (Output written)) =
-    (recording : RecordingValue) × (text : List ℕ) × (ending : Ending) × ReadsRecording limits unread left recording × Answers recording text ending
+RunsWithin limits IsPrinted unread left held holds (Ok ending) =
+    (recording : RecordingValue) × (text : List ℕ) × ReadsRecording limits unread left recording × IsPrinted recording text ending × Appends held holds text
+RunsWithin limits IsPrinted unread left held holds (Err (Recording fault)) = ReadsFault limits unread left fault × Keeps held holds
+RunsWithin limits IsPrinted unread left held holds (Err Input) = Keeps held holds
+RunsWithin limits IsPrinted unread left held holds (Err (Output written)) =
+    (recording : RecordingValue) × (text : List ℕ) × (ending : Ending) × ReadsRecording limits unread left recording × IsPrinted recording text ending
     × FailsWriting held holds text (Output written)
-RunsWithin limits Answers unread left held holds (Err Memory) = Keeps held holds
+RunsWithin limits IsPrinted unread left held holds (Err Memory) = Keeps held holds
 
 -- within the usual limits
 abbrev pub Runs : (RecordingValue → List ℕ → Ending → Type 0) → (unread left held holds : Option (List ℕ)) → Result Ending RunFault → Type 0
-Runs Answers unread left held holds result = RunsWithin usual Answers unread left held holds result
+Runs IsPrinted unread left held holds result = RunsWithin usual IsPrinted unread left held holds result
 
 -- A run that reads nothing and writes this text: the writer before and after it, and what the run answers.
 abbrev pub Writes : List ℕ → (held holds : Option (List ℕ)) → Result Ending RunFault → Type 0
