@@ -20,7 +20,7 @@ use rtps_text::{
 use std::alloc::Global;
 use std::io::{Read, Write};
 
-// What is printed of a recording.
+/// What is printed of a recording.
 #[derive(Clone, Copy)]
 pub(crate) enum Subcommand {
     Show,
@@ -208,7 +208,7 @@ pub fn run_sample<W: Write>(output: &mut W) -> Result<Ending, RunFault>
     Ok(Ending::Clean)
 }
 
-// Reads a recording within limits, and writes what a subcommand prints of it. It tells how far an audit is.
+/// Reads a recording within limits, and writes what a subcommand prints of it. It tells how far an audit is.
 fn run<R: Read, W: Write, P: Watch>(
     alloc: Global,
     limits: Limits,
@@ -226,7 +226,7 @@ fn run<R: Read, W: Write, P: Watch>(
     Ok(ending)
 }
 
-// What a subcommand prints of a recording, and how it ends.
+/// What a subcommand prints of a recording, and how it ends.
 fn text_of<P: Watch>(
     alloc: Global,
     subcommand: Subcommand,

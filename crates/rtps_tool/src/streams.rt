@@ -17,13 +17,13 @@ use rtps_text::{Recording, make_room, push_octets};
 use std::alloc::{AllocError, Global};
 use std::io::{Read, Write};
 
-// How many octets are asked for at once.
+/// How many octets are asked for at once.
 const PIECE: usize = 1 << 16;
 
-// How many octets are held of a text: an unfinished line, and what is read behind it.
+/// How many octets are held of a text: an unfinished line, and what is read behind it.
 const HELD: usize = KEPT_MAX + PIECE;
 
-// How many octets tell the form of an input.
+/// How many octets tell the form of an input.
 const FORM: usize = 4;
 
 /// Reads the recording that is all the input, in either form, within limits. The input is read to its end, or past the
@@ -56,7 +56,7 @@ fn zeros(alloc: Global, size: usize) -> Result<Vec<u8>, AllocError>
     vec![in alloc; 0u8; size]
 }
 
-// Reads the first octets of the input, as many as tell its form and perhaps more, or all where there are fewer.
+/// Reads the first octets of the input, as many as tell its form and perhaps more, or all where there are fewer.
 fn read_start<R: Read>(input: &mut R, held: &mut [u8]) -> Result<usize, RunFault>
     requires room { length held.old ≡ 196607 }
     ensures { MatchResult result
@@ -77,7 +77,7 @@ fn read_start<R: Read>(input: &mut R, held: &mut [u8]) -> Result<usize, RunFault
     Ok(start)
 }
 
-// Reads the recording that is these octets, which are all the input.
+/// Reads the recording that is these octets, which are all the input.
 fn read_short(alloc: Global, limits: Limits, octets: &[u8]) -> Result<Recording, RunFault>
     ensures { (old new : Option (List ℕ)) → Consumes old new octets.now → IsAtEnd new
         → MatchResult result (ReadsRecording limits old new) (FailsReading limits old new) }
@@ -85,7 +85,7 @@ fn read_short(alloc: Global, limits: Limits, octets: &[u8]) -> Result<Recording,
     Ok(read_recording_within(alloc, limits, octets)?)
 }
 
-// Reads the recording that is a text, of which so many octets were read.
+/// Reads the recording that is a text, of which so many octets were read.
 fn read_text_input<R: Read>(
     alloc: Global,
     limits: Limits,
@@ -104,7 +104,7 @@ fn read_text_input<R: Read>(
     Ok(Recording::of_text(reader.into_datagrams()))
 }
 
-// Reads the lines that are a text, by way of what is held of it: so many octets were read.
+/// Reads the lines that are a text, by way of what is held of it: so many octets were read.
 fn read_pieces<R: Read>(
     limits: Limits,
     input: &mut R,
@@ -150,7 +150,7 @@ fn read_pieces<R: Read>(
     Err(RunFault::Recording(RecFault::TooMany))
 }
 
-// Reads on from so many octets, and answers how many there are then.
+/// Reads on from so many octets, and answers how many there are then.
 fn read_on<R: Read>(
     limits: Limits,
     input: &mut R,
@@ -176,7 +176,7 @@ fn read_on<R: Read>(
     Ok(total)
 }
 
-// Reads the recording that is a capture, of which these octets were read.
+/// Reads the recording that is a capture, of which these octets were read.
 fn read_capture_input<R: Read>(
     alloc: Global,
     limits: Limits,
@@ -193,7 +193,7 @@ fn read_capture_input<R: Read>(
     Ok(reader.finish(alloc, limits.datagrams, octets)?)
 }
 
-// Reads all the input, of which these octets were read, and gives the reader what comes. It has their form.
+/// Reads all the input, of which these octets were read, and gives the reader what comes. It has their form.
 fn read_whole<R: Read>(
     alloc: Global,
     limits: Limits,
@@ -221,7 +221,7 @@ fn read_whole<R: Read>(
     Err(RunFault::Recording(RecFault::TooMany))
 }
 
-// Reads what comes next behind these octets, and answers how many came.
+/// Reads what comes next behind these octets, and answers how many came.
 fn read_behind<R: Read>(input: &mut R, octets: &mut Vec<u8>) -> Result<usize, RunFault>
     ensures size { IfOk result (λ got. length octets.new.items ≡ length octets.old.items + got) }
     ensures front { IfOk result (λ got. take (length octets.old.items) octets.new.items ≡ octets.old.items) }
@@ -238,7 +238,7 @@ fn read_behind<R: Read>(input: &mut R, octets: &mut Vec<u8>) -> Result<usize, Ru
     Ok(got)
 }
 
-// Reads what comes next over the octets from place `from` on, and answers how many came.
+/// Reads what comes next over the octets from place `from` on, and answers how many came.
 fn read_over<R: Read>(input: &mut R, octets: &mut [u8], from: usize) -> Result<usize, RunFault>
     requires { from < length octets.old }
     ensures within { IfOk result (λ got. from + got ≤ length octets.new) }

@@ -20,7 +20,7 @@ pub(crate) fn read_capture(alloc: Global, most: u64, octets: Vec<u8>) -> Result<
     Ok(Recording::of_capture(octets, places, ignored))
 }
 
-// Appends the places of the datagrams of a capture, so many at most, and answers how many frames give none.
+/// Appends the places of the datagrams of a capture, so many at most, and answers how many frames give none.
 fn read_places(most: u64, octets: &[u8], places: &mut Vec<Place>) -> Result<u64, RecFault>
     requires empty { places.old.items ≡ [] }
     ensures { MatchResult result
@@ -34,7 +34,7 @@ fn read_places(most: u64, octets: &[u8], places: &mut Vec<Place>) -> Result<u64,
     }
 }
 
-// Appends the places of the datagrams that frames give, so many at most, and answers how many give none.
+/// Appends the places of the datagrams that frames give, so many at most, and answers how many give none.
 fn push_places(most: u64, frames: Frames<'_>, places: &mut Vec<Place>) -> Result<u64, RecFault>
     requires empty { places.old.items ≡ [] }
     requires few { length (frames_left frames) < 2 ^ 64 }

@@ -10,17 +10,17 @@ use crate::form::line_reader::LineReader;
 use rtps_text::{DatagramList, Recording};
 use std::alloc::Global;
 
-// The most digits of a datagram: two for each of 65,535 octets, as UDP carries no more.
+/// The most digits of a datagram: two for each of 65,535 octets, as UDP carries no more.
 pub(crate) const DIGITS_MAX: usize = 131_070;
 
-// The place of the first line feed.
+/// The place of the first line feed.
 pub(crate) fn line_end(text: &[u8]) -> Option<usize>
     ensures { result ≡ position is_line_feed text.now }
 {
     memchr::memchr(b'\n', text)
 }
 
-// The place of the first line feed of a text in front of which so much has none.
+/// The place of the first line feed of a text in front of which so much has none.
 pub(crate) fn line_end_behind(text: &[u8], known: usize) -> Option<usize>
     requires within { known ≤ length text.now }
     requires none { position is_line_feed (take known text.now) ≡ None }
@@ -29,7 +29,7 @@ pub(crate) fn line_end_behind(text: &[u8], known: usize) -> Option<usize>
     Some(known + line_end(&text[known..])?)
 }
 
-// The line without the one carriage return at its end, if it has one.
+/// The line without the one carriage return at its end, if it has one.
 pub(crate) fn without_return(line: &[u8]) -> &[u8]
     ensures { result.now ≡ strip_carriage_return line.now }
 {
@@ -51,7 +51,7 @@ pub(crate) fn read_text(alloc: Global, most: u64, text: &[u8]) -> Result<Recordi
     Ok(Recording::of_text(reader.into_datagrams()))
 }
 
-// Appends the datagram that a line stands for, if it stands for one. There may be so many in all.
+/// Appends the datagram that a line stands for, if it stands for one. There may be so many in all.
 pub(crate) fn read_line(
     datagrams: &mut DatagramList,
     most: u64,
@@ -77,7 +77,7 @@ pub(crate) fn read_line(
     Ok(())
 }
 
-// Whether a line stands for a datagram.
+/// Whether a line stands for a datagram.
 fn is_datagram_line(line: &[u8]) -> bool
     ensures { result ≡ is_datagram_line_lem line.now }
 {

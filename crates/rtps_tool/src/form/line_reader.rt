@@ -103,8 +103,8 @@ impl LineReader {
         Ok(from)
     }
 
-    // How much is to be kept of a line that goes on: all of it, unless it is too long, and of a long comment its first
-    // octet.
+    /// How much is to be kept of a line that goes on: all of it, unless it is too long, and of a long comment its first
+    /// octet.
     fn kept_of(&self, most: u64, line: &[u8]) -> Result<usize, RecFault>
         requires goes_on { position is_line_feed line.now ≡ None }
         requires in_range { self.now.lines + length line.now < 2 ^ 64 }
