@@ -8,7 +8,7 @@ ghost use Rattle.rtps_digits.specs.Pairs.{half_digit, is_low, join, lane_value, 
 
 use std::simd::prelude::*;
 
-// The value of each digit, and 16 or more for what is no digit.
+/// The value of each digit, and 16 or more for what is no digit.
 #[inline(always)]
 fn lane_values(digits: u8x32) -> u8x32
     ensures { result ≡ map lane_value digits }
@@ -22,7 +22,7 @@ fn lane_values(digits: u8x32) -> u8x32
     )
 }
 
-// The octets of the values of pairs of digits.
+/// The octets of the values of pairs of digits.
 #[inline(always)]
 fn join_pairs(values: u8x32) -> u8x16
     ensures { result ≡ pairs_with join values }
@@ -33,7 +33,7 @@ fn join_pairs(values: u8x32) -> u8x16
     high * u8x16::splat(16) + low
 }
 
-// The greater of each two lanes.
+/// The greater of each two lanes.
 #[inline(always)]
 fn worse(a: u8x32, b: u8x32) -> u8x32
     ensures { list_all is_low result ≡ (list_all is_low a && list_all is_low b) }
@@ -48,7 +48,7 @@ fn are_low(values: u8x32) -> bool
     u8x32::splat(16).simd_le(values).to_bitmask() == 0
 }
 
-// Decodes the digits that fill whole vectors from the first on, and answers whether all of them are digits.
+/// Decodes the digits that fill whole vectors from the first on, and answers whether all of them are digits.
 fn decode_vectors(octets: &mut [u8], digits: &[u8]) -> bool
     requires { length digits.now ≡ 2 * length octets.old }
     ensures found { result ≡ list_all is_hex_digit (take (32 * (length octets.old / 16)) digits.now) }
@@ -64,7 +64,7 @@ fn decode_vectors(octets: &mut [u8], digits: &[u8]) -> bool
     are_low(worst)
 }
 
-// Decodes the last 32 digits, and answers whether all of them are digits.
+/// Decodes the last 32 digits, and answers whether all of them are digits.
 fn decode_last(octets: &mut [u8], digits: &[u8]) -> bool
     requires size { length digits.now ≡ 2 * length octets.old }
     requires long { 16 ≤ length octets.old }
@@ -78,7 +78,7 @@ fn decode_last(octets: &mut [u8], digits: &[u8]) -> bool
     are_low(values)
 }
 
-// Decodes digits that fill a vector or more: the last 32 once more, where the vectors leave some over.
+/// Decodes digits that fill a vector or more: the last 32 once more, where the vectors leave some over.
 fn decode_long(octets: &mut [u8], digits: &[u8]) -> bool
     requires size { length digits.now ≡ 2 * length octets.old }
     requires long { 16 ≤ length octets.old }
@@ -104,7 +104,7 @@ pub fn decode(octets: &mut [u8], digits: &[u8]) -> bool
     }
 }
 
-// The digits of the low halves of octets, in lower case.
+/// The digits of the low halves of octets, in lower case.
 #[inline(always)]
 fn low_digits(halves: u8x16) -> u8x16
     ensures { result ≡ map half_digit halves }
@@ -115,7 +115,7 @@ fn low_digits(halves: u8x16) -> u8x16
     )
 }
 
-// The first digit of each octet.
+/// The first digit of each octet.
 #[inline(always)]
 fn first_digits(octets: u8x16) -> u8x16
     ensures { result ≡ map (λ octet. half_digit (octet / 16)) octets }
@@ -123,7 +123,7 @@ fn first_digits(octets: u8x16) -> u8x16
     low_digits(octets >> u8x16::splat(4))
 }
 
-// The second digit of each octet.
+/// The second digit of each octet.
 #[inline(always)]
 fn second_digits(octets: u8x16) -> u8x16
     ensures { result ≡ map (λ octet. half_digit (bit_and octet 15)) octets }
@@ -131,7 +131,7 @@ fn second_digits(octets: u8x16) -> u8x16
     low_digits(octets & u8x16::splat(15))
 }
 
-// The digits of octets, two each: those of the first eight, and those of the others.
+/// The digits of octets, two each: those of the first eight, and those of the others.
 #[inline(always)]
 fn digits_of(octets: u8x16) -> (u8x16, u8x16)
     ensures digits { result.0 ++ result.1 ≡ encode_lower octets }

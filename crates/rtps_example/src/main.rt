@@ -41,7 +41,7 @@ fn print_row(rt: &HostRuntime, row: &Row) -> io::Result<()> {
     }
 }
 
-// Above 0, a count tells what the rows do not speak of.
+/// Above 0, a count tells what the rows do not speak of.
 fn print_counts(rt: &HostRuntime, counts: &Counts) -> io::Result<()> {
     println!(rt;
         "{} datagrams, {} refused",

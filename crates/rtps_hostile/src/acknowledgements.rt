@@ -6,12 +6,12 @@ use crate::verdicts::judge_every_way;
 use rtps_tool::Recording;
 use std::alloc::Global;
 
-// The header of a message of the reader's participant, and an INFO_DST that names the writer's.
+/// The header of a message of the reader's participant, and an INFO_DST that names the writer's.
 const TO_WRITER: [u8; 36] = *b"\
     \x52\x54\x50\x53\x02\x05\x00\x00\xbb\xbb\xbb\xbb\xbb\xbb\xbb\xbb\xbb\xbb\xbb\xbb\
     \x0e\x00\x00\x0c\xaa\xaa\xaa\xaa\xaa\xaa\xaa\xaa\xaa\xaa\xaa\xaa";
 
-// An ACKNACK of the reader, with its base at places 18 and 19.
+/// An ACKNACK of the reader, with its base at places 18 and 19.
 const ACK_NACK: [u8; 28] = *b"\
     \x06\x00\x00\x18\x00\x00\x01\x04\x00\x00\x01\x03\x00\x00\x00\x00\x00\x00\x00\x00\
     \x00\x00\x00\x00\x00\x00\x00\x01";

@@ -4,18 +4,18 @@ use crate::fault::Fault;
 use rtps_tool::Recording;
 use std::alloc::Global;
 
-// The header of a capture of raw IP packets.
+/// The header of a capture of raw IP packets.
 const HEADER: [u8; 24] = *b"\
     \xd4\xc3\xb2\xa1\x02\x00\x04\x00\x00\x00\x00\x00\x00\x00\x00\x00\xff\xff\x00\x00\x65\x00\x00\x00";
 
-// A frame of one octet, which gives no datagram.
+/// A frame of one octet, which gives no datagram.
 const IGNORED: [u8; 17] = *b"\x00\x00\x00\x00\x00\x00\x00\x00\x01\x00\x00\x00\x01\x00\x00\x00\x45";
 
-// The header of an IP packet with its total length at places 2 and 3.
+/// The header of an IP packet with its total length at places 2 and 3.
 const IP: [u8; 20] = *b"\
     \x45\x00\x00\x00\x00\x00\x00\x00\x40\x11\x00\x00\x7f\x00\x00\x01\x7f\x00\x00\x01";
 
-// The header of a UDP datagram with its length at places 4 and 5.
+/// The header of a UDP datagram with its length at places 4 and 5.
 const UDP: [u8; 8] = *b"\x1c\xe8\x1c\xe8\x00\x00\x00\x00";
 
 /// A capture with a frame for each datagram, and one that gives none before each.

@@ -26,7 +26,7 @@ pub(crate) fn count(recordings: &[Recording]) -> Result<(usize, usize), Fault> {
     Ok((datagrams, cuts))
 }
 
-// Cuts a datagram to each length, its own included, and answers how many there are.
+/// Cuts a datagram to each length, its own included, and answers how many there are.
 fn cut_everywhere(datagram: &[u8]) -> Result<usize, Fault> {
     for length in 0..datagram.len() {
         if !is_read_as_cut(datagram, length) {
@@ -39,7 +39,7 @@ fn cut_everywhere(datagram: &[u8]) -> Result<usize, Fault> {
     Ok(datagram.len().saturating_add(1))
 }
 
-// What a cut has at a place.
+/// What a cut has at a place.
 #[derive(Clone, Copy)]
 enum Found {
     Whole,
@@ -47,7 +47,7 @@ enum Found {
     Refused(WireFault),
 }
 
-// Whether a datagram that is cut to a length is read as it should be.
+/// Whether a datagram that is cut to a length is read as it should be.
 fn is_read_as_cut(datagram: &[u8], length: usize) -> bool {
     let Some(cut) = datagram.get(..length) else {
         return false;
@@ -67,7 +67,7 @@ fn is_read_as_cut(datagram: &[u8], length: usize) -> bool {
     }
 }
 
-// Whether the items of the cut are the first ones of the whole, and end as they should.
+/// Whether the items of the cut are the first ones of the whole, and end as they should.
 fn are_first(datagram: &[u8], length: usize, whole: &mut Items<'_>, cut: &mut Items<'_>) -> bool {
     let mut at = HEADER;
     for _ in 0..datagram.len() {
@@ -91,7 +91,7 @@ fn are_first(datagram: &[u8], length: usize, whole: &mut Items<'_>, cut: &mut It
     false
 }
 
-// What the cut should have at a place: what the whole has, or an end.
+/// What the cut should have at a place: what the whole has, or an end.
 fn found_at(datagram: &[u8], length: usize, at: usize) -> Found {
     if length == at {
         Found::End
@@ -104,7 +104,7 @@ fn found_at(datagram: &[u8], length: usize, at: usize) -> Found {
     }
 }
 
-// Where the submessage at a place ends by its header.
+/// Where the submessage at a place ends by its header.
 fn end_of(datagram: &[u8], at: usize) -> usize {
     let order = match datagram.get(at.saturating_add(1)) {
         Some(flags) if flags % 2 == 1 => Order::Little,

@@ -80,14 +80,14 @@ pub(crate) fn try_call(alloc: Global, call: &str, text: &str) -> Result<bool, Fa
     try_recording(alloc, call, &recording)
 }
 
-// A call on a capture of the recording.
+/// A call on a capture of the recording.
 fn try_capture(alloc: Global, call: &str, text: &str) -> Result<bool, Fault> {
     let recording = read_one(alloc, text)?;
     let capture = capture_of(alloc, &recording)?;
     tool::try_input(alloc, call, &capture)?.ok_or(Fault::Call)
 }
 
-// A call on the datagrams of the recording.
+/// A call on the datagrams of the recording.
 fn try_recording(alloc: Global, call: &str, recording: &Recording) -> Result<bool, Fault> {
     let recording = datagrams(alloc, recording)?;
     match writers::try_call(alloc, call, &recording)? {

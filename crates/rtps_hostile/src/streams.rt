@@ -119,7 +119,7 @@ pub(crate) fn text_of(alloc: Global, run: Run, input: &[u8]) -> Result<(Vec<u8>,
     }
 }
 
-// Whether a run, made again, prints this text and ends so.
+/// Whether a run, made again, prints this text and ends so.
 fn is_made_again(
     alloc: Global,
     run: Run,
@@ -198,7 +198,7 @@ fn end_behind_each_octet(alloc: Global, run: Run, input: &[u8]) -> Result<usize,
     Ok(input.len())
 }
 
-// How many octets a writer takes at most at once, and whether it fails where it has no room: else it takes none.
+/// How many octets a writer takes at most at once, and whether it fails where it has no room: else it takes none.
 const WRITERS: [(usize, bool); 4] = [
     (1, true),
     (1, false),

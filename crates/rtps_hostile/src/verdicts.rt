@@ -36,7 +36,7 @@ pub(crate) fn count(alloc: Global, recordings: &[Recording]) -> Result<(usize, u
     Ok((octets, verdicts))
 }
 
-// Changes each octet of one datagram, and counts verdicts.
+/// Changes each octet of one datagram, and counts verdicts.
 fn change_everywhere(alloc: Global, recording: &[&[u8]], changed: usize) -> Result<usize, Fault> {
     let Some(whole) = recording.get(changed) else {
         return Ok(0);
@@ -53,7 +53,7 @@ fn change_everywhere(alloc: Global, recording: &[&[u8]], changed: usize) -> Resu
     Ok(verdicts)
 }
 
-// Judges a recording in which this datagram stands in the place of another.
+/// Judges a recording in which this datagram stands in the place of another.
 fn judge_changed(
     alloc: Global,
     recording: &[&[u8]],
@@ -80,7 +80,7 @@ pub(crate) fn judge_every_way(alloc: Global, recording: &[&[u8]]) -> Result<usiz
     Ok(report.rows.len())
 }
 
-// The verdict on a pair, which need not match: the same by the index and by the judge with each of three sets.
+/// The verdict on a pair, which need not match: the same by the index and by the judge with each of three sets.
 fn judged_alike(
     alloc: Global,
     recording: &[&[u8]],

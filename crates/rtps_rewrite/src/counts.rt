@@ -19,7 +19,7 @@ pub(crate) enum Outcome {
     NotWritten(WriteFault),
 }
 
-// What a message is refused for, in the order of the numbers, which begin with 1 and go on with those of `WriteFault`.
+/// What a message is refused for, in the order of the numbers, which begin with 1 and go on with those of `WriteFault`.
 const READING: [WireFault; 12] = [
     WireFault::Short,
     WireFault::NotRtps,
@@ -81,7 +81,7 @@ impl Counts {
         }
     }
 
-    // How many messages are refused for the fault of this number.
+    /// How many messages are refused for the fault of this number.
     fn refused_for(&self, number: u8) -> usize {
         match self.faults.get(usize::from(number)) {
             Some(count) => *count,
@@ -98,7 +98,7 @@ impl Counts {
     }
 }
 
-// Writes how many messages are refused for a fault, where there are some.
+/// Writes how many messages are refused for a fault, where there are some.
 fn write_refused<W: fmt::Write, F: fmt::Display + Drop>(
     f: &mut fmt::Formatter<W>,
     what: &str,

@@ -66,19 +66,19 @@ pub(crate) fn unfounded(alloc: Global) -> Result<Vec<Vec<u8>>, Fault> {
     Ok(messages)
 }
 
-// Appends a message, where it could be made.
+/// Appends a message, where it could be made.
 fn push(messages: &mut Vec<Vec<u8>>, message: Result<Vec<u8>, Fault>) -> Result<(), Fault> {
     messages.push(message?)?;
     Ok(())
 }
 
-// Appends the two messages that announce the writer and the reader.
+/// Appends the two messages that announce the writer and the reader.
 fn announce(alloc: Global, messages: &mut Vec<Vec<u8>>) -> Result<(), Fault> {
     push(messages, announcement(alloc, A, ANNOUNCES_WRITERS, WRITER))?;
     push(messages, announcement(alloc, B, ANNOUNCES_READERS, READER))
 }
 
-// The octets of an endpoint's GUID.
+/// The octets of an endpoint's GUID.
 fn guid(alloc: Global, prefix: GuidPrefix, endpoint: EntityId) -> Result<Vec<u8>, Fault> {
     let mut octets = Vec::new(alloc);
     octets.extend_from_slice(&prefix.0)?;
@@ -86,8 +86,8 @@ fn guid(alloc: Global, prefix: GuidPrefix, endpoint: EntityId) -> Result<Vec<u8>
     Ok(octets)
 }
 
-// Announces an endpoint of the topic pose and the type Pose. The payload begins with the name of its encoding, that of
-// parameter lists with the high octet first, and two octets of options.
+/// Announces an endpoint of the topic pose and the type Pose. The payload begins with the name of its encoding, that of
+/// parameter lists with the high octet first, and two octets of options.
 fn announcement(
     alloc: Global,
     prefix: GuidPrefix,
@@ -106,7 +106,7 @@ fn announcement(
     data(alloc, prefix, announcer, 1, payload.as_slice())
 }
 
-// The writer sends a number to every reader.
+/// The writer sends a number to every reader.
 fn sample(alloc: Global, number: i64, payload: &[u8]) -> Result<Vec<u8>, Fault> {
     data(alloc, A, WRITER, number, payload)
 }
@@ -129,7 +129,7 @@ fn data(
     message(alloc, prefix, &items)
 }
 
-// The writer announces the numbers from the first to the last.
+/// The writer announces the numbers from the first to the last.
 fn heartbeat(alloc: Global, first: i64, last: i64) -> Result<Vec<u8>, Fault> {
     let first = SeqNum::new(first).ok_or(Fault::Made)?;
     let items = [big!(Body::Heartbeat(HeartbeatBody {
@@ -144,7 +144,7 @@ fn heartbeat(alloc: Global, first: i64, last: i64) -> Result<Vec<u8>, Fault> {
     message(alloc, A, &items)
 }
 
-// The reader answers A that it lacks no number below the base, and asks for so many from the base on.
+/// The reader answers A that it lacks no number below the base, and asks for so many from the base on.
 fn acknowledgement(alloc: Global, base: i64, asked: u32) -> Result<Vec<u8>, Fault> {
     let set = NumberSet::new(base, asked, [u32::MAX; 8]).ok_or(Fault::Made)?;
     let items = [

@@ -43,7 +43,7 @@ fn run(rt: &HostRuntime) -> Result<(), Fault> {
     }
 }
 
-// The recording that is standard input.
+/// The recording that is standard input.
 fn read_stdin(rt: &HostRuntime) -> Result<Recording, Fault> {
     let text = io::read_to_string(rt.alloc(), rt.stdin())?;
     Ok(read_recording(rt.alloc(), text.as_bytes())?)

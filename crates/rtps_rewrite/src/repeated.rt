@@ -30,7 +30,7 @@ fn read_many(alloc: Global, datagram: &[u8], times: u32) -> Result<u64, Fault> {
     Ok(octets)
 }
 
-// The octets in front of the last item of a datagram.
+/// The octets in front of the last item of a datagram.
 fn places(datagram: &[u8]) -> u64 {
     let Ok((_header, items)) = Items::open(datagram) else {
         return 0;
@@ -55,7 +55,7 @@ pub(crate) fn write(alloc: Global, recording: &Recording, times: u32) -> Result<
     Ok(octets)
 }
 
-// Writes a message so many times, each time over what was written before.
+/// Writes a message so many times, each time over what was written before.
 fn write_many(
     alloc: Global,
     datagram: &[u8],

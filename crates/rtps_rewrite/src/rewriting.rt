@@ -88,7 +88,7 @@ fn compare(read: &[u8], written: &[u8]) -> Outcome {
     }
 }
 
-// Whether two datagrams have the same header and the same items, wherever these stand, and no refusal.
+/// Whether two datagrams have the same header and the same items, wherever these stand, and no refusal.
 fn have_same_items(one: &[u8], other: &[u8]) -> bool {
     let (Ok((header, items)), Ok((other_header, mut others))) = (
         Items::open(one),
@@ -107,7 +107,7 @@ fn have_same_items(one: &[u8], other: &[u8]) -> bool {
     others.next().is_none()
 }
 
-// Whether both are items, and say the same.
+/// Whether both are items, and say the same.
 fn are_same(one: &Result<Item<'_>, Refusal>, other: &Option<Result<Item<'_>, Refusal>>) -> bool {
     match (one, other) {
         (Ok(one), Some(Ok(other))) => one.order == other.order && one.body == other.body,

@@ -5,21 +5,21 @@ use rtps_tool::read_recording;
 use std::alloc::{AllocError, Global};
 use std::test::Fail;
 
-// The header of a capture of raw IP packets.
+/// The header of a capture of raw IP packets.
 pub(super) const HEADER: &[u8] = &[
     0xd4, 0xc3, 0xb2, 0xa1, 2, 0, 4, 0, 0, 0, 0, 0, 0, 0, 0, 0, 0xff, 0xff, 0, 0, 101, 0, 0, 0,
 ];
 
-// A frame with a datagram of two octets.
+/// A frame with a datagram of two octets.
 pub(super) const DATAGRAM: &[u8] = &[
     0, 0, 0, 0, 0, 0, 0, 0, 30, 0, 0, 0, 30, 0, 0, 0, 0x45, 0, 0, 30, 0, 0, 0, 0, 64, 17, 0, 0,
     127, 0, 0, 1, 127, 0, 0, 1, 0x1c, 0xe8, 0x1c, 0xe8, 0, 10, 0, 0, 0x52, 0x54,
 ];
 
-// A frame that gives none, of one octet.
+/// A frame that gives none, of one octet.
 pub(super) const IGNORED: &[u8] = &[0, 0, 0, 0, 0, 0, 0, 0, 1, 0, 0, 0, 1, 0, 0, 0, 0x45];
 
-// A capture of a frame that is ignored and one that gives a datagram.
+/// A capture of a frame that is ignored and one that gives a datagram.
 fn capture(alloc: Global) -> Result<Vec<u8>, AllocError> {
     let mut octets = Vec::new(alloc);
     octets.extend_from_slice(HEADER)?;

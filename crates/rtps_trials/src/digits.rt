@@ -1,7 +1,7 @@
 use rtps_digits::{decode, encode};
 use std::test::Fail;
 
-// Whether digits are decoded as `hex` decodes them.
+/// Whether digits are decoded as `hex` decodes them.
 fn is_as_hex(rt: &HostRuntime, digits: &[u8]) -> Result<bool, Fail> {
     let mut octets = vec![in rt.alloc(); 0u8; digits.len() / 2]?;
     let found = decode(&mut octets, digits);

@@ -243,7 +243,7 @@ const READER: &[u8] = b"\
     \x00\x07\x00\x0c\x00\x00\x00\x05Pose\x00\x00\x00\x00\
     \x00\x1a\x00\x0c\x00\x00\x00\x02\x00\x00\x00\x00\x00\x00\x00\x00\x00\x01\x00\x00";
 
-// What is noted of acts in this order: of the built-in writer, the payload.
+/// What is noted of acts in this order: of the built-in writer, the payload.
 const ANNOUNCED: [([u8; 4], Payload<'static>, Noted); 8] = [
     (PARTICIPANTS, Payload::Key(PARTICIPANT), Noted::Nothing),
     (PUBLICATIONS, Payload::Absent, Noted::Nothing),

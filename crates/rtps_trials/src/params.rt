@@ -2,7 +2,7 @@ use rtps_ids::Order;
 use rtps_params::{ListFault, ParamFault, ParamList, read_guid, read_text, read_u32, write_list};
 use std::test::Fail;
 
-// Whether the octets begin with a list of so many of them, whose pairs are these.
+/// Whether the octets begin with a list of so many of them, whose pairs are these.
 fn is_list(octets: &[u8], order: Order, used: usize, pairs: &[(u16, &[u8])]) -> bool {
     let Ok((list, found)) = ParamList::read(octets, order) else {
         return false;

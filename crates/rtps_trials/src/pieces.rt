@@ -5,8 +5,8 @@ use std::alloc::Global;
 use std::io::{self, Read};
 use std::test::Fail;
 
-// A reader of a text. It gives so many octets at most at once, and no read gives octets of both sides of the cut. At the
-// place at which it fails it gives none.
+/// A reader of a text. It gives so many octets at most at once, and no read gives octets of both sides of the cut. At the
+/// place at which it fails it gives none.
 #[derive(Drop)]
 pub(super) struct Pieces<'a> {
     text: &'a [u8],
@@ -16,7 +16,7 @@ pub(super) struct Pieces<'a> {
     fails_at: usize,
 }
 
-// How far it is to a stop, if it is still to come.
+/// How far it is to a stop, if it is still to come.
 fn way_to(stop: usize, at: usize) -> usize {
     if at < stop { stop - at } else { usize::MAX }
 }
@@ -39,7 +39,7 @@ impl Read for Pieces<'_> {
     }
 }
 
-// A text from its beginning to its end, with a cut.
+/// A text from its beginning to its end, with a cut.
 pub(super) fn in_pieces(text: &[u8], most: usize, cut: usize) -> Pieces<'_> {
     let (at, fails_at) = (0, usize::MAX);
     Pieces {
@@ -51,14 +51,14 @@ pub(super) fn in_pieces(text: &[u8], most: usize, cut: usize) -> Pieces<'_> {
     }
 }
 
-// What `show` prints of a text that comes in pieces.
+/// What `show` prints of a text that comes in pieces.
 fn shown(alloc: Global, input: &mut Pieces<'_>) -> Result<Vec<u8>, RunFault> {
     let mut output = Vec::new(alloc);
     run_show(alloc, input, &mut output)?;
     Ok(output)
 }
 
-// Whether two recordings have the same datagrams, octet for octet, and as many frames that were ignored.
+/// Whether two recordings have the same datagrams, octet for octet, and as many frames that were ignored.
 fn is_same_recording(one: &Recording, other: &Recording) -> bool {
     if one.len() != other.len() || one.ignored() != other.ignored() {
         return false;
@@ -72,7 +72,7 @@ fn is_same_recording(one: &Recording, other: &Recording) -> bool {
     true
 }
 
-// Whether what is read in pieces is what the text as a whole stands for.
+/// Whether what is read in pieces is what the text as a whole stands for.
 pub(super) fn reads_as_whole(alloc: Global, mut input: Pieces<'_>) -> bool {
     let text = input.text;
     let read = read_input(alloc, Limits::usual(), &mut input);

@@ -6,7 +6,7 @@ use rtps_tool::{
 use std::alloc::{AllocError, Global};
 use std::test::Fail;
 
-// So many lines of two digits, and a last line.
+/// So many lines of two digits, and a last line.
 fn lines(alloc: Global, count: u32, last: &str) -> Result<String, AllocError> {
     let mut text = String::new(alloc);
     for _ in 0..count {
@@ -40,8 +40,8 @@ fn a_recording_has_1000000_datagrams_at_most(rt: HostRuntime) -> Result<(), Fail
     Ok(())
 }
 
-// Whether an input of three datagrams is taken within limits, whole and octet by octet; false where it is refused as too
-// large, and None where there is another answer.
+/// Whether an input of three datagrams is taken within limits, whole and octet by octet; false where it is refused as too
+/// large, and None where there is another answer.
 fn is_taken(alloc: Global, input: &[u8], limits: Limits) -> Option<bool> {
     let whole = read_recording_within(alloc, limits, input);
     let pieces = read_input(alloc, limits, &mut in_pieces(input, 1, 0));
@@ -52,7 +52,7 @@ fn is_taken(alloc: Global, input: &[u8], limits: Limits) -> Option<bool> {
     }
 }
 
-// Whether an input of three datagrams is taken within limits from three datagrams and its octets on.
+/// Whether an input of three datagrams is taken within limits from three datagrams and its octets on.
 fn is_taken_from_its_size_on(alloc: Global, input: &[u8]) -> bool {
     let size = input.len() as u64;
     for (datagrams, octets, wanted) in [

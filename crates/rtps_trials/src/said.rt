@@ -6,19 +6,19 @@ use rtps_text::DatagramList;
 use std::alloc::Global;
 use std::test::Fail;
 
-// Two numbers, each with a payload.
+/// Two numbers, each with a payload.
 pub(super) const DATA_1_AND_2: &str =
     "5254505302050000aaaaaaaaaaaaaaaaaaaaaaaa1504001c000000100000000000000103000000000000000100000000000000011504001c00000010000000000000010300000000000000020000000000000002";
 
-// Number 1 with another payload.
+/// Number 1 with another payload.
 pub(super) const DATA_1_AGAIN: &str =
     "5254505302050000aaaaaaaaaaaaaaaaaaaaaaaa1504001c00000010000000000000010300000000000000010000000000000009";
 
-// Number 3, and a HEARTBEAT of the numbers from 1 to 3.
+/// Number 3, and a HEARTBEAT of the numbers from 1 to 3.
 pub(super) const DATA_3_AND_HEARTBEAT: &str =
     "5254505302050000aaaaaaaaaaaaaaaaaaaaaaaa1504001c000000100000000000000103000000000000000300000000000000030700001c00000000000001030000000000000001000000000000000300000001";
 
-// A HEARTBEAT of the numbers from 3 to 5.
+/// A HEARTBEAT of the numbers from 3 to 5.
 pub(super) const HEARTBEAT_3_TO_5: &str =
     "5254505302050000aaaaaaaaaaaaaaaaaaaaaaaa0700001c00000000000001030000000000000003000000000000000500000001";
 
@@ -55,7 +55,7 @@ pub(super) fn pair() -> Pair {
     }
 }
 
-// The number of this value.
+/// The number of this value.
 pub(super) fn number(value: i64) -> Result<SeqNum, Fail> {
     match SeqNum::new(value) {
         Some(number) => Ok(number),
@@ -63,7 +63,7 @@ pub(super) fn number(value: i64) -> Result<SeqNum, Fail> {
     }
 }
 
-// The datagrams of these lines.
+/// The datagrams of these lines.
 pub(super) fn list_of(alloc: Global, lines: &[&str]) -> Result<DatagramList, Fail> {
     let mut list = DatagramList::new(alloc);
     for line in lines {
@@ -72,7 +72,7 @@ pub(super) fn list_of(alloc: Global, lines: &[&str]) -> Result<DatagramList, Fai
     Ok(list)
 }
 
-// The octets of each datagram.
+/// The octets of each datagram.
 pub(super) fn slices_of(alloc: Global, list: &DatagramList) -> Result<Vec<&[u8]>, Fail> {
     let mut slices: Vec<&[u8]> = Vec::new(alloc);
     for datagram in list.datagrams() {

@@ -12,7 +12,7 @@ use rtps_ids::{Guid, Memory, SeqNum};
 use std::alloc::Global;
 use std::test::Fail;
 
-// The verdicts on number 3, which the reader claims with those below it, from each of the numbers 1 to 5 on.
+/// The verdicts on number 3, which the reader claims with those below it, from each of the numbers 1 to 5 on.
 const JOINED_LATE: [Verdict; 5] = [
     Verdict::Unfounded {
         datagram: 2,
@@ -27,7 +27,7 @@ const JOINED_LATE: [Verdict; 5] = [
     Verdict::Complete { last: 4 },
 ];
 
-// The verdict on the pair from a number on, by the judge with each kind of set and by the index.
+/// The verdict on the pair from a number on, by the judge with each kind of set and by the index.
 fn verdicts_from(
     alloc: Global,
     recording: &[&[u8]],
@@ -66,7 +66,7 @@ fn a_pair_of_any_two_guids_is_judged(rt: HostRuntime) -> Result<(), Fail> {
     Ok(())
 }
 
-// Whether an index has these acts from a GUID: of each its datagram, and where it stands there.
+/// Whether an index has these acts from a GUID: of each its datagram, and where it stands there.
 fn has_acts(index: &Index<'_>, origin: Guid, wanted: &[(usize, usize)]) -> bool {
     let acts = index.acts_of(origin);
     acts.len() == wanted.len()

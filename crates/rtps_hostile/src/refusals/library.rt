@@ -85,7 +85,7 @@ fn is_why_refused(alloc: Global, index: &Index<'_>) -> Result<bool, Fault> {
     Ok(is_refused!(alloc, Evidence::of_from(alloc, index, PAIR, asked_from())))
 }
 
-// The verdict on the pair by a call; by the index alone where it is none of the others.
+/// The verdict on the pair by a call; by the index alone where it is none of the others.
 fn judged(
     alloc: Global,
     call: &str,
@@ -108,7 +108,7 @@ fn is_audit_refused(alloc: Global, call: &str, recording: &[&[u8]]) -> Result<bo
     Ok(is_refused!(alloc, audited(alloc, call, recording)))
 }
 
-// What a report says, by a call.
+/// What a report says, by a call.
 fn audited(alloc: Global, call: &str, recording: &[&[u8]]) -> Result<(Vec<Row>, Counts), Memory> {
     let report = if call == "audit" {
         audit(alloc, recording)?
@@ -137,7 +137,7 @@ fn is_note_refused(alloc: Global, recording: &[&[u8]]) -> Result<bool, Fault> {
     Ok(refused)
 }
 
-// Notes an act in both directories, in the one of them a second time where it is refused.
+/// Notes an act in both directories, in the one of them a second time where it is refused.
 fn is_one_note_refused<'a>(
     alloc: Global,
     wanted: &mut Directory<'a>,
@@ -160,7 +160,7 @@ fn is_one_note_refused<'a>(
     Ok(refused)
 }
 
-// Whether two directories list the same.
+/// Whether two directories list the same.
 fn are_same(one: &Directory<'_>, other: &Directory<'_>) -> Result<bool, Fault> {
     for call in LISTINGS {
         if listed(one, call)? != listed(other, call)? {
@@ -184,10 +184,10 @@ fn is_list_refused(alloc: Global, call: &str, directory: &Directory<'_>) -> Resu
     Ok(is_refused!(alloc, listed(directory, call)))
 }
 
-// The calls that list what a directory has.
+/// The calls that list what a directory has.
 const LISTINGS: [&str; 4] = ["participants", "endpoints", "matched", "pairs"];
 
-// What a directory lists.
+/// What a directory lists.
 #[derive(PartialEq, Drop)]
 enum Listing<'a> {
     Participants(Vec<Guid>),
@@ -196,7 +196,7 @@ enum Listing<'a> {
     Pairs(Vec<Pair>),
 }
 
-// What a directory lists at a call; pairs where it is none of the others.
+/// What a directory lists at a call; pairs where it is none of the others.
 fn listed<'a>(directory: &Directory<'a>, call: &str) -> Result<Listing<'a>, Memory> {
     match call {
         "participants" => participants(directory),
@@ -244,7 +244,7 @@ fn is_walk_refused(alloc: Global, recording: &[&[u8]]) -> Result<bool, Fault> {
     Ok(refused)
 }
 
-// Short ranges and long ones in turn, all apart, the greatest first. Some of the short ones lie in two words.
+/// Short ranges and long ones in turn, all apart, the greatest first. Some of the short ones lie in two words.
 fn is_add_refused<C: Coverage>(alloc: Global) -> Result<bool, Fault> {
     let mut wanted = C::empty(alloc);
     let mut tried = C::empty(alloc);
@@ -270,7 +270,7 @@ fn is_add_refused<C: Coverage>(alloc: Global) -> Result<bool, Fault> {
     Ok(refused)
 }
 
-// Whether two sets have the same of the numbers below 8200.
+/// Whether two sets have the same of the numbers below 8200.
 fn are_same_numbers<C: Coverage>(one: &C, other: &C) -> bool {
     one.front() == other.front() && (0..8200).all(|n| one.covers(n) == other.covers(n))
 }
@@ -279,12 +279,12 @@ fn is_build_refused(alloc: Global, recording: &[&[u8]]) -> Result<bool, Fault> {
     Ok(is_refused!(alloc, built(alloc, recording)))
 }
 
-// What an index says that is built.
+/// What an index says that is built.
 fn built(alloc: Global, recording: &[&[u8]]) -> Result<(usize, usize, Verdict), Memory> {
     said(&Index::build(alloc, recording)?)
 }
 
-// How many acts each of the pair has in an index, and the verdict.
+/// How many acts each of the pair has in an index, and the verdict.
 fn said(index: &Index<'_>) -> Result<(usize, usize, Verdict), Memory> {
     let written = index.acts_of(PAIR.writer).len();
     let read = index.acts_of(PAIR.reader).len();

@@ -51,7 +51,7 @@ fn is_reading_refused(alloc: Global, input: &[u8]) -> Result<bool, Fault> {
     }
 }
 
-// Two recordings have to be the same.
+/// Two recordings have to be the same.
 fn hold_same(one: &Recording, other: &Recording) -> Result<(), Fault> {
     if one.datagrams().eq(other.datagrams()) && one.ignored() == other.ignored() {
         Ok(())
@@ -60,7 +60,7 @@ fn hold_same(one: &Recording, other: &Recording) -> Result<(), Fault> {
     }
 }
 
-// The words may be read as with ample memory although a request was refused.
+/// The words may be read as with ample memory although a request was refused.
 fn are_words_refused(alloc: Global, words: &[&str]) -> Result<bool, Fault> {
     let wanted = answer_of(alloc, read_words(alloc, words))?.ok_or(Fault::Memory)?;
     mark(alloc)?;
@@ -79,7 +79,7 @@ fn are_words_refused(alloc: Global, words: &[&str]) -> Result<bool, Fault> {
     Ok(refused)
 }
 
-// What words choose, or the text that answers them; None for want of memory.
+/// What words choose, or the text that answers them; None for want of memory.
 fn answer_of(alloc: Global, read: Result<Choice, WordFault>) -> Result<Option<String>, Fault> {
     match read {
         Ok(choice) => Ok(Some(chosen(alloc, &choice)?)),
@@ -88,7 +88,7 @@ fn answer_of(alloc: Global, read: Result<Choice, WordFault>) -> Result<Option<St
     }
 }
 
-// What is chosen.
+/// What is chosen.
 fn chosen(alloc: Global, choice: &Choice) -> Result<String, AllocError> {
     let file = choice.file().unwrap_or("");
     match choice {
@@ -106,7 +106,7 @@ fn chosen(alloc: Global, choice: &Choice) -> Result<String, AllocError> {
     }
 }
 
-// The text that answers words which choose nothing; empty for want of memory.
+/// The text that answers words which choose nothing; empty for want of memory.
 fn told(alloc: Global, fault: &WordFault) -> Result<String, AllocError> {
     match fault {
         WordFault::Refused(refusal) => format!(in alloc; "refused {refusal}"),
@@ -116,7 +116,7 @@ fn told(alloc: Global, fault: &WordFault) -> Result<String, AllocError> {
     }
 }
 
-// The output has its room before the run. A run that is refused has written nothing, and is made again on a fresh input.
+/// The output has its room before the run. A run that is refused has written nothing, and is made again on a fresh input.
 fn is_run_refused(alloc: Global, run: Run, input: &[u8]) -> Result<bool, Fault> {
     let (wanted, ending) = text_of(alloc, run, input)?;
     let mut output = Vec::with_capacity(alloc, wanted.len())?;

@@ -8,10 +8,10 @@ use rtps_wire::{Header, Item, Items, WriteFault, write_message};
 use std::alloc::Global;
 use std::slice;
 
-// What stands in the octets before the call.
+/// What stands in the octets before the call.
 const BEFORE: &[u8] = b"before";
 
-// Parameters of values that grow.
+/// Parameters of values that grow.
 const PARAMETERS: [(u16, &[u8]); 4] = [
     (0x0005, b"pose"),
     (0x0007, b"\x05\0\0\0Pose\0\0\0\0"),
@@ -44,7 +44,7 @@ fn is_any_message_refused(alloc: Global, recording: &[&[u8]]) -> Result<bool, Fa
     Ok(refused)
 }
 
-// The header and the items of a datagram that has no refusal.
+/// The header and the items of a datagram that has no refusal.
 fn items_of<'a>(alloc: Global, datagram: &'a [u8]) -> Result<(Header, Vec<Item<'a>>), Fault> {
     let Ok((header, found)) = Items::open(datagram) else {
         return Err(Fault::Input);
@@ -59,7 +59,7 @@ fn items_of<'a>(alloc: Global, datagram: &'a [u8]) -> Result<(Header, Vec<Item<'
     Ok((header, items))
 }
 
-// What is appended to octets.
+/// What is appended to octets.
 #[derive(Clone, Copy)]
 enum Appended<'a> {
     List(&'a [(u16, &'a [u8])]),
@@ -67,7 +67,7 @@ enum Appended<'a> {
 }
 
 impl Appended<'_> {
-    // Appends it, and answers whether memory was refused.
+    /// Appends it, and answers whether memory was refused.
     fn append_to(self, out: &mut Vec<u8>) -> Result<bool, Fault> {
         match self {
             Appended::List(params) => match write_list(params, Order::Little, out) {
@@ -84,7 +84,7 @@ impl Appended<'_> {
     }
 }
 
-// A call that is refused leaves the octets as they were, and appends what it is to append when it is made again.
+/// A call that is refused leaves the octets as they were, and appends what it is to append when it is made again.
 fn is_append_refused(alloc: Global, appended: Appended<'_>) -> Result<bool, Fault> {
     let mut wanted = Vec::from_slice(alloc, BEFORE)?;
     if appended.append_to(&mut wanted)? {
