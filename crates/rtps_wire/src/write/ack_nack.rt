@@ -3,7 +3,7 @@ ghost use Rattle.rtps_ids.specs.declared.order.Order.{Order};
 ghost use Rattle.rtps_wire.specs.Held.{IsHeldAckNack};
 ghost use Rattle.rtps_wire.specs.AckNack.{ack_nack_flags, ack_nack_octets};
 
-use super::fields::{flag, put_set, set_size};
+use super::fields::{flag, put_entities, put_set, set_size};
 use crate::body::AckNackBody;
 use crate::layout::ack_nack;
 use rtps_ids::layout::set;
@@ -30,8 +30,7 @@ pub(crate) fn ack_nack(order: Order, body: &AckNackBody, out: &mut Vec<u8>) -> R
     ensures written { OnOk result (out.new.items ≡ out.old.items ++ ack_nack_octets order body.now) }
     ensures kept { take (vec_len out.old) out.new.items ≡ out.old.items }
 {
-    out.extend_from_slice(&body.reader.0)?;
-    out.extend_from_slice(&body.writer.0)?;
+    put_entities(&body.reader, &body.writer, out)?;
     put_set(order, &body.set, out)?;
     put_u32(order, body.count, out)
 }

@@ -4,7 +4,7 @@ ghost use Rattle.rtps_ids.specs.declared.order.Order.{Order};
 ghost use Rattle.rtps_wire.specs.Held.{IsHeldData};
 ghost use Rattle.rtps_wire.specs.Values.{data_value, payload_value};
 
-use super::fields::{entity_size, number_size};
+use super::fields::{entity_size, number_size, put_entities};
 use crate::body::{DataBody, Payload};
 use crate::layout::data;
 use rtps_ids::{Memory, Order, put_number, put_u16};
@@ -76,8 +76,7 @@ pub(crate) fn data(order: Order, body: &DataBody<'_>, out: &mut Vec<u8>) -> Resu
 {
     out.extend_from_slice(&[0, 0])?;
     put_u16(order, (data::SIZE - data::QOS_FROM) as u16, out)?;
-    out.extend_from_slice(&body.reader.0)?;
-    out.extend_from_slice(&body.writer.0)?;
+    put_entities(&body.reader, &body.writer, out)?;
     put_number(order, body.number.get(), out)?;
     if let Some(list) = body.qos {
         out.extend_from_slice(list.octets())?;

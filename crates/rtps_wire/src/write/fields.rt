@@ -56,6 +56,20 @@ pub(crate) fn set_size(set: NumberSet) -> u16
     (WORDS + WORD_SIZE * set.count().div_ceil(32) as usize) as u16
 }
 
+/// Appends the ids of a reader and of a writer.
+pub(crate) fn put_entities(
+    reader: &EntityId,
+    writer: &EntityId,
+    out: &mut Vec<u8>,
+) -> Result<(), Memory>
+    ensures written { OnOk result (out.new.items ≡ out.old.items ++ (reader.now.0 ++ writer.now.0)) }
+    ensures kept { take (vec_len out.old) out.new.items ≡ out.old.items }
+{
+    out.extend_from_slice(&reader.0)?;
+    out.extend_from_slice(&writer.0)?;
+    Ok(())
+}
+
 /// Appends a sequence number set.
 pub(crate) fn put_set(order: Order, set: &NumberSet, out: &mut Vec<u8>) -> Result<(), Memory>
     ensures written { OnOk result (out.new.items ≡ out.old.items ++ set_octets order set.now) }

@@ -3,7 +3,7 @@ ghost use Rattle.rtps_ids.specs.declared.order.Order.{Order};
 ghost use Rattle.rtps_wire.specs.Held.{IsHeldGap};
 ghost use Rattle.rtps_wire.specs.Gap.{gap_octets};
 
-use super::fields::{put_set, set_size};
+use super::fields::{put_entities, put_set, set_size};
 use crate::body::GapBody;
 use crate::layout::gap;
 use rtps_ids::{Memory, Order, put_number};
@@ -31,8 +31,7 @@ pub(crate) fn gap(order: Order, body: &GapBody, out: &mut Vec<u8>) -> Result<(),
     ensures written { OnOk result (out.new.items ≡ out.old.items ++ gap_octets order body.now) }
     ensures kept { take (vec_len out.old) out.new.items ≡ out.old.items }
 {
-    out.extend_from_slice(&body.reader.0)?;
-    out.extend_from_slice(&body.writer.0)?;
+    put_entities(&body.reader, &body.writer, out)?;
     put_number(order, body.start.get(), out)?;
     put_set(order, &body.list, out)
 }

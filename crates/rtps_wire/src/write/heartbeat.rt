@@ -3,7 +3,7 @@ ghost use Rattle.rtps_ids.specs.declared.order.Order.{Order};
 ghost use Rattle.rtps_wire.specs.Held.{IsHeldHeartbeat};
 ghost use Rattle.rtps_wire.specs.Heartbeat.{heartbeat_flags, heartbeat_octets, is_bad_range as is_bad_range_lem};
 
-use super::fields::flag;
+use super::fields::{flag, put_entities};
 use crate::body::HeartbeatBody;
 use crate::layout::heartbeat;
 use rtps_ids::{Memory, Order, put_number, put_u32};
@@ -38,8 +38,7 @@ pub(crate) fn heartbeat(order: Order, body: &HeartbeatBody, out: &mut Vec<u8>) -
     ensures written { OnOk result (out.new.items ≡ out.old.items ++ heartbeat_octets order body.now) }
     ensures kept { take (vec_len out.old) out.new.items ≡ out.old.items }
 {
-    out.extend_from_slice(&body.reader.0)?;
-    out.extend_from_slice(&body.writer.0)?;
+    put_entities(&body.reader, &body.writer, out)?;
     put_number(order, body.first.get(), out)?;
     put_number(order, body.last, out)?;
     put_u32(order, body.count, out)
