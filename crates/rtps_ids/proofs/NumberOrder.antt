@@ -158,3 +158,11 @@ identity_order prefix other entity other_entity a b c d o p q r =
     ∙ ap (nat_cmp (spelled (spelled 0 prefix) entity)) (identity_spelled other other_entity b d)
     ∙ spelled_then (spelled 0 prefix) (spelled 0 other) entity other_entity (c ∙ sym d) q r
     ∙ ap (λ order. ordering_then order (slice_cmp nat_cmp entity other_entity)) (spelled_order 0 prefix other (a ∙ sym b) o p)
+
+-- the order of twelve octets, by the first eight and then by the last four
+pub prefix_order : (xs ys : List ℕ) → length xs ≡ 12 → length ys ≡ 12
+    → ordering_then (slice_cmp nat_cmp (take 8 xs) (take 8 ys)) (slice_cmp nat_cmp (drop 8 xs) (drop 8 ys)) ≡ slice_cmp nat_cmp xs ys
+prefix_order xs ys one other =
+    let same : length (take 8 xs) ≡ length (take 8 ys) = length-take-le 8 xs (omega arith) ∙ sym (length-take-le 8 ys (omega arith)) in
+    sym (slice_cmp-append (take 8 xs) (take 8 ys) (drop 8 xs) (drop 8 ys) same)
+    ∙ (ap (λ l. slice_cmp nat_cmp l (take 8 ys ++ drop 8 ys)) (take-append-drop 8 xs) ∙ ap (slice_cmp nat_cmp xs) (take-append-drop 8 ys))
