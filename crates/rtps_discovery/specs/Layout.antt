@@ -30,7 +30,7 @@ pid_is =
 abbrev pub reliability_is : Type 0
 reliability_is = (reliability.BEST_EFFORT ≡ 1) × (reliability.RELIABLE ≡ 2)
 
--- the kinds of durability (DDS 1.4, 2.3.3 "DCPS PSM: IDL")
+-- the kinds of durability (DDS 1.4, 2.2.3.4 "DURABILITY")
 abbrev pub durability_is : Type 0
 durability_is =
     (durability.VOLATILE ≡ 0) × (durability.TRANSIENT_LOCAL ≡ 1) × (durability.TRANSIENT ≡ 2) × (durability.PERSISTENT ≡ 3)

@@ -52,7 +52,7 @@ pub(crate) mod reliability {
     pub(crate) const RELIABLE: u32 = 2;
 }
 
-/// The kinds of durability, numbered as DDS names them (DDS 1.4, 2.3.3 "DCPS PSM: IDL", "DurabilityQosPolicyKind").
+/// The kinds of durability, numbered in the order in which DDS has them (DDS 1.4, 2.2.3.4 "DURABILITY").
 pub(crate) mod durability {
     pub(crate) const VOLATILE: u32 = 0;
 
