@@ -1,9 +1,11 @@
 use crate::said::{
-    ACK_NACK_2, ACK_NACK_3, ACK_NACK_6, DATA_1_AGAIN, DATA_1_AND_2, HEARTBEAT_3_TO_5, list_of,
-    pair, slices_of,
+    ACK_NACK_2, ACK_NACK_3, ACK_NACK_6, DATA_1_AGAIN, DATA_1_AND_2, HEARTBEAT_3_TO_5, READER,
+    WRITER, list_of, number, pair, slices_of,
 };
-use rtps_audit::{Index, Verdict};
-use rtps_evidence::{Announcement, Claim, Evidence, Kind, Place, Sent, Teller};
+use rtps_audit::{Index, Unwatched, Verdict};
+use rtps_evidence::{
+    Announcement, Claim, Evidence, Explanation, Kind, Place, Sent, Teller, explain_from,
+};
 use rtps_ids::SeqNum;
 use std::alloc::Global;
 use std::test::Fail;
@@ -154,5 +156,50 @@ fn a_conflict_has_its_two_payloads(rt: HostRuntime) -> Result<(), Fail> {
     };
     let lines = [DATA_1_AND_2, DATA_1_AND_2, DATA_1_AGAIN];
     assert!(rt; shows(rt.alloc(), &lines, SeqNum::first(), wanted)?);
+    Ok(())
+}
+
+#[test]
+fn the_evidence_by_all_numbers(rt: HostRuntime) -> Result<(), Fail> {
+    let list = list_of(rt.alloc(), &[DATA_1_AND_2, ACK_NACK_2])?;
+    let slices = slices_of(rt.alloc(), &list)?;
+    let index = Index::build(rt.alloc(), &slices)?;
+    let found = Evidence::of(rt.alloc(), &index, pair())?;
+    assert_eq!(rt; found.verdict, Verdict::Open { number: 2 });
+    assert_eq!(rt; [found.payloads, found.gone, found.untold], [2, 0, 0]);
+    assert_eq!(rt; found.acknowledgement, claimed(2, 2));
+    assert_eq!(rt; found.teller, told(Kind::Data, 1, 52));
+    Ok(())
+}
+
+// Whether a pair of the topic has this verdict, and its numbers so many payloads.
+fn explains(row: &Explanation<'_>, verdict: Verdict, payloads: u64) -> bool {
+    row.pair == pair()
+        && row.topic == b"pose".as_slice()
+        && row.type_name == b"Pose".as_slice()
+        && row.evidence.verdict == verdict
+        && row.evidence.payloads == payloads
+}
+
+#[test]
+fn a_report_is_explained_from_a_number_on(rt: HostRuntime) -> Result<(), Fail> {
+    let list = list_of(rt.alloc(), &[WRITER, READER, DATA_1_AND_2, ACK_NACK_2])?;
+    let slices = slices_of(rt.alloc(), &list)?;
+    for (from, verdict, payloads) in [
+        (1, Verdict::Open { number: 2 }, 2),
+        (2, Verdict::Open { number: 2 }, 1),
+        (3, Verdict::Complete { last: 2 }, 0),
+    ] {
+        let explained = explain_from(rt.alloc(), &slices, number(from)?, &mut Unwatched)?;
+        assert_eq!(rt; explained.counts.datagrams, 4);
+        assert_eq!(rt; explained.rows.len(), 1);
+        assert!(rt;
+            explained
+                .rows
+                .iter()
+                .all(|row| explains(row, verdict, payloads)),
+            "from {from}"
+        );
+    }
     Ok(())
 }

@@ -5,10 +5,11 @@ use crate::said::{
     list_of, number, pair, slices_of,
 };
 use rtps_audit::{
-    BitRanges, Index, MergedRanges, PlainRanges, Verdict, audit, audit_from, judge, judge_by,
-    judge_from,
+    BitRanges, Index, MergedRanges, PlainRanges, Report, Unwatched, Verdict, audit, audit_from,
+    judge, judge_by, judge_from,
 };
 use rtps_ids::{Guid, Memory, SeqNum};
+use rtps_receiver::{Act, ActBody, Walk};
 use std::alloc::Global;
 use std::test::Fail;
 
@@ -87,25 +88,65 @@ fn acts_stand_with_their_origin(rt: HostRuntime) -> Result<(), Fail> {
     Ok(())
 }
 
+// Where an act of DATA stands, and its number; None of another act.
+fn data_of(act: &Act<'_>) -> Option<(usize, i64)> {
+    match &act.body {
+        ActBody::Data(data) => Some((act.at, data.number.get())),
+        _ => None,
+    }
+}
+
+// Whether the acts of a walk are DATA alone, which stand there and have these numbers.
+fn has_data(walk: &Walk<'_>, wanted: &[(usize, i64)]) -> bool {
+    let acts = walk.acts();
+    if acts.len() != wanted.len() {
+        return false;
+    }
+    for (act, place) in acts.iter().zip(wanted) {
+        if data_of(act) != Some(*place) {
+            return false;
+        }
+    }
+    true
+}
+
+#[test]
+fn a_walk_for_data_keeps_data_alone(rt: HostRuntime) -> Result<(), Fail> {
+    let list = list_of(
+        rt.alloc(),
+        &[DATA_1_AND_2, DATA_3_AND_HEARTBEAT, ACK_NACK_4],
+    )?;
+    let slices = slices_of(rt.alloc(), &list)?;
+    let wanted: [&[(usize, i64)]; 3] = [&[(20, 1), (52, 2)], &[(20, 3)], &[]];
+    let mut walk = Walk::new(rt.alloc());
+    for (datagram, wanted) in slices.iter().zip(wanted) {
+        walk.read_data(datagram)?;
+        assert!(rt; has_data(&walk, wanted), "{wanted:?}");
+    }
+    Ok(())
+}
+
+// Whether a report of four datagrams has the pair alone, with this verdict.
+fn says(report: &Report, verdict: Verdict) -> bool {
+    report.counts.datagrams == 4
+        && report.rows.len() == 1
+        && report
+            .rows
+            .iter()
+            .all(|row| row.pair == pair() && row.verdict == verdict)
+}
+
 #[test]
 fn a_recording_is_audited(rt: HostRuntime) -> Result<(), Fail> {
     let alloc = rt.alloc();
     let list = list_of(alloc, &[WRITER, READER, DATA_1_AND_2, ACK_NACK_2])?;
     let slices = slices_of(alloc, &list)?;
-    let whole = audit(alloc, &slices)?;
-    let later = audit_from(alloc, &slices, number(3)?)?;
-    for (report, verdict) in [
-        (&whole, Verdict::Open { number: 2 }),
-        (&later, Verdict::Complete { last: 2 }),
-    ] {
-        assert_eq!(rt; report.rows.len(), 1);
-        assert!(rt;
-            report
-                .rows
-                .iter()
-                .all(|row| row.pair == pair() && row.verdict == verdict)
-        );
-        assert_eq!(rt; report.counts.datagrams, 4);
-    }
+    let open = Verdict::Open { number: 2 };
+    assert!(rt; says(&audit(alloc, &slices)?, open));
+    let complete = Verdict::Complete { last: 2 };
+    assert!(rt; says(&audit_from(alloc, &slices, number(3)?)?, complete));
+    let index = Index::build(alloc, &slices)?;
+    assert!(rt; says(&index.report_from(number(2)?, &mut Unwatched)?, open));
+    assert!(rt; says(&index.report_from(number(3)?, &mut Unwatched)?, complete));
     Ok(())
 }
