@@ -205,13 +205,16 @@ fn tell_form(rt: &HostRuntime, file: &str, start: &[u8]) {
     }
 }
 
-/// Names a file that cannot be opened or read, with the reason but without the number that the system gives it.
+/// Names a file that cannot be opened or read, with the reason but without the number that the system gives it. It takes
+/// no memory: a reason has 256 octets at most, and 24 are room for the number.
 fn tell_reason(rt: &HostRuntime, file: &str, error: &io::Error) {
-    let mut text = String::new(rt.alloc());
-    if write!(text, "{error}").is_err() {
-        return;
-    }
-    let reason = text.as_str().split(" (os error ").next().unwrap_or("");
+    let mut room = [0u8; 280];
+    let mut left = room.as_mut_slice();
+    let _ = write!(left, "{error}");
+    let free = left.len();
+    let said = room.get(..280usize.saturating_sub(free)).unwrap_or(&[]);
+    let text = str::from_utf8(said).unwrap_or("");
+    let reason = text.split(" (os error ").next().unwrap_or("");
     let _ = writeln!(rt.stderr(), "rtps-audit: {file}: {reason}");
 }
 
