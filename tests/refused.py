@@ -84,6 +84,14 @@ def many_endpoints():
     return text_of(datagrams)
 
 
+def many_ranges():
+    """a recording of one pair, with a GAP whose list has 128 ranges, and of the numbers between them the first, and all"""
+    datagrams = [*make.announcements(1), make.header(make.A) + make.gap(make.WRITER, 1, 1000, [0xaaaaaaaa] * 8)]
+    datagrams += make.samples([1001], 1002)
+    datagrams += make.samples(range(1003, 1256, 2), 1255)
+    return text_of(datagrams)
+
+
 def of_calls(calls, recordings):
     """what is tried of the library: a name, the words, the input, what is wanted, whether it may go on, and the mark"""
     of_capture = [f'capture_{call}' for call in OF_INPUT]
@@ -99,6 +107,12 @@ def of_program(program, recording):
     views = [*map(words_of, VIEWS), ['audit', '--from', '3'], ['why', '--from', '3']]
     for words in (*([*view, '-'] for view in views), ['--help'], ['audit', '--help'], ['--version'], ['audit'], []):
         yield f"rtps-audit {' '.join(words)}", [program, *words], recording, nothing, True
+    yield 'rtps-audit audit of a GAP whose list has 128 ranges', [program, 'audit', '-'], many_ranges(), nothing, True
+    yield 'rtps-audit sample', [program, 'sample'], b'', nothing, True
+    limits = ['--max-datagrams', '6', '--max-octets', '100000']
+    for view in views:
+        yield f"rtps-audit {' '.join(view)} with limits", [program, *view, *limits, '-'], recording, nothing, True
+    yield 'rtps-audit audit of a FILE that is absent', [program, 'audit', 'absent.rec'], b'', nothing, True
     capture = file_of('examples', 'loopback.pcap')
     for view in views:
         yield f"rtps-audit {' '.join(view)} - of a capture", [program, *view, '-'], capture, nothing, True
