@@ -2,7 +2,8 @@
 
 use crate::fault::Fault;
 use crate::recordings::ANNOUNCING;
-use crate::verdicts::judge_every_way;
+use crate::verdicts::{PAIR, judge_every_way};
+use rtps_audit::{Verdict, judge};
 use rtps_tool::Recording;
 use std::alloc::Global;
 
@@ -19,6 +20,12 @@ const ACK_NACK: [u8; 28] = *b"\
 /// How many ACKNACKs there are, with bases from 0 on.
 const COUNT: u16 = 16_378;
 
+/// The verdict on the pair: in the datagram behind the announcements the reader claims number 1, for which no word was given.
+const VERDICT: Verdict = Verdict::Unfounded {
+    datagram: 3,
+    number: 1,
+};
+
 /// Counts the ACKNACKs of the datagram, which is judged behind the announcements of the pair.
 pub(crate) fn count(alloc: Global, first: &Recording) -> Result<usize, Fault> {
     let mut datagram = Vec::from_slice(alloc, &TO_WRITER)?;
@@ -34,6 +41,9 @@ pub(crate) fn count(alloc: Global, first: &Recording) -> Result<usize, Fault> {
     recording.push(datagram.as_slice())?;
     if judge_every_way(alloc, &recording)? != 1 {
         return Err(Fault::Differs("the pair has no row"));
+    }
+    if judge(alloc, &recording, PAIR)? != VERDICT {
+        return Err(Fault::Differs("number 1 is claimed without a word, and not found"));
     }
     Ok(usize::from(COUNT))
 }
