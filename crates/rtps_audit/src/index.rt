@@ -217,7 +217,7 @@ impl<'a> Index<'a> {
     }
 }
 
-// A shelf for so many octets of a recording.
+/// A shelf for so many octets of a recording.
 const OCTETS_A_SHELF: usize = 1 << 8;
 
 /// How many shelves the places of the GUIDs of a recording are shared out among: a recording of so many octets names only
