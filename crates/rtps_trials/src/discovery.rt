@@ -228,7 +228,7 @@ fn reads_participants(rt: HostRuntime) -> Result<(), Fail> {
     Ok(())
 }
 
-// An announcement of a participant, of a writer and of a RELIABLE reader.
+/// An announcement of a participant, of a writer and of a RELIABLE reader.
 const PARTICIPANT: &[u8] =
     b"\x00\x02\x00\x00\x00\x50\x00\x10aaaaaaaaaaaa\x00\x00\x01\xc1\x00\x01\x00\x00";
 

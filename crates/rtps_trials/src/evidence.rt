@@ -172,7 +172,7 @@ fn the_evidence_by_all_numbers(rt: HostRuntime) -> Result<(), Fail> {
     Ok(())
 }
 
-// Whether a pair of the topic has this verdict, and its numbers so many payloads.
+/// Whether a pair of the topic has this verdict, and its numbers so many payloads.
 fn explains(row: &Explanation<'_>, verdict: Verdict, payloads: u64) -> bool {
     row.pair == pair()
         && row.topic == b"pose".as_slice()

@@ -117,7 +117,7 @@ fn a_line_that_cannot_be_written_is_told(rt: HostRuntime) {
     assert!(rt; !write_fault(&RunFault::Input, &mut room.as_mut_slice()));
 }
 
-// What is told of number 2, which is sent and is not acknowledged.
+/// What is told of number 2, which is sent and is not acknowledged.
 const WHY_FROM_2: &str = "\
 pairs 1
 pair aaaaaaaaaaaaaaaaaaaaaaaa.00000103 bbbbbbbbbbbbbbbbbbbbbbbb.00000104 open 2

@@ -88,7 +88,7 @@ fn acts_stand_with_their_origin(rt: HostRuntime) -> Result<(), Fail> {
     Ok(())
 }
 
-// Where an act of DATA stands, and its number; None of another act.
+/// Where an act of DATA stands, and its number; None of another act.
 fn data_of(act: &Act<'_>) -> Option<(usize, i64)> {
     match &act.body {
         ActBody::Data(data) => Some((act.at, data.number.get())),
@@ -96,7 +96,7 @@ fn data_of(act: &Act<'_>) -> Option<(usize, i64)> {
     }
 }
 
-// Whether the acts of a walk are DATA alone, which stand there and have these numbers.
+/// Whether the acts of a walk are DATA alone, which stand there and have these numbers.
 fn has_data(walk: &Walk<'_>, wanted: &[(usize, i64)]) -> bool {
     let acts = walk.acts();
     if acts.len() != wanted.len() {
@@ -126,7 +126,7 @@ fn a_walk_for_data_keeps_data_alone(rt: HostRuntime) -> Result<(), Fail> {
     Ok(())
 }
 
-// Whether a report of four datagrams has the pair alone, with this verdict.
+/// Whether a report of four datagrams has the pair alone, with this verdict.
 fn says(report: &Report, verdict: Verdict) -> bool {
     report.counts.datagrams == 4
         && report.rows.len() == 1
