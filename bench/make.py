@@ -7,6 +7,8 @@
                                                         same datagram or when all are announced
     make.py one_topic|one_topic_volatile FILE [MEGABYTES]   of writers and readers of one topic, as many of each: BEST_EFFORT
                                                         ones, or RELIABLE ones whose readers ask for what is kept
+    make.py named|named_too FILE [MEGABYTES]            of a writer and its readers: HEARTBEATs that each name another reader;
+                                                        as many for every reader behind one that names each
     make.py in_order|odd_then_even|random|descending|inside_out FILE [THOUSANDS]    of numbers, each in a sample
 """
 import random
@@ -25,8 +27,8 @@ def data(writer, number, payload, reader=bytes(4), flags=4):
     return b'\x15' + bytes([flags]) + len(body).to_bytes(2, 'big') + body
 
 
-def heartbeat(writer, first, last):
-    return b'\x07\0\0\x1c' + bytes(4) + writer + first.to_bytes(8, 'big') + last.to_bytes(8, 'big') + b'\0\0\0\1'
+def heartbeat(writer, first, last, reader=bytes(4)):
+    return b'\x07\0\0\x1c' + reader + writer + first.to_bytes(8, 'big') + last.to_bytes(8, 'big') + b'\0\0\0\1'
 
 
 def ack_nack(reader, writer, base):
@@ -127,6 +129,8 @@ def datagrams(kind, octets):
         entities = [scattered(i) for i in range(1, octets // 274 + 1)]
         spoken = (header(A) + b''.join(heartbeat(entity, 1, 3) for entity in entities[i:i + 40]) for i in range(0, len(entities), 40))
         return (*map(announcement, entities), *spoken)
+    if kind in ('named', 'named_too'):
+        return of_named(kind, octets)
     if kind in OF_ONE_TOPIC:
         one, other = (next(of_one_topic(kind, 1)) for _ in range(2))
         return of_one_topic(kind, octets // (2 * (len(one) + 1) * 2))
@@ -158,6 +162,23 @@ def one_each(submessage, octets):
             place += 1
             sent += submessage(scattered(place))
         yield sent
+
+
+def of_named(kind, octets):
+    """A writer, readers of its topic in half of the octets, and HEARTBEATs in the others."""
+    readers = [scattered(i) for i in range(1, octets // 720 + 1)]
+    yield announced(b'\0\0\3\xc2', A, WRITER, b'')
+    for reader in readers:
+        yield announced(b'\0\0\4\xc2', B, reader, RELIABLE)
+    of_each = octets // 2 // 64 // len(readers)
+    for i in range(0, len(readers), 200):
+        some = readers[i:i + 200]
+        if kind == 'named':
+            said = b''.join(heartbeat(WRITER, 1, 3, reader) for reader in some) * of_each
+        else:
+            said = b''.join(heartbeat(WRITER, 1, 3, reader) for reader in some) + heartbeat(WRITER, 1, 3) * (len(some) * (of_each - 1))
+        yield header(A) + to(B) + said
+    yield header(B) + to(A) + b''.join(ack_nack(reader, WRITER, 1) for reader in readers[:2000])
 
 
 def write(path, sent):

@@ -90,7 +90,7 @@ def kinds(program, megabytes, other):
     plain = None
     with tempfile.TemporaryDirectory() as folder:
         path = os.path.join(folder, 'recording')
-        for kind in ('packed', 'answers', 'readers', 'writers', 'announced', 'announced_first', *make.OF_ONE_TOPIC,
+        for kind in ('packed', 'answers', 'readers', 'writers', 'announced', 'announced_first', 'named', *make.OF_ONE_TOPIC,
                      'hostile', 'one_data', 'pairs'):
             make.write(path, make.datagrams(kind, megabytes * 1000000))
             others = [[other, 'audit', path]] if other else []

@@ -7,6 +7,7 @@ Each group prints a line with what was counted. What is wanted was worked out, o
 bench/reference.py, says. The last line is 'N passed, M failed'.
 """
 import os
+import random
 import sys
 
 sys.dont_write_bytecode = True
@@ -186,6 +187,35 @@ def endpoints_of_one_topic(tests):
     print(f'endpoints of one topic: {count} writers and {count} readers of which no two are a pair, in 2 ways and 3 orders')
 
 
+def some_said(rng, readers):
+    """a datagram of the writer, of acts each for everyone or for one participant, and for every reader or for one"""
+    said = make.header(A)
+    for _ in range(rng.randrange(1, 4)):
+        said += rng.choice([b'', make.to(bytes(12)), *(make.to(prefix) for prefix, _ in readers)])
+        named = rng.choice([bytes(4), bytes(4), *(entity for _, entity in readers)])
+        number = rng.randrange(1, 5)
+        said += rng.choice([
+            make.data(WRITER, number, bytes([rng.randrange(3) // 2]) * 8, named),
+            make.heartbeat(WRITER, number, rng.randrange(1, 5), named),
+        ])
+    return said
+
+
+def readers_that_are_named(tests):
+    count, rng = 250, random.Random(11)
+    readers = [(prefix * 12, entity) for prefix in (b'\xbb', b'\xcc', b'\xaa') for entity in (READER, b'\0\0\2\4')]
+    known = [make.announced(b'\0\0\3\xc2', A, WRITER, b'')]
+    known += [make.announced(b'\0\0\4\xc2', prefix, entity, make.RELIABLE) for prefix, entity in readers]
+    for _ in range(count):
+        sent = [some_said(rng, readers) for _ in range(rng.randrange(9))]
+        for _ in range(rng.randrange(9)):
+            prefix, entity = rng.choice(readers)
+            answer = make.header(prefix) + make.to(A) + make.ack_nack(entity, WRITER, rng.randrange(1, 6))
+            sent.insert(rng.randrange(len(sent) + 1), answer)
+        tests.agrees('readers that are named', text_of(known + sent), ('audit', 'why'))
+    print(f'readers that are named, or their participants, in some acts and not in others: {count} recordings of {len(readers)} readers')
+
+
 def announcement(built_in, octets):
     return make.header(A) + make.data(built_in, 1, b'\0\2\0\0' + octets + END)
 
@@ -273,5 +303,5 @@ def many_datagrams(tests):
 
 if __name__ == '__main__':
     sys.exit(program.main(__doc__, (cut_by_table, cut_and_changed, audits_of_changed, announced_late, empty_submessages, parameter_lists,
-                                    endpoints_that_disagree, endpoints_of_one_topic, topics_of_every_octet, acknowledgements,
+                                    endpoints_that_disagree, endpoints_of_one_topic, readers_that_are_named, topics_of_every_octet, acknowledgements,
                                     gaps_of_many_ranges, many_datagrams)))

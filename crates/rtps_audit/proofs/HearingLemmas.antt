@@ -17,7 +17,7 @@ use Rattle.rtps_receiver.specs.Speech.{is_for, is_for_all, is_heard_by, is_spoke
 use Rattle.rtps_ids.specs.declared.identity.GuidPrefix.{GuidPrefix}
 use Rattle.rtps_receiver.specs.Values.{ActValue}
 use Rattle.rtps_coverage.specs.Coverage.{IsFront, TellsMore}
-use Rattle.rtps_audit.specs.Common.{is_for_everyone, nobody}
+use Rattle.rtps_audit.specs.Everyone.{is_for_everyone, nobody}
 use Rattle.rtps_audit.specs.Delivery.{Word, IsAsked}
 use Rattle.rtps_audit.specs.Delivery.Word.{Told}
 use Rattle.rtps_audit.specs.Hearing.{HearsTwo, IsCut, IsFrontBy, IsHeard, IsListening, IsTimeline, IsToldBy, Hears, Marks, front_after}
@@ -414,7 +414,7 @@ named_nobody : (dest : Option GuidPrefix) → is_none dest ≡ true → is_some 
 named_nobody None e = refl
 named_nobody (Some prefix) e = cc
 
-everyone_alike : (act : ActValue) (reader : Guid) → is_for_everyone act ≡ true → is_heard_by act reader ≡ is_heard_by act nobody
+pub everyone_alike : (act : ActValue) (reader : Guid) → is_for_everyone act ≡ true → is_heard_by act reader ≡ is_heard_by act nobody
 everyone_alike act reader e = for_all_alike act reader (named_nobody act.dest (first_true _ _ e)) (second_true _ _ e)
 
 pub all_alike : (acts : List PlacedValue) (reader : Guid) → list_all (λ at. is_for_everyone at.act) acts ≡ true → All (λ (at : PlacedValue). is_heard_by at.act reader ≡ is_heard_by at.act nobody) acts

@@ -19,6 +19,7 @@ pub mod ApartLemmas
 pub mod AnswerMapLemmas
 pub mod HearingLemmas
 pub mod AnswerLemmas
+pub mod AudienceLemmas
 pub mod PlacedActs
 pub mod IndexSpeech
 pub mod BriefLemmas

@@ -19,7 +19,7 @@ use Rattle.rtps_audit.proofs.DeliveryRuns.{Ends-took, took}
 use Rattle.std.proofs.lemmas.List.Elements.{Contains-append_left, Contains-push}
 use Rattle.std.specs.List.{All, list_all}
 use Rattle.rtps_receiver.specs.Speech.{is_heard_by}
-use Rattle.rtps_audit.specs.Common.{is_for_everyone, nobody}
+use Rattle.rtps_audit.specs.Everyone.{is_for_everyone, nobody}
 use Rattle.rtps_audit.specs.Hearing.{IsHeard, last_among}
 use Rattle.rtps_audit.specs.Placed.{PlacedValue, is_from, placed_in}
 use Rattle.rtps_audit.specs.Speech.{announced_for, announced_of_body, base_for, said_by, speech_of, word_for, word_of}

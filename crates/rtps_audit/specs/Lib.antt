@@ -19,6 +19,8 @@ pub mod Origins
 pub mod Hearing
 pub mod Answered
 pub mod Index
+pub mod Everyone
+pub mod Audiences
 pub mod Common
 pub mod Judge
 pub mod Laws

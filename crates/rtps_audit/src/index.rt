@@ -1,6 +1,6 @@
 ghost use Rattle.std.specs.Prelude.{ℤ, ℕ, ◌≡◌, ◌↔◌, pos, false, filter, map, All, IfOk, List};
 ghost use Rattle.std.specs.List.{list_all};
-ghost use Rattle.rtps_audit.specs.Common.{is_for_everyone};
+ghost use Rattle.rtps_audit.specs.Everyone.{is_for_everyone};
 ghost use Rattle.rtps_audit.specs.Delivered.{IsDelivered, IsDeliveredFrom, IsPlain, IsPlainFrom};
 ghost use Rattle.rtps_audit.specs.Delivery.{last_announced, last_announced_from};
 ghost use Rattle.rtps_audit.specs.FullRun.{HasFullRun, HasFullRunFrom};

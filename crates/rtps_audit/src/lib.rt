@@ -6,6 +6,7 @@ mod all_answers;
 mod all_spoken;
 mod answers;
 mod apart;
+mod audiences;
 mod auditing;
 mod brief;
 mod by_guid;

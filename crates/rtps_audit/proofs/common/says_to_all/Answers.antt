@@ -2,7 +2,7 @@ use Rattle.std.proofs.Common.{rules}
 use Rattle.std.proofs.lemmas.Iterator.Search.{all_from_yields_List}
 use Rattle.std.proofs.lemmas.Iterator.{YieldsList-from_slice}
 use Rattle.rtps_audit.specs.Brief.{brief_value}
-use Rattle.rtps_audit.specs.Common.{is_for_everyone}
+use Rattle.rtps_audit.specs.Everyone.{is_for_everyone}
 use Rattle.rtps_audit.specs.declared.brief.Brief.{Brief}
 use Rattle.rtps_audit.proofs.common.says_to_all.Goals as goal
 

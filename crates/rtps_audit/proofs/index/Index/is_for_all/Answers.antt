@@ -1,7 +1,7 @@
 use Rattle.std.proofs.Common.{◌∙◌, ap, sym}
 use Rattle.std.specs.List.{list_all}
 use Rattle.std.proofs.lemmas.List.Folds.{list_all-map}
-use Rattle.rtps_audit.specs.Common.{is_for_everyone}
+use Rattle.rtps_audit.specs.Everyone.{is_for_everyone}
 use Rattle.rtps_audit.specs.Placed.{PlacedValue, placed_value}
 use Rattle.rtps_audit.proofs.index.Index.is_for_all.Goals as goal
 
