@@ -64,7 +64,7 @@ spelled_word order octets i = number_of order 4 (drop (WORDS + WORD_SIZE * i) oc
 
 -- how many words hold so many bits
 abbrev pub words_of_count : ℕ → ℕ
-words_of_count count = (count + WORD_BITS - 1) / WORD_BITS
+words_of_count count = (count + (WORD_BITS - 1)) / WORD_BITS
 
 -- how many octets a set of so many bits takes: the base, the count, and as many words as hold the bits
 abbrev pub octets_of_count : ℕ → ℕ
