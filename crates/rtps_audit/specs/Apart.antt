@@ -18,6 +18,7 @@ noted_of noted guid = map (λ one. one.value) (filter (λ one. is_eq (guid_cmp g
 abbrev pub HasMark : {N : Type 0} → List Bool → Named N → Type 0
 HasMark marks one = slice_get marks (shelf_of one.guid (length marks)) ≡ Some true
 
+-- each stranger of whom something is noted has a mark
 abbrev pub AreMarked : {N : Type 0} → Strangers N → Type 0
 AreMarked strangers = All (HasMark strangers.marks.items) strangers.noted.items
 
@@ -32,5 +33,6 @@ abbrev pub seen_by : {V N X : Type 0} → (V → List X) → (List N → List X)
 seen_by of_value of_noted (Some value) noted = of_value value
 seen_by of_value of_noted None noted = of_noted noted
 
+-- all that is kept of one GUID, whether it is known or a stranger
 abbrev pub seen_of : {V N X : Type 0} → (V → List X) → (List N → List X) → Apart V N → Guid → List X
 seen_of of_value of_noted apart guid = seen_by of_value of_noted (value_at apart.values guid) (noted_of apart.strangers.noted.items guid)

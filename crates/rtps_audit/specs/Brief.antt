@@ -39,9 +39,11 @@ act_saying writer dest body =
       body = body;
     }
 
+-- of an act, what a verdict asks of it
 abbrev pub bare_act : Guid → ActValue → ActValue
 bare_act writer act = act_saying writer act.dest (bare_body writer.entity act.body)
 
+-- the same with its datagram
 abbrev pub bare : Guid → PlacedValue → PlacedValue
 bare writer placed = record { datagram = placed.datagram; act = bare_act writer placed.act }
 
@@ -55,6 +57,7 @@ said_body reader writer (said.Data number payload) = Data (record { reader = rea
 said_body reader writer (said.Heartbeat first last) = Heartbeat (record { reader = reader; writer = writer; first = first; last = last; count = 0; is_final = false; live = false })
 said_body reader writer (said.Gap start list) = Gap (record { reader = reader; writer = writer; start = start; list = list })
 
+-- the act that a brief one of this writer stands for
 abbrev pub brief_value : Guid → Brief → PlacedValue
 brief_value writer brief =
     record {

@@ -12,6 +12,7 @@ use Rattle.rtps_audit.specs.declared.shelves.Shelf.{Shelf}
 abbrev pub ArePlaced : {V : Type 0} → List Shelf → List (Named V) → Type 0
 ArePlaced {V} shelves named = (guid : Guid) (place : ℕ) → place_in shelves guid ≡ Some place → (value : V) × (slice_get named place ≡ Some (record { guid = guid; value = value }))
 
+-- each value is found where the shelves say
 abbrev pub StandInPlace : {V : Type 0} → ByGuid V → Type 0
 StandInPlace values = ArePlaced values.shelves.shelves.items values.named.items
 

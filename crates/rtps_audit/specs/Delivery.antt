@@ -104,5 +104,6 @@ IsReached from speech state = (events : List Event) × Follows from speech start
 abbrev pub Ends : ℕ → Speech → DeliveryState → Type 0
 Ends from speech state = IsReached from speech state × (state.sent ≡ length speech)
 
+-- some run sends all that was said
 abbrev pub HasRun : ℕ → Speech → Type 0
 HasRun from speech = (end : DeliveryState) × Ends from speech end

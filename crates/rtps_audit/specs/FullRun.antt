@@ -30,6 +30,7 @@ abbrev pub full_run_from : ℕ → ℕ → Speech → ℕ → List Event
 full_run_from from i [] bound = []
 full_run_from from i (datagram ∷ speech) bound = (Send ∷ takes_of_acts from i 0 datagram.acts bound) ++ full_run_from from (suc i) speech bound
 
+-- the run that takes all it can after each send
 abbrev pub full_run : ℕ → Speech → ℕ → List Event
 full_run from speech bound = full_run_from from 0 speech bound
 

@@ -20,5 +20,6 @@ abbrev pub answers_or_none : Option ReaderAnswers → Guid → List Answer
 answers_or_none (Some kept) writer = answers_to kept writer
 answers_or_none None writer = []
 
+-- what the reader of a pair answered its writer
 abbrev pub answers_in : ByGuid ReaderAnswers → Pair → List Answer
 answers_in readers pair = answers_or_none (value_at readers pair.reader) pair.writer

@@ -28,5 +28,6 @@ KeepsTwo payloads n = (x : PayloadValue) × (y : PayloadValue) × IsKept payload
 abbrev pub Agrees : KeptPayload → KeptPayload → Type 0
 Agrees x y = x.number ≡ y.number → payload_value x.payload ≡ payload_value y.payload
 
+-- the number that a payload is kept for
 abbrev pub number_of : KeptPayload → ℕ
 number_of entry = entry.number

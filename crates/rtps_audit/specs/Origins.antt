@@ -29,9 +29,11 @@ answered_of answers pair = seen_of (λ kept. answers_to kept pair.writer) (λ no
 abbrev pub AddsActs : ByGuid (Vec Placed) → ByGuid (Vec Placed) → List PlacedValue → Type 0
 AddsActs old new placed = (origin : Guid) → map placed_value (list_at new origin) ≡ map placed_value (list_at old origin) ++ filter (is_from origin) placed
 
+-- of each writer, what it spoke among these acts came behind what was kept
 abbrev pub AddsSaid : AllSpoken → AllSpoken → List PlacedValue → Type 0
 AddsSaid old new placed = (writer : Guid) → map (brief_value writer) (said_of new writer) ≡ map (brief_value writer) (said_of old writer) ++ spoken_from writer placed
 
+-- of each pair, the answers among these acts came behind those that were kept
 abbrev pub AddsAnswers : AllAnswers → AllAnswers → List PlacedValue → Type 0
 AddsAnswers old new placed = (pair : Pair) → answered_of new pair ≡ answered_of old pair ++ answers_among pair placed
 
@@ -41,6 +43,7 @@ pub record IsInPlace (origins : Origins) : Type 0 where
   pub said : AreApart origins.spoken.writers
   pub answers : AreApart origins.answers.readers
 
+-- nothing is noted apart any more: all that was said stands with whom it is from
 pub record IsWhole (origins : Origins) : Type 0 where
   pub said : origins.spoken.writers.strangers.noted.items ≡ []
   pub answers : origins.answers.readers.strangers.noted.items ≡ []
@@ -57,6 +60,7 @@ pub record AreOf (origins : Origins) (placed : List PlacedValue) : Type 0 where
 abbrev pub IsListed : Origins → Guid → Type 0
 IsListed origins writer = said_of origins.spoken writer ≡ list_at origins.spoken.writers.values writer
 
+-- all that a pair said stands with its writer and its reader
 pub record IsAtHand (origins : Origins) (pair : Pair) : Type 0 where
   pub said : IsListed origins pair.writer
   pub answers : answered_of origins.answers pair ≡ answers_in origins.answers.readers.values pair

@@ -17,6 +17,7 @@ pub record PlacedValue : Type 0 where
   pub datagram : ℕ
   pub act : ActValue
 
+-- an act of the code with its datagram, as a value
 abbrev pub placed_value : Placed → PlacedValue
 placed_value placed = record { datagram = placed.datagram; act = act_value placed.act }
 
@@ -37,6 +38,7 @@ placed_in recording = placed_behind 0 recording
 abbrev pub is_guid : Guid → Guid → Bool
 is_guid one other = is_prefix one.prefix other.prefix && is_entity one.entity other.entity
 
+-- the act is from this GUID
 abbrev pub is_from : Guid → PlacedValue → Bool
 is_from origin placed = is_guid origin (origin_of placed.act)
 
@@ -45,8 +47,10 @@ abbrev pub answer_at : ℕ → ℕ → Option ℕ → Option Answer
 answer_at datagram at (Some base) = Some (record { datagram = datagram; at = at; base = pos base })
 answer_at datagram at None = None
 
+-- the answer that an act is, of a pair
 abbrev pub answer_of : Pair → PlacedValue → Option Answer
 answer_of pair placed = answer_at placed.datagram placed.act.at (base_for pair.writer pair.reader placed.act)
 
+-- the answers of a pair among these acts, in order
 abbrev pub answers_among : Pair → List PlacedValue → List Answer
 answers_among pair placed = filter_map (answer_of pair) placed

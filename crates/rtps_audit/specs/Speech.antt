@@ -17,6 +17,7 @@ use Rattle.rtps_audit.specs.Delivery.Word.{Told, Gone}
 abbrev pub is_below_list : GapBody → ℕ → Bool
 is_below_list gap n = nat_le gap.start n && nat_lt n gap.list.base
 
+-- the GAP tells that this number is gone
 abbrev pub is_in_gap : GapBody → ℕ → Bool
 is_in_gap gap n = is_below_list gap n || is_member gap.list n
 
@@ -43,6 +44,7 @@ base_of_body (Data value) = None
 base_of_body (Heartbeat value) = None
 base_of_body (Gap value) = None
 
+-- the base of an answer of this reader to this writer
 abbrev pub base_for : Guid → Guid → ActValue → Option ℕ
 base_for writer reader act = if is_answer act reader writer then base_of_body act.body else None
 
@@ -58,6 +60,7 @@ announced_of_body (Heartbeat value) = Some (natural value.last)
 announced_of_body (AckNack value) = None
 announced_of_body (Gap value) = None
 
+-- the last number that this writer announces
 abbrev pub announced_for : Guid → ActValue → Option ℕ
 announced_for writer act = if is_spoken_by act writer then announced_of_body act.body else None
 

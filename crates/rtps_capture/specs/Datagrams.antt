@@ -41,6 +41,7 @@ is_whole_packet packet = nat_le LEAST (header_size packet) && nat_le (header_siz
 abbrev pub is_no_fragment : List ℕ → Bool
 is_no_fragment packet = number_at FRAGMENT packet % FRAGMENT_BITS == 0
 
+-- the packet carries UDP
 abbrev pub is_udp : List ℕ → Bool
 is_udp packet = slice_index packet PROTOCOL == UDP
 
@@ -48,9 +49,11 @@ is_udp packet = slice_index packet PROTOCOL == UDP
 abbrev pub udp_size : List ℕ → ℕ
 udp_size packet = number_at (header_size packet + udp.LENGTH) packet
 
+-- the UDP datagram lies whole in the packet
 abbrev pub is_whole_datagram : List ℕ → Bool
 is_whole_datagram packet = nat_le udp.SIZE (udp_size packet) && nat_le (udp_size packet) (total_size packet - header_size packet)
 
+-- the packet gives a datagram
 abbrev pub has_datagram : List ℕ → Bool
 has_datagram packet = is_version_4 packet && is_whole_packet packet && is_no_fragment packet && is_udp packet && is_whole_datagram packet
 
@@ -64,6 +67,7 @@ abbrev pub moved : ℕ → Option Place → Option Place
 moved by None = None
 moved by (Some place) = Some (record { from = by + place.from; to = by + place.to })
 
+-- where the datagram stands of the packet that begins at this place of a frame
 abbrev pub datagram_behind : Option ℕ → List ℕ → Option Place
 datagram_behind None frame = None
 datagram_behind (Some at) frame = moved at (datagram_of_packet (drop at frame))

@@ -38,6 +38,7 @@ abbrev pub given : Option Place → Frame
 given (Some datagram) = Datagram datagram
 given None = Ignored
 
+-- what a frame at this place gives
 abbrev pub given_at : Link → List ℕ → Place → Frame
 given_at link file frame = given (datagram_at link file frame)
 
@@ -72,10 +73,12 @@ abbrev pub opened_with : List ℕ → Order → Option Link → Option Unread
 opened_with file order None = None
 opened_with file order (Some link) = Some (record { octets = file; at = file_header.SIZE; order = order; link = link })
 
+-- a capture whose octets are in this order, with its frames still unread
 abbrev pub opened_by : List ℕ → Option Order → Option Unread
 opened_by file None = None
 opened_by file (Some order) = opened_with file order (link_of order file)
 
+-- a capture with its frames still unread, where these octets are one
 unfoldable pub opened : List ℕ → Option Unread
 opened file = opened_by file (order_of file)
 

@@ -31,6 +31,7 @@ link_type_in order file =
     else if number_of order 2 (drop MAJOR file) == VERSION then Some (number_of order 4 (drop LINK file) % LINKS)
     else None
 
+-- the number of the link type, where the order is known
 abbrev pub link_type_by : Option Order → List ℕ → Option ℕ
 link_type_by None file = None
 link_type_by (Some order) file = link_type_in order file
@@ -43,6 +44,7 @@ link_type_of file = link_type_by (order_of file) file
 abbrev pub link_numbered : ℕ → Option Link
 link_numbered number = if number == ETHERNET then Some Ethernet else if number == RAW_IP then Some RawIp else None
 
+-- the link of this number, if it is one that is read
 abbrev pub link_by : Option ℕ → Option Link
 link_by None = None
 link_by (Some number) = link_numbered number
@@ -56,6 +58,7 @@ abbrev pub unless_read : ℕ → Option Link → Option ℕ
 unless_read number None = Some number
 unless_read number (Some link) = None
 
+-- the number of a link type that is not read
 abbrev pub unread_by : Option ℕ → Option ℕ
 unread_by None = None
 unread_by (Some number) = unless_read number (link_numbered number)

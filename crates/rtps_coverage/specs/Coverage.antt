@@ -19,6 +19,7 @@ JoinsRange old new lo hi = (n : ℕ) → new n ≡ (old n || is_within lo hi n)
 abbrev pub TellsMore : (ℕ → Bool) → (ℕ → Bool) → (ℕ → Bool) → Type 0
 TellsMore old new more = (n : ℕ) → 1 ≤ n → n < 2 ^ 63 - 1 → new n ≡ (old n || more n)
 
+-- no number came in and none went
 abbrev pub IsSameSet : (ℕ → Bool) → (ℕ → Bool) → Type 0
 IsSameSet old new = (n : ℕ) → new n ≡ old n
 

@@ -17,5 +17,6 @@ pub record HasRangesApart (set : MergedRanges) : Type 0 where
   pub numbers : (n : ℕ) → covered_of set n ≡ list_any (has_number n) (ranges_of set)
   pub count : count_of set ≡ length (ranges_of set)
 
+-- of every set that can be made the ranges lie apart
 abbrev pub RangesLieApart : Type 0
 RangesLieApart = (set : MergedRanges) → HasRangesApart set

@@ -27,6 +27,7 @@ abbrev pub now_of : List (ℕ × Span) → Option Recent → List (ℕ × Span)
 now_of entries None = entries
 now_of entries (Some recent) = set_value (is_at (nat_cmp recent.key)) entries recent.span
 
+-- the ranges that a set has now, with what was added last
 abbrev pub ranges_of : MergedRanges → List Span
 ranges_of set = values_of (now_of set.kept.entries set.recent)
 

@@ -24,6 +24,7 @@ in_range n lo hi from to h =
     let within : hi ≤ 2 ^ 63 - 1 = le_of_suc-le-suc to in
     (le_trans from (leb-true lo n h.0), lt_of_lt_of_le (ltb-true n hi h.1) within)
 
+-- a number that is in this range or among the rest is one that a set may have
 pub in_first : (n lo hi : ℕ) (a b : Bool) → (nat_le lo n && nat_lt n hi) ≡ a → 1 ≤ lo → hi < 2 ^ 63 → (a || b) ≡ true → (b ≡ true → (1 ≤ n) × (n < 2 ^ 63 - 1)) → (1 ≤ n) × (n < 2 ^ 63 - 1)
 in_first n lo hi true b e from to h k = in_range n lo hi from to (both (nat_le lo n) (nat_lt n hi) e)
 in_first n lo hi false b e from to h k = k h

@@ -80,7 +80,8 @@ impl Coverage for BitRanges {
         }
     }
 
-    /// As of any set. A range that begins at the front or below needs no growth.
+    /// Joins each number from `lo` on and below `hi`. After `Memory` the set is the same. A range that begins at the front
+    /// or below needs no growth.
     fn add(&mut self, lo: i64, hi: i64) -> Result<(), Memory>
         requires positive { pos 1 ≤ℤ lo }
         requires ordered { lo ≤ℤ hi }

@@ -334,8 +334,8 @@ impl Coverage for MergedRanges {
         }
     }
 
-    /// As of any set. It keeps at most one range more, and needs memory only for a range that no kept one
-    /// overlaps or touches.
+    /// Joins each number from `lo` on and below `hi`. After `Memory` the set is the same. It keeps at most one range more,
+    /// and needs memory only for a range that no kept one overlaps or touches.
     fn add(&mut self, lo: i64, hi: i64) -> Result<(), Memory>
         requires positive { pos 1 ≤ℤ lo }
         requires ordered { lo ≤ℤ hi }

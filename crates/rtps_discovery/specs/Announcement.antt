@@ -45,6 +45,7 @@ order_of_id id = if pointwise nat_eq id representation.PL_CDR_BE then Some Big e
 abbrev pub order_of : List ℕ → Option Order
 order_of payload = order_of_id (take representation.ID_SIZE payload)
 
+-- the order of a payload whose representation is read
 abbrev pub payload_order : List ℕ → Order
 payload_order payload = unwrap_or (order_of payload) Big
 
@@ -53,6 +54,7 @@ payload_order payload = unwrap_or (order_of payload) Big
 abbrev pub list_part : List ℕ → List ℕ
 list_part payload = drop representation.SIZE payload
 
+-- the fields of a payload, or why it has none
 unfoldable pub fields_of : List ℕ → Result Fields NoticeFault
 fields_of payload =
     unless_fault (
@@ -66,9 +68,11 @@ fields_of payload =
 abbrev pub field : ℕ → Fields → Option (List ℕ)
 field pid fields = first_value pid fields.pairs
 
+-- the GUID in a field
 abbrev pub guid_field : ℕ → Fields → Option Guid
 guid_field pid fields = option_and_then guid_of (field pid fields)
 
+-- the text in a field
 abbrev pub text_field : ℕ → Fields → Option (List ℕ)
 text_field pid fields = option_and_then (text_of fields.order) (field pid fields)
 
@@ -77,6 +81,7 @@ abbrev pub kind_in : {X : Type 0} → Order → (ℕ → Option X) → X → Opt
 kind_in order of_kind default None = Some default
 kind_in order of_kind default (Some value) = option_and_then of_kind (u32_of order value)
 
+-- the kind in a field, or the default where there is no field
 abbrev pub kind_field : {X : Type 0} → ℕ → (ℕ → Option X) → X → Fields → Option X
 kind_field pid of_kind default fields = kind_in fields.order of_kind default (field pid fields)
 
@@ -84,15 +89,19 @@ kind_field pid of_kind default fields = kind_in fields.order of_kind default (fi
 abbrev pub participant_guid : Fields → Option Guid
 participant_guid = guid_field PARTICIPANT_GUID
 
+-- the GUID of the endpoint that is announced
 abbrev pub endpoint_guid : Fields → Option Guid
 endpoint_guid = guid_field ENDPOINT_GUID
 
+-- the name of its topic
 abbrev pub topic_of : Fields → Option (List ℕ)
 topic_of = text_field TOPIC_NAME
 
+-- the name of its type
 abbrev pub type_name_of : Fields → Option (List ℕ)
 type_name_of = text_field TYPE_NAME
 
+-- the reliability that a kind stands for
 abbrev pub reliability_of_kind : ℕ → Option Reliability
 reliability_of_kind kind = if kind == reliability.BEST_EFFORT then Some BestEffort else if kind == reliability.RELIABLE then Some Reliable else None
 
@@ -101,9 +110,11 @@ abbrev pub default_reliability : Side → Reliability
 default_reliability Writer = Reliable
 default_reliability Reader = BestEffort
 
+-- the reliability that an endpoint offers or asks for
 abbrev pub reliability_of : Side → Fields → Option Reliability
 reliability_of side = kind_field RELIABILITY reliability_of_kind (default_reliability side)
 
+-- the durability that a kind stands for
 abbrev pub durability_of_kind : ℕ → Option Durability
 durability_of_kind kind =
     if kind == durability.VOLATILE then Some Volatile
@@ -120,6 +131,7 @@ durability_of = kind_field DURABILITY durability_of_kind Volatile
 abbrev pub unknown_guid : Guid
 unknown_guid = record { prefix = record { 0 = replicate 12 0 }; entity = record { 0 = replicate 4 0 } }
 
+-- the participant that these fields announce, or why they announce none
 unfoldable pub participant_in : Fields → Result Guid NoticeFault
 participant_in fields = unless_fault ((fault.NoGuid, is_none (participant_guid fields)) ∷ []) (unwrap_or (participant_guid fields) unknown_guid)
 
@@ -127,6 +139,7 @@ participant_in fields = unless_fault ((fault.NoGuid, is_none (participant_guid f
 abbrev pub participant_of : List ℕ → Result Guid NoticeFault
 participant_of payload = or_fault (fields_of payload) participant_in
 
+-- the endpoint that these fields announce, or why they announce none
 unfoldable pub endpoint_in : Side → Fields → Result EndpointValue NoticeFault
 endpoint_in side fields =
     unless_fault (

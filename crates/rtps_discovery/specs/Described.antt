@@ -5,6 +5,7 @@ use Rattle.rtps_discovery.specs.Announcement.{Fields, durability_of, endpoint_gu
 use Rattle.rtps_discovery.specs.Endpoint.{EndpointValue}
 use Rattle.rtps_discovery.specs.declared.endpoint.Side.{Side}
 
+-- the fields of an announcement say each thing that is known of the endpoint
 pub record IsDescribedBy (side : Side) (fields : Fields) (endpoint : EndpointValue) : Type 0 where
   pub of_guid : endpoint_guid fields ≡ Some endpoint.guid
   pub of_side : endpoint.side ≡ side

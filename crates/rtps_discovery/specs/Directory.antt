@@ -71,6 +71,7 @@ abbrev pub agreed : Option (Option EndpointValue) → Option EndpointValue
 agreed None = None
 agreed (Some entry) = entry
 
+-- the endpoint of this GUID, where all that announced it agree
 abbrev pub settled_at : Entries → Guid → Option EndpointValue
 settled_at entries guid = agreed (entry_at entries guid)
 

@@ -7,6 +7,7 @@ use Rattle.rtps_discovery.specs.declared.endpoint.Endpoint.{Endpoint}
 use Rattle.rtps_discovery.specs.declared.endpoint.Reliability.{Reliability}
 use Rattle.rtps_discovery.specs.declared.endpoint.Side.{Side}
 
+-- a writer or a reader as it is announced
 pub record EndpointValue : Type 0 where
   pub guid : Guid
   pub side : Side

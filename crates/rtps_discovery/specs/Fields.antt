@@ -3,5 +3,6 @@ use Rattle.rtps_params.specs.Lists.{list_order, list_pairs}
 use Rattle.rtps_params.specs.declared.list.ParamList.{ParamList}
 use Rattle.rtps_discovery.specs.Announcement.{Fields}
 
+-- the fields that a parameter list of the code has
 abbrev pub fields_value : ParamList → Fields
 fields_value list = record { order = list_order list; pairs = list_pairs list }

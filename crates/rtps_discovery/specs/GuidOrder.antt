@@ -5,5 +5,6 @@ use Rattle.std.specs.declared.cmp.Ordering.{Ordering}
 use Rattle.std.specs.Cmp.Lexicographic.{slice_cmp}
 use Rattle.rtps_ids.specs.declared.identity.Guid.{Guid}
 
+-- how one GUID stands to another
 abbrev pub guid_cmp : Guid → Guid → Ordering
 guid_cmp a b = ordering_then (slice_cmp nat_cmp a.prefix.0 b.prefix.0) (slice_cmp nat_cmp a.entity.0 b.entity.0)

@@ -10,6 +10,7 @@ use Rattle.rtps_discovery.specs.declared.kept.Kept.{Kept}
 abbrev pub kept_value : Kept → Option EndpointValue
 kept_value kept = if kept.settled then Some (endpoint_value kept.endpoint) else None
 
+-- the directory that these kept entries stand for
 abbrev pub entries_value : List (Guid × Kept) → Entries
 entries_value entries = map (λ entry. (entry.0, kept_value entry.1)) entries
 

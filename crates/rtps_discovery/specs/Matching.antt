@@ -17,6 +17,7 @@ abbrev pub reliability_rank : Reliability → ℕ
 reliability_rank BestEffort = 0
 reliability_rank Reliable = 1
 
+-- how much a durability gives: one that gives more satisfies a request for less
 abbrev pub durability_rank : Durability → ℕ
 durability_rank Volatile = 0
 durability_rank TransientLocal = 1
@@ -37,10 +38,12 @@ abbrev pub is_writer : Side → Bool
 is_writer Writer = true
 is_writer Reader = false
 
+-- the side of a reader
 abbrev pub is_reader : Side → Bool
 is_reader Writer = false
 is_reader Reader = true
 
+-- whether this writer and this reader match
 unfoldable pub is_match : EndpointValue → EndpointValue → Bool
 is_match writer reader =
     is_writer writer.side && (is_reader reader.side
@@ -53,6 +56,7 @@ abbrev pub is_reliable : Reliability → Bool
 is_reliable BestEffort = false
 is_reliable Reliable = true
 
+-- the match of this writer and this reader, reliable where both are
 abbrev pub match_of : EndpointValue → EndpointValue → Match
 match_of writer reader =
     record {

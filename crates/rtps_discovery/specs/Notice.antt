@@ -37,6 +37,7 @@ abbrev pub whole_payload : PayloadValue → Option (List ℕ)
 whole_payload (Whole octets) = Some octets
 whole_payload _ = None
 
+-- a payload that announces something of this subject
 abbrev pub notice_with : Option Subject → Option (List ℕ) → Option (Subject × List ℕ)
 notice_with (Some subject) (Some payload) = Some (subject, payload)
 notice_with _ _ = None
@@ -46,10 +47,12 @@ abbrev pub notice_in : ActBodyValue → Option (Subject × List ℕ)
 notice_in (Data value) = notice_with (subject_of value.writer) (whole_payload value.payload)
 notice_in _ = None
 
+-- what is announced: a participant or an endpoint
 pub data Announced : Type 0 where
   Participant : (guid : Guid) → Announced
   Endpoint : (endpoint : EndpointValue) → Announced
 
+-- what a payload of this subject announces, or why it announces nothing
 abbrev pub announced_by : Subject → List ℕ → Result Announced NoticeFault
 announced_by subject.Participant payload = or_fault (participant_of payload) (λ guid. Ok (Participant guid))
 announced_by (subject.Endpoint side) payload = or_fault (endpoint_of side payload) (λ endpoint. Ok (Endpoint endpoint))
@@ -70,6 +73,7 @@ answer_of None = noted.Nothing
 answer_of (Some (Ok announced)) = noted.Kept
 answer_of (Some (Err fault)) = noted.Fault fault
 
+-- an announcement that could not be read
 abbrev pub is_fault : Noted → Bool
 is_fault noted.Nothing = false
 is_fault noted.Kept = false
@@ -84,6 +88,7 @@ abbrev pub participant_in : Option (Result Announced NoticeFault) → Option Gui
 participant_in (Some (Ok (Participant guid))) = Some guid
 participant_in _ = None
 
+-- the endpoint, where one is announced
 abbrev pub endpoint_in : Option (Result Announced NoticeFault) → Option EndpointValue
 endpoint_in (Some (Ok (Endpoint endpoint))) = Some endpoint
 endpoint_in _ = None
@@ -92,5 +97,6 @@ endpoint_in _ = None
 unfoldable pub participants_among : List ActValue → List Guid
 participants_among acts = filter_map (λ act. participant_in (announcement_of act)) acts
 
+-- the endpoints that these acts announce, in order
 unfoldable pub endpoints_among : List ActValue → List EndpointValue
 endpoints_among acts = filter_map (λ act. endpoint_in (announcement_of act)) acts

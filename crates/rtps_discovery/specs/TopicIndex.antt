@@ -15,6 +15,7 @@ readers_among endpoints = filter (λ endpoint. is_reader endpoint.side) endpoint
 abbrev pub IsByTopic : List Endpoint → Type 0
 IsByTopic readers = IsSortedByKey (λ reader. reader.topic.now) (slice_cmp nat_cmp) readers
 
+-- a reader of this topic
 abbrev pub has_topic : List ℕ → Endpoint → Bool
 has_topic topic reader = is_eq (slice_cmp nat_cmp reader.topic.now topic)
 
@@ -22,6 +23,7 @@ has_topic topic reader = is_eq (slice_cmp nat_cmp reader.topic.now topic)
 abbrev pub IsByType : List Endpoint → Type 0
 IsByType readers = IsSortedByKey (λ reader. reader.type_name.now) (slice_cmp nat_cmp) readers
 
+-- a reader of this type
 abbrev pub has_type : List ℕ → Endpoint → Bool
 has_type type_name reader = is_eq (slice_cmp nat_cmp reader.type_name.now type_name)
 

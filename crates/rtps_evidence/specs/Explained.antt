@@ -32,6 +32,7 @@ pub record EvidenceValue : Type 0 where
   pub first_sent : Option SentValue
   pub other_sent : Option SentValue
 
+-- the evidence of the code, as a value
 abbrev pub evidence_value : Evidence → EvidenceValue
 evidence_value evidence =
     record {
@@ -54,6 +55,7 @@ pub record ExplanationValue : Type 0 where
   pub type_name : List ℕ
   pub evidence : EvidenceValue
 
+-- a row of the code, as a value
 abbrev pub explanation_value : Explanation → ExplanationValue
 explanation_value explanation =
     record {
@@ -68,6 +70,7 @@ abbrev pub topic_of : Option EndpointValue → List ℕ
 topic_of None = []
 topic_of (Some endpoint) = endpoint.topic
 
+-- the type of an endpoint, empty where none is known
 abbrev pub type_of : Option EndpointValue → List ℕ
 type_of None = []
 type_of (Some endpoint) = endpoint.type_name

@@ -13,6 +13,7 @@ use Rattle.std.proofs.lemmas.Int.{ints, to_z-of_z}
 use Rattle.std.proofs.lemmas.List.{drop_at, length-append}
 use Rattle.rtps_ids.specs.NumberSet.{IsMember, NumberSetValue, bit_of, is_bad, is_member, octets_of_count, set_fault, spelled_base, spelled_count}
 use Rattle.rtps_ids.specs.Octets.{number_of, octets_of, sequence_number_octets, sequence_number_of}
+use Rattle.rtps_ids.specs.declared.layout.set.TheConstants.{WORDS}
 use Rattle.rtps_ids.specs.declared.order.Order.{Order}
 use Rattle.rtps_ids.specs.declared.order.Order.TheVariants.{Big, Little}
 use Rattle.rtps_ids.specs.declared.set_fault.SetFault.TheVariants.{BadSet, CutWords}
@@ -22,8 +23,8 @@ pub bad_set_found : (order : Order) (octets : List ℕ) → set_fault order octe
 unfolding set_fault
 bad_set_found order octets fault = grind (arith, nat_tests)
 
--- the set is good, and the octets end before its words do
-pub cut_words_found : (order : Order) (octets : List ℕ) → set_fault order octets ≡ Some CutWords → 12 ≤ length octets
+-- the octets hold a count, the set is good, and the octets end before its words do
+pub cut_words_found : (order : Order) (octets : List ℕ) → set_fault order octets ≡ Some CutWords → WORDS ≤ length octets
     → (is_bad (spelled_base order octets) (spelled_count order octets) ≡ false) × (length octets < octets_of_count (spelled_count order octets))
 unfolding set_fault
 cut_words_found order octets fault enough = grind (arith, nat_tests)

@@ -5,7 +5,7 @@ use Rattle.std.specs.Int.{bit_at}
 use Rattle.std.specs.Int.RustNames.{unsigned_abs}
 use Rattle.std.specs.List.{range_with_len}
 use Rattle.rtps_ids.specs.Octets.{number_of, sequence_number_of}
-use Rattle.rtps_ids.specs.declared.layout.set.TheConstants.{COUNT, MOST_BITS, WORDS, WORD_SIZE}
+use Rattle.rtps_ids.specs.declared.layout.set.TheConstants.{COUNT, MOST_BITS, WORDS, WORD_BITS, WORD_SIZE}
 use Rattle.rtps_ids.specs.declared.order.Order.{Order}
 use Rattle.rtps_ids.specs.declared.set_fault.SetFault.{SetFault}
 use Rattle.rtps_ids.specs.declared.set_fault.SetFault.TheVariants.{BadSet, CutWords}
@@ -18,7 +18,7 @@ pub record NumberSetValue : Type 0 where
 
 -- bit i of the words, counted from the highest bit of the first word
 abbrev pub bit_of : List ℕ → ℕ → ℕ
-bit_of words i = bit_at (slice_index words (i / 32)) (31 - i % 32)
+bit_of words i = bit_at (slice_index words (i / WORD_BITS)) (WORD_BITS - 1 - i % WORD_BITS)
 
 -- n is base + i for a bit i that is set
 pub record IsMember (set : NumberSetValue) (n : ℤ) : Type 0 where
@@ -33,11 +33,11 @@ is_member set n = nat_le set.base n && (nat_lt (n - set.base) set.count && (bit_
 
 -- how many of the bits of word i stand for a number
 abbrev pub kept_bits : ℕ → ℕ → ℕ
-kept_bits count i = min 32 (count - 32 * i)
+kept_bits count i = min WORD_BITS (count - WORD_BITS * i)
 
 -- word i without the bits that stand for no number (own: such bits are ignored, so they are cleared)
 abbrev pub cleared : ℕ → ℕ → ℕ → ℕ
-cleared count word i = if nat_lt (32 * i) count then word / 2 ^ (32 - kept_bits count i) * 2 ^ (32 - kept_bits count i) else 0
+cleared count word i = if nat_lt (WORD_BITS * i) count then word / 2 ^ (WORD_BITS - kept_bits count i) * 2 ^ (WORD_BITS - kept_bits count i) else 0
 
 -- the eight words that `word` gives, cleared
 unfoldable pub cleared_words : ℕ → (ℕ → ℕ) → List ℕ
@@ -50,19 +50,25 @@ is_bad base count =
     int_lt base (pos 0) || nat_lt MOST_BITS count || (int_lt base (pos 1) && nat_lt 0 count)
     || (int_lt (pos 0) base && int_lt (pos (2 ^ 63)) (base +ℤ pos count))
 
--- the base, the count and word i that octets spell
+-- of octets that spell a set: the base, at their beginning
 abbrev pub spelled_base : Order → List ℕ → ℤ
 spelled_base order octets = sequence_number_of order octets
 
+-- the count, behind the base
 abbrev pub spelled_count : Order → List ℕ → ℕ
 spelled_count order octets = number_of order 4 (drop COUNT octets)
 
+-- a word, by its place among the words
 abbrev pub spelled_word : Order → List ℕ → ℕ → ℕ
 spelled_word order octets i = number_of order 4 (drop (WORDS + WORD_SIZE * i) octets)
 
+-- how many words hold so many bits
+abbrev pub words_of_count : ℕ → ℕ
+words_of_count count = (count + (WORD_BITS - 1)) / WORD_BITS
+
 -- how many octets a set of so many bits takes: the base, the count, and as many words as hold the bits
 abbrev pub octets_of_count : ℕ → ℕ
-octets_of_count count = WORDS + WORD_SIZE * ((count + 31) / 32)
+octets_of_count count = WORDS + WORD_SIZE * words_of_count count
 
 -- why octets begin with no set: they end before the count does, the set is bad, or they end before its words do
 unfoldable pub set_fault : Order → List ℕ → Option SetFault

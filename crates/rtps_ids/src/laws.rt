@@ -5,14 +5,15 @@ ghost use Rattle.std.specs.Int.{bit_at, w64};
 ghost use Rattle.rtps_ids.specs.Layout.{set_is};
 ghost use Rattle.rtps_ids.specs.NumberSet.{IsMember, NumberSetValue, bit_of, cleared_words, is_member, set_fault, spelled_count, spelled_set, spelled_word};
 ghost use Rattle.rtps_ids.specs.Octets.{number_of, octets_of, sequence_number_octets, sequence_number_of};
+ghost use Rattle.rtps_ids.specs.declared.layout.set.TheConstants.{MOST_BITS, WORD_BITS};
 ghost use Rattle.rtps_ids.specs.declared.order.Order.{Order};
 
 /// The bits of a set that is kept are those of the words that it was made from, up to its count; later ones are
 /// clear.
 #[tactic(auto, using(crate::proofs::SetBits::kept_bit, crate::proofs::SetBits::clear_bit))]
 pub fn bits_up_to_the_count_are_kept()
-    ensures kept { (count i : ℕ) (word : ℕ → ℕ) → i < count → i < 256 → bit_of (cleared_words count word) i ≡ bit_at (word (i / 32)) (31 - i % 32) }
-    ensures clear { (count i : ℕ) (word : ℕ → ℕ) → i < 256 → (i < count → ⊥) → bit_of (cleared_words count word) i ≡ 0 }
+    ensures kept { (count i : ℕ) (word : ℕ → ℕ) → i < count → i < MOST_BITS → bit_of (cleared_words count word) i ≡ bit_at (word (i / WORD_BITS)) (WORD_BITS - 1 - i % WORD_BITS) }
+    ensures clear { (count i : ℕ) (word : ℕ → ℕ) → i < MOST_BITS → (i < count → ⊥) → bit_of (cleared_words count word) i ≡ 0 }
 {}
 
 /// The test of what is in a set says what the relation says.
@@ -27,7 +28,7 @@ pub fn test_of_members_says_what_the_relation_says()
 pub fn members_are_the_bits_that_are_set()
     ensures { (order : Order) (octets : List ℕ) (i : ℕ) → set_fault order octets ≡ None
         → IsMember (spelled_set order octets) (pos ((spelled_set order octets).base + i))
-        ↔ ((i < spelled_count order octets) × (bit_at (spelled_word order octets (i / 32)) (31 - i % 32) ≡ 1)) }
+        ↔ ((i < spelled_count order octets) × (bit_at (spelled_word order octets (i / WORD_BITS)) (WORD_BITS - 1 - i % WORD_BITS) ≡ 1)) }
 {}
 
 /// The octets of a number, as many as were asked for, are read as that number, whatever follows.

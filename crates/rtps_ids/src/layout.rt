@@ -10,6 +10,8 @@ pub mod set {
     pub const WORDS: usize = 12;
     /// The octets of a word.
     pub const WORD_SIZE: usize = 4;
+    /// The bits of a word.
+    pub const WORD_BITS: u32 = 32;
     /// The most bits that it has.
     pub const MOST_BITS: u32 = 256;
 }

@@ -1,6 +1,7 @@
 ghost use Rattle.std.specs.Prelude.{◌≡◌, ◌<◌, ◌≤◌, ◌^◌, ◌/◌, length, ◌↔◌, ◌<ℤ◌, ℤ, pos, true, false, None, Some, All, IsTrue, IsSome, IfSome, MatchOption, MatchResult, slice_index};
 ghost use Rattle.rtps_ids.specs.NumberSet.{IsKeptSet, IsMember, cleared_words, bit_of, is_bad as is_bad_lem, octets_of_count, set_fault, spelled_set, spelled_word, cleared as cleared_lem};
 ghost use Rattle.rtps_ids.specs.Ranges.{IsRangeFrom, HasNoneFrom};
+ghost use Rattle.rtps_ids.specs.declared.layout.set.TheConstants.{WORD_BITS};
 
 use crate::bits::first_bit;
 use crate::layout::set;
@@ -69,7 +70,7 @@ impl NumberSet {
         if is_bad(base, count) {
             return Err(SetFault::BadSet);
         }
-        let used = set::WORDS + set::WORD_SIZE * count.div_ceil(32) as usize;
+        let used = set::WORDS + set::WORD_SIZE * count.div_ceil(set::WORD_BITS) as usize;
         if bytes.len() < used {
             return Err(SetFault::CutWords);
         }
@@ -142,10 +143,11 @@ fn words_fit(words: [u32; 8])
 
 /// Whether this bit is set, counted from the highest of the first word.
 fn is_set(words: &[u32], bit: usize) -> bool
-    requires { bit / 32 < length words.now }
+    requires { bit / WORD_BITS < length words.now }
     ensures { IsTrue result ↔ (bit_of words.now bit ≡ 1) }
 {
-    (words[bit / 32] >> (31 - bit % 32)) & 1 == 1
+    let in_word = set::WORD_BITS as usize;
+    (words[bit / in_word] >> (in_word - 1 - bit % in_word)) & 1 == 1
 }
 
 /// Whether no set has this base and count.
@@ -167,11 +169,11 @@ fn cleared(count: u32, word: u32, i: usize) -> u32
     requires { i < 8 }
     ensures { result ≡ cleared_lem count word i }
 {
-    let before = 32 * i as u32;
+    let before = set::WORD_BITS * i as u32;
     if before >= count {
         return 0;
     }
-    let dropped = 32 - (count - before).min(32);
+    let dropped = set::WORD_BITS - (count - before).min(set::WORD_BITS);
     ((u64::from(word) >> dropped) << dropped) as u32
 }
 

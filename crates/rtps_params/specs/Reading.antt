@@ -25,6 +25,7 @@ end_by_front order octets behind =
     else if nat_lt (length octets) (size_of order octets) then Err CutValue
     else further (size_of order octets) behind
 
+-- where the list ends, looked for in so many steps at most
 unfoldable pub list_end_in : ℕ → Order → List ℕ → Result ℕ ParamFault
 list_end_in zero order octets = Err CutHeader
 list_end_in (suc steps) order octets = end_by_front order octets (list_end_in steps order (drop (size_of order octets) octets))
@@ -43,6 +44,7 @@ abbrev pub parameters_by_front : Order → List ℕ → Pairs → Pairs
 parameters_by_front order octets behind =
     if has_parameter order octets then (pid_of order octets, take (length_of order octets) (drop HEADER octets)) ∷ behind else []
 
+-- the parameters, looked for in so many steps at most
 unfoldable pub parameters_in : ℕ → Order → List ℕ → Pairs
 parameters_in zero order octets = []
 parameters_in (suc steps) order octets = parameters_by_front order octets (parameters_in steps order (drop (size_of order octets) octets))

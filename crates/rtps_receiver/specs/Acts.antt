@@ -101,6 +101,7 @@ abbrev pub acts_with : Option Header → List ItemValue → List ActValue
 acts_with None items = []
 acts_with (Some header) items = acts_behind (state_at_start header) [] items
 
+-- the acts of a datagram, in order
 unfoldable pub acts_of : Reading → List ActValue
 acts_of reading = acts_with reading.header reading.items
 
@@ -113,6 +114,7 @@ abbrev pub is_data : ActBodyValue → Bool
 is_data (DataAct value) = true
 is_data _ = false
 
+-- those that are DATA
 abbrev pub data_among : List ActValue → List ActValue
 data_among acts = filter (λ act. is_data act.body) acts
 

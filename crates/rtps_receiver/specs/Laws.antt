@@ -43,9 +43,11 @@ pub record IsActOf (header : Header) (items : List ItemValue) (act : ActValue) :
   pub is_act : act_body item.body ≡ Some body
   pub value : act ≡ act_at (state_behind (state_at_start header) before) item.at item.order body
 
+-- the state behind any items is what stands there
 abbrev pub TheStateIsWhatStands : Type 0
 TheStateIsWhatStands = (start : State) (items : List ItemValue) → StandsBehind start items (state_behind start items)
 
+-- an act of a datagram is one that an item of it makes, and each such is one
 abbrev pub ActsAreOfItems : Type 0
 ActsAreOfItems = (reading : Reading) (header : Header) (act : ActValue) → reading.header ≡ Some header → Contains (acts_of reading) act ↔ IsActOf header reading.items act
 

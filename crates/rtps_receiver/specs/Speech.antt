@@ -15,12 +15,14 @@ writer_named (Heartbeat value) = Some value.writer
 writer_named (Gap value) = Some value.writer
 writer_named (AckNack value) = None
 
+-- the reader that it names; zeros name every reader
 abbrev pub reader_named : ActBodyValue → Option EntityId
 reader_named (Data value) = Some value.reader
 reader_named (Heartbeat value) = Some value.reader
 reader_named (Gap value) = Some value.reader
 reader_named (AckNack value) = None
 
+-- an ACKNACK, which a reader sends and no writer
 abbrev pub is_ack_nack : ActBodyValue → Bool
 is_ack_nack (AckNack value) = true
 is_ack_nack (Data value) = false
@@ -60,18 +62,30 @@ NamesPair (Data value) reader writer = ⊥
 NamesPair (Heartbeat value) reader writer = ⊥
 NamesPair (Gap value) reader writer = ⊥
 
+-- an act of this reader that answers this writer
 pub record IsAnswer (act : ActValue) (reader writer : Guid) : Type 0 where
   pub source : act.source ≡ reader.prefix
   pub dest : act.dest ≡ Some writer.prefix
   pub entities : NamesPair act.body reader.entity writer.entity
 
+-- the writer that an ACKNACK names, of the participant that it is for by name
+abbrev pub answered_at : Option GuidPrefix → ActBodyValue → Option Guid
+answered_at (Some dest) (AckNack value) = Some (record { prefix = dest; entity = value.writer })
+answered_at _ _ = None
+
+-- Whom an act answers, if it answers anybody. It is an answer of its origin, to just this writer: `Act::answered` promises so.
+abbrev pub writer_answered : ActValue → Option Guid
+writer_answered act = answered_at act.dest act.body
+
 -- The same three as tests. That each test says what its relation says is a law.
 abbrev pub is_prefix : GuidPrefix → GuidPrefix → Bool
 is_prefix one other = bytes_eq one.0 other.0
 
+-- two entity ids are the same
 abbrev pub is_entity : EntityId → EntityId → Bool
 is_entity one other = bytes_eq one.0 other.0
 
+-- the entity that is named is this one
 abbrev pub names : Option EntityId → EntityId → Bool
 names (Some named) entity = is_entity named entity
 names None entity = false
@@ -81,10 +95,12 @@ abbrev pub is_for : Option GuidPrefix → GuidPrefix → Bool
 is_for (Some dest) prefix = is_prefix dest prefix
 is_for None prefix = false
 
+-- for everyone, with no participant named
 abbrev pub is_for_all : Option GuidPrefix → Bool
 is_for_all (Some dest) = false
 is_for_all None = true
 
+-- whether a writer speaks an act
 abbrev pub is_spoken_by : ActValue → Guid → Bool
 is_spoken_by act writer = is_prefix act.source writer.prefix && names (writer_named act.body) writer.entity
 
@@ -92,14 +108,17 @@ is_spoken_by act writer = is_prefix act.source writer.prefix && names (writer_na
 abbrev pub is_among : Option GuidPrefix → Option EntityId → Guid → Bool
 is_among dest named reader = (is_for_all dest || is_for dest reader.prefix) && (names named unknown_entity || names named reader.entity)
 
+-- whether a reader hears an act
 abbrev pub is_heard_by : ActValue → Guid → Bool
 is_heard_by act reader = is_among act.dest (reader_named act.body) reader
 
+-- whether it is an ACKNACK that names this reader and this writer
 abbrev pub names_pair : ActBodyValue → EntityId → EntityId → Bool
 names_pair (AckNack value) reader writer = is_entity value.reader reader && is_entity value.writer writer
 names_pair (Data value) reader writer = false
 names_pair (Heartbeat value) reader writer = false
 names_pair (Gap value) reader writer = false
 
+-- whether an act of this reader answers this writer
 abbrev pub is_answer : ActValue → Guid → Guid → Bool
 is_answer act reader writer = is_prefix act.source reader.prefix && (is_for act.dest writer.prefix && names_pair act.body reader.entity writer.entity)

@@ -15,12 +15,14 @@ use Rattle.rtps_receiver.specs.declared.act.Act.{Act}
 use Rattle.rtps_receiver.specs.declared.act.ActBody.{ActBody}
 use Rattle.rtps_receiver.specs.declared.act.ActBody.TheVariants as body
 
+-- what an act says
 pub data ActBodyValue : Type 0 where
   Data : (value : DataValue) → ActBodyValue
   Heartbeat : (value : HeartbeatBody) → ActBodyValue
   AckNack : (value : AckNackBody) → ActBodyValue
   Gap : (value : GapBody) → ActBodyValue
 
+-- an act with the receiver's state at its place
 pub record ActValue : Type 0 where
   pub at : ℕ
   pub source : GuidPrefix
@@ -31,6 +33,7 @@ pub record ActValue : Type 0 where
   pub order : Order
   pub body : ActBodyValue
 
+-- what an act of the code says, as a value
 abbrev pub act_body_value : ActBody → ActBodyValue
 act_body_value (body.Data value) = Data (data_value value)
 act_body_value (body.Heartbeat value) = Heartbeat value
@@ -51,6 +54,7 @@ act_value act =
       body = act_body_value act.body;
     }
 
+-- the next act, or the refusal that ends the datagram, as a value
 abbrev pub act_outcome_value : Result Act Refusal → Result ActValue Refusal
 act_outcome_value (Ok act) = Ok (act_value act)
 act_outcome_value (Err refusal) = Err refusal

@@ -33,9 +33,10 @@ impl Audience {
 }
 
 impl<'a> Act<'a> {
-    ghost use Rattle.std.specs.Prelude.{◌↔◌, ◌≡◌, IsTrue};
+    ghost use Rattle.std.specs.Prelude.{◌↔◌, ◌≡◌, IsTrue, Some};
+    ghost use Rattle.rtps_ids.specs.declared.identity.Guid.{Guid as GuidValue};
     ghost use Rattle.std.specs.Option.{option_map};
-    ghost use Rattle.rtps_receiver.specs.Speech.{IsAnswer, IsHeardBy, IsSpokenBy, is_answer, is_heard_by, is_spoken_by, origin_of, reader_named, writer_named};
+    ghost use Rattle.rtps_receiver.specs.Speech.{IsAnswer, IsHeardBy, IsSpokenBy, is_answer, is_heard_by, is_spoken_by, origin_of, reader_named, writer_answered, writer_named};
     ghost use Rattle.rtps_receiver.specs.Values.{act_value};
 
     /// Whom the act is from: of its source, the reader that an ACKNACK names, or the writer that anything else names.
@@ -85,13 +86,23 @@ impl<'a> Act<'a> {
         ensures relation { IsTrue result ↔ IsAnswer (act_value self.now) reader writer }
         ensures test { result ≡ is_answer (act_value self.now) reader writer }
     {
+        self.answered() == Some(writer) && self.origin() == reader
+    }
+
+    /// Whom the act answers: the writer that an ACKNACK names, of the participant that it is for by name. None of anything
+    /// else, and of an ACKNACK for everyone. It is its origin that answers.
+    pub fn answered(&self) -> Option<Guid>
+        ensures relation { (reader writer : GuidValue)
+            → IsAnswer (act_value self.now) reader writer ↔ ((origin_of (act_value self.now) ≡ reader) × (result ≡ Some writer)) }
+        ensures value { result ≡ writer_answered (act_value self.now) }
+    {
         let ActBody::AckNack(ack_nack) = &self.body else {
-            return false;
+            return None;
         };
-        ack_nack.writer == writer.entity
-            && ack_nack.reader == reader.entity
-            && self.source == reader.prefix
-            && self.dest == Some(writer.prefix)
+        Some(Guid {
+            prefix: self.dest?,
+            entity: ack_nack.writer,
+        })
     }
 
     /// The writer that the act names, unless it is an ACKNACK.

@@ -23,9 +23,11 @@ verdict_text (Open number) = codes "open " ++ signed_decimal number
 verdict_text (Conflict number) = codes "conflict " ++ signed_decimal number
 verdict_text (Unfounded datagram number) = codes "unfounded " ++ (decimal datagram ++ 32 ∷ signed_decimal number)
 
+-- the first line of the report: how many pairs it has
 abbrev pub pairs_line : ℕ → List ℕ
 pairs_line pairs = line_of (codes "pairs" ∷ decimal pairs ∷ [])
 
+-- the line of a pair: its writer, its reader and its verdict
 abbrev pub row_line : Row → List ℕ
 row_line row = line_of (guid_text row.pair.writer ∷ guid_text row.pair.reader ∷ verdict_text row.verdict ∷ [])
 
@@ -39,6 +41,7 @@ abbrev pub further_counts_text : Counts → Option ℕ → List ℕ
 further_counts_text counts ignored =
     codes "fragments " ++ (decimal counts.fragments ++ (codes " undirected " ++ (decimal counts.undirected ++ (codes " unsettled " ++ (decimal counts.unsettled ++ ignored_text ignored)))))
 
+-- the last line: what was counted
 abbrev pub report_counts_line : Counts → Option ℕ → List ℕ
 report_counts_line counts ignored = line_of (codes "datagrams" ∷ decimal counts.datagrams ∷ codes "refused" ∷ decimal counts.refused
     ∷ codes "skipped" ∷ decimal counts.skipped ∷ further_counts_text counts ignored ∷ [])
@@ -47,12 +50,14 @@ report_counts_line counts ignored = line_of (codes "datagrams" ∷ decimal count
 abbrev pub report_text : List Row → Counts → Option ℕ → List ℕ
 report_text rows counts ignored = pairs_line (length rows) ++ (flat_map row_line rows ++ report_counts_line counts ignored)
 
+-- the reader got all
 abbrev pub is_complete : Verdict → Bool
 is_complete (Complete last) = true
 is_complete (Open number) = false
 is_complete (Conflict number) = false
 is_complete (Unfounded datagram number) = false
 
+-- the run ends clean where each pair is complete
 abbrev pub ending_of : List Row → Ending
 ending_of rows = if list_all (λ row. is_complete row.verdict) rows then Clean else Unclean
 

@@ -35,6 +35,7 @@ abbrev pub members_of : List Member → Members
 members_of [] = no_members
 members_of ((name, value) ∷ members) = member name value (members_of members)
 
+-- the object of these members
 abbrev pub object_of : List Member → Json
 object_of members = object (members_of members)
 
@@ -43,6 +44,7 @@ abbrev pub items_of : List Json → Items
 items_of [] = no_items
 items_of (value ∷ values) = item value (items_of values)
 
+-- the array of these values
 abbrev pub array_of : List Json → Json
 array_of values = array (items_of values)
 
@@ -50,6 +52,7 @@ array_of values = array (items_of values)
 abbrev pub count_json : ℕ → Json
 count_json n = number (decimal n)
 
+-- a number, which may be below 0
 abbrev pub number_json : ℤ → Json
 number_json n = number (signed_decimal n)
 
@@ -77,6 +80,7 @@ teller_json (Some teller) = object_of ((codes "by", string (kind_text teller.kin
 abbrev pub carried_members : List ℕ → ℕ → List Member
 carried_members kind octets = (codes "payload", string kind) ∷ (codes "octets", count_json octets) ∷ []
 
+-- the kind of a payload and how many octets it has
 abbrev pub payload_members : Option PayloadValue → List Member
 payload_members None = []
 payload_members (Some Absent) = carried_members (codes "absent") 0
@@ -92,6 +96,7 @@ sent_json (Some sent) = object_of (payload_members sent.payload ++ place_members
 abbrev pub name_json : List ℕ → Json
 name_json name = string (flat_map octet_text name)
 
+-- whom the row is of: the writer, the reader, the topic and the type
 abbrev pub pair_members : ExplanationValue → List Member
 pair_members row = (codes "writer", string (guid_text row.pair.writer)) ∷ (codes "reader", string (guid_text row.pair.reader))
     ∷ (codes "topic", name_json row.topic) ∷ (codes "type", name_json row.type_name) ∷ []
@@ -116,6 +121,7 @@ shown_members (Open n) evidence = (codes "told", teller_json evidence.teller) �
 shown_members (Conflict n) evidence = (codes "sent", array_of (sent_json evidence.first_sent ∷ sent_json evidence.other_sent ∷ [])) ∷ []
 shown_members (Unfounded datagram n) evidence = (codes "claimed", claim_json evidence.claim) ∷ (codes "told", teller_json evidence.teller) ∷ []
 
+-- a row of the report with its evidence
 abbrev pub row_json : ExplanationValue → Json
 row_json row =
     object_of (pair_members row ++ (verdict_members row.evidence.verdict ++ (evidence_members row.evidence ++ shown_members row.evidence.verdict row.evidence)))
@@ -125,6 +131,7 @@ abbrev pub ignored_members : Option ℕ → List Member
 ignored_members None = []
 ignored_members (Some ignored) = (codes "ignored", count_json ignored) ∷ []
 
+-- what was counted
 abbrev pub counts_members : Counts → List Member
 counts_members counts = (codes "datagrams", count_json counts.datagrams) ∷ (codes "refused", count_json counts.refused) ∷ (codes "skipped", count_json counts.skipped)
     ∷ (codes "fragments", count_json counts.fragments) ∷ (codes "undirected", count_json counts.undirected) ∷ (codes "unsettled", count_json counts.unsettled) ∷ []
@@ -133,6 +140,7 @@ counts_members counts = (codes "datagrams", count_json counts.datagrams) ∷ (co
 abbrev pub pairs_member : List ExplanationValue → Member
 pairs_member rows = (codes "pairs", array_of (map row_json rows))
 
+-- the whole report
 abbrev pub report_json : List ExplanationValue → Counts → Option ℕ → Json
 report_json rows counts ignored = object_of (pairs_member rows ∷ (counts_members counts ++ ignored_members ignored))
 
@@ -140,6 +148,7 @@ report_json rows counts ignored = object_of (pairs_member rows ∷ (counts_membe
 abbrev pub tokens_of_member : Member → List Token
 tokens_of_member (name, value) = key name ∷ json_tokens value
 
+-- the tokens of these members
 abbrev pub tokens_of : List Member → List Token
 tokens_of members = flat_map tokens_of_member members
 

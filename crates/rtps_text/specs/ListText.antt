@@ -22,6 +22,7 @@ use Rattle.rtps_text.specs.ShowText.{line_of}
 use Rattle.rtps_text.specs.declared.ending.Ending.{Ending}
 use Rattle.rtps_text.specs.declared.ending.Ending.TheVariants.{Clean}
 
+-- a GUID: its prefix, a dot and its entity id
 abbrev pub guid_text : Guid → List ℕ
 guid_text guid = encode_lower guid.prefix.0 ++ 46 ∷ encode_lower guid.entity.0
 
@@ -30,6 +31,7 @@ guid_text guid = encode_lower guid.prefix.0 ++ 46 ∷ encode_lower guid.entity.0
 abbrev pub stands_for_itself : ℕ → Bool
 stands_for_itself octet = (nat_le 32 octet && nat_le octet 126) && (not (octet == 34) && not (octet == 92))
 
+-- an octet of a name: as it is, or escaped
 unfoldable pub octet_text : ℕ → List ℕ
 octet_text octet = if stands_for_itself octet then octet ∷ [] else codes "\\x" ++ encode_lower (octet ∷ [])
 
@@ -37,14 +39,17 @@ octet_text octet = if stands_for_itself octet then octet ∷ [] else codes "\\x"
 abbrev pub name_text : List ℕ → List ℕ
 name_text name = 34 ∷ (flat_map octet_text name ++ 34 ∷ [])
 
+-- the word for a side
 unfoldable pub side_text : Side → List ℕ
 side_text Writer = codes "writer"
 side_text Reader = codes "reader"
 
+-- the word for a reliability
 unfoldable pub reliability_text : Reliability → List ℕ
 reliability_text BestEffort = codes "best-effort"
 reliability_text Reliable = codes "reliable"
 
+-- the word for a durability
 unfoldable pub durability_text : Durability → List ℕ
 durability_text Volatile = codes "volatile"
 durability_text TransientLocal = codes "transient-local"
@@ -56,14 +61,17 @@ unfoldable pub match_text : Bool → List ℕ
 match_text true = codes "reliable"
 match_text false = codes "best-effort"
 
+-- the line of a participant
 abbrev pub participant_line : Guid → List ℕ
 participant_line guid = line_of (codes "participant" ∷ guid_text guid ∷ [])
 
+-- the line of an endpoint
 abbrev pub endpoint_line : EndpointValue → List ℕ
 endpoint_line endpoint = line_of (side_text endpoint.side ∷ guid_text endpoint.guid
     ∷ codes "topic" ∷ name_text endpoint.topic ∷ codes "type" ∷ name_text endpoint.type_name
     ∷ reliability_text endpoint.reliability ∷ durability_text endpoint.durability ∷ [])
 
+-- the line of a pair that matches
 abbrev pub match_line : Match → List ℕ
 match_line found = line_of (codes "pair" ∷ guid_text found.pair.writer ∷ guid_text found.pair.reader ∷ match_text found.reliable ∷ [])
 

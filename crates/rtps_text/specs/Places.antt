@@ -18,6 +18,7 @@ end_of place = place.bits / 2 ^ 16 + place.bits % 2 ^ 16
 abbrev pub has_place : ℕ → ℕ → Bool
 has_place from to = nat_le from to && nat_lt to (from + 2 ^ 16) && nat_lt from (2 ^ 48)
 
+-- the octets at a place
 abbrev pub piece : List ℕ → Place → List ℕ
 piece octets place = slice_range octets (start_of place) (end_of place)
 
@@ -29,5 +30,6 @@ pieces octets places = map (piece octets) places
 abbrev pub StandsWithin : ℕ → Place → Type 0
 StandsWithin size place = (start_of place ≤ end_of place) × (end_of place ≤ size)
 
+-- all these places lie within the octets
 abbrev pub ArePlaces : List ℕ → List Place → Type 0
 ArePlaces octets places = All (StandsWithin (length octets)) places

@@ -37,16 +37,20 @@ line_of [] = 10 ∷ []
 line_of (field ∷ []) = field ++ 10 ∷ []
 line_of (field ∷ next ∷ fields) = field ++ 32 ∷ line_of (next ∷ fields)
 
+-- the word for an order of octets
 unfoldable pub order_text : Order → List ℕ
 order_text Big = codes "be"
 order_text Little = codes "le"
 
+-- a flag as a digit
 unfoldable pub digit_of : Bool → List ℕ
 digit_of flag = if flag then codes "1" else codes "0"
 
+-- a version, as in 2.5
 unfoldable pub version_text : Version → List ℕ
 version_text version = decimal version.major ++ codes "." ++ decimal version.minor
 
+-- the kind of a payload, and how many octets it has
 unfoldable pub payload_text : PayloadValue → List ℕ
 payload_text Absent = codes "absent"
 payload_text (Whole octets) = codes "whole " ++ decimal (length octets)
@@ -61,16 +65,20 @@ qos_octets (Some list) = length list.octets
 abbrev pub long_digits : ℕ → List ℕ
 long_digits long = encode_lower (to_be_bytes w32 long)
 
+-- the first words of a set
 abbrev pub first_longs : NumberSetValue → ℕ → List ℕ
 first_longs set n = map (λ i. slice_index set.words i) (range_with_len 0 n)
 
+-- the bits of a set, as the words that hold them
 abbrev pub bitmap_text : NumberSetValue → List ℕ
 bitmap_text set = if set.count == 0 then codes "-" else flat_map long_digits (first_longs set ((set.count + 31) / 32))
 
+-- a time, or that there is none
 unfoldable pub time_text : Option Stamp → List ℕ
 time_text None = codes "none"
 time_text (Some stamp) = decimal stamp.seconds ++ codes " " ++ decimal stamp.fraction
 
+-- a participant, or that it is for everyone
 unfoldable pub destination_text : Option GuidPrefix → List ℕ
 destination_text None = codes "all"
 destination_text (Some prefix) = encode_lower prefix.0
@@ -87,36 +95,44 @@ data_line state at order value = line_of (codes "data" ∷ decimal at ∷ order_
     ∷ codes "reader" ∷ encode_lower value.reader.0 ∷ codes "writer" ∷ encode_lower value.writer.0 ∷ codes "number" ∷ decimal value.number
     ∷ codes "qos" ∷ decimal (qos_octets value.qos) ∷ codes "payload" ∷ payload_text value.payload ∷ state_text state ∷ [])
 
+-- the line of a HEARTBEAT
 abbrev pub heartbeat_line : State → ℕ → Order → HeartbeatBody → List ℕ
 heartbeat_line state at order value = line_of (codes "heartbeat" ∷ decimal at ∷ order_text order
     ∷ codes "reader" ∷ encode_lower value.reader.0 ∷ codes "writer" ∷ encode_lower value.writer.0
     ∷ codes "first" ∷ decimal value.first ∷ codes "last" ∷ signed_decimal value.last ∷ codes "count" ∷ decimal value.count
     ∷ codes "final" ∷ digit_of value.is_final ∷ codes "live" ∷ digit_of value.live ∷ state_text state ∷ [])
 
+-- the line of an ACKNACK
 abbrev pub ack_nack_line : State → ℕ → Order → AckNackBody → List ℕ
 ack_nack_line state at order value = line_of (codes "acknack" ∷ decimal at ∷ order_text order
     ∷ codes "reader" ∷ encode_lower value.reader.0 ∷ codes "writer" ∷ encode_lower value.writer.0
     ∷ codes "base" ∷ decimal value.set.base ∷ codes "bits" ∷ decimal value.set.count ∷ bitmap_text value.set
     ∷ codes "count" ∷ decimal value.count ∷ codes "final" ∷ digit_of value.is_final ∷ state_text state ∷ [])
 
+-- the line of a GAP
 abbrev pub gap_line : State → ℕ → Order → GapBody → List ℕ
 gap_line state at order value = line_of (codes "gap" ∷ decimal at ∷ order_text order
     ∷ codes "reader" ∷ encode_lower value.reader.0 ∷ codes "writer" ∷ encode_lower value.writer.0 ∷ codes "start" ∷ decimal value.start
     ∷ codes "base" ∷ decimal value.list.base ∷ codes "bits" ∷ decimal value.list.count ∷ bitmap_text value.list ∷ state_text state ∷ [])
 
+-- the line of an INFO_TS
 abbrev pub info_ts_line : ℕ → Order → Option Stamp → List ℕ
 info_ts_line at order time = line_of (codes "info_ts" ∷ decimal at ∷ order_text order ∷ codes "time" ∷ time_text time ∷ [])
 
+-- the line of an INFO_DST
 abbrev pub info_dst_line : ℕ → Order → GuidPrefix → List ℕ
 info_dst_line at order prefix = line_of (codes "info_dst" ∷ decimal at ∷ order_text order ∷ codes "prefix" ∷ encode_lower prefix.0 ∷ [])
 
+-- the line of an INFO_SRC
 abbrev pub info_src_line : ℕ → Order → Version → Vendor → GuidPrefix → List ℕ
 info_src_line at order version vendor prefix = line_of (codes "info_src" ∷ decimal at ∷ order_text order
     ∷ codes "version" ∷ version_text version ∷ codes "vendor" ∷ encode_lower vendor.0 ∷ codes "prefix" ∷ encode_lower prefix.0 ∷ [])
 
+-- the line of a submessage that is not read
 abbrev pub skipped_line : ℕ → ℕ → List ℕ
 skipped_line at id = line_of (codes "skipped" ∷ decimal at ∷ codes "id" ∷ encode_lower (id ∷ []) ∷ [])
 
+-- the line of a submessage, in the receiver's state at its place
 abbrev pub body_line : State → ℕ → Order → BodyValue → List ℕ
 body_line state at order (Data value) = data_line state at order value
 body_line state at order (Heartbeat value) = heartbeat_line state at order value
@@ -131,6 +147,7 @@ body_line state at order (Skipped id) = skipped_line at id
 abbrev pub item_line : State → ItemValue → List ℕ
 item_line state item = body_line state item.at item.order item.body
 
+-- the line of a refusal: where it is and why
 abbrev pub refusal_line : Refusal → List ℕ
 refusal_line refusal = line_of (codes "refused" ∷ decimal refusal.at ∷ fault_name refusal.fault ∷ [])
 
@@ -140,6 +157,7 @@ datagram_line number None = line_of (codes "datagram" ∷ decimal number ∷ cod
 datagram_line number (Some header) = line_of (codes "datagram" ∷ decimal number ∷ codes "version" ∷ version_text header.version
     ∷ codes "vendor" ∷ encode_lower header.vendor.0 ∷ codes "prefix" ∷ encode_lower header.prefix.0 ∷ [])
 
+-- the last line of a datagram that is refused, else nothing
 abbrev pub ending_text : Option Refusal → List ℕ
 ending_text None = []
 ending_text (Some refusal) = refusal_line refusal

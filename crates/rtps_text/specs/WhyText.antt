@@ -36,12 +36,15 @@ kind_text Heartbeat = codes "heartbeat"
 kind_text AckNack = codes "acknack"
 kind_text Gap = codes "gap"
 
+-- where an act stands in the recording
 unfoldable pub place_text : Place → List ℕ
 place_text place = codes "in datagram " ++ (decimal place.datagram ++ (codes " at " ++ decimal place.at))
 
+-- the line of a pair with its verdict
 abbrev pub pair_line : ExplanationValue → List ℕ
 pair_line row = line_of (codes "pair" ∷ guid_text row.pair.writer ∷ guid_text row.pair.reader ∷ verdict_text row.evidence.verdict ∷ [])
 
+-- the line of the names of its topic and its type
 abbrev pub names_line : List ℕ → List ℕ → List ℕ
 names_line topic type_name = inner_line (codes "topic" ∷ name_text topic ∷ codes "type" ∷ name_text type_name ∷ [])
 
@@ -76,6 +79,7 @@ abbrev pub carried_text : Option PayloadValue → List ℕ
 carried_text None = []
 carried_text (Some payload) = payload_text payload
 
+-- the line of a payload that was sent for a number, if one was
 abbrev pub sent_line : ℤ → Option SentValue → List ℕ
 sent_line number None = []
 sent_line number (Some sent) =

@@ -8,6 +8,7 @@ use Rattle.rtps_tool.specs.declared.faults.RecFault.TheVariants.{BadHex, TooLong
 use Rattle.rtps_tool.specs.declared.faults.RunFault.{RunFault}
 use Rattle.rtps_tool.specs.declared.faults.RunFault.TheVariants.{Recording, Input, Output, Memory as RunMemory}
 
+-- why a file is no recording
 unfoldable pub rec_fault_text : RecFault → List ℕ
 rec_fault_text (BadHex line) = codes "line " ++ (decimal line ++ codes ": bad hex")
 rec_fault_text (TooLong line) = codes "line " ++ (decimal line ++ codes ": too long")
@@ -16,6 +17,7 @@ rec_fault_text Memory = codes "out of memory"
 rec_fault_text BadCapture = codes "bad capture"
 rec_fault_text (CutCapture frame) = codes "frame " ++ (decimal frame ++ codes ": cut")
 
+-- why a run failed
 unfoldable pub run_fault_text : RunFault → List ℕ
 run_fault_text (Recording fault) = rec_fault_text fault
 run_fault_text Input = codes "cannot read input"

@@ -30,6 +30,7 @@ cut_among number (Datagram place ∷ frames) = cut_among (number + 1) frames
 cut_among number (Ignored ∷ frames) = cut_among (number + 1) frames
 cut_among number (Cut ∷ frames) = Some number
 
+-- a recording, unless a frame is cut
 abbrev pub unless_cut : Option ℕ → RecordingValue → Result RecordingValue RecFault
 unless_cut None recording = Ok recording
 unless_cut (Some frame) recording = Err (CutCapture frame)
@@ -40,6 +41,7 @@ recording_of_frames most file frames =
     if nat_lt most (length (datagrams_among file frames)) then Err TooMany
     else unless_cut (cut_among 1 frames) (record { datagrams = datagrams_among file frames; ignored = Some (ignored_among frames) })
 
+-- the recording of a capture, where it is one
 abbrev pub recording_opened : (most : ℕ) → List ℕ → Option Unread → Result RecordingValue RecFault
 recording_opened most file None = Err BadCapture
 recording_opened most file (Some unread) = recording_of_frames most file (frames_left unread)

@@ -7,6 +7,7 @@ use Rattle.rtps_text.specs.declared.ending.Ending.TheVariants.{Clean, Unclean}
 use Rattle.rtps_tool.specs.declared.faults.RunFault.{RunFault}
 use Rattle.rtps_tool.specs.declared.faults.RunFault.TheVariants.{Recording, Input, Output, Memory as RunMemory}
 
+-- the status with which a run ends
 abbrev pub status_of : Result Ending RunFault → ℕ
 status_of (Ok Clean) = 0
 status_of (Ok Unclean) = 1

@@ -53,6 +53,7 @@ audit_app = with_rule (report_app (codes "audit")) json_rule
 abbrev pub bare_program : App
 bare_program = record (new_app (codes "rtps-audit")) { top = record (new_app (codes "rtps-audit")).top { has_version = true; subcommand_required = true } }
 
+-- the program with its commands
 abbrev pub program : App
 program =
     with_subcommand
@@ -143,6 +144,7 @@ word_fault_by DisplayHelp error = Help error
 word_fault_by DisplayVersion error = Version error
 word_fault_by kind error = Refused error
 
+-- why the words are refused, or that they ask for help
 abbrev pub word_fault_of : Error → WordFault
 word_fault_of error = word_fault_by (kind_of error) error
 

@@ -16,6 +16,7 @@ pub mod WrittenBodies
 pub mod WrittenMessage
 pub mod WrittenItems
 pub mod SpelledFields
+pub mod Numbers
 pub mod SpelledFlags
 pub mod SpelledSets
 pub mod SpelledBodies

@@ -1,14 +1,16 @@
 -- Lemmas about the definitions of this crate, for the crates above it.
-use Rattle.std.proofs.Common.{◌≡◌, ℕ, List, [], ◌∷◌, Option, None, Some, Ok, Err, true, false, drop, arith, refl, sym, ◌∙◌}
+use Rattle.std.proofs.Common.{◌≡◌, ◌<◌, ℕ, All, List, [], ◌∷◌, Option, None, Some, Ok, Err, true, false, drop, arith, refl, sym, ◌∙◌}
 use Rattle.rtps_wire.specs.Dataless.{dataless_next, is_dataless}
+use Rattle.rtps_wire.specs.Held.{TellsOfNumbers}
 use Rattle.rtps_wire.specs.Message.{item_at}
-use Rattle.rtps_wire.specs.Reading.{Outcome, Unread, outcomes, outcomes_left, outcomes_with}
+use Rattle.rtps_wire.specs.Reading.{Outcome, Unread, outcomes, outcomes_left, outcomes_with, reading_of}
 use Rattle.rtps_wire.specs.Skipped.{skipped_id, skipped_next}
 use Rattle.rtps_wire.specs.Tally.{is_fragment, is_skipped}
 use Rattle.rtps_wire.specs.Values.{BodyValue, ItemValue}
 use Rattle.rtps_wire.specs.Values.BodyValue.{Data, Heartbeat, AckNack, Gap, InfoTs, InfoDst, InfoSrc, Skipped}
 use Rattle.rtps_wire.specs.declared.fault.Refusal.{Refusal}
 use Rattle.rtps_wire.specs.declared.fault.WireFault.{WireFault}
+use Rattle.rtps_wire.proofs.Numbers.{numbers_fit}
 use Rattle.rtps_wire.proofs.Readings.{outcomes-done, outcomes-step}
 
 last_with : (more : List ℕ → ℕ → List Outcome) (fault : Option WireFault) (rest : List ℕ) (at : ℕ) (refusal : Refusal) (behind : List Outcome)
@@ -39,6 +41,10 @@ at_of (x ∷ xs) at item later same =
 -- what is read next stands at the first unread octet
 pub next_stands_at : (unread : Unread) (item : ItemValue) (later : List Outcome) → outcomes_left unread ≡ Ok item ∷ later → item.at ≡ unread.at
 next_stands_at unread = at_of unread.rest unread.at
+
+-- the items of a datagram, which is octets, tell of sequence numbers alone
+pub items_tell_of_numbers : (datagram : List ℕ) → All (λ octet. octet < 256) datagram → All TellsOfNumbers (reading_of datagram).items
+items_tell_of_numbers = numbers_fit
 
 -- what is skipped next is an item of that id
 pub skipped_first : (left : List Outcome) (id : ℕ) → Some id ≡ skipped_next left → (item : ItemValue) × (item.body ≡ Skipped id) × (left ≡ Ok item ∷ drop 1 left)

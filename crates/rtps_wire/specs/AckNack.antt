@@ -16,6 +16,7 @@ use Rattle.rtps_wire.specs.declared.layout.ack_nack.TheConstants.{FINAL, LEAST, 
 abbrev pub count_place : Order → List ℕ → ℕ
 count_place order body = SET + octets_of_count (spelled_count order (drop SET body))
 
+-- why a body is no ACKNACK
 abbrev pub ack_nack_fault : Order → List ℕ → Option WireFault
 ack_nack_fault order body = first_fault (
     (ShortBody, nat_lt (length body) LEAST)
@@ -38,5 +39,6 @@ ack_nack_of order flags body =
 abbrev pub ack_nack_flags : AckNackBody → ℕ
 ack_nack_flags body = flag_if body.is_final FINAL
 
+-- its octets: readerId, writerId, the set, count
 abbrev pub ack_nack_octets : Order → AckNackBody → List ℕ
 ack_nack_octets order body = body.reader.0 ++ (body.writer.0 ++ (set_octets order body.set ++ octets_of order 4 body.count))

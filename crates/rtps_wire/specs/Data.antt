@@ -18,9 +18,11 @@ use Rattle.rtps_wire.specs.declared.layout.data.TheConstants.{D, K, NUMBER, OCTE
 abbrev pub has_qos : ℕ → Bool
 has_qos flags = bit_and flags Q == Q
 
+-- a whole sample is its payload
 abbrev pub has_data : ℕ → Bool
 has_data flags = bit_and flags D == D
 
+-- the key of a sample is its payload
 abbrev pub has_key : ℕ → Bool
 has_key flags = bit_and flags K == K
 
@@ -28,6 +30,7 @@ has_key flags = bit_and flags K == K
 abbrev pub octets_to_inline_qos : Order → List ℕ → ℕ
 octets_to_inline_qos order body = number_of order 2 (drop OCTETS_TO_QOS body)
 
+-- the writer's sequence number
 abbrev pub data_number : Order → List ℕ → ℤ
 data_number order body = sequence_number_of order (drop NUMBER body)
 
@@ -49,6 +52,7 @@ data_fault order flags body = first_fault (
 abbrev pub qos_length : Order → ℕ → List ℕ → ℕ
 qos_length order flags octets = if has_qos flags then result_unwrap_or (list_end order octets) 0 else 0
 
+-- the inline QoS, where there is one
 abbrev pub qos_of : Order → ℕ → List ℕ → Option ListValue
 qos_of order flags octets = if has_qos flags then Some (record { order = order; octets = take (qos_length order flags octets) octets }) else None
 
@@ -92,6 +96,7 @@ payload_flag Absent = 0
 payload_flag (Whole octets) = D
 payload_flag (Key octets) = K
 
+-- the octets of a payload; an absent one has none
 abbrev pub payload_octets : PayloadValue → List ℕ
 payload_octets Absent = []
 payload_octets (Whole octets) = octets

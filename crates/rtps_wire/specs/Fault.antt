@@ -3,6 +3,7 @@
 use Rattle.std.specs.Prelude.{◌≡◌, Bool, if◌then◌else◌, List, [], ◌∷◌, Option, Some, None, Result, Ok, Err}
 use Rattle.rtps_wire.specs.declared.fault.WireFault.{WireFault}
 
+-- the fault of the first row whose condition holds, or none
 abbrev pub first_fault : List (WireFault × Bool) → Option WireFault
 first_fault [] = None
 first_fault (row ∷ rows) = if row.1 then Some row.0 else first_fault rows

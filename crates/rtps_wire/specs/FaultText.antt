@@ -5,6 +5,7 @@ use Rattle.rtps_wire.specs.declared.fault.WireFault.TheVariants.{Short, NotRtps,
 use Rattle.rtps_wire.specs.declared.write_fault.WriteFault.{WriteFault}
 use Rattle.rtps_wire.specs.declared.write_fault.WriteFault.TheVariants.{NotWritable, TooLong, Unaligned, Memory}
 
+-- by its variant's name
 unfoldable pub fault_name : WireFault → List ℕ
 fault_name Short = codes "Short"
 fault_name NotRtps = codes "NotRtps"

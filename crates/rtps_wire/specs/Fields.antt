@@ -5,11 +5,14 @@ use Rattle.rtps_ids.specs.declared.identity.EntityId.{EntityId}
 use Rattle.rtps_ids.specs.declared.identity.GuidPrefix.{GuidPrefix}
 use Rattle.rtps_ids.specs.declared.identity.Vendor.{Vendor}
 
+-- the entity id at a place
 abbrev pub entity_at : ℕ → List ℕ → EntityId
 entity_at at octets = record { 0 = take 4 (drop at octets) }
 
+-- the prefix of a GUID at a place
 abbrev pub prefix_at : ℕ → List ℕ → GuidPrefix
 prefix_at at octets = record { 0 = take 12 (drop at octets) }
 
+-- the vendor id at a place
 abbrev pub vendor_at : ℕ → List ℕ → Vendor
 vendor_at at octets = record { 0 = take 2 (drop at octets) }

@@ -23,9 +23,11 @@ list_faults order body =
     ∷ (ShortBody, nat_lt (length body) (LIST + octets_of_count (spelled_count order (drop LIST body))))
     ∷ []
 
+-- why the list of a body is none
 abbrev pub list_fault : Order → List ℕ → Option WireFault
 list_fault order body = first_fault (list_faults order body)
 
+-- why a body is no GAP
 abbrev pub gap_fault : Order → List ℕ → Option WireFault
 gap_fault order body = first_fault (
     (ShortBody, nat_lt (length body) LEAST)

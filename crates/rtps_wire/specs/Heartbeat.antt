@@ -15,9 +15,11 @@ use Rattle.rtps_wire.specs.declared.layout.heartbeat.TheConstants.{COUNT, FINAL,
 abbrev pub first_number : Order → List ℕ → ℤ
 first_number order body = sequence_number_of order (drop FIRST body)
 
+-- the number that the writer names as its last
 abbrev pub last_number : Order → List ℕ → ℤ
 last_number order body = sequence_number_of order (drop LAST body)
 
+-- why a body is no HEARTBEAT
 abbrev pub heartbeat_fault : Order → List ℕ → Option WireFault
 heartbeat_fault order body = first_fault (
     (ShortBody, nat_lt (length body) SIZE)
@@ -46,6 +48,7 @@ is_bad_range body = int_lt body.last (pos 0) || int_lt body.last (pos body.first
 abbrev pub heartbeat_flags : HeartbeatBody → ℕ
 heartbeat_flags body = bit_or (flag_if body.is_final FINAL) (flag_if body.live LIVELINESS)
 
+-- its octets: readerId, writerId, firstSN, lastSN, count
 abbrev pub heartbeat_octets : Order → HeartbeatBody → List ℕ
 heartbeat_octets order body =
     body.reader.0 ++ (body.writer.0 ++ (sequence_number_octets order (pos body.first) ++ (sequence_number_octets order body.last ++ octets_of order 4 body.count)))

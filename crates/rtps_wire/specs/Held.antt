@@ -1,6 +1,6 @@
 -- What every item holds. own: the types of the code say it of all their values: numbers in the range of their types,
 -- arrays of their lengths, sets that are kept, and inline QoS that is a parameter list.
-use Rattle.std.specs.Prelude.{ℕ, ◌≡◌, ◌<◌, ◌<ℤ◌, ◌^◌, pos, length, All, Option, Some, None}
+use Rattle.std.specs.Prelude.{ℕ, ◌+◌, ◌≡◌, ◌<◌, ◌≤◌, ◌<ℤ◌, ◌^◌, pos, length, All, Option, Some, None}
 use Rattle.rtps_ids.specs.NumberSet.{IsKeptSet, NumberSetValue}
 use Rattle.rtps_ids.specs.declared.identity.EntityId.{EntityId}
 use Rattle.rtps_ids.specs.declared.identity.Stamp.{Stamp}
@@ -52,12 +52,14 @@ pub record IsHeldHeartbeat (body : HeartbeatBody) : Type 0 where
   pub last : body.last <ℤ pos (2 ^ 63)
   pub count : body.count < 2 ^ 32
 
+-- an ACKNACK whose fields hold what their types can
 pub record IsHeldAckNack (body : AckNackBody) : Type 0 where
   pub reader : IsHeldEntity body.reader
   pub writer : IsHeldEntity body.writer
   pub set : IsHeldSet body.set
   pub count : body.count < 2 ^ 32
 
+-- a GAP whose fields hold what their types can
 pub record IsHeldGap (body : GapBody) : Type 0 where
   pub reader : IsHeldEntity body.reader
   pub writer : IsHeldEntity body.writer
@@ -80,5 +82,17 @@ IsHeldBody (InfoDst prefix) = length prefix.0 ≡ 12
 IsHeldBody (InfoSrc version vendor prefix) = (length vendor.0 ≡ 2) × (length prefix.0 ≡ 12)
 IsHeldBody (Skipped id) = Unit {0}
 
+-- an item whose body holds what its types can
 abbrev pub IsHeldItem : ItemValue → Type 0
 IsHeldItem item = IsHeldBody item.body
+
+-- the number of a DATA, the first of a HEARTBEAT and each number of a GAP's list are at most 2^63 - 1
+abbrev pub IsOfNumbers : BodyValue → Type 0
+IsOfNumbers (Data body) = body.number < 2 ^ 63
+IsOfNumbers (Heartbeat body) = body.first < 2 ^ 63
+IsOfNumbers (Gap body) = body.list.base + body.list.count ≤ 2 ^ 63
+IsOfNumbers _ = Unit {0}
+
+-- an item that tells of sequence numbers alone. That each item of octets does is offered to the crates above
+abbrev pub TellsOfNumbers : ItemValue → Type 0
+TellsOfNumbers item = IsOfNumbers item.body

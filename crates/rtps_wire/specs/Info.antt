@@ -27,12 +27,15 @@ abbrev pub info_ts_of : Order → ℕ → List ℕ → Option Stamp
 info_ts_of order flags body =
     if bit_and flags INVALIDATE == 0 then Some (record { seconds = number_of order 4 (drop SECONDS body); fraction = number_of order 4 (drop FRACTION body) }) else None
 
+-- why a body is no INFO_DST
 abbrev pub info_dst_fault : List ℕ → Option WireFault
 info_dst_fault body = first_fault ((ShortBody, nat_lt (length body) destination.SIZE) ∷ [])
 
+-- the prefix of whom what follows is for
 abbrev pub info_dst_of : List ℕ → GuidPrefix
 info_dst_of body = prefix_at destination.PREFIX body
 
+-- why a body is no INFO_SRC
 abbrev pub info_src_fault : List ℕ → Option WireFault
 info_src_fault body = first_fault ((ShortBody, nat_lt (length body) header.SIZE) ∷ [])
 

@@ -26,6 +26,7 @@ use Rattle.rtps_wire.specs.declared.layout.submessage.TheConstants.{E, OCTETS_TO
 abbrev pub id_of : List ℕ → ℕ
 id_of rest = slice_index rest submessage.ID
 
+-- the flags of the submessage
 abbrev pub flags_of : List ℕ → ℕ
 flags_of rest = slice_index rest submessage.FLAGS
 
@@ -33,6 +34,7 @@ flags_of rest = slice_index rest submessage.FLAGS
 abbrev pub order_of : ℕ → Order
 order_of flags = if bit_and flags E == E then Little else Big
 
+-- how many octets the header declares behind itself
 abbrev pub octets_to_next_header : List ℕ → ℕ
 octets_to_next_header rest = number_of (order_of (flags_of rest)) 2 (drop OCTETS_TO_NEXT rest)
 
@@ -41,9 +43,11 @@ octets_to_next_header rest = number_of (order_of (flags_of rest)) 2 (drop OCTETS
 abbrev pub extent_of : ℕ → ℕ → ℕ → ℕ
 extent_of id declared left = if declared == 0 then (if id == PAD || id == INFO_TS then 0 else left) else declared
 
+-- how many octets the body has
 abbrev pub body_length : List ℕ → ℕ
 body_length rest = extent_of (id_of rest) (octets_to_next_header rest) (length (drop submessage.SIZE rest))
 
+-- the octets of the body
 abbrev pub body_octets : List ℕ → List ℕ
 body_octets rest = take (body_length rest) (drop submessage.SIZE rest)
 
@@ -63,9 +67,11 @@ body_fault id flags body =
     else if id == DATA then data_fault (order_of flags) flags body
     else None
 
+-- the INFO_SRC that names this source
 abbrev pub source_value : Header → BodyValue
 source_value source = InfoSrc source.version source.vendor source.prefix
 
+-- what a body without a fault says, by its id
 abbrev pub body_of : ℕ → ℕ → List ℕ → BodyValue
 body_of id flags body =
     if id == ACKNACK then AckNack (ack_nack_of (order_of flags) flags body)
@@ -108,5 +114,6 @@ ReadsWith (Some fault) datagram reading =
 ReadsWith None datagram reading =
     (reading.header ≡ Some (header_of datagram)) × ReadsFrom (drop header.SIZE datagram) header.SIZE reading.items reading.ending
 
+-- the datagram says this, and nothing else
 abbrev pub Reads : List ℕ → Reading → Type 0
 Reads datagram reading = ReadsWith (header_fault datagram) datagram reading

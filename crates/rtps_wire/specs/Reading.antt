@@ -15,6 +15,7 @@ use Rattle.rtps_wire.specs.declared.layout.submessage.TheConstants as submessage
 abbrev pub Outcome : Type 0
 Outcome = Result ItemValue Refusal
 
+-- what is read next, as a value
 abbrev pub outcome_value : Result Item Refusal → Outcome
 outcome_value (Ok item) = Ok (item_value item)
 outcome_value (Err refusal) = Err refusal
@@ -49,6 +50,7 @@ items_among [] = []
 items_among (Ok item ∷ rest) = item ∷ items_among rest
 items_among (Err refusal ∷ rest) = items_among rest
 
+-- the refusal that ends them, if one does
 abbrev pub refusal_among : List Outcome → Option Refusal
 refusal_among [] = None
 refusal_among (Ok item ∷ rest) = refusal_among rest
@@ -58,9 +60,11 @@ refusal_among (Err refusal ∷ rest) = Some refusal
 abbrev pub refused_with : WireFault → Reading
 refused_with fault = record { header = None; items = []; ending = Some (record { at = 0; fault = fault }) }
 
+-- a datagram of this header, behind which this is read
 abbrev pub read_as : Header → List Outcome → Reading
 read_as header read = record { header = Some header; items = items_among read; ending = refusal_among read }
 
+-- a datagram by the fault of its header, if it has one
 abbrev pub reading_with : Option WireFault → List ℕ → Reading
 reading_with (Some fault) datagram = refused_with fault
 reading_with None datagram = read_as (header_of datagram) (outcomes (drop header.SIZE datagram) header.SIZE)

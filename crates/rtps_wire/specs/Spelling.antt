@@ -3,9 +3,9 @@
 -- relation beside reading and writing, against which both are held; a law says that a message is read as what it spells,
 -- and as nothing else. What is ignored may be anything: flags that have no name here, bits of a set past its count, and
 -- what is called `ignored`, `unused`, `extra_flags` and `skipped` below.
-use Rattle.std.specs.Prelude.{ℕ, pos, ◌+◌, ◌-◌, ◌/◌, ◌^◌, ◌≡◌, ◌<◌, ◌==◌, bit_and, bit_or, false, List, [], ◌∷◌, ◌++◌, All, length, map, slice_index, Option, Some, None, ⊤}
+use Rattle.std.specs.Prelude.{ℕ, pos, ◌+◌, ◌-◌, ◌^◌, ◌≡◌, ◌<◌, ◌==◌, bit_and, bit_or, false, List, [], ◌∷◌, ◌++◌, All, length, map, slice_index, Option, Some, None, ⊤}
 use Rattle.std.specs.List.{flat_map}
-use Rattle.rtps_ids.specs.NumberSet.{NumberSetValue, cleared_words, is_bad}
+use Rattle.rtps_ids.specs.NumberSet.{NumberSetValue, cleared_words, is_bad, words_of_count}
 use Rattle.rtps_ids.specs.Octets.{octets_of, sequence_number_octets}
 use Rattle.rtps_ids.specs.declared.identity.GuidPrefix.{GuidPrefix}
 use Rattle.rtps_ids.specs.declared.identity.Stamp.{Stamp}
@@ -36,7 +36,7 @@ use Rattle.rtps_wire.specs.declared.layout.submessage.TheConstants.{E}
 -- those are ignored: the words of the set have them cleared
 pub record SpellsSet (order : Order) (set : NumberSetValue) (octets : List ℕ) : Type 0 where
   pub words : List ℕ
-  pub many : length words ≡ (set.count + 31) / 32
+  pub many : length words ≡ words_of_count set.count
   pub small : All (λ word. word < 2 ^ 32) words
   pub parts : octets ≡ sequence_number_octets order (pos set.base) ++ (octets_of order 4 set.count ++ flat_map (octets_of order 4) words)
   pub kept : set.words ≡ cleared_words set.count (λ i. slice_index words i)

@@ -12,20 +12,25 @@ use Rattle.rtps_wire.specs.declared.layout.id.TheConstants.{DATA_FRAG, HEARTBEAT
 abbrev pub is_fragment_id : ℕ → Bool
 is_fragment_id id = id == NACK_FRAG || id == HEARTBEAT_FRAG || id == DATA_FRAG
 
+-- a submessage that belongs to fragments
 abbrev pub is_fragment : BodyValue → Bool
 is_fragment (Skipped id) = is_fragment_id id
 is_fragment _ = false
 
+-- one of another id that is not read
 abbrev pub is_skipped : BodyValue → Bool
 is_skipped (Skipped id) = not (is_fragment_id id)
 is_skipped _ = false
 
+-- how many items belong to fragments
 abbrev pub fragments_in : List ItemValue → ℕ
 fragments_in items = count_by (λ item. is_fragment item.body) items
 
+-- how many items are skipped otherwise
 abbrev pub skipped_in : List ItemValue → ℕ
 skipped_in items = count_by (λ item. is_skipped item.body) items
 
+-- what a datagram of this reading adds
 abbrev pub tally_of : Reading → Tally
 tally_of reading = record { refused = is_some reading.ending; skipped = skipped_in reading.items; fragments = fragments_in reading.items }
 

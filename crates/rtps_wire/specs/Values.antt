@@ -19,11 +19,13 @@ use Rattle.rtps_wire.specs.declared.body.Item.{Item}
 use Rattle.rtps_wire.specs.declared.body.Payload.{Payload}
 use Rattle.rtps_wire.specs.declared.body.Payload.TheVariants as payload
 
+-- what a DATA carries: nothing, a whole sample, or the key of one
 pub data PayloadValue : Type 0 where
   Absent : PayloadValue
   Whole : (octets : List ℕ) → PayloadValue
   Key : (octets : List ℕ) → PayloadValue
 
+-- a DATA
 pub record DataValue : Type 0 where
   pub reader : EntityId
   pub writer : EntityId
@@ -31,6 +33,7 @@ pub record DataValue : Type 0 where
   pub qos : Option ListValue
   pub payload : PayloadValue
 
+-- what a submessage says, or the id of one that is not read
 pub data BodyValue : Type 0 where
   Data : (value : DataValue) → BodyValue
   Heartbeat : (value : HeartbeatBody) → BodyValue
@@ -41,6 +44,7 @@ pub data BodyValue : Type 0 where
   InfoSrc : (version : Version) (vendor : Vendor) (prefix : GuidPrefix) → BodyValue
   Skipped : (id : ℕ) → BodyValue
 
+-- a submessage at its place in the datagram, from 0, with the order of its octets
 pub record ItemValue : Type 0 where
   pub at : ℕ
   pub order : Order
@@ -52,9 +56,11 @@ payload_value payload.Absent = Absent
 payload_value (payload.Whole octets) = Whole octets.now
 payload_value (payload.Key octets) = Key octets.now
 
+-- a DATA of the code, as a value
 abbrev pub data_value : DataBody → DataValue
 data_value value = record { reader = value.reader; writer = value.writer; number = value.number; qos = option_map list_value value.qos; payload = payload_value value.payload }
 
+-- a body of the code, as a value
 abbrev pub body_value : Body → BodyValue
 body_value (body.Data value) = Data (data_value value)
 body_value (body.Heartbeat value) = Heartbeat value
@@ -65,5 +71,6 @@ body_value (body.InfoDst prefix) = InfoDst prefix
 body_value (body.InfoSrc version vendor prefix) = InfoSrc version vendor prefix
 body_value (body.Skipped id) = Skipped id
 
+-- an item of the code, as a value
 abbrev pub item_value : Item → ItemValue
 item_value item = record { at = item.at; order = item.order; body = body_value item.body }

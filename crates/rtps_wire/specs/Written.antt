@@ -38,6 +38,7 @@ own_flags (AckNack body) = ack_nack_flags body
 own_flags (InfoTs time) = info_ts_flags time
 own_flags _ = 0
 
+-- all flags of a submessage that is written
 abbrev pub written_flags : Order → BodyValue → ℕ
 written_flags order body = bit_or (order_flag order) (own_flags body)
 

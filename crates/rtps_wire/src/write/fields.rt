@@ -1,5 +1,5 @@
-ghost use Rattle.std.specs.Prelude.{◌≡◌, ◌+◌, ◌/◌, ◌≤◌, ◌++◌, take, vec_len, OnOk};
-ghost use Rattle.rtps_ids.specs.NumberSet.{octets_of_count};
+ghost use Rattle.std.specs.Prelude.{◌≡◌, ◌+◌, ◌≤◌, ◌++◌, take, vec_len, OnOk};
+ghost use Rattle.rtps_ids.specs.NumberSet.{octets_of_count, words_of_count};
 ghost use Rattle.rtps_wire.specs.Held.{IsHeldEntity, IsHeldNumber, IsHeldSet};
 ghost use Rattle.std.specs.List.{flat_map};
 ghost use Rattle.rtps_ids.specs.Octets.{octets_of};
@@ -7,7 +7,7 @@ ghost use Rattle.rtps_wire.specs.Flags.{flag_if, order_flag as order_flag_lem};
 ghost use Rattle.rtps_wire.specs.SetField.{set_octets};
 
 use crate::layout::submessage;
-use rtps_ids::layout::set::{WORD_SIZE, WORDS};
+use rtps_ids::layout::set::{WORD_BITS, WORD_SIZE, WORDS};
 use rtps_ids::{EntityId, Memory, NumberSet, Order, SeqNum, put_number, put_u32};
 
 /// A flag, where it is set.
@@ -53,7 +53,7 @@ pub(crate) fn set_size(set: NumberSet) -> u16
     ensures size { result ≡ octets_of_count set.count }
     ensures small { result ≤ 44 }
 {
-    (WORDS + WORD_SIZE * set.count().div_ceil(32) as usize) as u16
+    (WORDS + WORD_SIZE * set.count().div_ceil(WORD_BITS) as usize) as u16
 }
 
 /// Appends the ids of a reader and of a writer.
@@ -82,10 +82,10 @@ pub(crate) fn put_set(order: Order, set: &NumberSet, out: &mut Vec<u8>) -> Resul
 
 /// Appends as many words of a set as hold its bits.
 fn put_words(order: Order, set: &NumberSet, out: &mut Vec<u8>) -> Result<(), Memory>
-    ensures written { OnOk result (out.new.items ≡ out.old.items ++ flat_map (octets_of order 4) (take ((set.now.count + 31) / 32) set.now.words)) }
+    ensures written { OnOk result (out.new.items ≡ out.old.items ++ flat_map (octets_of order 4) (take (words_of_count set.now.count) set.now.words)) }
     ensures kept { take (vec_len out.old) out.new.items ≡ out.old.items }
 {
-    for i in 0..set.count().div_ceil(32) as usize {
+    for i in 0..set.count().div_ceil(WORD_BITS) as usize {
         put_u32(order, set.word(i), out)?;
     }
     Ok(())
