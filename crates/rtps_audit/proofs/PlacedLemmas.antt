@@ -18,7 +18,7 @@ use Rattle.std.proofs.lemmas.Map.Text.{is_eq-slice_cmp}
 use Rattle.std.proofs.lemmas.Slice.Eq.{bytes_eq-Decides}
 use Rattle.rtps_ids.specs.declared.identity.Guid.{Guid}
 use Rattle.rtps_ids.specs.declared.identity.GuidPrefix.{GuidPrefix}
-use Rattle.rtps_receiver.specs.Speech.{entity_from, is_entity, is_for, is_prefix, names_pair, origin_of}
+use Rattle.rtps_receiver.specs.Speech.{answered_at, entity_from, is_entity, is_for, is_prefix, names_pair, origin_of, writer_answered}
 use Rattle.rtps_receiver.specs.Values.{ActBodyValue, ActValue, act_value}
 use Rattle.rtps_receiver.specs.Values.ActBodyValue.{AckNack, Data, Gap, Heartbeat}
 use Rattle.rtps_wire.specs.declared.body.AckNackBody.{AckNackBody}
@@ -61,10 +61,10 @@ base_by source dest body pair =
     if is_prefix source pair.reader.prefix && (is_for dest pair.writer.prefix && names_pair body pair.reader.entity pair.writer.entity) then base_of_body body else None
 
 -- the base of an ACKNACK of the reader that names its destination is that of one writer
-pub answer_read : (act : ActValue) (ack_nack : AckNackBody) (dest : GuidPrefix) (pair : Pair) (number : ℤ) → act.body ≡ AckNack ack_nack → act.dest ≡ Some dest → origin_of act ≡ pair.reader → number ≡ pos ack_nack.set.base
+read_for : (act : ActValue) (ack_nack : AckNackBody) (dest : GuidPrefix) (pair : Pair) (number : ℤ) → act.body ≡ AckNack ack_nack → act.dest ≡ Some dest → origin_of act ≡ pair.reader → number ≡ pos ack_nack.set.base
     → option_map pos (base_for pair.writer pair.reader act) ≡ cond (is_eq (guid_cmp pair.writer (record { prefix = dest; entity = ack_nack.writer }))) (Some number) None
 unfolding base_by
-answer_read act ack_nack dest pair number body to from is =
+read_for act ack_nack dest pair number body to from is =
     ap (λ d. option_map pos (base_by act.source d act.body pair)) to
     ∙ ap (λ b. option_map pos (base_by act.source (Some dest) b pair)) body
     ∙ by_test (is_prefix act.source pair.reader.prefix) (is_entity ack_nack.reader pair.reader.entity) (is_prefix dest pair.writer.prefix) (is_entity ack_nack.writer pair.writer.entity) source reader
@@ -82,6 +82,18 @@ answer_read act ack_nack dest pair number body to from is =
     by_test true true false d p q = refl
     by_test true false c d p q = absurd (false≢true q)
     by_test false b c d p q = absurd (false≢true p)
+
+-- the base of an ACKNACK is for the writer that it answers, and for no other
+pub answer_read : (act : ActValue) (ack_nack : AckNackBody) (writer : Guid) (pair : Pair) (number : ℤ) → act.body ≡ AckNack ack_nack → writer_answered act ≡ Some writer → origin_of act ≡ pair.reader
+    → number ≡ pos ack_nack.set.base → option_map pos (base_for pair.writer pair.reader act) ≡ cond (is_eq (guid_cmp pair.writer writer)) (Some number) None
+answer_read act ack_nack writer pair number body answered from is = by_dest act.dest refl (ap (answered_at act.dest) (sym body) ∙ answered)
+  where
+    by_dest : (dest : Option GuidPrefix) → act.dest ≡ dest → answered_at dest (AckNack ack_nack) ≡ Some writer
+        → option_map pos (base_for pair.writer pair.reader act) ≡ cond (is_eq (guid_cmp pair.writer writer)) (Some number) None
+    by_dest None to named = cc
+    by_dest (Some dest) to named =
+        let same : (let one : Guid = record { prefix = dest; entity = ack_nack.writer } in one) ≡ writer = cc in
+        subst (λ w. option_map pos (base_for pair.writer pair.reader act) ≡ cond (is_eq (guid_cmp pair.writer w)) (Some number) None) same (read_for act ack_nack dest pair number body to from is)
 
 -- an act of another reader is no answer of this one
 not_answered : (act : ActValue) (reader : Guid) (pair : Pair) → origin_of act ≡ reader → is_eq (guid_cmp pair.reader reader) ≡ false → base_for pair.writer pair.reader act ≡ None

@@ -32,7 +32,7 @@ impl Answer {
     }
 }
 
-/// Whom an act answers, and the base of the answer; None where it answers nobody.
+/// Whom an act answers, and the base of the answer. None where it answers nobody.
 pub(crate) fn answer_in(act: &Act<'_>) -> Option<(Guid, i64)>
     ensures { MatchOption result
         ((pair : PairValue) → base_for pair.writer pair.reader (act_value act.now) ≡ None)
@@ -42,9 +42,5 @@ pub(crate) fn answer_in(act: &Act<'_>) -> Option<(Guid, i64)>
     let ActBody::AckNack(ack_nack) = &act.body else {
         return None;
     };
-    let writer = Guid {
-        prefix: act.dest?,
-        entity: ack_nack.writer,
-    };
-    Some((writer, ack_nack.set.base()))
+    Some((act.answered()?, ack_nack.set.base()))
 }
