@@ -91,7 +91,14 @@ fn try_streams(rt: &HostRuntime, form: &str, input: &[u8]) -> Result<(), Fault> 
     println!(rt; "{form}, early ends: {ends}")?;
     let writers = streams::count_writers(rt.alloc(), input)?;
     println!(rt; "{form}, failed writes: {writers}")?;
-    let octets = streams::count_octets(rt.alloc(), input)?;
+    print_texts(rt, form, input)
+}
+
+/// Prints what is read and written octet by octet.
+fn print_texts(rt: &HostRuntime, form: &str, input: &[u8]) -> Result<(), Fault> {
+    let texts = streams::texts(rt.alloc(), input)?;
+    let octets = texts.len();
     println!(rt; "{form}, octets that were read and written one by one: {octets}")?;
+    rt.stdout().write_all(&texts)?;
     Ok(())
 }
