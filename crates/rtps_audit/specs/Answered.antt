@@ -27,7 +27,7 @@ pub record IsFirstAmong (from : ℕ) (writer reader : Guid) (placed : List Place
   pub front : IsFrontBy from writer reader placed (answer.datagram - 1) untold.number
   pub first : All (λ other. other.datagram < untold.datagram → IsToldAll from writer reader placed other) answers
 
--- the first answer that claims what nobody told, or none where there is no such answer
+-- the first answer that claims what no earlier datagram told the reader, or none where there is no such answer
 abbrev pub IsUntoldAmong : ℕ → Guid → Guid → List PlacedValue → List Answer → Option Untold → Type 0
 IsUntoldAmong from writer reader placed answers untold =
     MatchOption untold (All (IsToldAll from writer reader placed) answers) (IsFirstAmong from writer reader placed answers)

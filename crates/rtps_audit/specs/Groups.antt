@@ -4,7 +4,7 @@ use Rattle.std.specs.BTreeMap.{BTreeMap, get}
 use Rattle.std.specs.Global.{Vec}
 use Rattle.std.specs.declared.cmp.Ordering.{Ordering}
 
--- the values of a group, none where there is no group
+-- the values of a list, none where there is no list
 abbrev pub items_or_none : {V : Type 0} → Option (Vec V) → List V
 items_or_none (Some values) = values.items
 items_or_none None = []

@@ -60,7 +60,7 @@ announced_of_body (Heartbeat value) = Some (natural value.last)
 announced_of_body (AckNack value) = None
 announced_of_body (Gap value) = None
 
--- the last number that this writer announces
+-- the number that an act announces, where this writer speaks it
 abbrev pub announced_for : Guid → ActValue → Option ℕ
 announced_for writer act = if is_spoken_by act writer then announced_of_body act.body else None
 
