@@ -1,5 +1,5 @@
 -- What is kept by whom it is for, with one act more, and that a reader finds all it hears.
-use Rattle.std.proofs.Common.{◌≡◌, ℕ, ◌+◌, ◌-◌, ◌<◌, Bool, true, false, not, ◌&&◌, max, List, [], ◌∷◌, ◌++◌, append-nil, cond, length, get_or, map, Option, Some, None, ◌⊎◌, inl, inr, refl, sym, ap, ◌∙◌, subst, arith}
+use Rattle.std.proofs.Common.{◌≡◌, ℕ, ◌+◌, ◌-◌, ◌<◌, ◌≤◌, Bool, true, false, not, ◌&&◌, max, List, [], ◌∷◌, ◌++◌, append-nil, cond, length, get_or, map, Option, Some, None, ◌⊎◌, inl, inr, refl, sym, ap, ◌∙◌, subst, arith}
 use Rattle.std.specs.Prelude.{All, Contains, ◌↔◌, if◌then◌else◌, MatchOption, unwrap_or}
 use Rattle.std.specs.List.Sorted.{IsNonDecreasingBy}
 use Rattle.std.proofs.lemmas.Bool.{cases_lt}
@@ -13,7 +13,7 @@ use Rattle.rtps_ids.specs.declared.identity.GuidPrefix.{GuidPrefix}
 use Rattle.rtps_discovery.specs.GuidOrder.{guid_cmp}
 use Rattle.rtps_receiver.specs.Speech.{IsHeardBy, is_heard_by, is_spoken_by, reader_named, unknown_entity}
 use Rattle.rtps_receiver.specs.Values.{ActValue}
-use Rattle.rtps_audit.specs.Audiences.{AreKept, kept_under, no_brief, places_with, said_at}
+use Rattle.rtps_audit.specs.Audiences.{AreKept, HearAlike, kept_under, no_brief, places_with, said_at}
 use Rattle.rtps_audit.specs.Brief.{brief_value, said_body}
 use Rattle.rtps_audit.specs.Everyone.{is_for_everyone, nobody}
 use Rattle.rtps_audit.specs.Delivery.{Word}
@@ -21,13 +21,13 @@ use Rattle.rtps_audit.specs.Delivery.Word.{Told}
 use Rattle.rtps_audit.specs.Hearing.{Hears, HearsTwo, IsHeard, IsTimeline, IsToldBy, last_among}
 use Rattle.rtps_audit.specs.Placed.{PlacedValue}
 use Rattle.rtps_audit.specs.RunVerdict.{IsLeast}
-use Rattle.rtps_audit.specs.Speech.{word_for, word_of}
+use Rattle.rtps_audit.specs.Speech.{may_tell, word_for, word_of}
 use Rattle.rtps_audit.specs.declared.brief.Brief.{Brief}
 use Rattle.rtps_audit.specs.declared.brief.Said.{Said}
 use Rattle.rtps_audit.specs.declared.brief.Said.TheVariants as said
 use Rattle.rtps_audit.specs.declared.hearing.Front.{Front}
 use Rattle.rtps_audit.specs.declared.hearing.Hearing.{Hearing}
-use Rattle.rtps_audit.proofs.HearingLemmas.{everyone_alike}
+use Rattle.rtps_audit.proofs.HearingLemmas.{everyone_alike, tells_it}
 use Rattle.rtps_audit.proofs.PlacedLemmas.{guids_total}
 
 -- what is said names the reader that it is for
@@ -56,10 +56,14 @@ last_of : {X : Type 0} (xs : List X) (x d : X) → get_or (xs ++ x ∷ []) (leng
 last_of [] x d = refl
 last_of (y ∷ xs) x d = last_of xs x d
 
+-- a place that is kept where its act may tell of a number
+abbrev IsThere : List ℕ → (Guid → List ℕ) → PlacedValue → ℕ → Type 0
+IsThere all grown a k = may_tell a.act.body ≡ true → Contains (places_with all grown a.act) k
+
 kept_more : (everyone all more : List ℕ) (named grown others : Guid → List ℕ) (placed : List PlacedValue) (at : PlacedValue)
     → all ≡ everyone ++ more → ((guid : Guid) → grown guid ≡ named guid ++ others guid)
     → All (λ k. k < length placed + 1) more → ((guid : Guid) → All (λ k. k < length placed + 1) (others guid))
-    → Contains (places_with all grown at.act) (length placed)
+    → (may_tell at.act.body ≡ true → Contains (places_with all grown at.act) (length placed))
     → AreKept everyone named placed → AreKept all grown (placed ++ at ∷ [])
 kept_more everyone all more named grown others placed at one each_one in_range in_ranges here known = record {
   general = subst (All (λ k. k < length (placed ++ at ∷ []))) (sym one) (wider (everyone ++ more) (All-append (λ k. k < length placed + 1) everyone more (weaker everyone known.general) in_range));
@@ -83,27 +87,31 @@ kept_more everyone all more named grown others placed at one each_one in_range i
         by_test true is = subst (λ l. Contains l k) (sym one) (Contains-append_left everyone more k is)
         by_test false is = subst (λ l. Contains l k) (sym (each_one (kept_under act))) (Contains-append_left (named (kept_under act)) (others (kept_under act)) k is)
 
-    each : (k : ℕ) (d : PlacedValue) → k < length (placed ++ at ∷ []) → Contains (places_with all grown (get_or (placed ++ at ∷ []) k d).act) k
+    each : (k : ℕ) (d : PlacedValue) → k < length (placed ++ at ∷ []) → IsThere all grown (get_or (placed ++ at ∷ []) k d) k
     each k d lt = elim (cases_lt k (length placed)) [
       | inl before ↦
           let same = get_or_append_left placed (at ∷ []) d k before in
-          subst (λ (a : PlacedValue). Contains (places_with all grown a.act) k) (sym same) (still (get_or placed k d).act k (known.each k d before))
+          subst (λ (a : PlacedValue). IsThere all grown a k) (sym same) (λ tells. still (get_or placed k d).act k (known.each k d before tells))
       | inr behind ↦
           let is : k ≡ length placed = omega (arith, long) in
           let same : get_or (placed ++ at ∷ []) k d ≡ at = ap (λ i. get_or (placed ++ at ∷ []) i d) is ∙ last_of placed at d in
-          subst (λ i. Contains (places_with all grown (get_or (placed ++ at ∷ []) k d).act) i) (sym is)
-          (subst (λ (a : PlacedValue). Contains (places_with all grown a.act) (length placed)) (sym same) here)
+          subst (λ i. IsThere all grown (get_or (placed ++ at ∷ []) k d) i) (sym is) (subst (λ (a : PlacedValue). IsThere all grown a (length placed)) (sym same) here)
     ]
 
 one_below : (k n : ℕ) → k < n → All (λ i. i < n) (k ∷ [])
 one_below k n lt = All-push (λ i. i < n) [] k (All-nil _) lt
+
+-- an act that tells of no number
+pub noted_silent : (everyone : List ℕ) (named : Guid → List ℕ) (placed : List PlacedValue) (at : PlacedValue) → may_tell at.act.body ≡ false → AreKept everyone named placed → AreKept everyone named (placed ++ at ∷ [])
+noted_silent everyone named placed at silent known =
+    kept_more everyone everyone [] named named (λ guid. []) placed at (sym (append-nil _)) (λ guid. sym (append-nil _)) (All-nil _) (λ guid. All-nil _) (λ tells. absurd (let clash : true ≡ false = sym tells ∙ silent in cc)) known
 
 -- an act for every reader
 pub noted_general : (everyone all : List ℕ) (named : Guid → List ℕ) (placed : List PlacedValue) (at : PlacedValue) (place : ℕ) → place ≡ length placed → all ≡ everyone ++ place ∷ [] → is_for_everyone at.act ≡ true
     → AreKept everyone named placed → AreKept all named (placed ++ at ∷ [])
 noted_general everyone all named placed at place is more test known =
     kept_more everyone all (length placed ∷ []) named named (λ guid. []) placed at grown (λ guid. sym (append-nil _)) (one_below _ _ (omega arith)) (λ guid. All-nil _)
-    (subst (λ b. Contains (if b then all else named (kept_under at.act)) (length placed)) (sym test) (subst (λ l. Contains l (length placed)) (sym grown) (Contains-push everyone (length placed)))) known
+    (λ tells. subst (λ b. Contains (if b then all else named (kept_under at.act)) (length placed)) (sym test) (subst (λ l. Contains l (length placed)) (sym grown) (Contains-push everyone (length placed)))) known
   where
     grown : all ≡ everyone ++ length placed ∷ []
     grown = more ∙ ap (λ k. everyone ++ k ∷ []) is
@@ -114,7 +122,7 @@ pub noted_particular : (everyone : List ℕ) (named grown : Guid → List ℕ) (
     → AreKept everyone named placed → AreKept everyone grown (placed ++ at ∷ [])
 noted_particular everyone named grown placed at place key is more under test known =
     kept_more everyone everyone [] named grown added placed at (sym (append-nil _)) grows (All-nil _) in_range
-    (subst (λ b. Contains (if b then everyone else grown (kept_under at.act)) (length placed)) (sym test) here) known
+    (λ tells. subst (λ b. Contains (if b then everyone else grown (kept_under at.act)) (length placed)) (sym test) here) known
   where
     added : Guid → List ℕ
     added guid = cond (is_eq (guid_cmp guid key)) (length placed ∷ []) []
@@ -163,9 +171,9 @@ IsFound everyone named reader k =
     Contains everyone k ⊎ (Contains (named nobody) k ⊎ (Contains (named (record { prefix = reader.prefix; entity = nobody.entity })) k ⊎ (Contains (named (record { prefix = nobody.prefix; entity = reader.entity })) k ⊎ Contains (named reader) k)))
 
 pub found : (everyone : List ℕ) (named : Guid → List ℕ) (placed : List PlacedValue) (reader : Guid) (k : ℕ) (at : PlacedValue)
-    → AreKept everyone named placed → k < length placed → IsHeardBy (get_or placed k at).act reader → IsFound everyone named reader k
+    → AreKept everyone named placed → k < length placed → may_tell (get_or placed k at).act.body ≡ true → IsHeardBy (get_or placed k at).act reader → IsFound everyone named reader k
 unfolding KeyCases IsFound
-found everyone named placed reader k at known lt heard = by_test (is_for_everyone act) (known.each k at lt)
+found everyone named placed reader k at known lt tells heard = by_test (is_for_everyone act) (known.each k at lt tells)
   where
     act : ActValue
     act = (get_or placed k at).act
@@ -212,15 +220,15 @@ gathered everyone named reader k p0 {p1} {p2} {p3} {p4} {p5} {s1} {s2} {s3} {s4}
       ]
     ]
 
--- where nothing is kept under any of the four, a reader hears what all hear
+-- where nothing is kept under any of the four, a reader hears what all hear, as far as it may tell of a number
 abbrev pub TestsHearing : Type 0
 TestsHearing = (act : ActValue) (reader : Guid) → (is_heard_by act reader ≡ true) ↔ IsHeardBy act reader
 
 pub none_found : (everyone : List ℕ) (named : Guid → List ℕ) (placed : List PlacedValue) (reader : Guid) → TestsHearing
     → named nobody ≡ [] → named (record { prefix = reader.prefix; entity = nobody.entity }) ≡ [] → named (record { prefix = nobody.prefix; entity = reader.entity }) ≡ [] → named reader ≡ []
-    → AreKept everyone named placed → All (λ at. is_heard_by at.act reader ≡ is_heard_by at.act nobody) placed
+    → AreKept everyone named placed → HearAlike reader nobody placed
 unfolding KeyCases
-none_found everyone named placed reader tests no_all no_participant no_entity no_own known k d lt = by_test (is_for_everyone act) refl (known.each k d lt)
+none_found everyone named placed reader tests no_all no_participant no_entity no_own known k d lt tells = by_test (is_for_everyone act) refl (known.each k d lt tells)
   where
     act : ActValue
     act = (get_or placed k d).act
@@ -290,10 +298,10 @@ said_among writer briefs places within at (i, lt, is) =
 
 -- and all that the reader hears is said there
 said_there : (writer reader : Guid) (briefs : List Brief) (places : List ℕ)
-    → ((k : ℕ) (at : PlacedValue) → k < length (map (brief_value writer) briefs) → is_heard_by (get_or (map (brief_value writer) briefs) k at).act reader ≡ true → Contains places k)
-    → (at : PlacedValue) → Contains (map (brief_value writer) briefs) at → is_heard_by at.act reader ≡ true → Contains (map (brief_value writer) (said_at briefs places)) at
-said_there writer reader briefs places finds at (k, lt, is) heard =
-    let (j, ltj, isj) = finds k at lt (ap (λ (a : PlacedValue). is_heard_by a.act reader) is ∙ heard) in
+    → ((k : ℕ) (at : PlacedValue) → k < length (map (brief_value writer) briefs) → may_tell (get_or (map (brief_value writer) briefs) k at).act.body ≡ true → is_heard_by (get_or (map (brief_value writer) briefs) k at).act reader ≡ true → Contains places k)
+    → (at : PlacedValue) → Contains (map (brief_value writer) briefs) at → may_tell at.act.body ≡ true → is_heard_by at.act reader ≡ true → Contains (map (brief_value writer) (said_at briefs places)) at
+said_there writer reader briefs places finds at (k, lt, is) tells heard =
+    let (j, ltj, isj) = finds k at lt (ap (λ (a : PlacedValue). may_tell a.act.body) is ∙ tells) (ap (λ (a : PlacedValue). is_heard_by a.act reader) is ∙ heard) in
     let same = length-map places (λ place. get_or briefs place no_brief) in
     let long = length-map (said_at briefs places) (brief_value writer) in
     let all = length-map briefs (brief_value writer) in
@@ -310,26 +318,26 @@ hears_it writer reader act n word says = by_tests (is_spoken_by act writer) (is_
     by_tests false true e = refl
     by_tests false false e = cc
 
-module _ (writer reader : Guid) (part whole : List PlacedValue) (among : (at : PlacedValue) → Contains part at → Contains whole at) (there : (at : PlacedValue) → Contains whole at → is_heard_by at.act reader ≡ true → Contains part at) where
+module _ (writer reader : Guid) (part whole : List PlacedValue) (among : (at : PlacedValue) → Contains part at → Contains whole at) (there : (at : PlacedValue) → Contains whole at → may_tell at.act.body ≡ true → is_heard_by at.act reader ≡ true → Contains part at) where
   heard_whole : (n : ℕ) (word : Word) → IsHeard writer reader part n word → IsHeard writer reader whole n word
   heard_whole n word heard = record { at = heard.at; among = among heard.at heard.among; says = heard.says }
 
-  heard_part : (n : ℕ) (word : Word) → IsHeard writer reader whole n word → IsHeard writer reader part n word
-  heard_part n word heard = record { at = heard.at; among = there heard.at heard.among (hears_it writer reader heard.at.act n word heard.says); says = heard.says }
+  heard_part : (n : ℕ) (word : Word) → 1 ≤ n → IsHeard writer reader whole n word → IsHeard writer reader part n word
+  heard_part n word positive heard = record { at = heard.at; among = there heard.at heard.among (tells_it writer reader heard.at.act n word positive heard.says) (hears_it writer reader heard.at.act n word heard.says); says = heard.says }
 
   told_whole : (datagram n : ℕ) → IsToldBy writer reader part datagram n → IsToldBy writer reader whole datagram n
   unfolding heard_whole
   told_whole datagram n told = (told.0, (heard_whole n told.0 told.1.0, told.1.1))
 
-  told_part : (datagram n : ℕ) → IsToldBy writer reader whole datagram n → IsToldBy writer reader part datagram n
+  told_part : (datagram n : ℕ) → 1 ≤ n → IsToldBy writer reader whole datagram n → IsToldBy writer reader part datagram n
   unfolding heard_part
-  told_part datagram n told = (told.0, (heard_part n told.0 told.1.0, told.1.1))
+  told_part datagram n positive told = (told.0, (heard_part n told.0 positive told.1.0, told.1.1))
 
   two_whole : (from n : ℕ) → HearsTwo from writer reader part n → HearsTwo from writer reader whole n
   two_whole from n (asked, (x, y, a, b, differ)) = (asked, (x, y, heard_whole n (Told x) a, heard_whole n (Told y) b, differ))
 
   two_part : (from n : ℕ) → HearsTwo from writer reader whole n → HearsTwo from writer reader part n
-  two_part from n (asked, (x, y, a, b, differ)) = (asked, (x, y, heard_part n (Told x) a, heard_part n (Told y) b, differ))
+  two_part from n (asked, (x, y, a, b, differ)) = (asked, (x, y, heard_part n (Told x) asked.0 a, heard_part n (Told y) asked.0 b, differ))
 
   pub hears_whole : (hearing : Hearing) → IsNonDecreasingBy (λ (front : Front). front.datagram) hearing.fronts.items → IsTimeline hearing.from writer reader part hearing.fronts.items
       → MatchOption hearing.conflict ((n : ℕ) → ¬ HearsTwo hearing.from writer reader part n) (IsLeast (HearsTwo hearing.from writer reader part)) → hearing.last ≡ max (hearing.from - 1) (last_among writer whole)
@@ -340,7 +348,7 @@ module _ (writer reader : Guid) (part whole : List PlacedValue) (among : (at : P
         let front = timeline k datagram cut in
         record {
           positive = front.positive;
-          outside = λ n at small. let out = front.outside n at small in (out.0, λ told. out.1 (told_part datagram n told));
+          outside = λ n at small. let out = front.outside n at small in (out.0, λ told. out.1 (told_part datagram n out.0.0 told));
           below = λ n asked small lt. told_whole datagram n (front.below n asked small lt);
         };
     conflict = by_cases hearing.conflict conflict;
@@ -353,7 +361,7 @@ module _ (writer reader : Guid) (part whole : List PlacedValue) (among : (at : P
 
 -- what is heard at the places of all that the reader hears, with the last number that the writer announces to anybody
 pub hears_at : (writer reader : Guid) (briefs : List Brief) (places : List ℕ) (hearing : Hearing) → All (λ place. place < length briefs) places
-    → ((k : ℕ) (at : PlacedValue) → k < length (map (brief_value writer) briefs) → is_heard_by (get_or (map (brief_value writer) briefs) k at).act reader ≡ true → Contains places k)
+    → ((k : ℕ) (at : PlacedValue) → k < length (map (brief_value writer) briefs) → may_tell (get_or (map (brief_value writer) briefs) k at).act.body ≡ true → is_heard_by (get_or (map (brief_value writer) briefs) k at).act reader ≡ true → Contains places k)
     → IsNonDecreasingBy (λ (front : Front). front.datagram) hearing.fronts.items → IsTimeline hearing.from writer reader (map (brief_value writer) (said_at briefs places)) hearing.fronts.items
     → MatchOption hearing.conflict ((n : ℕ) → ¬ HearsTwo hearing.from writer reader (map (brief_value writer) (said_at briefs places)) n) (IsLeast (HearsTwo hearing.from writer reader (map (brief_value writer) (said_at briefs places))))
     → hearing.last ≡ max (hearing.from - 1) (last_among writer (map (brief_value writer) briefs))

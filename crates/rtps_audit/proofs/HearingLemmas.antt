@@ -15,8 +15,10 @@ use Rattle.rtps_ids.specs.declared.identity.Guid.{Guid}
 use Rattle.rtps_wire.specs.Values.{PayloadValue}
 use Rattle.rtps_receiver.specs.Speech.{is_for, is_for_all, is_heard_by, is_spoken_by, names, reader_named, unknown_entity}
 use Rattle.rtps_ids.specs.declared.identity.GuidPrefix.{GuidPrefix}
-use Rattle.rtps_receiver.specs.Values.{ActValue}
+use Rattle.rtps_receiver.specs.Values.{ActBodyValue, ActValue}
+use Rattle.rtps_receiver.specs.Values.ActBodyValue.{Data, Heartbeat, AckNack, Gap}
 use Rattle.rtps_coverage.specs.Coverage.{IsFront, TellsMore}
+use Rattle.rtps_audit.specs.Audiences.{HearAlike}
 use Rattle.rtps_audit.specs.Everyone.{is_for_everyone, nobody}
 use Rattle.rtps_audit.specs.Delivery.{Word, IsAsked}
 use Rattle.rtps_audit.specs.Delivery.Word.{Told}
@@ -25,7 +27,7 @@ use Rattle.rtps_audit.specs.KeptPayloads.{IsKept, KeepsMore, KeepsTwo}
 use Rattle.rtps_audit.specs.Brief.{brief_value}
 use Rattle.rtps_audit.specs.Placed.{PlacedValue}
 use Rattle.rtps_audit.specs.RunVerdict.{IsLeast}
-use Rattle.rtps_audit.specs.Speech.{announced_for, word_for, word_of}
+use Rattle.rtps_audit.specs.Speech.{announced_for, may_tell, word_for, word_of}
 use Rattle.rtps_audit.specs.declared.hearing.Front.{Front}
 use Rattle.rtps_audit.specs.declared.hearing.Hearing.{Hearing}
 use Rattle.rtps_audit.specs.declared.brief.Brief.{Brief}
@@ -333,41 +335,55 @@ brief_next writer briefs k brief lt at =
 
 -- ---- who hears alike
 
-heard_too : (writer one other : Guid) (placed : List PlacedValue) (n : ℕ) (word : Word) → All (λ at. is_heard_by at.act one ≡ is_heard_by at.act other) placed
+-- an act that has a word for a number from 1 on may tell of one
+tells_of : (body : ActBodyValue) (n : ℕ) (word : Word) → 1 ≤ n → word_of body n ≡ Some word → may_tell body ≡ true
+tells_of (Data value) n word positive says = refl
+tells_of (Gap value) n word positive says = refl
+tells_of (AckNack value) n word positive says = cc
+tells_of (Heartbeat value) n word positive says = grind (arith, nat_tests)
+
+pub tells_it : (writer reader : Guid) (act : ActValue) (n : ℕ) (word : Word) → 1 ≤ n → word_for writer reader act n ≡ Some word → may_tell act.body ≡ true
+tells_it writer reader act n word positive says = by_tests (is_spoken_by act writer && is_heard_by act reader) says
+  where
+    by_tests : (b : Bool) → (if b then word_of act.body n else None) ≡ Some word → may_tell act.body ≡ true
+    by_tests true e = tells_of act.body n word positive e
+    by_tests false e = cc
+
+heard_too : (writer one other : Guid) (placed : List PlacedValue) (n : ℕ) (word : Word) → 1 ≤ n → HearAlike one other placed
     → IsHeard writer one placed n word → IsHeard writer other placed n word
-heard_too writer one other placed n word alike heard =
-    let same = All-contains (λ (at : PlacedValue). is_heard_by at.act one ≡ is_heard_by at.act other) placed heard.at alike heard.among in
+heard_too writer one other placed n word positive alike heard =
+    let same = All-contains (λ (at : PlacedValue). may_tell at.act.body ≡ true → is_heard_by at.act one ≡ is_heard_by at.act other) placed heard.at alike heard.among (tells_it writer one heard.at.act n word positive heard.says) in
     record {
       at = heard.at;
       among = heard.among;
       says = ap (λ b. if is_spoken_by heard.at.act writer && b then word_of heard.at.act.body n else None) (sym same) ∙ heard.says;
     }
 
-told_too : (writer one other : Guid) (placed : List PlacedValue) (datagram n : ℕ) → All (λ at. is_heard_by at.act one ≡ is_heard_by at.act other) placed
+told_too : (writer one other : Guid) (placed : List PlacedValue) (datagram n : ℕ) → 1 ≤ n → HearAlike one other placed
     → IsToldBy writer one placed datagram n → IsToldBy writer other placed datagram n
 unfolding heard_too
-told_too writer one other placed datagram n alike told = (told.0, (heard_too writer one other placed n told.0 alike told.1.0, told.1.1))
+told_too writer one other placed datagram n positive alike told = (told.0, (heard_too writer one other placed n told.0 positive alike told.1.0, told.1.1))
 
-two_too : {from : ℕ} (writer one other : Guid) (placed : List PlacedValue) (n : ℕ) → All (λ at. is_heard_by at.act one ≡ is_heard_by at.act other) placed → HearsTwo from writer one placed n → HearsTwo from writer other placed n
-two_too writer one other placed n alike (asked, (x, y, a, b, differ)) = (asked, (x, y, heard_too writer one other placed n (Told x) alike a, heard_too writer one other placed n (Told y) alike b, differ))
+two_too : {from : ℕ} (writer one other : Guid) (placed : List PlacedValue) (n : ℕ) → HearAlike one other placed → HearsTwo from writer one placed n → HearsTwo from writer other placed n
+two_too writer one other placed n alike (asked, (x, y, a, b, differ)) = (asked, (x, y, heard_too writer one other placed n (Told x) asked.0 alike a, heard_too writer one other placed n (Told y) asked.0 alike b, differ))
 
--- readers that hear the same acts of a writer hear the same of it
-pub hears_too : (hearing : Hearing) (writer one other : Guid) (placed : List PlacedValue) → All (λ at. is_heard_by at.act one ≡ is_heard_by at.act other) placed → Hears hearing writer one placed → Hears hearing writer other placed
+-- readers that hear the same acts of a writer, as far as these may tell of a number, hear the same of it
+pub hears_too : (hearing : Hearing) (writer one other : Guid) (placed : List PlacedValue) → HearAlike one other placed → Hears hearing writer one placed → Hears hearing writer other placed
 hears_too hearing writer one other placed alike known = record {
   rising = known.rising;
   timeline = λ k datagram cut.
       let front = known.timeline k datagram cut in
       record {
         positive = front.positive;
-        outside = λ n at small. let out = front.outside n at small in (out.0, λ told. out.1 (told_too writer other one placed datagram n back told));
-        below = λ n asked small lt. told_too writer one other placed datagram n alike (front.below n asked small lt);
+        outside = λ n at small. let out = front.outside n at small in (out.0, λ told. out.1 (told_too writer other one placed datagram n out.0.0 back told));
+        below = λ n asked small lt. told_too writer one other placed datagram n asked.0 alike (front.below n asked small lt);
       };
   conflict = by_cases hearing.conflict known.conflict;
   last = known.last;
 }
   where
-    back : All (λ at. is_heard_by at.act other ≡ is_heard_by at.act one) placed
-    back = λ k d lt. sym (alike k d lt)
+    back : HearAlike other one placed
+    back = λ k d lt tells. sym (alike k d lt tells)
 
     by_cases : (conflict : Option ℕ) → MatchOption conflict ((n : ℕ) → ¬ HearsTwo hearing.from writer one placed n) (IsLeast (HearsTwo hearing.from writer one placed)) → MatchOption conflict ((n : ℕ) → ¬ HearsTwo hearing.from writer other placed n) (IsLeast (HearsTwo hearing.from writer other placed))
     by_cases None never = λ n two. never n (two_too writer other one placed n back two)

@@ -16,7 +16,7 @@ pub(crate) const NOBODY: Guid = Guid {
     entity: EntityId([0; 4]),
 };
 
-/// The places of a writer's acts in what it says, by whom they are for.
+/// The places of a writer's acts that may tell of a number, in what it says, by whom they are for.
 #[derive(Drop)]
 pub(crate) struct Audiences {
     /// Of those that are for every reader.
@@ -67,15 +67,19 @@ impl Audiences {
     ghost use Rattle.std.specs.List.Sorted.{IsNonDecreasingBy};
     ghost use Rattle.rtps_discovery.specs.GuidOrder.{guid_cmp};
     ghost use Rattle.rtps_receiver.specs.Speech.{is_heard_by};
-    ghost use Rattle.rtps_audit.specs.Audiences.{AreAudiencesOf};
+    ghost use Rattle.rtps_audit.specs.Audiences.{AreAudiencesOf, HearAlike};
+    ghost use Rattle.rtps_audit.specs.Speech.{may_tell};
     ghost use Rattle.rtps_audit.specs.Groups.{values_at};
     ghost use Rattle.rtps_audit.specs.Placed.{PlacedValue};
 
-    /// Adds the place of what is said behind what is kept. After `Memory` the places are of no use.
+    /// Adds the place of what is said behind what is kept, if it may tell of a number. After `Memory` the places are of no use.
     fn note(&mut self, place: usize, brief: &Brief<'_>) -> Result<(), Memory>
         ensures { OnOk result ((writer : GuidValue) (placed : List PlacedValue) → place ≡ length placed
             → AreAudiencesOf self.old placed → AreAudiencesOf self.new (placed ++ brief_value writer brief.now ∷ [])) }
     {
+        if !brief.may_tell() {
+            return Ok(());
+        }
         if is_for_all(brief) {
             self.everyone.push(place)?;
             return Ok(());
@@ -105,10 +109,10 @@ impl Audiences {
         !self.named.of(key).is_empty()
     }
 
-    /// Whether a reader may hear anything but what is for every reader.
+    /// Whether a reader may be told of a number by anything but what is for every reader.
     pub(crate) fn has(&self, reader: Guid) -> bool
         ensures { result ≡ false → (placed : List PlacedValue) → AreAudiencesOf self.now placed
-            → All (λ at. is_heard_by at.act reader ≡ is_heard_by at.act nobody) placed }
+            → HearAlike reader nobody placed }
     {
         tests_say_what_relations_say();
         if self.has_under(NOBODY) || self.has_under(of_participant(reader)) {
@@ -122,7 +126,7 @@ impl Audiences {
         ensures within { IfOk result (λ places. (placed : List PlacedValue) → AreAudiencesOf self.now placed
             → All (λ k. k < length placed) places.items) }
         ensures heard { IfOk result (λ places. (placed : List PlacedValue) → AreAudiencesOf self.now placed
-            → (k : ℕ) (at : PlacedValue) → k < length placed → is_heard_by (slice_index_or placed k at).act reader ≡ true → Contains places.items k) }
+            → (k : ℕ) (at : PlacedValue) → k < length placed → may_tell (slice_index_or placed k at).act.body ≡ true → is_heard_by (slice_index_or placed k at).act reader ≡ true → Contains places.items k) }
     {
         tests_say_what_relations_say();
         let mut places = Vec::new(alloc);
@@ -141,7 +145,7 @@ impl Audiences {
         ensures within { IfOk result (λ places. (placed : List PlacedValue) → AreAudiencesOf self.now placed
             → All (λ k. k < length placed) places.items) }
         ensures heard { IfOk result (λ places. (placed : List PlacedValue) → AreAudiencesOf self.now placed
-            → (k : ℕ) (at : PlacedValue) → k < length placed → is_heard_by (slice_index_or placed k at).act reader ≡ true → Contains places.items k) }
+            → (k : ℕ) (at : PlacedValue) → k < length placed → may_tell (slice_index_or placed k at).act.body ≡ true → is_heard_by (slice_index_or placed k at).act reader ≡ true → Contains places.items k) }
     {
         let mut places = self.places_for(alloc, reader)?;
         places.sort()?;

@@ -7,7 +7,7 @@ ghost use Rattle.rtps_coverage.specs.Coverage.{TellsMore};
 ghost use Rattle.rtps_audit.specs.Brief.{bare, bare_body, brief_value, is_speech, said_body};
 ghost use Rattle.rtps_audit.specs.KeptPayloads.{KeepsMore};
 ghost use Rattle.rtps_audit.specs.Placed.{placed_at};
-ghost use Rattle.rtps_audit.specs.Speech.{announced_for, word_for};
+ghost use Rattle.rtps_audit.specs.Speech.{announced_for, may_tell, word_for};
 
 use crate::words::Words;
 use rtps_coverage::Coverage;
@@ -72,6 +72,16 @@ impl<'a> Brief<'a> {
             Said::Data { number, .. } => number.get().cast_unsigned(),
             Said::Heartbeat { last, .. } => (*last).max(0).cast_unsigned(),
             Said::Gap { .. } => 0,
+        }
+    }
+
+    /// Whether it may tell of a number. A HEARTBEAT whose first number is 1 tells of none.
+    pub(crate) fn may_tell(&self) -> bool
+        ensures { (writer : GuidValue) → result ≡ may_tell (brief_value writer self.now).act.body }
+    {
+        match &self.said {
+            Said::Heartbeat { first, .. } => first.get() > 1,
+            Said::Data { .. } | Said::Gap { .. } => true,
         }
     }
 

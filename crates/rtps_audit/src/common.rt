@@ -1,9 +1,8 @@
 ghost use Rattle.std.specs.Prelude.{◌≡◌, ◌↔◌, ℕ, All, IfOk, IsTrue, List, OnOk};
 ghost use Rattle.std.specs.List.{list_all};
 ghost use Rattle.rtps_ids.specs.declared.identity.Guid.{Guid as GuidValue};
-ghost use Rattle.rtps_receiver.specs.Speech.{is_heard_by};
 ghost use Rattle.rtps_receiver.specs.Values.{act_value};
-ghost use Rattle.rtps_audit.specs.Audiences.{AreAudiencesOf};
+ghost use Rattle.rtps_audit.specs.Audiences.{AreAudiencesOf, HearAlike};
 ghost use Rattle.rtps_audit.specs.Brief.{brief_value, spoken_from};
 ghost use Rattle.rtps_audit.specs.Hearing.{Hears};
 ghost use Rattle.rtps_audit.specs.Index.{IsBriefOf};
@@ -128,7 +127,7 @@ impl Common {
     /// Whether this is what the reader of a pair of this writer hears. Of the two answers, false is always good.
     fn is_heard_by(&self, pair: Pair) -> bool
         ensures { (recording : List (List ℕ)) → IsCommon recording self.now → self.now.writer ≡ pair.writer → IsTrue result
-            → All (λ at. is_heard_by at.act pair.reader ≡ is_heard_by at.act nobody) (spoken_from pair.writer (placed_in recording)) }
+            → HearAlike pair.reader nobody (spoken_from pair.writer (placed_in recording)) }
     {
         if self.for_all {
             return true;

@@ -26,4 +26,4 @@ returns c = λ recording is listed are common.
     let heard = c.in_ok-hearing.ensures.hears (said_in_order recording writer briefs same) within ordered in
     let from = c.in_ok-hearing.ensures.from in
     let last = common.last ∙ ap (λ f. max (f - 1) (last_among writer (spoken_from writer (placed_in recording)))) (sym from) ∙ ap (λ l. max (c.in_ok-hearing.hearing.from - 1) (last_among writer l)) (sym same) in
-    (from, subst (Hears _ writer reader) same (hears_at writer reader briefs places _ within (λ k at lt h. subst (λ l. Contains l k) value (c.in_ok-places.ensures.heard (map (brief_value writer) briefs) kept k at lt h)) heard.rising heard.timeline heard.conflict last))
+    (from, subst (Hears _ writer reader) same (hears_at writer reader briefs places _ within (λ k at lt tells h. subst (λ l. Contains l k) value (c.in_ok-places.ensures.heard (map (brief_value writer) briefs) kept k at lt tells h)) heard.rising heard.timeline heard.conflict last))

@@ -9,4 +9,4 @@ pub returns-clause-within : goal.returns-clause-within
 returns-clause-within c = λ placed known. All-permutation (λ k. k < length placed) _ _ c.sort.ensures.permutation (c.in_ok-places.ensures.within placed known)
 
 pub returns-clause-heard : goal.returns-clause-heard
-returns-clause-heard c = λ placed known k at lt heard. Contains-permutation _ _ k c.sort.ensures.permutation (c.in_ok-places.ensures.heard placed known k at lt heard)
+returns-clause-heard c = λ placed known k at lt tells heard. Contains-permutation _ _ k c.sort.ensures.permutation (c.in_ok-places.ensures.heard placed known k at lt tells heard)

@@ -20,7 +20,7 @@ returns-in-Some c = λ recording is hand known same.
     let kept = subst (λ h. IfSome h (λ (hearing : Hearing). (hearing.from ≡ now.from) × Hears hearing now.writer nobody (spoken_from now.writer (placed_in recording)))) c.in-Some.is known.hearing in
     let all = subst (λ (w : Guid). Hears hearing w nobody (spoken_from w (placed_in recording))) same kept.1 in
     let alike = c.is_heard_by.ensures recording known same c.if-is_heard_by.true in
-    let heard = hears_too hearing pair.writer nobody pair.reader (spoken_from pair.writer (placed_in recording)) (λ k d lt. sym (alike k d lt)) all in
+    let heard = hears_too hearing pair.writer nobody pair.reader (spoken_from pair.writer (placed_in recording)) (λ k d lt tells. sym (alike k d lt tells)) all in
     subst (λ m. IsVerdictFrom m (speech_of pair.writer pair.reader recording) c.verdict.result) kept.0
     (verdict_by_index pair recording hearing _ c.verdict.result hearing.positive heard (c.answered-answers.ensures recording is hand) (c.verdict.ensures pair.writer pair.reader))
 
