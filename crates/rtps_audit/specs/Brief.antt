@@ -39,11 +39,11 @@ act_saying writer dest body =
       body = body;
     }
 
--- of an act, what a verdict asks of it
+-- an act, as far as a verdict asks of it
 abbrev pub bare_act : Guid → ActValue → ActValue
 bare_act writer act = act_saying writer act.dest (bare_body writer.entity act.body)
 
--- the same with its datagram
+-- an act with its datagram, as far as a verdict asks of it
 abbrev pub bare : Guid → PlacedValue → PlacedValue
 bare writer placed = record { datagram = placed.datagram; act = bare_act writer placed.act }
 

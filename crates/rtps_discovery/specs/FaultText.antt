@@ -3,7 +3,7 @@ use Rattle.std.specs.Prelude.{ℕ, List, codes}
 use Rattle.rtps_discovery.specs.declared.fault.NoticeFault.{NoticeFault}
 use Rattle.rtps_discovery.specs.declared.fault.NoticeFault.TheVariants.{CutRepresentation, Representation, List as ListFault, NoGuid, NoTopic, NoType, BadText, BadReliability, BadDurability}
 
--- by its variant's name
+-- the name of a fault: that of its variant
 unfoldable pub fault_name : NoticeFault → List ℕ
 fault_name CutRepresentation = codes "CutRepresentation"
 fault_name Representation = codes "Representation"

@@ -12,12 +12,12 @@ use Rattle.rtps_discovery.specs.declared.endpoint.Side.TheVariants.{Writer, Read
 use Rattle.rtps_discovery.specs.declared.matching.Match.{Match}
 use Rattle.rtps_discovery.specs.declared.matching.Pair.{Pair}
 
--- how strong a reliability is, and a durability
+-- how strong a reliability is
 abbrev pub reliability_rank : Reliability → ℕ
 reliability_rank BestEffort = 0
 reliability_rank Reliable = 1
 
--- how much a durability gives: one that gives more satisfies a request for less
+-- how strong a durability is: a stronger one satisfies a request for a weaker
 abbrev pub durability_rank : Durability → ℕ
 durability_rank Volatile = 0
 durability_rank TransientLocal = 1
@@ -51,7 +51,7 @@ is_match writer reader =
     && (nat_le (reliability_rank reader.reliability) (reliability_rank writer.reliability)
     && nat_le (durability_rank reader.durability) (durability_rank writer.durability)))))
 
--- a writer and a reader that match; their pair is reliable where both are
+-- the reliability is RELIABLE
 abbrev pub is_reliable : Reliability → Bool
 is_reliable BestEffort = false
 is_reliable Reliable = true

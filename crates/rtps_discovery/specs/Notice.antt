@@ -83,7 +83,7 @@ is_fault (noted.Fault fault) = true
 abbrev pub faults_in : List ActValue → ℕ
 faults_in acts = count_by (λ act. is_fault (answer_of (announcement_of act))) acts
 
--- an announcement of a participant, and one of an endpoint
+-- the participant, where one is announced
 abbrev pub participant_in : Option (Result Announced NoticeFault) → Option Guid
 participant_in (Some (Ok (Participant guid))) = Some guid
 participant_in _ = None

@@ -1,5 +1,5 @@
 -- What the acts of one GUID say is what all acts say, of what it alone can say.
-use Rattle.std.proofs.Common.{◌≡◌, ◌∙◌, ◌+◌, ◌-◌, ◌≤◌, ◌==◌, ◌&&◌, ℕ, Bool, true, false, nat_le, nat_lt, max, map, filter, List, [], ◌∷◌, Option, Some, None, refl, ap, arith, not}
+use Rattle.std.proofs.Common.{◌≡◌, ◌∙◌, ◌+◌, ◌-◌, ◌≤◌, ◌==◌, ◌&&◌, ℕ, Bool, true, false, nat_lt, max, map, filter, List, [], ◌∷◌, Option, Some, None, refl, ap, arith, not}
 use Rattle.std.specs.Prelude.{if◌then◌else◌, is_some, unwrap_or}
 use Rattle.std.specs.List.{cons_option, filter_map, find}
 use Rattle.std.specs.Option.{option_map}
@@ -7,7 +7,7 @@ use Rattle.std.proofs.lemmas.Bool.Decides.{nat_tests}
 use Rattle.rtps_ids.specs.declared.identity.Guid.{Guid}
 use Rattle.rtps_wire.specs.Values.{PayloadValue}
 use Rattle.rtps_receiver.specs.Speech.{is_answer, is_heard_by, is_spoken_by}
-use Rattle.rtps_audit.specs.Delivery.{Word, greatest, last_announced_from}
+use Rattle.rtps_audit.specs.Delivery.{Word, greatest, is_asked, last_announced_from}
 use Rattle.rtps_audit.specs.Hearing.{last_among}
 use Rattle.rtps_audit.specs.Placed.{PlacedValue, is_from, placed_in}
 use Rattle.rtps_audit.specs.Speech.{announced_for, announced_of_body, base_of_body, speech_of, word_for, word_of}
@@ -69,10 +69,10 @@ less_number a b n base e = grind (arith, nat_tests)
 pub teller_same : (writer reader : Guid) (n : ℕ) (acts : List PlacedValue) → teller_of writer reader n (filter (is_from writer) acts) ≡ teller_of writer reader n acts
 teller_same writer reader n acts = ap (option_map teller_at) (find_filter (tells writer reader n) (is_from writer) (tells_from writer reader n) acts)
 
-pub announcement_same : (from : ℕ) (writer : Guid) (number : ℕ) (acts : List PlacedValue) → 1 ≤ from → announcement_of from writer number (filter (is_from writer) acts) ≡ announcement_of from writer number acts
-announcement_same from writer number acts low = by_order (nat_le from number) refl
+pub announcement_same : (from : ℕ) (writer : Guid) (number : ℕ) (acts : List PlacedValue) → announcement_of from writer number (filter (is_from writer) acts) ≡ announcement_of from writer number acts
+announcement_same from writer number acts = by_order (is_asked from number) refl
   where
-    by_order : (b : Bool) → nat_le from number ≡ b
+    by_order : (b : Bool) → is_asked from number ≡ b
         → (if b then option_map (announcement_at number) (find (λ placed. number_said writer placed == number) (filter (is_from writer) acts)) else None) ≡ (if b then option_map (announcement_at number) (find (λ placed. number_said writer placed == number) acts) else None)
     by_order true e =
         let reached : 1 ≤ number = grind (arith, nat_tests) in

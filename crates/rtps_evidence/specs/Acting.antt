@@ -1,7 +1,7 @@
 -- Where a recording shows what a pair said: who announced a number, who told it, what was sent for it, and what was
 -- answered. DDSI-RTPS 2.5, 8.3.8.1 "AckNack", 8.3.8.2 "Data", 8.3.8.4 "Gap" and 8.3.8.6 "Heartbeat". Acts are those of a
 -- recording, by datagram and then by place.
-use Rattle.std.specs.Prelude.{ℕ, pos, Bool, true, false, ◌==◌, ◌&&◌, nat_le, nat_lt, if◌then◌else◌, List, map, Option, Some, None, is_some, not, unwrap_or}
+use Rattle.std.specs.Prelude.{ℕ, pos, Bool, true, false, ◌==◌, ◌&&◌, nat_lt, if◌then◌else◌, List, map, Option, Some, None, is_some, not, unwrap_or}
 use Rattle.std.specs.List.{find}
 use Rattle.std.specs.Option.{option_map}
 use Rattle.std.specs.Str.{bytes_eq}
@@ -10,7 +10,7 @@ use Rattle.rtps_wire.specs.Values.{PayloadValue}
 use Rattle.rtps_wire.specs.Values.PayloadValue.{Absent, Whole, Key}
 use Rattle.rtps_receiver.specs.Values.{ActBodyValue}
 use Rattle.rtps_receiver.specs.Values.ActBodyValue.{Data as DataAct, Heartbeat as HeartbeatAct, AckNack as AckNackAct, Gap as GapAct}
-use Rattle.rtps_audit.specs.Delivery.{Word, greatest}
+use Rattle.rtps_audit.specs.Delivery.{Word, greatest, is_asked}
 use Rattle.rtps_audit.specs.Delivery.Word.{Told, Gone}
 use Rattle.rtps_audit.specs.Placed.{PlacedValue}
 use Rattle.rtps_audit.specs.Speech.{announced_for, base_for, natural, word_for}
@@ -80,7 +80,7 @@ announcement_at number placed = record { number = pos number; kind = kind_of pla
 -- the first act that announces this number, where it is asked for
 abbrev pub announcement_of : ℕ → Guid → ℕ → List PlacedValue → Option Announcement
 announcement_of from writer number acts =
-    if nat_le from number then option_map (announcement_at number) (find (λ placed. number_said writer placed == number) acts) else None
+    if is_asked from number then option_map (announcement_at number) (find (λ placed. number_said writer placed == number) acts) else None
 
 -- an act as an answer of the reader to the writer
 abbrev pub claim_at : Guid → Guid → PlacedValue → Claim

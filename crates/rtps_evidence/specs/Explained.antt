@@ -65,12 +65,12 @@ explanation_value explanation =
       evidence = evidence_value explanation.evidence;
     }
 
--- the topic of an endpoint, and the type; empty where there is no endpoint
+-- the topic of an endpoint, empty where there is no endpoint
 abbrev pub topic_of : Option EndpointValue → List ℕ
 topic_of None = []
 topic_of (Some endpoint) = endpoint.topic
 
--- the type of an endpoint, empty where none is known
+-- the type of an endpoint, empty where there is no endpoint
 abbrev pub type_of : Option EndpointValue → List ℕ
 type_of None = []
 type_of (Some endpoint) = endpoint.type_name

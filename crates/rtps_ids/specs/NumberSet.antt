@@ -50,7 +50,7 @@ is_bad base count =
     int_lt base (pos 0) || nat_lt MOST_BITS count || (int_lt base (pos 1) && nat_lt 0 count)
     || (int_lt (pos 0) base && int_lt (pos (2 ^ 63)) (base +ℤ pos count))
 
--- of octets that spell a set: the base, at their beginning
+-- the base, at the beginning of octets that spell a set
 abbrev pub spelled_base : Order → List ℕ → ℤ
 spelled_base order octets = sequence_number_of order octets
 

@@ -3,7 +3,7 @@ use Rattle.std.specs.Prelude.{ℕ, List, codes}
 use Rattle.rtps_ids.specs.declared.set_fault.SetFault.{SetFault}
 use Rattle.rtps_ids.specs.declared.set_fault.SetFault.TheVariants.{BadSet, CutWords}
 
--- by its variant's name
+-- the name of a fault: that of its variant
 unfoldable pub fault_name : SetFault → List ℕ
 fault_name BadSet = codes "BadSet"
 fault_name CutWords = codes "CutWords"

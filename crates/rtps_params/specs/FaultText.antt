@@ -5,7 +5,7 @@ use Rattle.rtps_params.specs.declared.fault.ParamFault.TheVariants.{CutHeader, C
 use Rattle.rtps_params.specs.declared.list_fault.ListFault.{ListFault}
 use Rattle.rtps_params.specs.declared.list_fault.ListFault.TheVariants.{ValueTooLong, ValueUnaligned, PidReserved, Memory}
 
--- by its variant's name
+-- the name of a fault: that of its variant
 unfoldable pub fault_name : ParamFault → List ℕ
 fault_name CutHeader = codes "CutHeader"
 fault_name CutValue = codes "CutValue"
@@ -15,7 +15,7 @@ abbrev pub fault_number : ParamFault → ℕ
 fault_number CutHeader = 1
 fault_number CutValue = 2
 
--- the same of what is not written
+-- the name of what keeps a list from being written
 unfoldable pub list_fault_name : ListFault → List ℕ
 list_fault_name ValueTooLong = codes "ValueTooLong"
 list_fault_name ValueUnaligned = codes "ValueUnaligned"

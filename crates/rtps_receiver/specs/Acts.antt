@@ -114,7 +114,7 @@ abbrev pub is_data : ActBodyValue → Bool
 is_data (DataAct value) = true
 is_data _ = false
 
--- those that are DATA
+-- the DATA among acts
 abbrev pub data_among : List ActValue → List ActValue
 data_among acts = filter (λ act. is_data act.body) acts
 

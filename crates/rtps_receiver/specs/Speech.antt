@@ -8,14 +8,14 @@ use Rattle.rtps_ids.specs.declared.identity.GuidPrefix.{GuidPrefix}
 use Rattle.rtps_receiver.specs.Values.{ActBodyValue, ActValue}
 use Rattle.rtps_receiver.specs.Values.ActBodyValue.{Data, Heartbeat, AckNack, Gap}
 
--- the writer and the reader that an act of a writer names
+-- the writer that an act of a writer names
 abbrev pub writer_named : ActBodyValue → Option EntityId
 writer_named (Data value) = Some value.writer
 writer_named (Heartbeat value) = Some value.writer
 writer_named (Gap value) = Some value.writer
 writer_named (AckNack value) = None
 
--- the reader that it names; zeros name every reader
+-- the reader that an act of a writer names; zeros name every reader
 abbrev pub reader_named : ActBodyValue → Option EntityId
 reader_named (Data value) = Some value.reader
 reader_named (Heartbeat value) = Some value.reader

@@ -35,7 +35,7 @@ ack_nack_of order flags body =
       is_final = not (bit_and flags FINAL == 0);
     }
 
--- the flags and the octets of an ACKNACK that is written
+-- the flags of an ACKNACK that is written
 abbrev pub ack_nack_flags : AckNackBody → ℕ
 ack_nack_flags body = flag_if body.is_final FINAL
 

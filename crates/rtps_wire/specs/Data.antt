@@ -90,7 +90,7 @@ abbrev pub qos_octets : Option ListValue → List ℕ
 qos_octets None = []
 qos_octets (Some list) = list.octets
 
--- the flag that tells the kind of a payload, and its octets
+-- the flag that tells the kind of a payload
 abbrev pub payload_flag : PayloadValue → ℕ
 payload_flag Absent = 0
 payload_flag (Whole octets) = D

@@ -5,7 +5,7 @@ use Rattle.rtps_wire.specs.declared.fault.WireFault.TheVariants.{Short, NotRtps,
 use Rattle.rtps_wire.specs.declared.write_fault.WriteFault.{WriteFault}
 use Rattle.rtps_wire.specs.declared.write_fault.WriteFault.TheVariants.{NotWritable, TooLong, Unaligned, Memory}
 
--- by its variant's name
+-- the name of a fault: that of its variant
 unfoldable pub fault_name : WireFault → List ℕ
 fault_name Short = codes "Short"
 fault_name NotRtps = codes "NotRtps"
@@ -35,7 +35,7 @@ fault_number BadRange = 10
 fault_number BadSet = 11
 fault_number BadInlineQos = 12
 
--- the same of what is not written
+-- the name of what keeps a message from being written
 unfoldable pub write_fault_name : WriteFault → List ℕ
 write_fault_name NotWritable = codes "NotWritable"
 write_fault_name TooLong = codes "TooLong"

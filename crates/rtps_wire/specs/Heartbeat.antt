@@ -44,7 +44,7 @@ heartbeat_of order flags body =
 abbrev pub is_bad_range : HeartbeatBody → Bool
 is_bad_range body = int_lt body.last (pos 0) || int_lt body.last (pos body.first -ℤ pos 1)
 
--- the flags and the octets of a heartbeat that is written
+-- the flags of a HEARTBEAT that is written
 abbrev pub heartbeat_flags : HeartbeatBody → ℕ
 heartbeat_flags body = bit_or (flag_if body.is_final FINAL) (flag_if body.live LIVELINESS)
 

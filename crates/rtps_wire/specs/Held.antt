@@ -44,7 +44,7 @@ pub record IsHeldData (body : DataValue) : Type 0 where
   pub number : IsHeldNumber body.number
   pub qos : IsHeldQos body.qos
 
--- a HEARTBEAT, an ACKNACK and a GAP
+-- a HEARTBEAT whose fields hold what their types can
 pub record IsHeldHeartbeat (body : HeartbeatBody) : Type 0 where
   pub reader : IsHeldEntity body.reader
   pub writer : IsHeldEntity body.writer
@@ -71,7 +71,7 @@ abbrev pub IsHeldTime : Option Stamp → Type 0
 IsHeldTime None = Unit {0}
 IsHeldTime (Some stamp) = (stamp.seconds < 2 ^ 32) × (stamp.fraction < 2 ^ 32)
 
--- a body, and an item of it
+-- a body whose fields hold what their types can
 abbrev pub IsHeldBody : BodyValue → Type 0
 IsHeldBody (Data body) = IsHeldData body
 IsHeldBody (Heartbeat body) = IsHeldHeartbeat body

@@ -55,7 +55,7 @@ body_octets rest = take (body_length rest) (drop submessage.SIZE rest)
 abbrev pub next_rest : List ℕ → List ℕ
 next_rest rest = drop (submessage.SIZE + body_length rest) rest
 
--- the fault of a body, and what a body without one says; ids that are not read have no fault
+-- the fault of a body; ids that are not read have none
 abbrev pub body_fault : ℕ → ℕ → List ℕ → Option WireFault
 body_fault id flags body =
     if id == ACKNACK then ack_nack_fault (order_of flags) body
@@ -114,6 +114,6 @@ ReadsWith (Some fault) datagram reading =
 ReadsWith None datagram reading =
     (reading.header ≡ Some (header_of datagram)) × ReadsFrom (drop header.SIZE datagram) header.SIZE reading.items reading.ending
 
--- the datagram says this, and nothing else
+-- the datagram says this
 abbrev pub Reads : List ℕ → Reading → Type 0
 Reads datagram reading = ReadsWith (header_fault datagram) datagram reading

@@ -44,7 +44,7 @@ outcomes rest at = outcomes_within (length rest) rest at
 abbrev pub outcomes_left : Unread → List Outcome
 outcomes_left unread = outcomes unread.rest unread.at
 
--- the items among them, and the refusal
+-- the items among them
 abbrev pub items_among : List Outcome → List ItemValue
 items_among [] = []
 items_among (Ok item ∷ rest) = item ∷ items_among rest
@@ -56,7 +56,7 @@ refusal_among [] = None
 refusal_among (Ok item ∷ rest) = refusal_among rest
 refusal_among (Err refusal ∷ rest) = Some refusal
 
--- what a datagram says whose header is refused, and one of this header behind which this is read
+-- what a datagram says whose header is refused
 abbrev pub refused_with : WireFault → Reading
 refused_with fault = record { header = None; items = []; ending = Some (record { at = 0; fault = fault }) }
 

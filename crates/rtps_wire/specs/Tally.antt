@@ -17,7 +17,7 @@ abbrev pub is_fragment : BodyValue → Bool
 is_fragment (Skipped id) = is_fragment_id id
 is_fragment _ = false
 
--- one of another id that is not read
+-- a submessage of another id that is not read
 abbrev pub is_skipped : BodyValue → Bool
 is_skipped (Skipped id) = not (is_fragment_id id)
 is_skipped _ = false

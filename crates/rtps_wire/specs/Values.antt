@@ -50,7 +50,7 @@ pub record ItemValue : Type 0 where
   pub order : Order
   pub body : BodyValue
 
--- what a payload, a DATA, a body and an item of the code stand for
+-- a payload of the code, as a value
 abbrev pub payload_value : Payload → PayloadValue
 payload_value payload.Absent = Absent
 payload_value (payload.Whole octets) = Whole octets.now

@@ -30,7 +30,7 @@ written_id (InfoDst prefix) = INFO_DST
 written_id (InfoSrc version vendor prefix) = INFO_SRC
 written_id (Skipped id) = id
 
--- the flags that a body has of its own, and all its flags
+-- the flags that a body has of its own
 abbrev pub own_flags : BodyValue → ℕ
 own_flags (Data body) = data_flags body
 own_flags (Heartbeat body) = heartbeat_flags body

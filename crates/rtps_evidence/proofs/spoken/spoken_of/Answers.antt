@@ -1,4 +1,4 @@
-use Rattle.std.proofs.Common.{◌≡◌, ◌∙◌, ◌-◌, ◌≤◌, map, max, filter, ap, arith}
+use Rattle.std.proofs.Common.{◌≡◌, ◌∙◌, ◌-◌, map, max, filter, ap, arith}
 use Rattle.std.proofs.lemmas.Int.{ints}
 use Rattle.rtps_audit.specs.Delivery.{greatest}
 use Rattle.rtps_audit.specs.Placed.{is_from, placed_in, placed_value}
@@ -12,10 +12,9 @@ returns-clause-spoken c = λ recording is.
     let all = placed_in recording in
     let acts : map placed_value c.acts_of-acts.result.now ≡ filter (is_from writer) all = c.acts_of-acts.ensures recording is in
     let before : c.cast_unsigned-before.result - 1 ≡ c.args.from - 1 = omega (arith, ints) in
-    let low : 1 ≤ c.args.from = omega (arith, ints) in
     record {
       last = λ reader. last_same c.args.from writer reader recording c.greatest_number.result c.max-last.result
           (c.greatest_number.ensures.value ∙ ap (λ l. greatest (map (number_said writer) l)) acts) (c.max-last.ensures ∙ ap (max c.greatest_number.result) before);
-      announcement = c.find_announcement.ensures ∙ ap (announcement_of c.args.from writer c.max-last.result) acts ∙ announcement_same c.args.from writer c.max-last.result all low;
+      announcement = c.find_announcement.ensures ∙ ap (announcement_of c.args.from writer c.max-last.result) acts ∙ announcement_same c.args.from writer c.max-last.result all;
       amounts = c.in_ok-amounts.ensures recording is;
     }
