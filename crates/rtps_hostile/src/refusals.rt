@@ -12,7 +12,7 @@ use rtps_tool::Recording;
 use std::alloc::{AllocError, Global};
 
 /// All calls that can be tried. One whose name begins with `capture_` is given a capture of the recording.
-pub(crate) const CALLS: [&str; 47] = [
+pub(crate) const CALLS: &[&str] = &[
     "note",
     "note_all",
     "participants",

@@ -5,7 +5,7 @@ use crate::fault::Fault;
 use crate::recordings::{ANNOUNCING, datagrams};
 use rtps_audit::{BitRanges, Index, PlainRanges, Row, Verdict, audit, judge, judge_by};
 use rtps_discovery::Pair;
-use rtps_ids::{EntityId, Guid, GuidPrefix};
+use rtps_ids::{EntityId, Guid, GuidPrefix, Memory};
 use rtps_tool::Recording;
 use std::alloc::Global;
 
@@ -108,8 +108,16 @@ fn judge_changed(
 /// Counts the rows of the audit. Each verdict is the same by every way to judge, and so is that of the pair.
 pub(crate) fn judge_every_way(alloc: Global, recording: &[&[u8]]) -> Result<usize, Fault> {
     let index = Index::build(alloc, recording)?;
+    judge_with_index(alloc, recording, &index)
+}
+
+fn judge_with_index(alloc: Global, recording: &[&[u8]], index: &Index<'_>) -> Result<usize, Fault> {
+    let verdict = index.judge(PAIR)?;
+    if !is_judged_as(alloc, recording, index, PAIR, verdict)? {
+        return Err(Fault::Differs("the pair is judged otherwise by the index"));
+    }
     let report = audit(alloc, recording)?;
-    judge_rows(alloc, recording, &index, &report.rows)
+    judge_rows(alloc, recording, index, &report.rows)
 }
 
 fn judge_rows(
@@ -119,26 +127,24 @@ fn judge_rows(
     rows: &[Row],
 ) -> Result<usize, Fault> {
     for row in rows {
-        if row.verdict != judged_alike(alloc, recording, index, row.pair)? {
+        if !is_judged_as(alloc, recording, index, row.pair, row.verdict)? {
             return Err(Fault::Differs("a verdict is another by another way"));
         }
     }
-    let _ = judged_alike(alloc, recording, index, PAIR)?;
     Ok(rows.len())
 }
 
-/// The verdict on a pair, which need not match: the same by the index and by the judge with each of three sets.
-fn judged_alike(
+/// Whether this is the verdict on a pair, which need not match, by the index and by the judge with each of three sets.
+fn is_judged_as(
     alloc: Global,
     recording: &[&[u8]],
     index: &Index<'_>,
     pair: Pair,
-) -> Result<Verdict, Fault> {
-    let verdict = index.judge(pair)?;
+    verdict: Verdict,
+) -> Result<bool, Memory> {
+    let indexed = index.judge(pair)?;
+    let merged = judge(alloc, recording, pair)?;
     let plain = judge_by::<PlainRanges>(alloc, recording, pair)?;
     let bits = judge_by::<BitRanges>(alloc, recording, pair)?;
-    if [judge(alloc, recording, pair)?, plain, bits] != [verdict; 3] {
-        return Err(Fault::Differs("a pair is judged otherwise by the index"));
-    }
-    Ok(verdict)
+    Ok([indexed, merged, plain, bits] == [verdict; 4])
 }

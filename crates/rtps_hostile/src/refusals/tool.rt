@@ -144,10 +144,20 @@ fn told(alloc: Global, fault: &WordFault) -> Result<String, AllocError> {
 /// The output has its room before the run. A run that is refused has written nothing, and is made again on a fresh input.
 fn is_run_refused(alloc: Global, run: Run, input: &[u8]) -> Result<bool, Fault> {
     let (wanted, ending) = text_of(alloc, run, input)?;
+    is_refused_once_run(alloc, run, input, &wanted, ending)
+}
+
+fn is_refused_once_run(
+    alloc: Global,
+    run: Run,
+    input: &[u8],
+    wanted: &[u8],
+    ending: Ending,
+) -> Result<bool, Fault> {
     let mut output = Vec::with_capacity(alloc, wanted.len())?;
     let (outcome, refused) = run_twice(alloc, run, input, &mut output)?;
     match outcome {
-        Ok(end) if end == ending && output == wanted => Ok(refused),
+        Ok(end) if end == ending && output.as_slice() == wanted => Ok(refused),
         Err(RunFault::Memory) => Err(Fault::Memory),
         _ => Err(Fault::Differs("a run is another after a refusal")),
     }

@@ -6,6 +6,7 @@ use rtps_ids::{Order, put_number, put_u16, put_u32};
 use rtps_params::{ListFault, write_list};
 use rtps_wire::{Header, Item, Items, WriteFault, write_message};
 use std::alloc::Global;
+use std::slice;
 
 /// What stands in the octets before the call.
 const BEFORE: &[u8] = b"before";
@@ -51,10 +52,10 @@ fn is_message_refused(alloc: Global, datagram: &[u8]) -> Result<bool, Fault> {
 fn items_of<'a>(alloc: Global, found: Items<'a>) -> Result<Vec<Item<'a>>, Fault> {
     let mut items = Vec::new(alloc);
     for item in found {
-        match item {
-            Ok(item) => items.push(item)?,
-            Err(_) => return Err(Fault::Input),
-        }
+        let Ok(item) = item else {
+            return Err(Fault::Input);
+        };
+        items.extend_from_slice(slice::from_ref(&item))?;
     }
     Ok(items)
 }
