@@ -2,7 +2,7 @@
 
 use crate::fault::Fault;
 use rtps_tool::Recording;
-use std::alloc::{AllocError, Global};
+use std::alloc::Global;
 
 /// The header of a capture of raw IP packets.
 const HEADER: [u8; 24] = *b"\
@@ -11,35 +11,39 @@ const HEADER: [u8; 24] = *b"\
 /// A frame of one octet, which gives no datagram.
 const IGNORED: [u8; 17] = *b"\x00\x00\x00\x00\x00\x00\x00\x00\x01\x00\x00\x00\x01\x00\x00\x00\x45";
 
+/// The header of an IP packet with its total length at places 2 and 3.
+const IP: [u8; 20] = *b"\
+    \x45\x00\x00\x00\x00\x00\x00\x00\x40\x11\x00\x00\x7f\x00\x00\x01\x7f\x00\x00\x01";
+
+/// The header of a UDP datagram with its length at places 4 and 5.
+const UDP: [u8; 8] = *b"\x1c\xe8\x1c\xe8\x00\x00\x00\x00";
+
 /// A capture with a frame for each datagram, and one that gives none before each.
 pub(crate) fn capture_of(alloc: Global, recording: &Recording) -> Result<Vec<u8>, Fault> {
     let mut octets = Vec::from_slice(alloc, &HEADER)?;
     for datagram in recording.datagrams() {
-        let Ok(size) = u16::try_from(datagram.len()) else {
-            return Err(Fault::Input);
-        };
-        append(&mut octets, &[&IGNORED, &head_of(size), datagram])?;
+        octets.extend_from_slice(&IGNORED)?;
+        push_frame(&mut octets, datagram)?;
     }
     Ok(octets)
 }
 
-fn append(octets: &mut Vec<u8>, parts: &[&[u8]]) -> Result<(), AllocError> {
-    for part in parts {
-        octets.extend_from_slice(part)?;
-    }
-    Ok(())
-}
-
-/// What stands before a datagram of so many octets: the header of its frame, with the captured length and the length,
-/// that of an IP packet with its total length, and that of a UDP datagram with its length.
-fn head_of(size: u16) -> [u8; 44] {
+fn push_frame(octets: &mut Vec<u8>, datagram: &[u8]) -> Result<(), Fault> {
+    let Ok(size) = u16::try_from(datagram.len()) else {
+        return Err(Fault::Input);
+    };
     let length = size.saturating_add(8);
-    let [total_high, total_low] = length.saturating_add(20).to_be_bytes();
-    let [high, low] = length.to_be_bytes();
-    [
-        0, 0, 0, 0, 0, 0, 0, 0, total_low, total_high, 0, 0, total_low, total_high, 0, 0, // frame
-        0x45, 0, total_high, total_low, 0, 0, 0, 0, 0x40, 0x11, 0, 0, // IP
-        0x7f, 0, 0, 1, 0x7f, 0, 0, 1, // addresses
-        0x1c, 0xe8, 0x1c, 0xe8, high, low, 0, 0, // UDP
-    ]
+    let total = length.saturating_add(20);
+    let captured = u32::from(total).to_le_bytes();
+    let mut ip = IP;
+    ip[2..4].copy_from_slice(&total.to_be_bytes());
+    let mut udp = UDP;
+    udp[4..6].copy_from_slice(&length.to_be_bytes());
+    octets.extend_from_slice(&[0; 8])?;
+    octets.extend_from_slice(&captured)?;
+    octets.extend_from_slice(&captured)?;
+    octets.extend_from_slice(&ip)?;
+    octets.extend_from_slice(&udp)?;
+    octets.extend_from_slice(datagram)?;
+    Ok(())
 }

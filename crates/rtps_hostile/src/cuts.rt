@@ -16,22 +16,14 @@ const SUBMESSAGE_HEADER: usize = 4;
 pub(crate) fn count(recordings: &[Recording]) -> Result<(usize, usize), Fault> {
     let mut datagrams = 0usize;
     let mut cuts = 0usize;
-    let mut known = 0;
-    for recording in recordings {
-        datagrams = datagrams.saturating_add(recording.len().saturating_sub(known));
-        cuts = cuts.saturating_add(cut_each(recording, known)?);
-        known = ANNOUNCING;
+    for (place, recording) in recordings.iter().enumerate() {
+        let known = if place == 0 { 0 } else { ANNOUNCING };
+        for datagram in recording.datagrams().skip(known) {
+            datagrams = datagrams.saturating_add(1);
+            cuts = cuts.saturating_add(cut_everywhere(datagram)?);
+        }
     }
     Ok((datagrams, cuts))
-}
-
-/// Cuts each datagram of a recording but for the first ones, and counts cuts.
-fn cut_each(recording: &Recording, known: usize) -> Result<usize, Fault> {
-    let mut cuts = 0usize;
-    for datagram in recording.datagrams().skip(known) {
-        cuts = cuts.saturating_add(cut_everywhere(datagram)?);
-    }
-    Ok(cuts)
 }
 
 /// Cuts a datagram to each length, its own included, and answers how many there are.
@@ -47,12 +39,12 @@ fn cut_everywhere(datagram: &[u8]) -> Result<usize, Fault> {
     Ok(datagram.len().saturating_add(1))
 }
 
-/// What a cut has at a place: what the whole has, or nothing more, or a refusal.
+/// What a cut has at a place.
 #[derive(Clone, Copy)]
 enum Found {
     Whole,
     End,
-    Refused(Refusal),
+    Refused(WireFault),
 }
 
 /// Whether a datagram that is cut to a length is read as it should be.
@@ -79,44 +71,34 @@ fn is_read_as_cut(datagram: &[u8], length: usize) -> bool {
 fn are_first(datagram: &[u8], length: usize, whole: &mut Items<'_>, cut: &mut Items<'_>) -> bool {
     let mut at = HEADER;
     for _ in 0..datagram.len() {
-        match found_at(datagram, length, at) {
-            Found::End => return cut.next().is_none() && cut.next().is_none(),
-            Found::Refused(refusal) => return ends_by(cut, refusal),
-            Found::Whole => match next_of_both(whole, cut) {
-                Some(true) => (),
-                Some(false) => return cut.next().is_none(),
-                None => return false,
-            },
+        match (found_at(datagram, length, at), cut.next()) {
+            (Found::End, None) => return cut.next().is_none(),
+            (Found::Refused(fault), Some(Err(refusal))) => {
+                return refusal == Refusal { at, fault } && cut.next().is_none();
+            }
+            (Found::Whole, found) => {
+                if found != whole.next() {
+                    return false;
+                }
+                if !matches!(&found, Some(Ok(_))) {
+                    return cut.next().is_none();
+                }
+            }
+            _ => return false,
         }
         at = end_of(datagram, at);
     }
     false
 }
 
-/// Whether this refusal is all that is left.
-fn ends_by(cut: &mut Items<'_>, refusal: Refusal) -> bool {
-    cut.next() == Some(Err(refusal)) && cut.next().is_none()
-}
-
-/// Whether both have an item next, the same one; false where both have the same end, and None where they differ.
-fn next_of_both(whole: &mut Items<'_>, cut: &mut Items<'_>) -> Option<bool> {
-    let found = cut.next();
-    if found != whole.next() {
-        return None;
-    }
-    Some(matches!(&found, Some(Ok(_))))
-}
-
-/// What the cut should have at a place.
+/// What the cut should have at a place: what the whole has, or an end.
 fn found_at(datagram: &[u8], length: usize, at: usize) -> Found {
     if length == at {
         Found::End
     } else if length < at.saturating_add(SUBMESSAGE_HEADER) {
-        let fault = WireFault::CutHeader;
-        Found::Refused(Refusal { at, fault })
+        Found::Refused(WireFault::CutHeader)
     } else if length < end_of(datagram, at) {
-        let fault = WireFault::Overrun;
-        Found::Refused(Refusal { at, fault })
+        Found::Refused(WireFault::Overrun)
     } else {
         Found::Whole
     }

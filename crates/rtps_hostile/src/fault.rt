@@ -4,7 +4,7 @@ use std::alloc::{AllocError, AllocFailed};
 use std::{fmt, io};
 
 /// Why the program ends before its last line.
-#[derive(Clone, Copy, Debug)]
+#[derive(Debug, Drop)]
 pub(crate) enum Fault {
     /// Memory is refused outside of the call that is tried.
     Memory,

@@ -20,7 +20,6 @@ mod streams;
 mod verdicts;
 
 use fault::Fault;
-use rtps_tool::Recording;
 use std::io::Write;
 use std::process::ExitCode;
 use std::{env, io};
@@ -57,32 +56,20 @@ fn try_refused(rt: &HostRuntime, call: &str, text: &str) -> Result<(), Fault> {
 
 fn try_all(rt: &HostRuntime, text: &str) -> Result<(), Fault> {
     let texts = recordings::texts(rt.alloc(), text)?;
-    try_texts(rt, &texts)
-}
-
-fn try_texts(rt: &HostRuntime, texts: &[String]) -> Result<(), Fault> {
-    count_changes(rt, texts)?;
-    let first = texts.first().ok_or(Fault::Input)?.as_str();
-    try_forms(rt, first)?;
-    try_calls(rt, first)
-}
-
-fn try_calls(rt: &HostRuntime, text: &str) -> Result<(), Fault> {
+    count_changes(rt, &texts)?;
+    let first = texts.first().ok_or(Fault::Input)?;
+    try_forms(rt, first.as_str())?;
     for call in refusals::CALLS {
-        try_refused(rt, *call, text)?;
+        try_refused(rt, call, first.as_str())?;
     }
     Ok(())
 }
 
 fn count_changes(rt: &HostRuntime, texts: &[String]) -> Result<(), Fault> {
     let recordings = recordings::read(rt.alloc(), texts)?;
-    count_each_change(rt, &recordings)
-}
-
-fn count_each_change(rt: &HostRuntime, recordings: &[Recording]) -> Result<(), Fault> {
-    let (datagrams, cuts) = cuts::count(recordings)?;
+    let (datagrams, cuts) = cuts::count(&recordings)?;
     println!(rt; "cuts: {cuts} of {datagrams} datagrams")?;
-    let (octets, verdicts) = verdicts::count(rt.alloc(), recordings)?;
+    let (octets, verdicts) = verdicts::count(rt.alloc(), &recordings)?;
     println!(rt; "changed octets: {octets}, each in 3 ways, with {verdicts} rows of audits")?;
     let first = recordings.first().ok_or(Fault::Input)?;
     let many = acknowledgements::count(rt.alloc(), first)?;
@@ -104,14 +91,7 @@ fn try_streams(rt: &HostRuntime, form: &str, input: &[u8]) -> Result<(), Fault> 
     println!(rt; "{form}, early ends: {ends}")?;
     let writers = streams::count_writers(rt.alloc(), input)?;
     println!(rt; "{form}, failed writes: {writers}")?;
-    print_texts(rt, form, input)
-}
-
-/// Prints what is read and written octet by octet.
-fn print_texts(rt: &HostRuntime, form: &str, input: &[u8]) -> Result<(), Fault> {
-    let texts = streams::texts(rt.alloc(), input)?;
-    let octets = texts.len();
+    let octets = streams::count_octets(rt.alloc(), input)?;
     println!(rt; "{form}, octets that were read and written one by one: {octets}")?;
-    rt.stdout().write_all(&texts)?;
     Ok(())
 }

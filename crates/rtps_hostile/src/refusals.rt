@@ -12,9 +12,8 @@ use rtps_tool::Recording;
 use std::alloc::{AllocError, Global};
 
 /// All calls that can be tried. One whose name begins with `capture_` is given a capture of the recording.
-pub(crate) const CALLS: &[&str] = &[
+pub(crate) const CALLS: [&str; 40] = [
     "note",
-    "note_all",
     "participants",
     "endpoints",
     "matched",
@@ -23,9 +22,6 @@ pub(crate) const CALLS: &[&str] = &[
     "add_plain",
     "add_merged",
     "add_bits",
-    "add_bits_to_plain",
-    "add_bits_to_merged",
-    "add_bits_to_bits",
     "judge",
     "judge_by_plain",
     "judge_from_plain",
@@ -37,9 +33,6 @@ pub(crate) const CALLS: &[&str] = &[
     "evidence",
     "audit",
     "audit_from",
-    "put_u16",
-    "put_u32",
-    "put_number",
     "write_list",
     "write_message",
     "read_words",
@@ -77,42 +70,28 @@ pub(crate) fn try_call(alloc: Global, call: &str, text: &str) -> Result<bool, Fa
     if let Some(call) = call.strip_prefix("capture_") {
         return try_capture(alloc, call, text);
     }
-    if let Some(call) = tool::of_input(call) {
-        return tool::try_input(alloc, call, text.as_bytes());
+    if let Some(refused) = tool::try_input(alloc, call, text.as_bytes())? {
+        return Ok(refused);
     }
-    match call {
-        "read_words" | "read_words_from" | "read_help" | "read_refused_words" => {
-            tool::try_words(alloc, call)
-        }
-        _ => try_text(alloc, call, text),
+    if let Some(refused) = tool::try_words(alloc, call)? {
+        return Ok(refused);
     }
+    let recording = read_one(alloc, text)?;
+    try_recording(alloc, call, &recording)
 }
 
 /// A call on a capture of the recording.
 fn try_capture(alloc: Global, call: &str, text: &str) -> Result<bool, Fault> {
-    let Some(call) = tool::of_input(call) else {
-        return Err(Fault::Call);
-    };
-    let capture = capture_of_text(alloc, text)?;
-    tool::try_input(alloc, call, &capture)
-}
-
-fn capture_of_text(alloc: Global, text: &str) -> Result<Vec<u8>, Fault> {
     let recording = read_one(alloc, text)?;
-    capture_of(alloc, &recording)
-}
-
-fn try_text(alloc: Global, call: &str, text: &str) -> Result<bool, Fault> {
-    let recording = read_one(alloc, text)?;
-    try_recording(alloc, call, &recording)
+    let capture = capture_of(alloc, &recording)?;
+    tool::try_input(alloc, call, &capture)?.ok_or(Fault::Call)
 }
 
 /// A call on the datagrams of the recording.
 fn try_recording(alloc: Global, call: &str, recording: &Recording) -> Result<bool, Fault> {
     let recording = datagrams(alloc, recording)?;
-    match call {
-        "put_u16" | "put_u32" | "put_number" | "write_list" => writers::try_append(alloc, call),
-        "write_message" => writers::try_messages(alloc, &recording),
-        _ => library::try_call(alloc, call, &recording),
+    match writers::try_call(alloc, call, &recording)? {
+        Some(refused) => Ok(refused),
+        None => library::try_call(alloc, call, &recording)?.ok_or(Fault::Call),
     }
 }

@@ -161,7 +161,10 @@ fn fail_each_read(
 ) -> Result<usize, Fault> {
     let (text, ending) = text_of(alloc, run, input)?;
     for fails_at in 1..input.len().saturating_add(2) {
-        if !is_failed_read_told(alloc, run, octet_by_octet(input, fails_at, failure)) {
+        let mut output = Vec::new(alloc);
+        let mut reader = octet_by_octet(input, fails_at, failure);
+        let outcome = run.of(alloc, &mut reader, &mut output);
+        if outcome != Err(RunFault::Input) || !output.is_empty() {
             return Err(Fault::Differs("a failed read is answered otherwise"));
         }
         if !is_made_again(alloc, run, input, &text, ending)? {
@@ -169,13 +172,6 @@ fn fail_each_read(
         }
     }
     Ok(input.len().saturating_add(1))
-}
-
-/// Whether a run tells of a read that fails, and writes nothing.
-fn is_failed_read_told(alloc: Global, run: Run, mut input: Slow<'_>) -> bool {
-    let mut output = Vec::new(alloc);
-    let outcome = run.of(alloc, &mut input, &mut output);
-    outcome == Err(RunFault::Input) && output.is_empty()
 }
 
 /// Counts inputs that end early, behind each octet. What is read of one octet by octet is what is read of it at once.
@@ -189,24 +185,17 @@ pub(crate) fn count_ends(alloc: Global, input: &[u8]) -> Result<usize, Fault> {
 
 fn end_behind_each_octet(alloc: Global, run: Run, input: &[u8]) -> Result<usize, Fault> {
     for length in 0..input.len() {
-        if !is_read_alike(alloc, run, &input[..length]) {
+        let left = &input[..length];
+        let mut wanted = Vec::new(alloc);
+        let first = run.of(alloc, &mut { left }, &mut wanted);
+        let mut reader = octet_by_octet(left, 0, ErrorKind::Other);
+        let mut output = Vec::new(alloc);
+        let outcome = run.of(alloc, &mut reader, &mut output);
+        if outcome != first || output != wanted {
             return Err(Fault::Differs("an input that ends early is read otherwise octet by octet"));
         }
     }
     Ok(input.len())
-}
-
-/// Whether a run of an input is the same octet by octet as at once.
-fn is_read_alike(alloc: Global, run: Run, input: &[u8]) -> bool {
-    let mut wanted = Vec::new(alloc);
-    let first = run.of(alloc, &mut { input }, &mut wanted);
-    let mut output = Vec::new(alloc);
-    let outcome = run.of(
-        alloc,
-        &mut octet_by_octet(input, 0, ErrorKind::Other),
-        &mut output,
-    );
-    outcome == first && output == wanted
 }
 
 /// How many octets a writer takes at most at once, and whether it fails where it has no room: else it takes none.
@@ -238,13 +227,16 @@ fn fail_each_write(
 ) -> Result<usize, Fault> {
     let (text, ending) = text_of(alloc, run, input)?;
     for room in 0..text.len() {
-        if !is_failed_write_told(
-            alloc,
-            run,
-            input,
-            narrow_writer(alloc, most, room, fails),
-            &text,
-        ) {
+        let held = Vec::new(alloc);
+        let mut output = Narrow {
+            held,
+            most,
+            room,
+            fails,
+        };
+        let outcome = run.of(alloc, &mut { input }, &mut output);
+        let written = room as u64;
+        if outcome != Err(RunFault::Output { written }) || output.held.as_slice() != &text[..room] {
             return Err(Fault::Differs("a failed write is answered otherwise"));
         }
         if !is_made_again(alloc, run, input, &text, ending)? {
@@ -254,52 +246,25 @@ fn fail_each_write(
     Ok(text.len())
 }
 
-/// Whether a run tells of a write that fails where there is no room for the text, and writes what has room.
-fn is_failed_write_told(
-    alloc: Global,
-    run: Run,
-    input: &[u8],
-    mut output: Narrow,
-    text: &[u8],
-) -> bool {
-    let written = output.room as u64;
-    let outcome = run.of(alloc, &mut { input }, &mut output);
-    outcome == Err(RunFault::Output { written })
-        && text.get(..output.room) == Some(output.held.as_slice())
-}
-
-/// The texts of the runs, one behind the other, with octets that are read and written one by one.
-pub(crate) fn texts(alloc: Global, input: &[u8]) -> Result<Vec<u8>, Fault> {
-    let mut texts = Vec::new(alloc);
+/// Counts the octets of the texts of runs whose octets are read and written one by one.
+pub(crate) fn count_octets(alloc: Global, input: &[u8]) -> Result<usize, Fault> {
+    let mut count = 0usize;
     for run in RUNS {
-        push_text(alloc, run, input, &mut texts)?;
+        let (text, ending) = text_of(alloc, run, input)?;
+        let held = Vec::new(alloc);
+        let (most, room, fails) = (1, usize::MAX, true);
+        let mut output = Narrow {
+            held,
+            most,
+            room,
+            fails,
+        };
+        let mut input = octet_by_octet(input, 0, ErrorKind::Other);
+        let outcome = run.of(alloc, &mut input, &mut output);
+        if outcome != Ok(ending) || output.held.as_slice() != text.as_slice() {
+            return Err(Fault::Differs("what comes and goes octet by octet is another text"));
+        }
+        count = count.saturating_add(text.len());
     }
-    Ok(texts)
-}
-
-/// Appends the text of a run whose octets are read and written one by one, which is that of the run on a plain reader and
-/// writer.
-fn push_text(alloc: Global, run: Run, input: &[u8], texts: &mut Vec<u8>) -> Result<(), Fault> {
-    let (text, ending) = text_of(alloc, run, input)?;
-    let mut output = narrow_writer(alloc, 1, usize::MAX, true);
-    let outcome = run.of(
-        alloc,
-        &mut octet_by_octet(input, 0, ErrorKind::Other),
-        &mut output,
-    );
-    if outcome != Ok(ending) || output.held != text {
-        return Err(Fault::Differs("what comes and goes octet by octet is another text"));
-    }
-    texts.extend_from_slice(output.held.as_slice())?;
-    Ok(())
-}
-
-fn narrow_writer(alloc: Global, most: usize, room: usize, fails: bool) -> Narrow {
-    let held = Vec::new(alloc);
-    Narrow {
-        held,
-        most,
-        room,
-        fails,
-    }
+    Ok(count)
 }

@@ -4,33 +4,21 @@ use rtps_ids::{
 };
 use std::test::Fail;
 
-const OCTETS: &[u8] = &[0, 0, 0, 1, 0, 0, 0, 2];
-
-const NUMBERS: &[(&[u8], Order, usize, Option<i64>)] = &[
-    (OCTETS, Order::Big, 0, Some(0x1_0000_0002)),
-    (
-        &[1, 0, 0, 0, 2, 0, 0, 0],
-        Order::Little,
-        0,
-        Some(0x1_0000_0002),
-    ),
-    (&[255; 8], Order::Big, 0, Some(-1)),
-    (OCTETS, Order::Big, usize::MAX, None),
-];
-
 #[test]
 fn numbers_in_either_order(rt: HostRuntime) {
-    assert!(rt; u16_at(Order::Big, OCTETS, 2) == Some(1));
-    assert!(rt; u16_at(Order::Little, OCTETS, 3) == Some(1));
-    assert!(rt; u32_at(Order::Big, OCTETS, 4) == Some(2));
-    assert!(rt; u32_at(Order::Little, OCTETS, 4) == Some(0x0200_0000));
-    assert!(rt; u32_at(Order::Big, OCTETS, 5).is_none());
-    for (octets, order, at, number) in NUMBERS {
-        assert!(rt;
-            number_at(*order, octets, *at) == *number,
-            "{octets:?} at {at}"
-        );
-    }
+    let octets = [0, 0, 0, 1, 0, 0, 0, 2];
+    assert_eq!(rt; u16_at(Order::Big, &octets, 2), Some(1));
+    assert_eq!(rt; u16_at(Order::Little, &octets, 3), Some(1));
+    assert_eq!(rt; u32_at(Order::Big, &octets, 4), Some(2));
+    assert_eq!(rt; u32_at(Order::Little, &octets, 4), Some(0x0200_0000));
+    assert_eq!(rt; u32_at(Order::Big, &octets, 5), None);
+    assert_eq!(rt; number_at(Order::Big, &octets, 0), Some(0x1_0000_0002));
+    assert_eq!(rt;
+        number_at(Order::Little, &[1, 0, 0, 0, 2, 0, 0, 0], 0),
+        Some(0x1_0000_0002)
+    );
+    assert_eq!(rt; number_at(Order::Big, &[255; 8], 0), Some(-1));
+    assert_eq!(rt; number_at(Order::Big, &octets, usize::MAX), None);
 }
 
 #[test]
@@ -52,60 +40,40 @@ fn numbers_are_written_in_either_order(rt: HostRuntime) -> Result<(), Fail> {
 
 #[test]
 fn sequence_numbers(rt: HostRuntime) {
-    assert!(rt; SeqNum::new(0).is_none() && SeqNum::new(-1).is_none());
-    assert!(rt; SeqNum::new(1).is_some() && SeqNum::new(i64::MAX).is_some());
-    assert!(rt; matches!(SeqNum::new(7), Some(number) if number.get() == 7));
-}
-
-/// Bases and counts, and whether they are of a set.
-const SETS: &[(i64, u32, bool)] = &[
-    (0, 0, true),
-    (0, 1, false),
-    (-1, 0, false),
-    (1, 256, true),
-    (1, 257, false),
-    (i64::MAX, 1, true),
-    (i64::MAX, 2, false),
-];
-
-const WORDS: [u32; 8] = [0x4000_0000, 0, 0, 0, 0, 0, 0, 0];
-
-fn is_set(set: &NumberSet) -> bool {
-    (set.base(), set.count(), set.word(0), set.word(8)) == (5, 2, 0x4000_0000, 0)
-        && set.contains(6)
-        && !set.contains(5)
-        && !set.contains(7)
-}
-
-fn is_cleared(set: &NumberSet) -> bool {
-    (set.word(0), set.word(1)) == (0x8000_0000, 0)
+    for (value, number) in [(0, false), (-1, false), (1, true), (i64::MAX, true)] {
+        assert_eq!(rt; SeqNum::new(value).is_some(), number, "{value}");
+    }
+    assert_eq!(rt; SeqNum::new(7).map(|number| number.get()), Some(7));
 }
 
 #[test]
-fn sets(rt: HostRuntime) {
-    assert!(rt; matches!(&NumberSet::new(5, 2, WORDS), Some(set) if is_set(set)));
-    assert!(rt; matches!(&NumberSet::new(1, 1, [u32::MAX; 8]), Some(set) if is_cleared(set)));
-    for (base, count, good) in SETS {
-        assert!(rt;
-            NumberSet::new(*base, *count, WORDS).is_some() == *good,
+fn sets(rt: HostRuntime) -> Result<(), Fail> {
+    let words = [0x4000_0000, 0, 0, 0, 0, 0, 0, 0];
+    let set = NumberSet::new(5, 2, words).ok_or("a set")?;
+    assert_eq!(rt;
+        (set.base(), set.count(), set.word(0), set.word(8)),
+        (5, 2, 0x4000_0000, 0)
+    );
+    assert!(rt; set.contains(6) && !set.contains(5) && !set.contains(7));
+    let cleared = NumberSet::new(1, 1, [u32::MAX; 8]).ok_or("one number")?;
+    assert_eq!(rt; (cleared.word(0), cleared.word(1)), (0x8000_0000, 0));
+    for (base, count, good) in [
+        (0, 0, true),
+        (0, 1, false),
+        (-1, 0, false),
+        (1, 256, true),
+        (1, 257, false),
+        (i64::MAX, 1, true),
+        (i64::MAX, 2, false),
+    ] {
+        assert_eq!(rt;
+            NumberSet::new(base, count, words).is_some(),
+            good,
             "{base} {count}"
         );
     }
+    Ok(())
 }
-
-fn is_read_set(set: &NumberSet) -> bool {
-    set.word(1) == 0x8000_0000 && set.contains(36) && set.contains(37) && !set.contains(5)
-}
-
-/// What is no set, and why.
-const NO_SETS: &[(&[u8], SetFault)] = &[
-    (
-        &[0, 0, 0, 0, 0, 0, 0, 5, 0, 0, 0, 33, 0, 0, 0, 1, 128, 0, 0],
-        SetFault::CutWords,
-    ),
-    (&[0, 0, 0, 0, 0, 0, 0, 5, 0, 0, 0], SetFault::CutWords),
-    (&[0, 0, 0, 0, 0, 0, 0, 0, 0, 0, 0, 1], SetFault::BadSet),
-];
 
 #[test]
 fn sets_of_octets(rt: HostRuntime) {
@@ -113,13 +81,29 @@ fn sets_of_octets(rt: HostRuntime) {
         0, 0, 0, 0, 0, 0, 0, 5, 0, 0, 0, 33, 0, 0, 0, 1, 128, 0, 0, 1,
     ];
     let found = NumberSet::read(Order::Big, &octets);
-    assert!(rt; matches!(&found, Ok((set, 20)) if is_read_set(set)));
-    for (octets, fault) in NO_SETS {
-        assert!(rt;
-            NumberSet::read(Order::Big, octets).err() == Some(*fault),
-            "{octets:?}"
-        );
-    }
+    assert_eq!(rt;
+        found.is_ok_and(|(set, used)| {
+            used == 20
+                && set.word(1) == 0x8000_0000
+                && set.contains(36)
+                && set.contains(37)
+                && !set.contains(5)
+        }),
+        true
+    );
+    assert_eq!(rt;
+        NumberSet::read(Order::Big, &octets[..19]).err(),
+        Some(SetFault::CutWords)
+    );
+    assert_eq!(rt;
+        NumberSet::read(Order::Big, &octets[..11]).err(),
+        Some(SetFault::CutWords)
+    );
+    let bits_at_zero = [0, 0, 0, 0, 0, 0, 0, 0, 0, 0, 0, 1];
+    assert_eq!(rt;
+        NumberSet::read(Order::Big, &bits_at_zero).err(),
+        Some(SetFault::BadSet)
+    );
 }
 
 #[test]

@@ -1,43 +1,44 @@
 use crate::captures::{DATAGRAM, HEADER, IGNORED};
 use crate::pieces::in_pieces;
-use crate::said::number;
+use crate::said::{ACK_NACK_2, DATA_1_AND_2, READER, WRITER, number};
 use rtps_tool::{
-    Ending, Limits, RecFault, Recording, RunFault, read_input, read_recording,
-    read_recording_within, run_why_from, write_fault,
+    Ending, Limits, RecFault, RunFault, read_input, read_recording, read_recording_within,
+    run_why_from, write_fault,
 };
-use std::alloc::Global;
+use std::alloc::{AllocError, Global};
 use std::test::Fail;
 
-/// Whether this text has so many datagrams.
-fn has_datagrams(alloc: Global, text: &[u8], count: usize) -> bool {
-    matches!(read_recording(alloc, text), Ok(recording) if recording.len() == count)
-}
-
-/// Whether a recording has two datagrams, as they stand in the text.
-fn is_read(recording: &Recording) -> bool {
-    recording.len() == 2
-        && !recording.is_empty()
-        && matches!(recording.datagram(0), Some([0x52, 0xab]))
-        && matches!(recording.datagram(1), Some([0xff]))
-        && matches!(recording.datagram(2), None)
+/// So many lines of two digits, and a last line.
+fn lines(alloc: Global, count: u32, last: &str) -> Result<String, AllocError> {
+    let mut text = String::new(alloc);
+    for _ in 0..count {
+        text.push_str("00\n")?;
+    }
+    text.push_str(last)?;
+    Ok(text)
 }
 
 #[test]
 fn lines_stand_for_datagrams(rt: HostRuntime) -> Result<(), Fail> {
-    let recording = read_recording(rt.alloc(), b"# first\n\n52aB\r\n#\r\nFf\r")?;
-    assert!(rt; is_read(&recording));
+    let text = "# first\n\n52aB\r\n#\r\nFf\r";
+    let recording = read_recording(rt.alloc(), text.as_bytes())?;
+    assert_eq!(rt; recording.len(), 2);
+    assert!(rt; !recording.is_empty());
+    assert!(rt; matches!(recording.datagram(0), Some([0x52, 0xab])));
+    assert!(rt; matches!(recording.datagram(1), Some([0xff])));
+    assert!(rt; matches!(recording.datagram(2), None));
     Ok(())
 }
 
 #[test]
 fn a_recording_has_1000000_datagrams_at_most(rt: HostRuntime) -> Result<(), Fail> {
-    let mut text = b"00\n".repeat(rt.alloc(), 1_000_000)?;
-    text.extend_from_slice(b"# zz\n")?;
-    assert!(rt; has_datagrams(rt.alloc(), &text, 1_000_000));
-    text.truncate(3_000_000);
-    text.extend_from_slice(b"zz\n")?;
-    let fault = read_recording(rt.alloc(), &text).err();
-    assert!(rt; fault == Some(RecFault::TooMany));
+    let alloc = rt.alloc();
+    let text = lines(alloc, 1_000_000, "# zz\n")?;
+    let recording = read_recording(alloc, text.as_bytes())?;
+    assert_eq!(rt; recording.len(), 1_000_000);
+    let text = lines(alloc, 1_000_000, "zz\n")?;
+    let fault = read_recording(alloc, text.as_bytes()).err();
+    assert_eq!(rt; fault, Some(RecFault::TooMany));
     Ok(())
 }
 
@@ -128,21 +129,16 @@ pair aaaaaaaaaaaaaaaaaaaaaaaa.00000103 bbbbbbbbbbbbbbbbbbbbbbbb.00000104 open 2
 datagrams 4 refused 0 skipped 0 fragments 0 undirected 0 unsettled 0
 ";
 
-/// The announcements of a writer and of a reader, numbers 1 and 2, and an answer that claims number 1.
-const TEXT: &str = "\
-5254505302050000aaaaaaaaaaaaaaaaaaaaaaaa150400500000001000000000000003c2000000000000000100020000005a0010aaaaaaaaaaaaaaaaaaaaaaaa000001030005000c00000005706f7365000000000007000c00000005506f73650000000000010000\n\
-5254505302050000bbbbbbbbbbbbbbbbbbbbbbbb150400600000001000000000000004c2000000000000000100020000005a0010bbbbbbbbbbbbbbbbbbbbbbbb000001040005000c00000005706f7365000000000007000c00000005506f736500000000001a000c00000002000000000000000000010000\n\
-5254505302050000aaaaaaaaaaaaaaaaaaaaaaaa1504001c000000100000000000000103000000000000000100000000000000011504001c00000010000000000000010300000000000000020000000000000002\n\
-5254505302050000bbbbbbbbbbbbbbbbbbbbbbbb0e00000caaaaaaaaaaaaaaaaaaaaaaaa06000018000001040000010300000000000000020000000000000001\n";
-
-/// Whether a run that tells why from number 2 on writes this, and ends unclean.
-fn tells(alloc: Global, text: &str, wanted: &str) -> bool {
-    let mut output = Vec::new(alloc);
-    let ending = run_why_from(alloc, &mut text.as_bytes(), &mut output, number(2));
-    ending == Ok(Ending::Unclean) && output.as_slice() == wanted.as_bytes()
-}
-
 #[test]
-fn it_is_told_why_from_a_number_on(rt: HostRuntime) {
-    assert!(rt; tells(rt.alloc(), TEXT, WHY_FROM_2));
+fn it_is_told_why_from_a_number_on(rt: HostRuntime) -> Result<(), Fail> {
+    let mut text = String::new(rt.alloc());
+    for line in [WRITER, READER, DATA_1_AND_2, ACK_NACK_2] {
+        text.push_str(line)?;
+        text.push_str("\n")?;
+    }
+    let mut output = Vec::new(rt.alloc());
+    let ending = run_why_from(rt.alloc(), &mut text.as_bytes(), &mut output, number(2)?);
+    assert_eq!(rt; ending, Ok(Ending::Unclean));
+    assert_eq!(rt; output.as_slice(), WHY_FROM_2.as_bytes());
+    Ok(())
 }
