@@ -165,7 +165,7 @@ def one_each(submessage, octets):
 
 
 def of_named(kind, octets):
-    """A writer, readers of its topic in half of the octets, and HEARTBEATs in the others."""
+    """A writer, readers of its topic in half of the octets, and in the others HEARTBEATs that tell that 1 is gone."""
     readers = [scattered(i) for i in range(1, octets // 720 + 1)]
     yield announced(b'\0\0\3\xc2', A, WRITER, b'')
     for reader in readers:
@@ -174,9 +174,9 @@ def of_named(kind, octets):
     for i in range(0, len(readers), 200):
         some = readers[i:i + 200]
         if kind == 'named':
-            said = b''.join(heartbeat(WRITER, 1, 3, reader) for reader in some) * of_each
+            said = b''.join(heartbeat(WRITER, 2, 3, reader) for reader in some) * of_each
         else:
-            said = b''.join(heartbeat(WRITER, 1, 3, reader) for reader in some) + heartbeat(WRITER, 1, 3) * (len(some) * (of_each - 1))
+            said = b''.join(heartbeat(WRITER, 2, 3, reader) for reader in some) + heartbeat(WRITER, 2, 3) * (len(some) * (of_each - 1))
         yield header(A) + to(B) + said
     yield header(B) + to(A) + b''.join(ack_nack(reader, WRITER, 1) for reader in readers[:2000])
 
