@@ -27,6 +27,7 @@ pub record AreKept (everyone : List ℕ) (named : Guid → List ℕ) (placed : L
   pub particular : (guid : Guid) → All (λ k. k < length placed) (named guid)
   pub each : (k : ℕ) (at : PlacedValue) → k < length placed → may_tell (slice_index_or placed k at).act.body ≡ true → Contains (places_with everyone named (slice_index_or placed k at).act) k
 
+-- these lists are of what a writer says
 abbrev pub AreAudiencesOf : Audiences → List PlacedValue → Type 0
 AreAudiencesOf audiences placed = AreKept audiences.everyone.items (values_at guid_cmp audiences.named.map) placed
 
