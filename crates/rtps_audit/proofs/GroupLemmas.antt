@@ -21,7 +21,7 @@ is_eq-reversed Equal = refl
 is_eq-reversed Greater = refl
 
 module _ {K A : Type 0} {cmp : K → K → Ordering} (total : IsTotalOrder cmp) where
-  found_alike : (x y : K) → cmp x y ≡ Equal → (entries : List (K × A)) → lookup (is_at (cmp x)) entries ≡ lookup (is_at (cmp y)) entries
+  pub found_alike : (x y : K) → cmp x y ≡ Equal → (entries : List (K × A)) → lookup (is_at (cmp x)) entries ≡ lookup (is_at (cmp y)) entries
   found_alike x y e [] = refl
   found_alike x y e (entry ∷ entries) =
       ap (λ order. cond (is_eq order) (Some entry.1) (lookup (is_at (cmp x)) entries)) (total.congr x y entry.0 e)

@@ -36,3 +36,5 @@ pub mod DeliveredLemmas
 pub mod RecordingActs
 pub mod Offered
 pub mod SetWords
+pub mod ToldLemmas
+pub mod FrontLemmas

@@ -17,6 +17,14 @@ use Rattle.rtps_audit.specs.declared.brief.Said.TheVariants as said
 abbrev pub kept_under : ActValue → Guid
 kept_under act = record { prefix = unwrap_or act.dest nobody.prefix; entity = unwrap_or (reader_named act.body) unknown_entity }
 
+-- what acts are kept under that are for each reader of a reader's participant
+abbrev pub of_participant : Guid → Guid
+of_participant reader = record { prefix = reader.prefix; entity = nobody.entity }
+
+-- what acts are kept under that are for a reader's entity id in any participant
+abbrev pub of_entity : Guid → Guid
+of_entity reader = record { prefix = nobody.prefix; entity = reader.entity }
+
 -- the places of the acts that are kept with this one
 abbrev pub places_with : List ℕ → (Guid → List ℕ) → ActValue → List ℕ
 places_with everyone named act = if is_for_everyone act then everyone else named (kept_under act)

@@ -21,6 +21,8 @@ pub mod Answered
 pub mod Index
 pub mod Everyone
 pub mod Audiences
+pub mod Told
+pub mod Fronts
 pub mod Common
 pub mod Judge
 pub mod Laws

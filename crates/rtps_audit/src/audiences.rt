@@ -1,6 +1,6 @@
 ghost use Rattle.std.specs.Prelude.{◌≡◌};
 ghost use Rattle.rtps_ids.specs.declared.identity.Guid.{Guid as GuidValue};
-ghost use Rattle.rtps_audit.specs.Audiences.{kept_under};
+ghost use Rattle.rtps_audit.specs.Audiences.{kept_under, of_entity as of_entity_lem, of_participant as of_participant_lem};
 ghost use Rattle.rtps_audit.specs.Brief.{brief_value};
 ghost use Rattle.rtps_audit.specs.Everyone.{is_for_everyone, nobody};
 
@@ -33,7 +33,7 @@ pub(crate) fn is_for_all(brief: &Brief<'_>) -> bool
 }
 
 /// What an act is kept under.
-fn key_of(brief: &Brief<'_>) -> Guid
+pub(crate) fn key_of(brief: &Brief<'_>) -> Guid
     ensures { (writer : GuidValue) → result ≡ kept_under (brief_value writer brief.now).act }
 {
     Guid {
@@ -43,8 +43,8 @@ fn key_of(brief: &Brief<'_>) -> Guid
 }
 
 /// What acts are kept under that are for each reader of a reader's participant.
-fn of_participant(reader: Guid) -> Guid
-    ensures { result ≡ record { prefix = reader.prefix; entity = nobody.entity } }
+pub(crate) fn of_participant(reader: Guid) -> Guid
+    ensures { result ≡ of_participant_lem reader }
 {
     Guid {
         prefix: reader.prefix,
@@ -53,8 +53,8 @@ fn of_participant(reader: Guid) -> Guid
 }
 
 /// What acts are kept under that are for a reader's entity id in any participant.
-fn of_entity(reader: Guid) -> Guid
-    ensures { result ≡ record { prefix = nobody.prefix; entity = reader.entity } }
+pub(crate) fn of_entity(reader: Guid) -> Guid
+    ensures { result ≡ of_entity_lem reader }
 {
     Guid {
         prefix: NOBODY.prefix,

@@ -7,9 +7,9 @@ ghost use Rattle.rtps_coverage.specs.Coverage.{TellsMore};
 ghost use Rattle.rtps_audit.specs.Brief.{bare, bare_body, brief_value, is_speech, said_body};
 ghost use Rattle.rtps_audit.specs.KeptPayloads.{KeepsMore};
 ghost use Rattle.rtps_audit.specs.Placed.{placed_at};
-ghost use Rattle.rtps_audit.specs.Speech.{announced_for, may_tell, word_for};
+ghost use Rattle.rtps_audit.specs.Speech.{announced_for, may_tell, word_for, word_of};
 
-use crate::words::Words;
+use crate::words::{Words, add_told};
 use rtps_coverage::Coverage;
 use rtps_discovery::Pair;
 use rtps_ids::{EntityId, Guid, Memory, NumberSet, SeqNum};
@@ -192,4 +192,12 @@ pub(crate) fn note_brief<'a, C: Coverage>(
         words.note(&brief.body(pair.writer.entity))?;
     }
     Ok(())
+}
+
+/// Joins the numbers that what is said has a word for. After `Memory` some of them may be joined.
+pub(crate) fn add_brief<C: Coverage>(told: &mut C, brief: &Brief<'_>) -> Result<(), Memory>
+    ensures { OnOk result ((writer : GuidValue) → TellsMore (C.covered told.old) (C.covered told.new)
+        (λ n. is_some (word_of (brief_value writer brief.now).act.body n))) }
+{
+    add_told(told, &brief.body(brief.audience.reader))
 }

@@ -71,18 +71,10 @@ impl<'a, C: Coverage> Words<'a, C> {
         ensures payloads { OnOk result
             (KeepsMore self.old.from self.old.payloads.items self.new.payloads.items (word_of (act_body_value body.now))) }
     {
-        match body {
-            ActBody::Data(data) => {
-                let number = data.number.get().cast_unsigned();
-                self.keep(number, data.payload)?;
-                add_row(&mut self.told, number, number + 1)
-            }
-            ActBody::Heartbeat(heartbeat) => {
-                add_row(&mut self.told, 1, heartbeat.first.get().cast_unsigned())
-            }
-            ActBody::Gap(gap) => add_gap(&mut self.told, gap),
-            ActBody::AckNack(_) => Ok(()),
+        if let ActBody::Data(data) = body {
+            self.keep(data.number.get().cast_unsigned(), data.payload)?;
         }
+        add_told(&mut self.told, body)
     }
 
     /// The least number for which two different payloads are kept. `Memory` is answered where there is none to put them
@@ -95,6 +87,22 @@ impl<'a, C: Coverage> Words<'a, C> {
     {
         put_in_order(&mut self.payloads)?;
         Ok(least_conflict(&self.payloads))
+    }
+}
+
+/// Joins the numbers that a body has a word for. After `Memory` some of them may be joined.
+pub(crate) fn add_told<C: Coverage>(told: &mut C, body: &ActBody<'_>) -> Result<(), Memory>
+    ensures { OnOk result
+        (TellsMore (C.covered told.old) (C.covered told.new) (λ n. is_some (word_of (act_body_value body.now) n))) }
+{
+    match body {
+        ActBody::Data(data) => {
+            let number = data.number.get().cast_unsigned();
+            add_row(told, number, number + 1)
+        }
+        ActBody::Heartbeat(heartbeat) => add_row(told, 1, heartbeat.first.get().cast_unsigned()),
+        ActBody::Gap(gap) => add_gap(told, gap),
+        ActBody::AckNack(_) => Ok(()),
     }
 }
 

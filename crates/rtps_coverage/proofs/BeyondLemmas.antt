@@ -1,10 +1,11 @@
 -- A front and the numbers beyond it.
-use Rattle.std.proofs.Common.{ℕ, Bool, true, false, ◌≡◌, ◌≤◌, ◌<◌, ◌&&◌, ◌||◌, nat_le, nat_lt, ℤ, pos, negsuc, ◌≤ℤ◌, refl, ◌∙◌, sym, inl, inr, arith}
+use Rattle.std.proofs.Common.{ℕ, Bool, true, false, ◌≡◌, ◌≤◌, ◌<◌, ◌^◌, ◌&&◌, ◌||◌, nat_le, nat_lt, ℤ, pos, negsuc, ◌≤ℤ◌, refl, ◌∙◌, sym, ap, inl, inr, arith}
 use Rattle.std.specs.Prelude.{OnOk, OnErr, Result, Ok, Err}
 use Rattle.std.proofs.lemmas.Bool.{cases_lt, false≢true}
 use Rattle.std.proofs.lemmas.Bool.Decides.{nat_tests}
 use Rattle.std.proofs.lemmas.Int.{ints}
-use Rattle.rtps_coverage.specs.Coverage.{IsFront, JoinsRange, IsSameSet, is_within}
+use Rattle.rtps_coverage.specs.Coverage.{IsFront, IsPast, JoinsRange, IsSameSet, is_within}
+use Rattle.rtps_coverage.proofs.KeptLemmas.{IsGreater}
 
 -- what a set of a front has, with what lies beyond the front as a test
 abbrev pub is_in : ℕ → ℕ → Bool → Bool
@@ -85,3 +86,53 @@ pub not_added : {T E : Type 0} (r : Result T E) (P : Type 0) (old new : ℕ → 
     → is_within lo hi n ≡ false → new n ≡ old n
 not_added (Ok x) P old new lo hi n ok err out = ok n ∙ or_false (old n) (is_within lo hi n) out
 not_added (Err e) P old new lo hi n ok err out = err.0 n
+
+-- a number that lies beyond the front is joined once more
+pub joined_again : (last from to n : ℕ) (blocks old new : Bool) → new ≡ (old || (nat_le from n && nat_lt n to))
+    → (from ≤ n → n < to → (nat_lt n last && (blocks || old)) ≡ true)
+    → (nat_lt n last && (blocks || new)) ≡ (nat_lt n last && (blocks || old))
+joined_again last from to n blocks old new e f =
+    elim (cases_lt n from) [
+      | inl lt ↦ grind (arith, nat_tests)
+      | inr ge ↦ elim (cases_lt n to) [
+        | inl within ↦ let there = f ge within in grind (arith, nat_tests)
+        | inr far ↦ grind (arith, nat_tests)
+      ]
+    ]
+
+-- what follows from either answer
+pub on_either : {T E : Type 0} (r : Result T E) {P Q C : Type 0} → OnOk r P → OnErr r Q → (P → C) → (Q → C) → C
+on_either (Ok x) ok err f g = f ok
+on_either (Err e) ok err f g = g err
+
+-- a number from n on and below past is in the set
+between_both : (passed n from past m : ℕ) (beyond : Bool) → 1 ≤ n → IsGreater n passed from → n ≤ m → m < past
+    → (from ≤ m → m < past → beyond ≡ true) → is_in passed m beyond ≡ true
+between_both passed n from past m beyond positive greater le lt f =
+    elim (cases_lt m passed) [
+      | inl below ↦ grind (arith, nat_tests)
+      | inr ge ↦ elim greater.one [
+        | inl e ↦ let there = f (omega arith) lt in grind (arith, nat_tests)
+        | inr e ↦ let there = f (omega arith) lt in grind (arith, nat_tests)
+      ]
+    ]
+
+outside_both : (passed past : ℕ) (beyond : Bool) → passed ≤ past → beyond ≡ false → is_in passed past beyond ≡ false
+outside_both passed past beyond le e = grind (arith, nat_tests)
+
+-- the least number from n on that is neither below the front nor beyond it
+pub least_past : (passed n from past : ℕ) (beyond : ℕ → Bool) → 1 ≤ n → IsGreater n passed from → from ≤ past → beyond past ≡ false
+    → ((m : ℕ) → from ≤ m → m < past → beyond m ≡ true) → past < 2 ^ 63 → IsPast (λ m. is_in passed m (beyond m)) n past
+least_past passed n from past beyond positive greater onward outside between in_range =
+    let left = greater.left in
+    let right = greater.right in
+    record {
+      onward = omega arith;
+      in_range = in_range;
+      outside = outside_both passed past (beyond past) (omega arith) outside;
+      between = λ m lo hi. between_both passed n from past m (beyond m) positive greater lo hi (between m);
+    }
+
+-- the same numbers are in the ranges
+pub same_ranges : (last n : ℕ) (blocks old new : Bool) → new ≡ old → (nat_lt n last && (blocks || new)) ≡ (nat_lt n last && (blocks || old))
+same_ranges last n blocks old new e = ap (λ b. nat_lt n last && (blocks || b)) e

@@ -28,3 +28,10 @@ pub record IsFront (set : ℕ → Bool) (front : ℤ) : Type 0 where
   pub positive : pos 1 ≤ℤ front
   pub outside : has set front ≡ false
   pub below : (n : ℕ) → 1 ≤ n → pos n <ℤ front → set n ≡ true
+
+-- the least number from n on that is not in the set
+pub record IsPast (set : ℕ → Bool) (n past : ℕ) : Type 0 where
+  pub onward : n ≤ past
+  pub in_range : past < 2 ^ 63
+  pub outside : set past ≡ false
+  pub between : (m : ℕ) → n ≤ m → m < past → set m ≡ true

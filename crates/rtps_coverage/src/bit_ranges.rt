@@ -13,6 +13,9 @@ const SHORT: u64 = 64;
 /// The least number that no set has.
 const LAST: u64 = i64::MAX as u64;
 
+/// A row of more numbers than this, which are two blocks, is kept as one range once it was walked.
+const ROW: u64 = 128;
+
 /// A set of sequence numbers as its front, below which each positive number is in the set, the short ranges beyond it
 /// as bits, and the long ones as ranges.
 ///
@@ -61,6 +64,60 @@ fn pass(blocks: &mut Blocks, ranges: &MergedRanges, from: u64, hi: u64) -> u64
         reached = end;
     }
     reached
+}
+
+/// The least number from `from` on that lies in none of the ranges and blocks.
+fn walk(blocks: &Blocks, ranges: &MergedRanges, from: u64) -> u64
+    requires { from < 2 ^ 63 }
+    ensures onward { from ≤ result }
+    ensures in_range { result < 2 ^ 63 }
+    ensures outside { is_beyond blocks.now ranges.now result ≡ false }
+    ensures between { (n : ℕ) → from ≤ n → n < result → is_beyond blocks.now ranges.now n ≡ true }
+{
+    let mut reached = from;
+    while reached < LAST {
+        let end = run_end(blocks, ranges, reached);
+        if end == reached {
+            return reached;
+        }
+        reached = end;
+    }
+    reached
+}
+
+/// Keeps as one range the numbers from `from` on and below `to`, each of which lies in a range or a block. After `Memory`
+/// the ranges are the same.
+fn keep(blocks: &Blocks, ranges: &mut MergedRanges, from: u64, to: u64) -> Result<(), Memory>
+    requires positive { 1 ≤ from }
+    requires ordered { from ≤ to }
+    requires bounded { to < 2 ^ 63 }
+    requires members { (n : ℕ) → from ≤ n → n < to → is_beyond blocks.now ranges.old n ≡ true }
+    ensures { (n : ℕ) → is_beyond blocks.now ranges.new n ≡ is_beyond blocks.now ranges.old n }
+{
+    ranges.add(from.cast_signed(), to.cast_signed())
+}
+
+impl BitRanges {
+    ghost use Rattle.std.specs.Prelude.{IfOk};
+    ghost use Rattle.rtps_coverage.specs.Coverage.{IsSameSet, IsPast};
+    ghost use Rattle.rtps_coverage.specs.BitRanges.{covered_of};
+
+    /// The least number from `n` on that is not in the set; 2^63 - 1 is in none. A long row that is passed on the way is kept
+    /// as one range from then on, so that it is not walked again. `Memory` is answered where there is none for that. The set is
+    /// the same in either case.
+    pub fn past(&mut self, n: u64) -> Result<u64, Memory>
+        requires positive { 1 ≤ n }
+        requires in_range { n < 2 ^ 63 }
+        ensures same { IsSameSet (covered_of self.old) (covered_of self.new) }
+        ensures past { IfOk result (IsPast (covered_of self.old) n) }
+    {
+        let from = n.max(self.passed);
+        let past = walk(&self.blocks, &self.ranges, from);
+        if past - from > ROW {
+            keep(&self.blocks, &mut self.ranges, from, past)?;
+        }
+        Ok(past)
+    }
 }
 
 impl Coverage for BitRanges {

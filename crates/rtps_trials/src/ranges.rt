@@ -102,6 +102,24 @@ fn bits_front_goes_on_through_bits_and_ranges(rt: HostRuntime) -> Result<(), Fai
 }
 
 #[test]
+fn bits_past_a_row_of_blocks(rt: HostRuntime) -> Result<(), Fail> {
+    let mut set: BitRanges = added(rt.alloc(), &[(1, 11)])?;
+    for n in 12..400i64 {
+        set.add(n, n + 1)?;
+    }
+    assert_eq!(rt; set.past(1)?, 11);
+    assert_eq!(rt; set.past(11)?, 11);
+    assert_eq!(rt; set.past(12)?, 400);
+    assert_eq!(rt; set.past(12)?, 400);
+    assert_eq!(rt; set.front(), 11);
+    assert!(rt; set.covers(399));
+    set.add(11, 12)?;
+    assert_eq!(rt; set.past(1)?, 400);
+    assert_eq!(rt; set.past(i64::MAX)?, i64::MAX);
+    Ok(())
+}
+
+#[test]
 fn bits_greatest_number_is_never_covered(rt: HostRuntime) -> Result<(), Fail> {
     let set: BitRanges = added(
         rt.alloc(),
