@@ -1,11 +1,11 @@
 -- What a writer says by an act, kept briefly, is what the act says.
-use Rattle.std.proofs.Common.{◌≡◌, ℕ, zero, suc, ◌+◌, ◌-◌, ◌<◌, ◌≤◌, Bool, true, false, cond, not, ◌&&◌, List, [], ◌∷◌, ◌++◌, length, get_or, take, max, map, filter, Option, Some, None, ◌⊎◌, inl, inr, refl, sym, ap, ◌∙◌, subst, append_assoc, arith}
+use Rattle.std.proofs.Common.{◌≡◌, ℕ, ℤ, zero, suc, ◌+◌, ◌-◌, ◌<◌, ◌≤◌, Bool, true, false, cond, not, ◌&&◌, List, [], ◌∷◌, ◌++◌, length, get_or, take, max, map, filter, Option, Some, None, ◌⊎◌, inl, inr, refl, sym, ap, ◌∙◌, subst, append_assoc, arith}
 use Rattle.std.specs.Prelude.{Contains, MatchOption, if◌then◌else◌, is_some, ◌||◌}
 use Rattle.std.specs.List.{All, cons_option, filter_map, list_all}
 use Rattle.std.specs.Ordering.{is_eq}
 use Rattle.std.specs.Str.{bytes_eq}
 use Rattle.std.proofs.lemmas.List.{map-append}
-use Rattle.std.proofs.lemmas.List.Elements.{All-head, All-tail, filter-append}
+use Rattle.std.proofs.lemmas.List.Elements.{All-head, All-tail, All-weaker, filter-append}
 use Rattle.std.proofs.lemmas.Slice.Eq.{bytes_eq-Decides}
 use Rattle.rtps_ids.specs.declared.identity.EntityId.{EntityId}
 use Rattle.rtps_ids.specs.declared.identity.Guid.{Guid}
@@ -18,14 +18,17 @@ use Rattle.rtps_coverage.specs.Coverage.{TellsMore}
 use Rattle.rtps_discovery.specs.GuidOrder.{guid_cmp}
 use Rattle.rtps_audit.specs.Brief.{bare, bare_act, bare_body, brief_value, is_speech, said_body, spoken_from}
 use Rattle.rtps_audit.specs.Delivery.{Word, greatest}
-use Rattle.rtps_audit.specs.Hearing.{Hears, HearsTwo, IsHeard, IsToldBy, last_among}
+use Rattle.rtps_audit.specs.Answered.{IsFirstAmong, IsToldAll, IsUntoldAmong}
+use Rattle.rtps_audit.specs.Hearing.{Hears, HearsTwo, IsFrontBy, IsHeard, IsToldBy, last_among}
 use Rattle.rtps_audit.specs.KeptPayloads.{KeepsMore}
 use Rattle.rtps_audit.specs.Placed.{PlacedValue, is_from, is_guid, placed_at}
 use Rattle.rtps_audit.specs.RunVerdict.{IsLeast}
 use Rattle.rtps_audit.specs.Speech.{announced_for, announced_of_body, word_for, word_of}
+use Rattle.rtps_audit.specs.declared.answers.Answer.{Answer}
 use Rattle.rtps_audit.specs.declared.brief.Brief.{Brief}
 use Rattle.rtps_audit.specs.declared.brief.Said.{Said}
 use Rattle.rtps_audit.specs.declared.brief.Said.TheVariants as said
+use Rattle.rtps_audit.specs.declared.claims.Untold.{Untold}
 use Rattle.rtps_audit.specs.declared.hearing.Hearing.{Hearing}
 use Rattle.rtps_audit.specs.declared.payloads.KeptPayload.{KeptPayload}
 use Rattle.rtps_audit.proofs.IndexSpeech.{contains_mapped, if_some, mapped_contains, spoken_is_from}
@@ -223,7 +226,7 @@ said_joined writer old mid new xs ys one two =
 
 -- ---- it says the same as the whole act
 
-kept_passes : {X : Type 0} (test : X → Bool) (xs : List X) (x : X) → Contains (filter test xs) x → test x ≡ true
+pub kept_passes : {X : Type 0} (test : X → Bool) (xs : List X) (x : X) → Contains (filter test xs) x → test x ≡ true
 kept_passes test [] x among = absurd (contains_none x among)
 kept_passes {X} test (y ∷ xs) x among = by_test (test y) refl among (λ later. kept_passes test xs x later)
   where
@@ -303,7 +306,7 @@ announced_from writer (at ∷ placed) = by_test (is_from writer at) refl (is_spo
     by_test false e true f rest = let no : false ≡ true = sym e ∙ spoken_is_from writer at f in cc
     by_test false e false f rest = rest ∙ ap (λ b. cons_option (if b then announced_of_body at.act.body else None) (filter_map (λ (at : PlacedValue). announced_for writer at.act) placed)) (sym f)
 
-last_whole : (writer : Guid) (placed : List PlacedValue) → last_among writer (spoken_from writer placed) ≡ last_among writer (filter (is_from writer) placed)
+pub last_whole : (writer : Guid) (placed : List PlacedValue) → last_among writer (spoken_from writer placed) ≡ last_among writer (filter (is_from writer) placed)
 last_whole writer placed = ap greatest (announced_all writer placed ∙ sym (announced_from writer placed))
 
 heard_whole : (writer reader : Guid) (placed : List PlacedValue) (n : ℕ) (word : Word) (heard : IsHeard writer reader (spoken_from writer placed) n word)
@@ -349,22 +352,40 @@ two_whole writer reader placed n (asked, (x, y, one, two, differ)) = (asked, (x,
 two_briefly : {from : ℕ} (writer reader : Guid) (placed : List PlacedValue) (n : ℕ) → HearsTwo from writer reader (filter (is_from writer) placed) n → HearsTwo from writer reader (spoken_from writer placed) n
 two_briefly writer reader placed n (asked, (x, y, one, two, differ)) = (asked, (x, y, (heard_briefly writer reader placed n _ one).0, (heard_briefly writer reader placed n _ two).0, differ))
 
+-- a front by what the writer says is one by its acts
+pub front_whole : {from : ℕ} (writer reader : Guid) (placed : List PlacedValue) (datagram : ℕ) (front : ℤ) → IsFrontBy from writer reader (spoken_from writer placed) datagram front → IsFrontBy from writer reader (filter (is_from writer) placed) datagram front
+front_whole writer reader placed datagram front is = record {
+  positive = is.positive;
+  outside = λ n at small. let out = is.outside n at small in (out.0, λ told. out.1 (told_briefly writer reader placed datagram n told));
+  below = λ n asked small lt. told_whole writer reader placed datagram n (is.below n asked small lt);
+}
+
+-- and so are the least number with two payloads
+pub conflict_whole : (from : ℕ) (writer reader : Guid) (placed : List PlacedValue) (conflict : Option ℕ) → MatchOption conflict ((n : ℕ) → ¬ HearsTwo from writer reader (spoken_from writer placed) n) (IsLeast (HearsTwo from writer reader (spoken_from writer placed)))
+    → MatchOption conflict ((n : ℕ) → ¬ HearsTwo from writer reader (filter (is_from writer) placed) n) (IsLeast (HearsTwo from writer reader (filter (is_from writer) placed)))
+conflict_whole from writer reader placed None never = λ n two. never n (two_briefly writer reader placed n two)
+conflict_whole from writer reader placed (Some n) least = record { holds = two_whole writer reader placed n least.holds; least = λ m two. least.least m (two_briefly writer reader placed m two) }
+
+-- and the first claim that is not told
+pub untold_whole : (from : ℕ) (writer reader : Guid) (placed : List PlacedValue) (answers : List Answer) (untold : Option Untold) → IsUntoldAmong from writer reader (spoken_from writer placed) answers untold → IsUntoldAmong from writer reader (filter (is_from writer) placed) answers untold
+untold_whole from writer reader placed answers None all =
+    All-weaker (IsToldAll from writer reader (spoken_from writer placed)) (IsToldAll from writer reader (filter (is_from writer) placed)) (λ answer told n asked lt. told_whole writer reader placed (answer.datagram - 1) n (told n asked lt)) answers all
+untold_whole from writer reader placed answers (Some untold) is = record {
+  answer = is.answer;
+  among = is.among;
+  datagram = is.datagram;
+  below = is.below;
+  small = is.small;
+  front = front_whole writer reader placed (is.answer.datagram - 1) untold.number is.front;
+  first = All-weaker (λ (other : Answer). other.datagram < untold.datagram → IsToldAll from writer reader (spoken_from writer placed) other) (λ (other : Answer). other.datagram < untold.datagram → IsToldAll from writer reader (filter (is_from writer) placed) other)
+      (λ answer told early n asked lt. told_whole writer reader placed (answer.datagram - 1) n (told early n asked lt)) answers is.first;
+}
+
 -- so what is heard of it is what is heard of its acts
 pub hears_whole : (hearing : Hearing) (writer reader : Guid) (placed : List PlacedValue) → Hears hearing writer reader (spoken_from writer placed) → Hears hearing writer reader (filter (is_from writer) placed)
 hears_whole hearing writer reader placed known = record {
   rising = known.rising;
-  timeline = λ k datagram cut.
-      let front = known.timeline k datagram cut in
-      record {
-        positive = front.positive;
-        outside = λ n at small. let out = front.outside n at small in (out.0, λ told. out.1 (told_briefly writer reader placed datagram n told));
-        below = λ n asked small lt. told_whole writer reader placed datagram n (front.below n asked small lt);
-      };
-  conflict = by_cases hearing.conflict known.conflict;
+  timeline = λ k datagram cut. front_whole writer reader placed datagram _ (known.timeline k datagram cut);
+  conflict = conflict_whole hearing.from writer reader placed hearing.conflict known.conflict;
   last = known.last ∙ ap (max (hearing.from - 1)) (last_whole writer placed);
 }
-  where
-    by_cases : (conflict : Option ℕ) → MatchOption conflict ((n : ℕ) → ¬ HearsTwo hearing.from writer reader (spoken_from writer placed) n) (IsLeast (HearsTwo hearing.from writer reader (spoken_from writer placed)))
-        → MatchOption conflict ((n : ℕ) → ¬ HearsTwo hearing.from writer reader (filter (is_from writer) placed) n) (IsLeast (HearsTwo hearing.from writer reader (filter (is_from writer) placed)))
-    by_cases None never = λ n two. never n (two_briefly writer reader placed n two)
-    by_cases (Some n) least = record { holds = two_whole writer reader placed n least.holds; least = λ m two. least.least m (two_briefly writer reader placed m two) }

@@ -38,3 +38,6 @@ pub mod Offered
 pub mod SetWords
 pub mod ToldLemmas
 pub mod FrontLemmas
+pub mod DisputeLemmas
+pub mod DisputeSaid
+pub mod DisputeHearing

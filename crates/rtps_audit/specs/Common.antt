@@ -6,6 +6,7 @@ use Rattle.rtps_audit.specs.Audiences.{AreAudiencesOf}
 use Rattle.rtps_audit.specs.Brief.{spoken_from}
 use Rattle.rtps_audit.specs.Everyone.{nobody}
 use Rattle.rtps_audit.specs.Hearing.{Hears}
+use Rattle.rtps_audit.specs.Named.{IsNamedOf}
 use Rattle.rtps_audit.specs.Placed.{placed_in}
 use Rattle.rtps_audit.specs.declared.common.Common.{Common}
 
@@ -15,4 +16,5 @@ pub record IsCommon (recording : List (List ℕ)) (common : Common) : Type 0 whe
   pub hearing : IfSome common.hearing (λ hearing. (hearing.from ≡ common.from) × Hears hearing common.writer nobody (spoken_from common.writer (placed_in recording)))
   pub for_all : common.for_all ≡ true
       → (reader : Guid) → All (λ at. is_heard_by at.act reader ≡ is_heard_by at.act nobody) (spoken_from common.writer (placed_in recording))
+  pub named : IfSome common.named (λ named. IsNamedOf common.from named common.writer (spoken_from common.writer (placed_in recording)))
   pub audiences : IfSome common.audiences (λ audiences. AreAudiencesOf audiences (spoken_from common.writer (placed_in recording)))

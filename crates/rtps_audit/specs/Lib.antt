@@ -22,6 +22,9 @@ pub mod Index
 pub mod Everyone
 pub mod Audiences
 pub mod Told
+pub mod DisputeWords
+pub mod Disputes
+pub mod Named
 pub mod Fronts
 pub mod Common
 pub mod Judge

@@ -28,13 +28,11 @@ fn rows_of<P: Watch>(
 {
     let mut rows = Vec::new(index.alloc);
     let mut common = Common::new(from);
-    for pair in pairs {
+    for place in 0..pairs.len() {
+        let pair = pairs[place];
         common.turn_to(index, pair.writer);
-        let verdict = common.judge(index, *pair)?;
-        rows.push(Row {
-            pair: *pair,
-            verdict,
-        })?;
+        let verdict = common.judge(index, pair, &pairs[place..])?;
+        rows.push(Row { pair, verdict })?;
         watch.judged(rows.len(), pairs.len());
     }
     Ok(rows)

@@ -41,7 +41,7 @@ pub(crate) struct Brief<'a> {
     /// The datagram of the recording, counted from 1.
     pub(crate) datagram: usize,
     pub(crate) audience: Audience,
-    said: Said<'a>,
+    pub(crate) said: Said<'a>,
 }
 
 impl<'a> Brief<'a> {

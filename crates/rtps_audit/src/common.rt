@@ -1,4 +1,4 @@
-ghost use Rattle.std.specs.Prelude.{◌≡◌, ◌↔◌, ℕ, All, IfOk, IsTrue, List, OnOk};
+ghost use Rattle.std.specs.Prelude.{◌≡◌, ◌↔◌, ℕ, All, IfOk, IfSome, IsTrue, List, OnOk};
 ghost use Rattle.std.specs.List.{list_all};
 ghost use Rattle.rtps_ids.specs.declared.identity.Guid.{Guid as GuidValue};
 ghost use Rattle.rtps_receiver.specs.Values.{act_value};
@@ -14,6 +14,7 @@ use crate::audiences::{Audiences, NOBODY, is_for_all};
 use crate::brief::Brief;
 use crate::hearing::Hearing;
 use crate::index::Index;
+use crate::named::Named;
 use crate::placed::Placed;
 use crate::verdict::Verdict;
 use rtps_discovery::Pair;
@@ -22,7 +23,7 @@ use rtps_receiver::Act;
 
 /// What is heard from a writer by the readers that it does not name, which all hear the same.
 #[derive(Drop)]
-pub(crate) struct Common {
+pub(crate) struct Common<'a> {
     pub(crate) writer: Guid,
     /// The first number that is asked for.
     pub(crate) from: SeqNum,
@@ -32,6 +33,8 @@ pub(crate) struct Common {
     pub(crate) for_all: bool,
     /// By whom what it says is heard, once it was asked for; it is not, where that is all readers.
     pub(crate) audiences: Option<Audiences>,
+    /// What tells the verdicts of the readers that it names, once it was asked for.
+    pub(crate) named: Option<Named<'a>>,
 }
 
 /// Whether an act is for every reader.
@@ -55,35 +58,14 @@ fn says_to_all(briefs: &[Brief<'_>]) -> bool
     briefs.iter().all(is_for_all)
 }
 
-/// What the pair's reader hears from its writer, where these are the audiences of what the writer says, and this is what
-/// is heard by the readers that it does not name. It takes time for what the reader hears alone.
-fn heard_by_name(
-    index: &Index<'_>,
-    audiences: &Audiences,
-    pair: Pair,
-    common: &Hearing,
-) -> Result<Hearing, Memory>
-    ensures { (recording : List (List ℕ)) → IsBriefOf recording index.now → IsListed index.now.origins pair.writer
-        → let spoken = spoken_from pair.writer (placed_in recording) in
-        AreAudiencesOf audiences.now spoken → Hears common.now pair.writer nobody spoken
-        → IfOk result (λ hearing. (hearing.from ≡ common.now.from) × Hears hearing pair.writer pair.reader spoken) }
-{
-    let briefs = index.briefs_of(pair.writer);
-    let places = audiences.places_of(index.alloc, pair.reader)?;
-    let mut hearing = Hearing::of_places(index.alloc, briefs, &places, pair, common.from)?;
-    // The last number is announced to whoever hears it.
-    hearing.last = common.last;
-    Ok(hearing)
-}
-
-impl Common {
+impl<'a> Common<'a> {
     ghost use Rattle.rtps_audit.specs.Common.{IsCommon};
     ghost use Rattle.rtps_audit.specs.Origins.{IsAtHand};
     ghost use Rattle.rtps_audit.specs.RunVerdict.{IsVerdictFrom};
     ghost use Rattle.rtps_audit.specs.Speech.{speech_of};
 
     /// Of a writer, where the numbers from `from` on are asked for.
-    fn of(index: &Index<'_>, writer: Guid, from: SeqNum) -> Common
+    fn of(index: &Index<'a>, writer: Guid, from: SeqNum) -> Common<'a>
         ensures common { (recording : List (List ℕ)) → IsBriefOf recording index.now → IsListed index.now.origins writer
             → IsCommon recording result }
         ensures writer { result.writer ≡ writer }
@@ -95,11 +77,12 @@ impl Common {
             hearing: None,
             for_all: says_to_all(index.briefs_of(writer)),
             audiences: None,
+            named: None,
         }
     }
 
     /// Of no writer yet.
-    pub(crate) fn new(from: SeqNum) -> Common
+    pub(crate) fn new(from: SeqNum) -> Common<'a>
         ensures common { (recording : List (List ℕ)) → IsCommon recording result }
         ensures from { result.from ≡ from }
     {
@@ -109,11 +92,12 @@ impl Common {
             hearing: None,
             for_all: false,
             audiences: None,
+            named: None,
         }
     }
 
     /// Turns to a writer, if it is another one.
-    pub(crate) fn turn_to(&mut self, index: &Index<'_>, writer: Guid)
+    pub(crate) fn turn_to(&mut self, index: &Index<'a>, writer: Guid)
         ensures writer { self.new.writer ≡ writer }
         ensures from { self.new.from ≡ self.old.from }
         ensures common { (recording : List (List ℕ)) → IsBriefOf recording index.now → IsListed index.now.origins writer
@@ -139,7 +123,7 @@ impl Common {
     }
 
     /// Hears the writer, if it did not yet.
-    fn listen(&mut self, index: &Index<'_>) -> Result<(), Memory>
+    fn listen(&mut self, index: &Index<'a>) -> Result<(), Memory>
         ensures writer { self.new.writer ≡ self.old.writer }
         ensures from { self.new.from ≡ self.old.from }
         ensures common { OnOk result ((recording : List (List ℕ)) → IsBriefOf recording index.now
@@ -158,7 +142,7 @@ impl Common {
     }
 
     /// Finds out by whom the writer is heard, if it did not yet.
-    fn divide(&mut self, index: &Index<'_>) -> Result<(), Memory>
+    fn divide(&mut self, index: &Index<'a>) -> Result<(), Memory>
         ensures writer { self.new.writer ≡ self.old.writer }
         ensures from { self.new.from ≡ self.old.from }
         ensures common { OnOk result ((recording : List (List ℕ)) → IsBriefOf recording index.now
@@ -172,40 +156,64 @@ impl Common {
         Ok(())
     }
 
-    /// What the reader of a pair of this writer hears.
-    fn heard_apart(&self, index: &Index<'_>, pair: Pair) -> Result<Hearing, Memory>
-        ensures { (recording : List (List ℕ)) → IsBriefOf recording index.now → IsListed index.now.origins pair.writer
-            → IsCommon recording self.now → self.now.writer ≡ pair.writer
-            → IfOk result (λ hearing. (hearing.from ≡ self.now.from) × Hears hearing pair.writer pair.reader (spoken_from pair.writer (placed_in recording))) }
+    /// Gets to know what tells the verdicts of the readers that the writer names, if the pair has such a reader and it did
+    /// not yet. These pairs begin with those of the writer that are still to be judged. It has heard the writer.
+    fn meet(&mut self, index: &Index<'a>, pair: Pair, pairs: &[Pair]) -> Result<(), Memory>
+        ensures writer { self.new.writer ≡ self.old.writer }
+        ensures from { self.new.from ≡ self.old.from }
+        ensures common { OnOk result ((recording : List (List ℕ)) → IsBriefOf recording index.now
+            → IsListed index.now.origins self.old.writer → IsCommon recording self.old → IsCommon recording self.new) }
     {
-        if let Some(audiences) = &self.audiences {
-            if let Some(common) = &self.hearing {
-                let hearing = heard_by_name(index, audiences, pair, common)?;
-                return Ok(hearing);
-            }
+        if self.named.is_some() || self.is_heard_by(pair) {
+            return Ok(());
         }
-        let briefs = index.briefs_of(pair.writer);
-        let hearing = Hearing::of(index.alloc, briefs, pair, self.from)?;
-        Ok(hearing)
+        let Some(hearing) = &self.hearing else {
+            return Ok(());
+        };
+        let last = hearing.last;
+        let named = Named::of(index, self.writer, self.from, last, pairs)?;
+        self.named = Some(named);
+        Ok(())
     }
 
-    /// The verdict on a pair of this writer.
-    fn judged(&self, index: &Index<'_>, pair: Pair) -> Result<Verdict, Memory>
+    /// The verdict on a pair of this writer, where what tells it is known.
+    fn known(&self, index: &Index<'a>, pair: Pair) -> Option<Verdict>
         ensures { (recording : List (List ℕ)) → IsBriefOf recording index.now → IsAtHand index.now.origins pair
-            → IsCommon recording self.now → self.now.writer ≡ pair.writer → IfOk result (IsVerdictFrom self.now.from (speech_of pair.writer pair.reader recording)) }
+            → IsCommon recording self.now → self.now.writer ≡ pair.writer → IfSome result (IsVerdictFrom self.now.from (speech_of pair.writer pair.reader recording)) }
     {
         let answers = index.answered(pair);
         if self.is_heard_by(pair) {
-            if let Some(hearing) = &self.hearing {
-                return Ok(hearing.verdict(answers));
-            }
+            let Some(hearing) = &self.hearing else {
+                return None;
+            };
+            return Some(hearing.verdict(answers));
         }
-        let hearing = self.heard_apart(index, pair)?;
-        Ok(hearing.verdict(answers))
+        let Some(named) = &self.named else {
+            return None;
+        };
+        named.verdict(pair.reader, answers)
     }
 
-    /// Judges a pair of this writer by the numbers that are asked for.
-    pub(crate) fn judge(&mut self, index: &Index<'_>, pair: Pair) -> Result<Verdict, Memory>
+    /// The verdict on a pair of this writer.
+    fn judged(&self, index: &Index<'a>, pair: Pair) -> Result<Verdict, Memory>
+        ensures { (recording : List (List ℕ)) → IsBriefOf recording index.now → IsAtHand index.now.origins pair
+            → IsCommon recording self.now → self.now.writer ≡ pair.writer → IfOk result (IsVerdictFrom self.now.from (speech_of pair.writer pair.reader recording)) }
+    {
+        if let Some(verdict) = self.known(index, pair) {
+            return Ok(verdict);
+        }
+        let verdict = index.judged(pair, self.from)?;
+        Ok(verdict)
+    }
+
+    /// Judges a pair of this writer by the numbers that are asked for. These pairs begin with those of the writer that are
+    /// still to be judged, so that what many of them hear is gone through once.
+    pub(crate) fn judge(
+        &mut self,
+        index: &Index<'a>,
+        pair: Pair,
+        pairs: &[Pair],
+    ) -> Result<Verdict, Memory>
         ensures from { self.new.from ≡ self.old.from }
         ensures common { OnOk result ((recording : List (List ℕ)) → IsBriefOf recording index.now
             → IsAtHand index.now.origins pair → self.old.writer ≡ pair.writer → IsCommon recording self.old → IsCommon recording self.new) }
@@ -214,6 +222,7 @@ impl Common {
     {
         self.divide(index)?;
         self.listen(index)?;
+        self.meet(index, pair, pairs)?;
         let verdict = self.judged(index, pair)?;
         Ok(verdict)
     }

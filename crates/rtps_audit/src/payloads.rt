@@ -15,7 +15,7 @@ pub(crate) struct KeptPayload<'a> {
 }
 
 /// Whether two payloads are equal in kind and octets.
-fn is_same_payload(one: Payload<'_>, other: Payload<'_>) -> bool
+pub(crate) fn is_same_payload(one: Payload<'_>, other: Payload<'_>) -> bool
     ensures { IsTrue result ↔ (payload_value one.entry ≡ payload_value other.entry) }
 {
     match (one, other) {

@@ -10,4 +10,4 @@ returns-in_ok-hearing-clause-common c = λ recording is listed known.
     let briefs = c.briefs_of-briefs.result.now in
     let are = c.briefs_of-briefs.ensures recording is listed in
     let heard = c.in_ok-hearing.ensures.hears (said_in_order recording writer briefs are) in
-    record { hearing = (c.in_ok-hearing.ensures.from, subst (Hears c.in_ok-hearing.hearing writer nobody) are heard); for_all = known.for_all; audiences = known.audiences }
+    record { hearing = (c.in_ok-hearing.ensures.from, subst (Hears c.in_ok-hearing.hearing writer nobody) are heard); for_all = known.for_all; named = known.named; audiences = known.audiences }

@@ -16,5 +16,6 @@ returns-clause-common c = λ recording is listed.
     record {
       hearing = tt;
       audiences = tt;
+      named = tt;
       for_all = λ e reader. all_alike _ reader (sym (c.says_to_all.ensures writer ∙ sym (list_all-map test (brief_value writer) briefs) ∙ ap (list_all test) are) ∙ e);
     }

@@ -1,0 +1,10 @@
+use Rattle.std.proofs.Common.{◌≡◌, take}
+use Rattle.rtps_discovery.specs.GuidOrder.{guid_cmp}
+use Rattle.rtps_ids.specs.declared.identity.Guid.{Guid}
+use Rattle.rtps_audit.specs.Disputes.{said_to}
+use Rattle.rtps_audit.specs.Groups.{values_at}
+use Rattle.rtps_audit.proofs.disputes.Part.group.Given as goal
+
+-- the payloads so far
+abbrev pub invariant-loop-entry : goal.invariant-loop-entry
+invariant-loop-entry l = (guid : Guid) → values_at guid_cmp l.groups.map guid ≡ said_to guid (take l.entry-index l.entries)
