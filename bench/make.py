@@ -9,6 +9,8 @@
                                                         ones, or RELIABLE ones whose readers ask for what is kept
     make.py named|named_too FILE [MEGABYTES]            of a writer and its readers: HEARTBEATs that each name another reader;
                                                         as many for every reader behind one that names each
+    make.py named_last FILE [MEGABYTES]                 of a writer whose readers all hear each number but the first, which each
+                                                        hears by name, and acknowledge all of them
     make.py in_order|odd_then_even|random|descending|inside_out FILE [THOUSANDS]    of numbers, each in a sample
 """
 import random
@@ -35,9 +37,9 @@ def ack_nack(reader, writer, base):
     return b'\x06\0\0\x18' + reader + writer + base.to_bytes(8, 'big') + bytes(4) + b'\0\0\0\1'
 
 
-def gap(writer, start, base, words, count=256):
+def gap(writer, start, base, words, count=256, reader=bytes(4)):
     """Of the numbers from `start` on and below `base`, and of those from there on that a list of so many has."""
-    body = bytes(4) + writer + start.to_bytes(8, 'big') + base.to_bytes(8, 'big') + count.to_bytes(4, 'big')
+    body = reader + writer + start.to_bytes(8, 'big') + base.to_bytes(8, 'big') + count.to_bytes(4, 'big')
     body += b''.join(word.to_bytes(4, 'big') for word in words)
     return b'\x08\0' + len(body).to_bytes(2, 'big') + body
 
@@ -131,6 +133,8 @@ def datagrams(kind, octets):
         return (*map(announcement, entities), *spoken)
     if kind in ('named', 'named_too'):
         return of_named(kind, octets)
+    if kind == 'named_last':
+        return of_named_last(octets)
     if kind in OF_ONE_TOPIC:
         one, other = (next(of_one_topic(kind, 1)) for _ in range(2))
         return of_one_topic(kind, octets // (2 * (len(one) + 1) * 2))
@@ -179,6 +183,21 @@ def of_named(kind, octets):
             said = b''.join(heartbeat(WRITER, 2, 3, reader) for reader in some) + heartbeat(WRITER, 2, 3) * (len(some) * (of_each - 1))
         yield header(A) + to(B) + said
     yield header(B) + to(A) + b''.join(ack_nack(reader, WRITER, 1) for reader in readers[:2000])
+
+
+def of_named_last(octets):
+    """A writer, readers of its topic in half of the octets, samples from 2 on for all of them, and the first one for each."""
+    readers = [scattered(i) for i in range(1, octets // 1024 + 1)]
+    last = octets // 4 // 64
+    yield announced(b'\0\0\3\xc2', A, WRITER, b'')
+    for reader in readers:
+        yield announced(b'\0\0\4\xc2', B, reader, RELIABLE)
+    for first in range(2, last + 1, 1000):
+        yield header(A) + b''.join(data(WRITER, number, bytes(8)) for number in range(first, min(first + 1000, last + 1)))
+    for i in range(0, len(readers), 500):
+        yield header(A) + to(B) + b''.join(data(WRITER, 1, bytes(8), reader) for reader in readers[i:i + 500])
+    for i in range(0, len(readers), 500):
+        yield header(B) + to(A) + b''.join(ack_nack(reader, WRITER, last + 1) for reader in readers[i:i + 500])
 
 
 def write(path, sent):

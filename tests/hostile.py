@@ -187,33 +187,66 @@ def endpoints_of_one_topic(tests):
     print(f'endpoints of one topic: {count} writers and {count} readers of which no two are a pair, in 2 ways and 3 orders')
 
 
-def some_said(rng, readers):
+def some_said(rng, readers, most):
     """a datagram of the writer, of acts each for everyone or for one participant, and for every reader or for one"""
     said = make.header(A)
     for _ in range(rng.randrange(1, 4)):
         said += rng.choice([b'', make.to(bytes(12)), *(make.to(prefix) for prefix, _ in readers)])
         named = rng.choice([bytes(4), bytes(4), *(entity for _, entity in readers)])
-        number = rng.randrange(1, 5)
+        number = rng.randrange(1, most)
         said += rng.choice([
             make.data(WRITER, number, bytes([rng.randrange(3) // 2]) * 8, named),
-            make.heartbeat(WRITER, number, rng.randrange(1, 5), named),
+            make.data(WRITER, number, bytes(8), named),
+            make.heartbeat(WRITER, rng.randrange(1, 5), rng.randrange(1, most), named),
+            make.gap(WRITER, number, number + rng.randrange(3), [rng.getrandbits(32)], rng.randrange(33), named),
         ])
     return said
 
 
-def readers_that_are_named(tests):
-    count, rng = 250, random.Random(11)
-    readers = [(prefix * 12, entity) for prefix in (b'\xbb', b'\xcc', b'\xaa') for entity in (READER, b'\0\0\2\4')]
+NAMED = [(prefix * 12, entity) for prefix in (b'\xbb', b'\xcc', b'\xaa') for entity in (READER, b'\0\0\2\4')]
+
+
+def announced_readers():
+    """announcements of a writer and of six readers, two in each of three participants"""
     known = [make.announced(b'\0\0\3\xc2', A, WRITER, b'')]
-    known += [make.announced(b'\0\0\4\xc2', prefix, entity, make.RELIABLE) for prefix, entity in readers]
-    for _ in range(count):
-        sent = [some_said(rng, readers) for _ in range(rng.randrange(9))]
-        for _ in range(rng.randrange(9)):
-            prefix, entity = rng.choice(readers)
-            answer = make.header(prefix) + make.to(A) + make.ack_nack(entity, WRITER, rng.randrange(1, 6))
-            sent.insert(rng.randrange(len(sent) + 1), answer)
+    return known + [make.announced(b'\0\0\4\xc2', prefix, entity, make.RELIABLE) for prefix, entity in NAMED]
+
+
+def answer_of(reader, base):
+    prefix, entity = reader
+    return make.header(prefix) + make.to(A) + make.ack_nack(entity, WRITER, base)
+
+
+def readers_that_are_named(tests):
+    count, rng, known = 500, random.Random(11), announced_readers()
+    for place in range(count):
+        most = (5, 40)[place % 2]
+        sent = [some_said(rng, NAMED, most) for _ in range(rng.randrange(9))]
+        for _ in range(rng.randrange(12)):
+            sent.insert(rng.randrange(len(sent) + 1), answer_of(rng.choice(NAMED), rng.randrange(1, most + 1)))
+        if place % 5 == 4:
+            # Nobody claims what was not told, so that more of the verdicts rest on the payloads.
+            sent.append(make.header(A) + make.heartbeat(WRITER, most, most))
+            sent += [answer_of(reader, most) for reader in NAMED]
         tests.agrees('readers that are named', text_of(known + sent), ('audit', 'why'))
-    print(f'readers that are named, or their participants, in some acts and not in others: {count} recordings of {len(readers)} readers')
+    print(f'readers that are named, or their participants, in some acts and not in others: {count} recordings of {len(NAMED)} readers')
+
+
+def rows_past_what_is_named(tests):
+    """numbers that all readers hear, but for the first and a later one, which some hear by name"""
+    last, hole, known = 700, 400, announced_readers()
+    sent = [make.header(A) + make.data(WRITER, number, bytes(8)) for number in range(2, last + 1) if number != hole]
+    for place, reader in enumerate(NAMED):
+        prefix, entity = reader
+        own = [make.data(WRITER, number, bytes(8), entity) for number in ((), (1,), (1, hole))[place % 3]]
+        sent += [make.header(A) + make.to(prefix) + b''.join(own), answer_of(reader, (1, hole, last + 1)[place % 3])]
+    count = 0
+    for lies in (None, *range(6)):
+        more = [] if lies is None else [answer_of(NAMED[lies], hole + 1 if lies % 3 < 2 else last + 2)]
+        for late in ([], [make.header(A) + make.data(WRITER, number, bytes(8)) for number in (1, hole)]):
+            tests.agrees('rows past what is named', text_of(known + sent + more + late), ('audit', 'why'))
+            count += 1
+    print(f'rows of {last} numbers with holes that some readers hear by name: {count} recordings of {len(NAMED)} readers')
 
 
 def announcement(built_in, octets):
@@ -303,6 +336,6 @@ def many_datagrams(tests):
 
 if __name__ == '__main__':
     sys.exit(program.main(__doc__, (cut_by_table, cut_and_changed, audits_of_changed, announced_late, empty_submessages,
-                                    parameter_lists, endpoints_that_disagree, endpoints_of_one_topic, readers_that_are_named,
+                                    parameter_lists, endpoints_that_disagree, endpoints_of_one_topic, readers_that_are_named, rows_past_what_is_named,
                                     topics_of_every_octet, acknowledgements,
                                     gaps_of_many_ranges, many_datagrams)))

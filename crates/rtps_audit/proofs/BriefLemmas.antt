@@ -18,7 +18,7 @@ use Rattle.rtps_coverage.specs.Coverage.{TellsMore}
 use Rattle.rtps_discovery.specs.GuidOrder.{guid_cmp}
 use Rattle.rtps_audit.specs.Brief.{bare, bare_act, bare_body, brief_value, is_speech, said_body, spoken_from}
 use Rattle.rtps_audit.specs.Delivery.{Word, greatest}
-use Rattle.rtps_audit.specs.Answered.{IsFirstAmong, IsToldAll, IsUntoldAmong}
+use Rattle.rtps_audit.specs.Answered.{IsToldAll, IsUntoldAmong}
 use Rattle.rtps_audit.specs.Hearing.{Hears, HearsTwo, IsFrontBy, IsHeard, IsToldBy, last_among}
 use Rattle.rtps_audit.specs.KeptPayloads.{KeepsMore}
 use Rattle.rtps_audit.specs.Placed.{PlacedValue, is_from, is_guid, placed_at}

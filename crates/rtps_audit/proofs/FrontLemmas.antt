@@ -1,5 +1,5 @@
 -- What readers were told by one act more, and their fronts before their answers.
-use Rattle.std.proofs.Common.{◌≡◌, ℕ, zero, suc, pos, ◌+◌, ◌-◌, ◌<◌, ◌≤◌, ◌^◌, Bool, true, false, cond, List, [], ◌∷◌, ◌++◌, append-nil, get_or, length, map, take, ◌⊎◌, inl, inr, refl, sym, ap, ◌∙◌, subst, arith}
+use Rattle.std.proofs.Common.{◌≡◌, ℕ, zero, suc, pos, ◌-◌, ◌<◌, ◌≤◌, Bool, true, false, cond, List, [], ◌∷◌, ◌++◌, append-nil, get_or, length, map, take, inl, inr, refl, sym, ap, ◌∙◌, subst, arith}
 use Rattle.std.specs.Prelude.{Contains, is_some, slice_index_or}
 use Rattle.std.specs.List.{All}
 use Rattle.std.specs.List.Sorted.{IsNonDecreasingBy}
@@ -11,11 +11,11 @@ use Rattle.std.proofs.lemmas.List.Elements.{All-push, All-weaker}
 use Rattle.rtps_ids.specs.declared.identity.Guid.{Guid}
 use Rattle.rtps_coverage.specs.Coverage.{IsPast, TellsMore}
 use Rattle.rtps_discovery.specs.GuidOrder.{guid_cmp}
-use Rattle.rtps_audit.specs.Audiences.{no_brief}
+use Rattle.rtps_audit.specs.Brief.{no_brief}
 use Rattle.rtps_audit.specs.Brief.{brief_value}
-use Rattle.rtps_audit.specs.Delivery.{Word, IsAsked}
+use Rattle.rtps_audit.specs.Delivery.{Word}
 use Rattle.rtps_audit.specs.Fronts.{IsToldBelow, TellsOf}
-use Rattle.rtps_audit.specs.Hearing.{IsFrontBy, IsHeard, IsToldBy}
+use Rattle.rtps_audit.specs.Hearing.{IsFrontBy, IsHeard}
 use Rattle.rtps_audit.specs.Placed.{PlacedValue}
 use Rattle.rtps_audit.specs.Speech.{word_for}
 use Rattle.rtps_audit.specs.Told.{is_told}
@@ -135,13 +135,15 @@ module _ (writer : Guid) (briefs : List Brief) (place datagram : ℕ) (within : 
     outside = λ n at small.
         let is : n ≡ number = omega (arith, ints, at) in
         let on = past.onward in
-        let le = told_below.0 in
-        ((omega arith, omega arith), λ heard.
-            let first = among_first heard.1.0.at counted heard.1.0.among heard.1.1 in
-            let yes = (known reader n (omega arith) small).1 (heard.0, record { at = heard.1.0.at; among = first; says = heard.1.0.says }) in
-            let no = subst (λ m. is_told told reader m ≡ false) (sym is) past.outside in
-            let clash : true ≡ false = sym yes ∙ no in
-            cc);
+        let le = told_below.0 in (
+          (omega arith, omega arith),
+          λ heard.
+              let first = among_first heard.1.0.at counted heard.1.0.among heard.1.1 in
+              let yes = (known reader n (omega arith) small).1 (heard.0, record { at = heard.1.0.at; among = first; says = heard.1.0.says }) in
+              let no = subst (λ m. is_told told reader m ≡ false) (sym is) past.outside in
+              let clash : true ≡ false = sym yes ∙ no in
+              cc,
+        );
     below = λ n asked small lt.
         let yes = (below_here {from = from} told reader start number told_below past).1 n asked (omega (arith, ints)) in
         let heard = (known reader n asked.0 small).0 yes in

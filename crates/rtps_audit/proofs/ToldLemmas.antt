@@ -1,6 +1,6 @@
 -- Who was told of which numbers, by one act more; and how far on a reader was told of each.
-use Rattle.std.proofs.Common.{◌≡◌, ℕ, ◌+◌, ◌<◌, ◌≤◌, ◌^◌, Bool, true, false, ◌&&◌, ◌||◌, cond, Option, Some, None, ◌⊎◌, inl, inr, refl, sym, ap, ◌∙◌, subst, arith}
-use Rattle.std.specs.Prelude.{◌↔◌, if◌then◌else◌, is_some, unwrap_or}
+use Rattle.std.proofs.Common.{◌≡◌, ℕ, ◌<◌, ◌≤◌, Bool, true, false, ◌&&◌, ◌||◌, cond, Option, Some, None, inl, inr, refl, sym, ap, ◌∙◌, subst, arith}
+use Rattle.std.specs.Prelude.{if◌then◌else◌, is_some, unwrap_or}
 use Rattle.std.specs.BTreeMap.{BTreeMap, Updates, get}
 use Rattle.std.specs.Option.{is_none}
 use Rattle.std.specs.Ordering.{is_eq}
@@ -14,11 +14,10 @@ use Rattle.rtps_coverage.specs.BitRanges.{covered_of}
 use Rattle.rtps_coverage.specs.Coverage.{IsPast, IsSameSet, TellsMore}
 use Rattle.rtps_coverage.specs.declared.bit_ranges.BitRanges.{BitRanges}
 use Rattle.rtps_discovery.specs.GuidOrder.{guid_cmp}
-use Rattle.rtps_receiver.specs.Speech.{IsHeardBy, is_for_all, is_heard_by, is_spoken_by, names, reader_named, unknown_entity}
+use Rattle.rtps_receiver.specs.Speech.{IsHeardBy, is_heard_by, is_spoken_by, reader_named, unknown_entity}
 use Rattle.rtps_receiver.specs.Values.{ActValue}
 use Rattle.rtps_audit.specs.Audiences.{kept_under, of_entity, of_participant}
 use Rattle.rtps_audit.specs.Brief.{brief_value, said_body}
-use Rattle.rtps_audit.specs.Delivery.{Word}
 use Rattle.rtps_audit.specs.Everyone.{is_for_everyone, nobody}
 use Rattle.rtps_audit.specs.Speech.{word_for, word_of}
 use Rattle.rtps_audit.specs.Told.{IsOnward, in_set, told_at}

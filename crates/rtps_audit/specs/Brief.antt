@@ -1,12 +1,12 @@
 -- What a writer says by an act, to whom, and in which datagram. own: no verdict rests on the rest of an act, so an audit
 -- keeps nothing else of it.
-use Rattle.std.specs.Prelude.{Bool, false, not, List, [], ◌∷◌, filter, map, Option, None}
+use Rattle.std.specs.Prelude.{pos, Bool, false, not, List, [], ◌∷◌, filter, map, Option, None}
 use Rattle.rtps_ids.specs.declared.identity.EntityId.{EntityId}
 use Rattle.rtps_ids.specs.declared.identity.Guid.{Guid}
 use Rattle.rtps_ids.specs.declared.identity.GuidPrefix.{GuidPrefix}
 use Rattle.rtps_ids.specs.declared.order.Order.TheVariants.{Big}
 use Rattle.rtps_wire.specs.Values.{payload_value}
-use Rattle.rtps_receiver.specs.Speech.{is_ack_nack, is_spoken_by}
+use Rattle.rtps_receiver.specs.Speech.{is_ack_nack, is_spoken_by, unknown_entity}
 use Rattle.rtps_receiver.specs.Values.{ActBodyValue, ActValue}
 use Rattle.rtps_receiver.specs.Values.ActBodyValue.{Data, Heartbeat, AckNack, Gap}
 use Rattle.rtps_audit.specs.Placed.{PlacedValue}
@@ -64,3 +64,7 @@ brief_value writer brief =
       datagram = brief.datagram;
       act = act_saying writer brief.audience.dest (said_body brief.audience.reader writer.entity brief.said);
     }
+
+-- what stands at no place
+abbrev pub no_brief : Brief
+no_brief = record { datagram = 0; audience = record { dest = None; reader = unknown_entity }; said = said.Heartbeat 1 (pos 1) }

@@ -1,6 +1,6 @@
 ghost use Rattle.std.specs.Prelude.{◌≡◌, ◌≤◌, ◌<◌, ◌^◌, ℕ, length, slice_index_or, IsTrue};
 ghost use Rattle.std.specs.List.Sorted.{IsNonDecreasingBy};
-ghost use Rattle.rtps_audit.specs.Audiences.{no_brief};
+ghost use Rattle.rtps_audit.specs.Brief.{no_brief};
 
 use crate::answers::Answer;
 use crate::brief::Brief;
@@ -77,7 +77,7 @@ impl Fronts {
     ghost use Rattle.std.specs.List.Sorted.{IsNonDecreasingBy};
     ghost use Rattle.rtps_ids.specs.declared.identity.Guid.{Guid as GuidValue};
     ghost use Rattle.rtps_discovery.specs.GuidOrder.{guid_cmp};
-    ghost use Rattle.rtps_audit.specs.Audiences.{no_brief};
+    ghost use Rattle.rtps_audit.specs.Brief.{no_brief};
     ghost use Rattle.rtps_audit.specs.Brief.{spoken_from};
     ghost use Rattle.rtps_audit.specs.Fronts.{AreFrontsOf, IsFrontAt, IsToldBelow};
     ghost use Rattle.rtps_audit.specs.Groups.{values_at};
@@ -148,7 +148,12 @@ impl Fronts {
     }
 
     /// The fronts of the readers of those of these pairs that stand first and are of one writer.
-    pub(crate) fn of(index: &Index<'_>, writer: Guid, from: SeqNum, pairs: &[Pair]) -> Result<Fronts, Memory>
+    pub(crate) fn of(
+        index: &Index<'_>,
+        writer: Guid,
+        from: SeqNum,
+        pairs: &[Pair],
+    ) -> Result<Fronts, Memory>
         ensures { IfOk result (λ fronts. (recording : List (List ℕ)) → IsBriefOf recording index.now → IsListed index.now.origins writer
             → (reader : GuidValue) → All (IsFrontAt from writer reader (spoken_from writer (placed_in recording))) (values_at guid_cmp fronts.found.map reader)) }
     {

@@ -33,7 +33,6 @@ pub(crate) struct Hearing {
 
 impl Hearing {
     ghost use Rattle.rtps_audit.specs.Answered.{IsAnsweredBy};
-    ghost use Rattle.rtps_audit.specs.Audiences.{said_at};
     ghost use Rattle.rtps_audit.specs.Hearing.{Hears, IsCut, IsFrontBy};
     ghost use Rattle.std.specs.List.Sorted.{IsNonDecreasingBy};
     ghost use Rattle.rtps_audit.specs.Brief.{brief_value};
@@ -77,27 +76,6 @@ impl Hearing {
         let mut listener = Listener::<BitRanges>::new(alloc, from, briefs.len())?;
         for brief in briefs {
             listener.note(brief, pair)?;
-        }
-        let hearing = listener.end(from)?;
-        Ok(hearing)
-    }
-
-    /// What the pair's reader hears from its writer of the numbers from `from` on, by what stands at these places of what
-    /// the writer says.
-    pub(crate) fn of_places(
-        alloc: Global,
-        briefs: &[Brief<'_>],
-        places: &[usize],
-        pair: Pair,
-        from: SeqNum,
-    ) -> Result<Hearing, Memory>
-        ensures from { IfOk result (λ hearing. hearing.from ≡ from) }
-        ensures hears { IfOk result (λ hearing. IsNonDecreasingBy (λ brief. brief.datagram) briefs.now → All (λ place. place < length briefs.now) places.now
-            → IsNonDecreasingBy (λ place. place) places.now → Hears hearing pair.writer pair.reader (map (brief_value pair.writer) (said_at briefs.now places.now))) }
-    {
-        let mut listener = Listener::<BitRanges>::new(alloc, from, places.len())?;
-        for place in places {
-            listener.note_at(briefs, *place, pair)?;
         }
         let hearing = listener.end(from)?;
         Ok(hearing)

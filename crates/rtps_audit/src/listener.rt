@@ -22,7 +22,6 @@ pub(crate) struct Listener<'a, C> {
 impl<'a, C: Coverage> Listener<'a, C> {
     ghost use Rattle.std.specs.Prelude.{IfSome, length, slice_index_or};
     ghost use Rattle.rtps_coverage.specs.Coverage.{IsFront};
-    ghost use Rattle.rtps_audit.specs.Audiences.{no_brief};
     ghost use Rattle.rtps_audit.specs.Hearing.{Hears, IsListening, Marks};
     ghost use Rattle.rtps_audit.specs.Brief.{brief_value};
     ghost use Rattle.rtps_audit.specs.Placed.{PlacedValue};
@@ -50,25 +49,6 @@ impl<'a, C: Coverage> Listener<'a, C> {
         self.last = self.last.max(brief.number());
         note_brief(&mut self.words, brief, pair)?;
         self.mark(brief.datagram)?;
-        Ok(())
-    }
-
-    /// Hears what the pair's writer says at a place, if something stands there. After `Memory` the listener is of no use.
-    pub(crate) fn note_at(
-        &mut self,
-        briefs: &[Brief<'a>],
-        place: usize,
-        pair: Pair,
-    ) -> Result<(), Memory>
-        ensures { OnOk result (place < length briefs.now → let brief = slice_index_or briefs.now place no_brief in
-            (from : ℕ) (before : List PlacedValue) (datagram : ℕ) → datagram ≤ brief.datagram
-            → IsListening C.covered from self.old pair.writer pair.reader before datagram
-            → IsListening C.covered from self.new pair.writer pair.reader (before ++ brief_value pair.writer brief ∷ []) brief.datagram) }
-    {
-        if place >= briefs.len() {
-            return Ok(());
-        }
-        self.note(&briefs[place], pair)?;
         Ok(())
     }
 

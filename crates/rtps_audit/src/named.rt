@@ -53,7 +53,11 @@ fn claims_by(from: SeqNum, answers: &[Answer], fronts: &[FrontBefore]) -> Option
     let mut claims = Claims::new(from);
     for answer in answers {
         let front = number_at(fronts, answer.datagram)?;
-        claims.note_base(answer.natural_base(), answer.datagram as u64, front.cast_signed());
+        claims.note_base(
+            answer.natural_base(),
+            answer.datagram as u64,
+            front.cast_signed(),
+        );
     }
     Some(claims)
 }

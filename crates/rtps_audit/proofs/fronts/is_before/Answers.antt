@@ -1,7 +1,7 @@
-use Rattle.std.proofs.Common.{◌≡◌, ◌-◌, ◌<◌, get_or, length, true, arith, ap}
+use Rattle.std.proofs.Common.{◌-◌, ◌<◌, length, arith, ap}
 use Rattle.std.proofs.lemmas.Bool.Decides.{nat_tests}
 use Rattle.std.proofs.lemmas.List.{get_or_read}
-use Rattle.rtps_audit.specs.Audiences.{no_brief}
+use Rattle.rtps_audit.specs.Brief.{no_brief}
 use Rattle.rtps_audit.specs.declared.brief.Brief.{Brief}
 use Rattle.rtps_audit.proofs.fronts.is_before.Goals as goal
 

@@ -1,16 +1,17 @@
-use Rattle.std.proofs.Common.{◌∙◌, sym}
+use Rattle.std.proofs.Common.{◌≡◌, ◌∙◌, Bool, true, false, cond, refl, subst}
+use Rattle.std.specs.BTreeSet.{contains}
+use Rattle.rtps_ids.specs.declared.identity.Guid.{Guid}
 use Rattle.rtps_discovery.specs.GuidOrder.{guid_cmp}
-use Rattle.rtps_audit.specs.Groups.{values_at}
-use Rattle.rtps_audit.proofs.AudienceLemmas.{noted_general, noted_particular, noted_silent}
+use Rattle.rtps_audit.specs.Brief.{brief_value}
+use Rattle.rtps_audit.proofs.AudienceLemmas.{kept_on}
 use Rattle.rtps_audit.proofs.audiences.Audiences.note.Goals as goal
 
-pub returns-then-is_for_all : goal.returns-then-is_for_all
-returns-then-is_for_all c = λ writer placed is known.
-    noted_general _ _ (values_at guid_cmp c.args.self.now.named.map) placed _ c.args.place is c.in_ok-push.ensures.items (sym (c.is_for_all.ensures writer) ∙ c.if-is_for_all.true) known
+stays : (b c : Bool) → c ≡ true → cond b true c ≡ true
+stays true c is = refl
+stays false c is = is
 
 pub returns : goal.returns
-returns c = λ writer placed is known.
-    noted_particular _ (values_at guid_cmp c.args.self.now.named.map) (values_at guid_cmp c.push-2.new.self.map) placed _ c.args.place c.key_of.result is c.in_ok-push-2.ensures (c.key_of.ensures writer) (sym (c.is_for_all.ensures writer) ∙ c.if-is_for_all.false) known
-
-pub returns-then-not-may_tell : goal.returns-then-not-may_tell
-returns-then-not-may_tell c = λ writer placed is known. noted_silent _ (values_at guid_cmp c.args.self.now.named.map) placed _ (sym (c.may_tell.ensures writer) ∙ c.if-not-may_tell.true) known
+returns c = λ writer placed known.
+    kept_on (contains guid_cmp c.args.self.now.named) (contains guid_cmp c.insert.new.self) placed (brief_value writer c.args.brief.now)
+    (λ guid is. c.in_ok-insert.ensures.updates.0 guid ∙ stays _ (contains guid_cmp c.args.self.now.named guid) is)
+    (λ tells some. subst (λ (k : Guid). contains guid_cmp c.insert.new.self k ≡ true) (c.key_of.ensures writer) c.in_ok-insert.ensures.updates.1) known

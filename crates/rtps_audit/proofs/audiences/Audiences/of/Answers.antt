@@ -1,22 +1,15 @@
-use Rattle.std.proofs.Common.{◌≡◌, arith, length, map, subst, sym, take}
-use Rattle.rtps_discovery.specs.GuidOrder.{guid_cmp}
-use Rattle.rtps_audit.specs.Groups.{values_at}
-use Rattle.std.proofs.lemmas.List.{length-map, length-take-le, take_all}
+use Rattle.std.proofs.Common.{map, subst, sym, take, arith}
+use Rattle.std.proofs.lemmas.List.{take_all}
 use Rattle.rtps_audit.specs.Audiences.{AreAudiencesOf}
 use Rattle.rtps_audit.specs.Brief.{brief_value}
-use Rattle.rtps_audit.proofs.AudienceLemmas.{none_kept}
 use Rattle.rtps_audit.proofs.HearingLemmas.{brief_next}
 use Rattle.rtps_audit.proofs.audiences.Audiences.of.Goals as goal
-
-pub loop-place-init : goal.loop-place-init
-loop-place-init c = λ writer. none_kept _ (values_at guid_cmp c.new-2.result.map) c.new.ensures.items c.new-2.ensures
 
 pub loop-place-preserved : goal.loop-place-preserved
 loop-place-preserved c = λ writer.
     let briefs = c.args.briefs.now in
     let k = c.loop-place.place in
-    let long : k ≡ length (map (brief_value writer) (take k briefs)) = omega (arith, length-map (take k briefs) (brief_value writer), length-take-le k briefs, c.loop-place-test.true) in
-    subst (AreAudiencesOf c.note.new.self) (sym (brief_next writer briefs k c.index-briefs-place.result c.loop-place-test.true c.index-briefs-place.is)) (c.in_ok-note.ensures writer (map (brief_value writer) (take k briefs)) long (c.loop-place.invariant writer))
+    subst (AreAudiencesOf c.note.new.self) (sym (brief_next writer briefs k c.index-briefs-place.result c.loop-place-test.true c.index-briefs-place.is)) (c.in_ok-note.ensures writer (map (brief_value writer) (take k briefs)) (c.loop-place.invariant writer))
 
 pub returns : goal.returns
 returns c = λ writer.

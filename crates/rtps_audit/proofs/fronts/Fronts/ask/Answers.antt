@@ -1,9 +1,9 @@
 use Rattle.std.specs.List.{All}
-use Rattle.std.proofs.Common.{◌∙◌, ◌≡◌, ◌<◌, pos, List, length, map, subst, sym}
+use Rattle.std.proofs.Common.{◌∙◌, map, subst, sym}
 use Rattle.rtps_ids.specs.declared.identity.Guid.{Guid}
 use Rattle.rtps_discovery.specs.GuidOrder.{guid_cmp}
 use Rattle.rtps_audit.specs.Brief.{brief_value}
-use Rattle.rtps_audit.specs.Fronts.{AreFrontsOf, IsFrontAt, IsToldBelow}
+use Rattle.rtps_audit.specs.Fronts.{IsFrontAt, IsToldBelow}
 use Rattle.rtps_audit.specs.Groups.{values_at}
 use Rattle.rtps_audit.specs.declared.fronts.FrontBefore.{FrontBefore}
 use Rattle.rtps_audit.proofs.FrontLemmas.{all_pushed, below_alike, below_here, front_found, tells_alike}

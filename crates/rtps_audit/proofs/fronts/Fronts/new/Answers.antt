@@ -1,7 +1,6 @@
-use Rattle.std.proofs.Common.{◌≤◌, [], arith, length, List, map, subst, sym}
+use Rattle.std.proofs.Common.{arith, map, subst, sym}
 use Rattle.std.specs.List.{All}
 use Rattle.std.proofs.lemmas.List.Elements.{All-nil}
-use Rattle.rtps_ids.specs.declared.identity.Guid.{Guid}
 use Rattle.rtps_audit.specs.Brief.{brief_value}
 use Rattle.rtps_audit.specs.Fronts.{IsFrontAt, IsToldBelow}
 use Rattle.rtps_audit.specs.declared.fronts.FrontBefore.{FrontBefore}

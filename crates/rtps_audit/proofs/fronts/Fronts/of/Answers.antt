@@ -1,7 +1,6 @@
-use Rattle.std.proofs.Common.{◌∙◌, map, subst, sym, List}
+use Rattle.std.proofs.Common.{◌∙◌, subst, sym, List}
 use Rattle.std.specs.List.{All}
 use Rattle.rtps_discovery.specs.GuidOrder.{guid_cmp}
-use Rattle.rtps_audit.specs.Brief.{brief_value}
 use Rattle.rtps_audit.specs.Fronts.{AreFrontsOf, IsFrontAt}
 use Rattle.rtps_audit.specs.Groups.{values_at}
 use Rattle.rtps_audit.specs.Placed.{PlacedValue}

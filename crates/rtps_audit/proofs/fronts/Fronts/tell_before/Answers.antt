@@ -1,10 +1,9 @@
-use Rattle.std.proofs.Common.{◌+◌, ◌≡◌, ◌<◌, List, length, map, subst, sym, take, arith}
+use Rattle.std.proofs.Common.{◌<◌, length, map, subst, sym, take, arith}
 use Rattle.std.specs.Prelude.{is_some}
 use Rattle.rtps_discovery.specs.GuidOrder.{guid_cmp}
 use Rattle.rtps_audit.specs.Brief.{brief_value}
-use Rattle.rtps_audit.specs.Fronts.{AreFrontsOf, TellsOf}
+use Rattle.rtps_audit.specs.Fronts.{TellsOf}
 use Rattle.rtps_audit.specs.Groups.{values_at}
-use Rattle.rtps_audit.specs.Placed.{PlacedValue}
 use Rattle.rtps_audit.specs.Speech.{word_for}
 use Rattle.rtps_audit.proofs.FrontLemmas.{below_on, tells_on}
 use Rattle.rtps_audit.proofs.HearingLemmas.{brief_next}

@@ -1,4 +1,4 @@
-use Rattle.std.proofs.Common.{◌≡◌, ◌∙◌, ◌-◌, ℕ, All, List, ap, arith, max, subst, sym}
+use Rattle.std.proofs.Common.{◌≡◌, ◌∙◌, ◌-◌, All, List, ap, arith, max, subst, sym}
 use Rattle.rtps_discovery.specs.GuidOrder.{guid_cmp}
 use Rattle.rtps_audit.specs.Answered.{IsUntoldAmong, base_among}
 use Rattle.rtps_audit.specs.Claims.{verdict_by}
@@ -19,7 +19,7 @@ returns c = λ from writer placed known counted.
     let untold = subst (λ f. IsUntoldAmong f writer reader placed c.args.answers.now claims.untold) asking (c.in_ok-claims.ensures.untold writer reader placed fronts counted) in
     let base = c.note_number.ensures.base ∙ c.in_ok-claims.ensures.base ∙ ap (λ f. max f (base_among c.args.answers.now)) asking in
     let last : next.last ≡ max (from - 1) (last_among writer placed) =
-        c.note_number.ensures.last ∙ ap (λ l. max l named.last) (c.in_ok-claims.ensures.last ∙ ap (λ f. f - 1) asking) ∙ ap (max (from - 1)) known.last ∙ omega arith in
+    c.note_number.ensures.last ∙ ap (λ l. max l named.last) (c.in_ok-claims.ensures.last ∙ ap (λ f. f - 1) asking) ∙ ap (max (from - 1)) known.last ∙ omega arith in
     record {
       untold = claims.untold;
       conflict = c.least_for.result;

@@ -1,4 +1,4 @@
-use Rattle.std.proofs.Common.{◌||◌, ◌∙◌, ap, sym}
+use Rattle.std.proofs.Common.{◌||◌, ◌∙◌, sym}
 use Rattle.rtps_coverage.specs.BitRanges.{covered_of}
 use Rattle.rtps_audit.specs.Audiences.{of_entity, of_participant}
 use Rattle.rtps_audit.specs.Told.{told_at}
