@@ -9,8 +9,8 @@
                                                         ones, or RELIABLE ones whose readers ask for what is kept
     make.py named|named_too FILE [MEGABYTES]            of a writer and its readers: HEARTBEATs that each name another reader;
                                                         as many for every reader behind one that names each
-    make.py named_last FILE [MEGABYTES]                 of a writer whose readers all hear each number but the first, which each
-                                                        hears by name, and acknowledge all of them
+    make.py named_last|named_between FILE [MEGABYTES]   of a writer whose readers acknowledge all numbers: each hears the first by
+                                                        name; their participant hears every second by name
     make.py in_order|odd_then_even|random|descending|inside_out FILE [THOUSANDS]    of numbers, each in a sample
 """
 import random
@@ -133,8 +133,8 @@ def datagrams(kind, octets):
         return (*map(announcement, entities), *spoken)
     if kind in ('named', 'named_too'):
         return of_named(kind, octets)
-    if kind == 'named_last':
-        return of_named_last(octets)
+    if kind in ('named_last', 'named_between'):
+        return of_named_last(kind, octets)
     if kind in OF_ONE_TOPIC:
         one, other = (next(of_one_topic(kind, 1)) for _ in range(2))
         return of_one_topic(kind, octets // (2 * (len(one) + 1) * 2))
@@ -185,17 +185,19 @@ def of_named(kind, octets):
     yield header(B) + to(A) + b''.join(ack_nack(reader, WRITER, 1) for reader in readers[:2000])
 
 
-def of_named_last(octets):
-    """A writer, readers of its topic in half of the octets, samples from 2 on for all of them, and the first one for each."""
+def of_named_last(kind, octets):
+    """A writer, readers of its topic in half of the octets, and samples: for all of them, and for each or for their participant."""
     readers = [scattered(i) for i in range(1, octets // 1024 + 1)]
     last = octets // 4 // 64
     yield announced(b'\0\0\3\xc2', A, WRITER, b'')
     for reader in readers:
         yield announced(b'\0\0\4\xc2', B, reader, RELIABLE)
-    for first in range(2, last + 1, 1000):
-        yield header(A) + b''.join(data(WRITER, number, bytes(8)) for number in range(first, min(first + 1000, last + 1)))
-    for i in range(0, len(readers), 500):
-        yield header(A) + to(B) + b''.join(data(WRITER, 1, bytes(8), reader) for reader in readers[i:i + 500])
+    by_name = [(1, reader) for reader in readers] if kind == 'named_last' else [(number, bytes(4)) for number in range(2, last + 1, 2)]
+    for_all = range(2, last + 1) if kind == 'named_last' else range(1, last + 1, 2)
+    for i in range(0, len(for_all), 1000):
+        yield header(A) + b''.join(data(WRITER, number, bytes(8)) for number in for_all[i:i + 1000])
+    for i in range(0, len(by_name), 500):
+        yield header(A) + to(B) + b''.join(data(WRITER, number, bytes(8), reader) for number, reader in by_name[i:i + 500])
     for i in range(0, len(readers), 500):
         yield header(B) + to(A) + b''.join(ack_nack(reader, WRITER, last + 1) for reader in readers[i:i + 500])
 

@@ -90,8 +90,8 @@ def kinds(program, megabytes, other):
     plain = None
     with tempfile.TemporaryDirectory() as folder:
         path = os.path.join(folder, 'recording')
-        for kind in ('packed', 'answers', 'readers', 'writers', 'announced', 'announced_first', 'named', *make.OF_ONE_TOPIC,
-                     'hostile', 'one_data', 'pairs'):
+        for kind in ('packed', 'answers', 'readers', 'writers', 'announced', 'announced_first', 'named', 'named_too', 'named_last',
+                     *make.OF_ONE_TOPIC, 'hostile', 'one_data', 'pairs'):
             make.write(path, make.datagrams(kind, megabytes * 1000000))
             others = [[other, 'audit', path]] if other else []
             times, _ = best([[program, 'audit', path]] + others, 3)

@@ -115,7 +115,7 @@ fn bits_past_a_row_of_blocks(rt: HostRuntime) -> Result<(), Fail> {
     assert!(rt; set.covers(399));
     set.add(11, 12)?;
     assert_eq!(rt; set.past(1)?, 400);
-    let last = (1u64 << 63) - 1;
+    let last = 9_223_372_036_854_775_807u64;
     assert_eq!(rt; set.past(last)?, last);
     Ok(())
 }
