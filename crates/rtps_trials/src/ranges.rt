@@ -104,8 +104,8 @@ fn bits_front_goes_on_through_bits_and_ranges(rt: HostRuntime) -> Result<(), Fai
 #[test]
 fn bits_past_a_row_of_blocks(rt: HostRuntime) -> Result<(), Fail> {
     let mut set: BitRanges = added(rt.alloc(), &[(1, 11)])?;
-    for n in 12..400i64 {
-        set.add(n, n + 1)?;
+    for n in 12..400u16 {
+        set.add(i64::from(n), i64::from(n) + 1)?;
     }
     assert_eq!(rt; set.past(1)?, 11);
     assert_eq!(rt; set.past(11)?, 11);
