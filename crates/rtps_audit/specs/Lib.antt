@@ -25,6 +25,7 @@ pub mod Told
 pub mod DisputeWords
 pub mod Disputes
 pub mod Named
+pub mod Shared
 pub mod Fronts
 pub mod Common
 pub mod Judge

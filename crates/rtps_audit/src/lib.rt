@@ -30,6 +30,7 @@ mod reader_answers;
 mod report;
 mod said;
 mod shelves;
+mod shared;
 mod strangers;
 mod told;
 mod verdict;

@@ -60,7 +60,7 @@ impl ToldSets {
     }
 
     /// The least number from `n` on that the set of a key has not. The sets are the same.
-    fn past(&mut self, key: Guid, n: u64) -> Result<u64, Memory>
+    pub(crate) fn past(&mut self, key: Guid, n: u64) -> Result<u64, Memory>
         requires positive { 1 ≤ n }
         requires in_range { n < 2 ^ 63 }
         ensures same { (other : GuidValue) (m : ℕ) → told_at self.new.sets other m ≡ told_at self.old.sets other m }
