@@ -1,13 +1,13 @@
 -- How far all that hear one audience were told of each number. own: readers that share an audience are many, and what is for it
 -- and for everyone is gone through once for all of them.
-use Rattle.std.specs.Prelude.{ℕ, Bool, ◌≡◌, ◌≤◌, ◌<◌, ◌||◌, true, Some}
+use Rattle.std.specs.Prelude.{ℕ, ◌≡◌, ◌≤◌, ◌<◌, ◌||◌, true, Some}
 use Rattle.std.specs.BTreeMap.{BTreeMap, get}
 use Rattle.rtps_ids.specs.declared.identity.Guid.{Guid}
 use Rattle.rtps_coverage.specs.BitRanges.{covered_of}
 use Rattle.rtps_coverage.specs.declared.bit_ranges.BitRanges.{BitRanges}
 use Rattle.rtps_discovery.specs.GuidOrder.{guid_cmp}
 use Rattle.rtps_audit.specs.Delivery.{IsAsked}
-use Rattle.rtps_audit.specs.Told.{told_at}
+use Rattle.rtps_audit.specs.ToldSets.{told_at}
 use Rattle.rtps_audit.specs.declared.shared.Reached.{Reached}
 
 -- each number below this one that is asked for was told to everyone or to the audience of a key

@@ -2,9 +2,9 @@ ghost use Rattle.std.specs.Prelude.{◌≡◌, ◌≤◌, ◌<◌, ◌^◌, ◌|
 ghost use Rattle.rtps_ids.specs.declared.identity.Guid.{Guid as GuidValue};
 ghost use Rattle.rtps_coverage.specs.BitRanges.{covered_of};
 ghost use Rattle.rtps_coverage.specs.Coverage.{IsPast, IsSameSet};
-ghost use Rattle.rtps_audit.specs.Told.{told_at};
+ghost use Rattle.rtps_audit.specs.ToldSets.{told_at};
 
-use crate::told::ToldSets;
+use crate::told_sets::ToldSets;
 use rtps_coverage::BitRanges;
 use rtps_ids::{Guid, Memory};
 use std::alloc::Global;
@@ -56,7 +56,7 @@ impl SharedFronts {
     ghost use Rattle.std.specs.BTreeMap.{BTreeMap as MapValue};
     ghost use Rattle.rtps_coverage.specs.declared.bit_ranges.BitRanges.{BitRanges as BitRangesValue};
     ghost use Rattle.rtps_audit.specs.Shared.{AreShared, IsToldToBoth};
-    ghost use Rattle.rtps_audit.specs.Told.{told_at};
+    ghost use Rattle.rtps_audit.specs.ToldSets.{told_at};
 
     /// Nothing is kept.
     pub(crate) fn new(alloc: Global) -> Self
@@ -95,6 +95,7 @@ impl SharedFronts {
         ensures everyone { IsSameSet (covered_of everyone.old) (covered_of everyone.new) }
         ensures sets { (other : GuidValue) (m : ℕ) → told_at sets.new.sets other m ≡ told_at sets.old.sets other m }
         ensures shared { OnOk result (AreShared from everyone.old sets.old.sets self.old.fronts → AreShared from everyone.new sets.new.sets self.new.fronts) }
+        ensures in_range { IfOk result (λ number. number < 2 ^ 63) }
         ensures front { IfOk result (λ number. AreShared from everyone.old sets.old.sets self.old.fronts → IsToldToBoth from everyone.new sets.new.sets key number) }
     {
         let start = self.last(key, from);

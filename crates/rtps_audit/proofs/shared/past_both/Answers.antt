@@ -1,6 +1,6 @@
-use Rattle.std.proofs.Common.{◌∙◌, ◌||◌, ap, sym, arith}
+use Rattle.std.proofs.Common.{◌∙◌, arith}
 use Rattle.rtps_coverage.specs.BitRanges.{covered_of}
-use Rattle.rtps_audit.specs.Told.{told_at}
+use Rattle.rtps_audit.specs.ToldSets.{told_at}
 use Rattle.rtps_audit.proofs.SharedLemmas.{both_between, both_stop}
 use Rattle.rtps_audit.proofs.ToldLemmas.{past_alike}
 use Rattle.rtps_audit.proofs.shared.past_both.Goals as goal

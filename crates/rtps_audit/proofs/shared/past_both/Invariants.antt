@@ -2,7 +2,7 @@ use Rattle.std.proofs.Common.{ℕ, ◌≡◌, ◌≤◌, ◌<◌, ◌-◌, ◌^�
 use Rattle.rtps_ids.specs.declared.identity.Guid.{Guid}
 use Rattle.rtps_coverage.specs.BitRanges.{covered_of}
 use Rattle.rtps_coverage.specs.Coverage.{IsSameSet}
-use Rattle.rtps_audit.specs.Told.{told_at}
+use Rattle.rtps_audit.specs.ToldSets.{told_at}
 use Rattle.rtps_audit.proofs.shared.past_both.Given as goal
 
 -- each number up to here was told to either, and the sets are the same

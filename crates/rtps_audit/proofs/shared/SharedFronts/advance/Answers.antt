@@ -1,8 +1,6 @@
-use Rattle.std.proofs.Common.{◌≡◌, ◌≤◌, ◌<◌, ◌∙◌, ◌||◌, ℕ, true, ap, arith, inl, inr, subst}
+use Rattle.std.proofs.Common.{arith, inl, inr}
 use Rattle.std.proofs.lemmas.Bool.{cases_lt}
-use Rattle.rtps_coverage.specs.BitRanges.{covered_of}
 use Rattle.rtps_audit.specs.Shared.{AreShared, IsToldToBoth}
-use Rattle.rtps_audit.specs.Told.{told_at}
 use Rattle.rtps_audit.proofs.SharedLemmas.{shared_more, told_both_alike}
 use Rattle.rtps_audit.proofs.shared.SharedFronts.advance.Goals as goal
 
