@@ -10,8 +10,8 @@ use Rattle.rtps_audit.specs.Named.{IsNamedOf}
 use Rattle.rtps_audit.specs.Placed.{placed_in}
 use Rattle.rtps_audit.specs.declared.common.Common.{Common}
 
--- It is what is heard from its writer in this recording, if it was heard; where it says so, all readers hear it; and its
--- audiences are those of what the writer says.
+-- It is what is heard from its writer in this recording, if it was heard; where it says so, all readers hear it; its
+-- audiences are those of what the writer says; and so is what tells the verdicts of the readers that the writer names.
 pub record IsCommon (recording : List (List ℕ)) (common : Common) : Type 0 where
   pub hearing : IfSome common.hearing (λ hearing. (hearing.from ≡ common.from) × Hears hearing common.writer nobody (spoken_from common.writer (placed_in recording)))
   pub for_all : common.for_all ≡ true

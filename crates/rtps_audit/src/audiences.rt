@@ -66,7 +66,8 @@ impl Audiences {
     ghost use Rattle.rtps_audit.specs.Audiences.{AreAudiencesOf, HearAlike};
     ghost use Rattle.rtps_audit.specs.Placed.{PlacedValue};
 
-    /// Adds what something is kept under that is said, if that is not for every reader and may tell of a number. After `Memory` the audiences are of no use.
+    /// Adds what something is kept under that is said, if that is not for every reader and may tell of a number. After
+    /// `Memory` the audiences are of no use.
     fn note(&mut self, brief: &Brief<'_>) -> Result<(), Memory>
         ensures { OnOk result ((writer : GuidValue) (placed : List PlacedValue) → AreAudiencesOf self.old placed
             → AreAudiencesOf self.new (placed ++ brief_value writer brief.now ∷ [])) }
