@@ -37,6 +37,7 @@ pub mod RecordingActs
 pub mod Offered
 pub mod SetWords
 pub mod ToldLemmas
+pub mod SharedLemmas
 pub mod FrontLemmas
 pub mod DisputeLemmas
 pub mod DisputeSaid

@@ -20,7 +20,8 @@ use Rattle.rtps_audit.specs.Audiences.{kept_under, of_entity, of_participant}
 use Rattle.rtps_audit.specs.Brief.{brief_value, said_body}
 use Rattle.rtps_audit.specs.Everyone.{is_for_everyone, nobody}
 use Rattle.rtps_audit.specs.Speech.{word_for, word_of}
-use Rattle.rtps_audit.specs.Told.{IsOnward, in_set, told_at}
+use Rattle.rtps_audit.specs.Told.{IsOnward}
+use Rattle.rtps_audit.specs.ToldSets.{in_set, told_at}
 use Rattle.rtps_audit.specs.declared.brief.Brief.{Brief}
 use Rattle.rtps_audit.specs.declared.brief.Said.{Said}
 use Rattle.rtps_audit.specs.declared.brief.Said.TheVariants as said

@@ -6,6 +6,7 @@ use Rattle.rtps_ids.specs.declared.identity.Guid.{Guid}
 use Rattle.rtps_discovery.specs.GuidOrder.{guid_cmp}
 use Rattle.rtps_audit.specs.Brief.{brief_value}
 use Rattle.rtps_audit.specs.Delivery.{Word, IsAsked}
+use Rattle.rtps_audit.specs.Gathered.{IsGathered}
 use Rattle.rtps_audit.specs.Groups.{values_at}
 use Rattle.rtps_audit.specs.Hearing.{IsFrontBy, IsHeard}
 use Rattle.rtps_audit.specs.Placed.{PlacedValue}
@@ -30,6 +31,8 @@ IsToldBelow from told reader number = (from ≤ number) × ((n : ℕ) → IsAske
 -- the fronts are of what this writer says, as far as it was told
 pub record AreFrontsOf (from : ℕ) (fronts : Fronts) (writer : Guid) (briefs : List Brief) : Type 0 where
   pub within : fronts.place ≤ length briefs
+  pub asking : fronts.told.from ≡ from
+  pub gathered : IsGathered fronts.told
   pub tells : TellsOf fronts.told writer (map (brief_value writer) (take fronts.place briefs))
   pub below : (reader : Guid) → All (λ front. IsToldBelow from fronts.told reader front.number) (values_at guid_cmp fronts.found.map reader)
   pub each : (reader : Guid) → All (IsFrontAt from writer reader (map (brief_value writer) briefs)) (values_at guid_cmp fronts.found.map reader)

@@ -21,10 +21,13 @@ pub mod Answered
 pub mod Index
 pub mod Everyone
 pub mod Audiences
+pub mod ToldSets
 pub mod Told
 pub mod DisputeWords
 pub mod Disputes
 pub mod Named
+pub mod Shared
+pub mod Gathered
 pub mod Fronts
 pub mod Common
 pub mod Judge

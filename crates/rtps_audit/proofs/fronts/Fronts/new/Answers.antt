@@ -11,7 +11,9 @@ pub returns-clause-fronts : goal.returns-clause-fronts
 returns-clause-fronts c = λ writer briefs.
     record {
       within = omega arith;
-      tells = tells_none c.new.result writer c.new.ensures;
+      asking = c.new.ensures.from;
+      gathered = c.new.ensures.gathered;
+      tells = tells_none c.new.result writer c.new.ensures.none;
       below = λ reader. subst (All (λ (front : FrontBefore). IsToldBelow c.args.from c.new.result reader front.number)) (sym (c.new-2.ensures reader)) (All-nil _);
       each = λ reader. subst (All (IsFrontAt c.args.from writer reader (map (brief_value writer) briefs))) (sym (c.new-2.ensures reader)) (All-nil _);
     }

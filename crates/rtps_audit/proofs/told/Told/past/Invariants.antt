@@ -1,5 +1,6 @@
 use Rattle.std.proofs.Common.{ℕ, ◌≡◌, ◌≤◌, ◌<◌, ◌-◌, ◌^◌, true}
 use Rattle.rtps_ids.specs.declared.identity.Guid.{Guid}
+use Rattle.rtps_audit.specs.Gathered.{IsGathered}
 use Rattle.rtps_audit.specs.Told.{is_told}
 use Rattle.rtps_audit.proofs.told.Told.past.Given as goal
 
@@ -9,7 +10,9 @@ invariant-loop-next l = record {
   onward : l.n ≤ l.past;
   in_range : l.past < 2 ^ 63;
   same : (other : Guid) (m : ℕ) → is_told l.self other m ≡ is_told l.fn.self other m;
-  between : (m : ℕ) → l.n ≤ m → m < l.past → is_told l.fn.self l.reader m ≡ true;
+  from : l.self.from ≡ l.fn.self.from;
+  gathered : IsGathered l.fn.self → IsGathered l.self;
+  between : IsGathered l.fn.self → l.fn.self.from ≤ l.n → (m : ℕ) → l.n ≤ m → m < l.past → is_told l.fn.self l.reader m ≡ true;
 }
 
 abbrev pub decreases-loop-next : goal.decreases-loop-next

@@ -4,7 +4,7 @@ use Rattle.std.specs.BTreeMap.Entry.{map_with_value}
 use Rattle.rtps_audit.specs.Brief.{brief_value}
 use Rattle.rtps_audit.specs.Speech.{word_of}
 use Rattle.rtps_audit.proofs.ToldLemmas.{lent_set, set_grown}
-use Rattle.rtps_audit.proofs.told.ToldSets.add.Goals as goal
+use Rattle.rtps_audit.proofs.told_sets.ToldSets.add.Goals as goal
 
 pub returns : goal.returns
 returns c = λ writer other n positive small.

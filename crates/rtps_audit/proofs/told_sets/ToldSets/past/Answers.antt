@@ -3,7 +3,7 @@ use Rattle.std.specs.BTreeMap.{get}
 use Rattle.std.specs.Option.{IsSome, option_copied_mut}
 use Rattle.rtps_discovery.specs.GuidOrder.{guid_cmp}
 use Rattle.rtps_audit.proofs.ToldLemmas.{set_same}
-use Rattle.rtps_audit.proofs.told.ToldSets.past.Goals as goal
+use Rattle.rtps_audit.proofs.told_sets.ToldSets.past.Goals as goal
 
 pub returns-in-Some-clause-same : goal.returns-in-Some-clause-same
 returns-in-Some-clause-same c = λ other m.

@@ -1,0 +1,35 @@
+use Rattle.std.proofs.Common.{◌∙◌, arith}
+use Rattle.rtps_coverage.specs.BitRanges.{covered_of}
+use Rattle.rtps_audit.specs.ToldSets.{told_at}
+use Rattle.rtps_audit.proofs.SharedLemmas.{both_between, both_stop}
+use Rattle.rtps_audit.proofs.ToldLemmas.{past_alike}
+use Rattle.rtps_audit.proofs.shared.past_both.Goals as goal
+
+pub returns-then-next-past-clause-past : goal.returns-then-next-past-clause-past
+returns-then-next-past-clause-past c =
+    let a = covered_of c.args.everyone.now in
+    let b = told_at c.args.sets.now.sets c.args.key in
+    let known = c.loop-general.invariant in
+    let first = past_alike a _ _ _ known.everyone c.in_ok-general.ensures.past in
+    let second = past_alike b _ _ _ (known.sets c.args.key) c.in_ok-next.ensures.past in
+    record {
+      onward = known.onward;
+      in_range = known.in_range;
+      outside = both_stop a b c.loop-general.past c.in_ok-general.general c.in_ok-next.next first second (omega (arith, c.if-next-past.true));
+      between = known.between;
+    }
+
+pub loop-general-preserved : goal.loop-general-preserved
+loop-general-preserved c =
+    let a = covered_of c.args.everyone.now in
+    let b = told_at c.args.sets.now.sets c.args.key in
+    let known = c.loop-general.invariant in
+    let first = past_alike a _ _ _ known.everyone c.in_ok-general.ensures.past in
+    let second = past_alike b _ _ _ (known.sets c.args.key) c.in_ok-next.ensures.past in
+    record {
+      onward = let le = known.onward in let one = first.onward in let two = second.onward in omega arith;
+      in_range = second.in_range;
+      everyone = λ n. c.past.ensures.same n ∙ known.everyone n;
+      sets = λ other m. c.past-in-loop-general.ensures.same other m ∙ known.sets other m;
+      between = both_between a b c.args.n c.loop-general.past c.in_ok-general.general c.in_ok-next.next known.between first second;
+    }
