@@ -10,8 +10,8 @@ use rtps_receiver::laws::tests_say_what_relations_say;
 use std::alloc::Global;
 use std::collections::BTreeSet;
 
-/// A reader that hears what is for all readers, and nothing else.
-pub(crate) const NOBODY: Guid = Guid {
+/// A reader that hears what is for all readers, and nothing else: zeros (DDSI-RTPS 2.5, 9.3.1.2 "Mapping of the EntityId_t").
+pub const NOBODY: Guid = Guid {
     prefix: GuidPrefix([0; 12]),
     entity: EntityId([0; 4]),
 };
@@ -39,8 +39,8 @@ pub(crate) fn key_of(brief: &Brief<'_>) -> Guid
     }
 }
 
-/// What acts are kept under that are for each reader of a reader's participant.
-pub(crate) fn of_participant(reader: Guid) -> Guid
+/// What acts are kept under that are for each reader of a reader's participant: its GUID prefix, with zeros as the reader.
+pub fn of_participant(reader: Guid) -> Guid
     ensures { result ≡ of_participant_lem reader }
 {
     Guid {
@@ -49,8 +49,8 @@ pub(crate) fn of_participant(reader: Guid) -> Guid
     }
 }
 
-/// What acts are kept under that are for a reader's entity id in any participant.
-pub(crate) fn of_entity(reader: Guid) -> Guid
+/// What acts are kept under that are for a reader's entity id in any participant: that id behind a GUID prefix of zeros.
+pub fn of_entity(reader: Guid) -> Guid
     ensures { result ≡ of_entity_lem reader }
 {
     Guid {

@@ -39,6 +39,7 @@ mod watch;
 mod words;
 
 pub use answers::Answer;
+pub use audiences::{NOBODY, of_entity, of_participant};
 pub use auditing::{audit, audit_from, audit_watched};
 pub use index::Index;
 pub use judging::{judge, judge_by, judge_from};

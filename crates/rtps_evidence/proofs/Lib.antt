@@ -6,5 +6,12 @@ pub mod OriginLemmas
 pub mod Shown
 pub mod RowLemmas
 pub mod HeardLemmas
+pub mod HearerLemmas
+pub mod FirstLemmas
+pub mod TellerLemmas
+pub mod PlaceLemmas
+pub mod RivalLemmas
+pub mod RankLemmas
+pub mod ShareLemmas
 pub mod OneExplanation
 pub mod AnswerLemmas

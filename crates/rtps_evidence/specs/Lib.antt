@@ -1,5 +1,13 @@
 pub mod Acting
 pub mod Counted
+pub mod Hearers
+pub mod Firsts
+pub mod Tellers
+pub mod Rivals
+pub mod Ranked
+pub mod Questions
+pub mod Lists
+pub mod Shares
 pub mod Evidence
 pub mod Certificates
 pub mod Explained

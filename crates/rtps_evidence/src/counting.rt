@@ -1,6 +1,8 @@
-ghost use Rattle.std.specs.Prelude.{ℕ, ◌≡◌, ◌-◌, ◌<◌, ◌≤◌, ◌||◌, ◌^◌, map, IfOk, OnOk};
+ghost use Rattle.std.specs.Prelude.{ℕ, ◌≡◌, ◌-◌, ◌<◌, ◌≤◌, ◌||◌, ◌^◌, is_some, map, IfOk, OnOk};
+ghost use Rattle.rtps_receiver.specs.Values.{act_body_value};
 ghost use Rattle.rtps_audit.specs.Placed.{placed_value};
-ghost use Rattle.rtps_evidence.specs.Acting.{sends, tells};
+ghost use Rattle.rtps_audit.specs.Speech.{word_of};
+ghost use Rattle.rtps_evidence.specs.Acting.{payload_in, sends, tells};
 ghost use Rattle.rtps_evidence.specs.Counted.{AreAmounts, is_sent, is_told, stretches_have};
 
 use crate::stretches::{Stretch, count_of, push_gap};
@@ -18,15 +20,12 @@ pub(crate) struct Amounts {
     pub(crate) untold: u64,
 }
 
-/// Appends the numbers that have a word by an act which the pair's reader hears from its writer.
-fn push_told(stretches: &mut Vec<Stretch>, placed: &Placed<'_>, pair: Pair) -> Result<(), Memory>
+/// Appends the numbers that what is said has a word for. After `Memory` the stretches are of no use.
+pub(crate) fn push_words(stretches: &mut Vec<Stretch>, body: &ActBody<'_>) -> Result<(), Memory>
     ensures { OnOk result ((n : ℕ) → stretches_have stretches.new.items n
-        ≡ (stretches_have stretches.old.items n || tells pair.writer pair.reader n (placed_value placed.now))) }
+        ≡ (stretches_have stretches.old.items n || is_some (word_of (act_body_value body.now) n))) }
 {
-    if !placed.act.spoken_by(pair.writer) || !placed.act.heard_by(pair.reader) {
-        return Ok(());
-    }
-    match &placed.act.body {
+    match body {
         ActBody::Data(data) => {
             let lo = data.number.get().cast_unsigned();
             stretches.push(Stretch { lo, hi: lo + 1 })?;
@@ -42,6 +41,29 @@ fn push_told(stretches: &mut Vec<Stretch>, placed: &Placed<'_>, pair: Pair) -> R
     }
 }
 
+/// Appends the numbers that have a word by an act which the pair's reader hears from its writer.
+fn push_told(stretches: &mut Vec<Stretch>, placed: &Placed<'_>, pair: Pair) -> Result<(), Memory>
+    ensures { OnOk result ((n : ℕ) → stretches_have stretches.new.items n
+        ≡ (stretches_have stretches.old.items n || tells pair.writer pair.reader n (placed_value placed.now))) }
+{
+    if !placed.act.spoken_by(pair.writer) || !placed.act.heard_by(pair.reader) {
+        return Ok(());
+    }
+    push_words(stretches, &placed.act.body)
+}
+
+/// Appends the number that what is said has a payload for. After `Memory` the stretches are of no use.
+pub(crate) fn push_payload(stretches: &mut Vec<Stretch>, body: &ActBody<'_>) -> Result<(), Memory>
+    ensures { OnOk result ((n : ℕ) → stretches_have stretches.new.items n
+        ≡ (stretches_have stretches.old.items n || is_some (payload_in (word_of (act_body_value body.now) n)))) }
+{
+    if let ActBody::Data(data) = body {
+        let lo = data.number.get().cast_unsigned();
+        stretches.push(Stretch { lo, hi: lo + 1 })?;
+    }
+    Ok(())
+}
+
 /// Appends the number that has a payload by an act which the pair's reader hears from its writer.
 fn push_sent(stretches: &mut Vec<Stretch>, placed: &Placed<'_>, pair: Pair) -> Result<(), Memory>
     ensures { OnOk result ((n : ℕ) → stretches_have stretches.new.items n
@@ -50,11 +72,7 @@ fn push_sent(stretches: &mut Vec<Stretch>, placed: &Placed<'_>, pair: Pair) -> R
     if !placed.act.spoken_by(pair.writer) || !placed.act.heard_by(pair.reader) {
         return Ok(());
     }
-    if let ActBody::Data(data) = &placed.act.body {
-        let lo = data.number.get().cast_unsigned();
-        stretches.push(Stretch { lo, hi: lo + 1 })?;
-    }
-    Ok(())
+    push_payload(stretches, &placed.act.body)
 }
 
 /// The numbers that have a word by these acts.

@@ -62,8 +62,8 @@ fn explain_rows<'a>(
     for row in rows {
         let Row { pair, verdict } = *row;
         let (topic, type_name) = names_of(directory, pair.writer);
-        let spoken = turned_to(alloc, index, before, pair.writer, from)?;
-        let evidence = Evidence::of_spoken(alloc, index, spoken, pair.reader, from, verdict)?;
+        let spoken = turned_to(alloc, index, before, pair.writer, from, rows)?;
+        let evidence = Evidence::of_spoken(alloc, index, &spoken, pair.reader, from, verdict)?;
         before = Some(spoken);
         explained.push(Explanation {
             pair,

@@ -4,13 +4,25 @@
 
 mod announcing;
 mod answering;
+mod asked;
 mod counting;
 mod explaining;
+mod firsts;
+mod hearers;
 pub mod laws;
+mod lists;
+mod payloads;
 mod places;
+mod questions;
+mod ranked;
+mod rivals;
 mod sending;
+mod shares;
+mod slots;
+mod slotting;
 mod spoken;
 mod stretches;
+mod tellers;
 mod telling;
 mod why;
 

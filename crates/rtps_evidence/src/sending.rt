@@ -32,7 +32,7 @@ fn payload_for<'a>(placed: &Placed<'a>, pair: Pair, number: u64) -> Option<Paylo
 }
 
 /// Whether two payloads are equal in kind and octets.
-fn is_same(one: Payload<'_>, other: Payload<'_>) -> bool
+pub(crate) fn is_same(one: Payload<'_>, other: Payload<'_>) -> bool
     ensures { result ≡ is_same_lem (payload_value one.entry) (payload_value other.entry) }
 {
     match (one, other) {

@@ -1,7 +1,7 @@
 ghost use Rattle.std.specs.Prelude.{◌≡◌, ◌<◌, ◌^◌, map};
 ghost use Rattle.rtps_audit.specs.Placed.{placed_value};
 ghost use Rattle.rtps_audit.specs.Speech.{is_in_gap};
-ghost use Rattle.rtps_evidence.specs.Acting.{teller_of, tells as tells_lem};
+ghost use Rattle.rtps_evidence.specs.Acting.{teller_at as teller_at_lem, teller_of, tells as tells_lem};
 
 use crate::places::{Kind, Place, kind_of, place_of};
 use rtps_audit::Placed;
@@ -44,6 +44,16 @@ fn tells(placed: &Placed<'_>, pair: Pair, number: u64) -> bool
     }
 }
 
+/// An act as one that tells a number.
+pub(crate) fn teller_at(placed: &Placed<'_>) -> Teller
+    ensures { result ≡ teller_at_lem (placed_value placed.now) }
+{
+    Teller {
+        kind: kind_of(&placed.act.body),
+        place: place_of(placed),
+    }
+}
+
 /// The first of these acts by which the reader hears a word for the number from the writer.
 pub(crate) fn find_teller(acts: &[Placed<'_>], pair: Pair, number: u64) -> Option<Teller>
     requires { number < 2 ^ 63 }
@@ -51,10 +61,7 @@ pub(crate) fn find_teller(acts: &[Placed<'_>], pair: Pair, number: u64) -> Optio
 {
     for placed in acts {
         if tells(placed, pair, number) {
-            return Some(Teller {
-                kind: kind_of(&placed.act.body),
-                place: place_of(placed),
-            });
+            return Some(teller_at(placed));
         }
     }
     None

@@ -1,15 +1,20 @@
-ghost use Rattle.std.specs.Prelude.{ℕ, ◌≡◌, ◌-◌, ◌<◌, ◌≤◌, ◌^◌, map, IfOk, List};
+ghost use Rattle.std.specs.Prelude.{ℕ, ◌≡◌, ◌-◌, ◌<◌, ◌≤◌, ◌^◌, map, IfOk, IfSome, List};
 ghost use Rattle.std.specs.Option.{option_map};
 ghost use Rattle.rtps_audit.specs.Index.{IsIndexOf};
 ghost use Rattle.rtps_audit.specs.Placed.{placed_in, placed_value};
 ghost use Rattle.rtps_audit.specs.Speech.{natural as natural_lem};
-ghost use Rattle.rtps_evidence.specs.Acting.{sent_value};
+ghost use Rattle.rtps_evidence.specs.Acting.{first_sent as first_sent_lem, other_sent as other_sent_lem, sent_value, teller_of};
+ghost use Rattle.rtps_evidence.specs.Rivals.{AreRivalsOf};
+ghost use Rattle.rtps_evidence.specs.Tellers.{AreTellersOf};
 ghost use Rattle.rtps_evidence.specs.Evidence.{claim_by as claim_by_lem, first_by as first_by_lem, other_by as other_by_lem, teller_by as teller_by_lem};
 
 use crate::announcing::Announcement;
 use crate::answering::{Claim, find_acknowledgement, find_claim};
+use crate::asked::Wanted;
+use crate::rivals::{Rivals, TwoSent};
 use crate::sending::{Sent, first_sent, other_sent};
 use crate::spoken::{Spoken, amounts_of, spoken_of};
+use crate::tellers::Tellers;
 use crate::telling::{Teller, find_teller};
 use rtps_audit::{Index, Placed, Verdict};
 use rtps_discovery::Pair;
@@ -60,32 +65,31 @@ impl<'a> Evidence<'a> {
         ensures { (recording : List (List ℕ)) → IsIndexOf recording index.now → IfOk result (IsEvidenceFrom from pair recording) }
     {
         let verdict = index.judge_from(pair, from)?;
-        let spoken = spoken_of(alloc, index, pair.writer, from)?;
-        Evidence::of_spoken(alloc, index, spoken, pair.reader, from, verdict)
+        let spoken = spoken_of(alloc, index, pair.writer, from, &Wanted::none(alloc))?;
+        Evidence::of_spoken(alloc, index, &spoken, pair.reader, from, verdict)
     }
 
     /// The evidence for a writer that said this and a reader, which were judged so.
     pub(crate) fn of_spoken(
         alloc: Global,
         index: &Index<'a>,
-        spoken: Spoken,
+        spoken: &Spoken,
         reader: Guid,
         from: SeqNum,
         verdict: Verdict,
     ) -> Result<Evidence<'a>, Memory>
-        requires reached { from - 1 ≤ spoken.last }
-        requires in_range { spoken.last < 2 ^ 63 }
         ensures judged { IfOk result (λ evidence. evidence.verdict ≡ verdict) }
-        ensures evidence { (recording : List (List ℕ)) → IsIndexOf recording index.now → IsSpokenFrom from recording spoken
-            → IsVerdictFrom from (speech_of spoken.writer reader recording) verdict
-            → IfOk result (IsEvidenceFrom from (record { writer = spoken.writer; reader = reader }) recording) }
+        ensures evidence { (recording : List (List ℕ)) → IsIndexOf recording index.now → IsSpokenFrom from recording spoken.now
+            → IsVerdictFrom from (speech_of spoken.now.writer reader recording) verdict
+            → IfOk result (IsEvidenceFrom from (record { writer = spoken.now.writer; reader = reader }) recording) }
     {
         let pair = Pair {
             writer: spoken.writer,
             reader,
         };
         let acts = index.acts_of(pair.writer);
-        let amounts = amounts_of(alloc, index, spoken, reader, from)?;
+        let amounts = amounts_of(alloc, spoken, reader)?;
+        let two = two_by(acts, pair, verdict, &spoken.rivals);
         Ok(Evidence {
             verdict,
             announcement: spoken.announcement,
@@ -93,10 +97,10 @@ impl<'a> Evidence<'a> {
             payloads: amounts.payloads,
             gone: amounts.gone,
             untold: amounts.untold,
-            teller: teller_by(acts, pair, verdict),
+            teller: teller_by(acts, pair, verdict, &spoken.tellers),
             claim: claim_by(index, pair, verdict),
-            first_sent: first_by(acts, pair, verdict),
-            other_sent: other_by(acts, pair, verdict),
+            first_sent: two.first,
+            other_sent: two.other,
         })
     }
 
@@ -110,20 +114,45 @@ impl<'a> Evidence<'a> {
 }
 
 /// A number of a verdict, or 0 for one below it.
-fn natural(number: i64) -> u64
+pub(crate) fn natural(number: i64) -> u64
     ensures value { result ≡ natural_lem number }
     ensures in_range { result < 2 ^ 63 }
 {
     number.max(0).cast_unsigned()
 }
 
+/// The first of these acts that tells a number, where those that are asked for may be known.
+fn known_teller(
+    acts: &[Placed<'_>],
+    pair: Pair,
+    number: u64,
+    tellers: &Option<Tellers>,
+) -> Option<Teller>
+    requires { number < 2 ^ 63 }
+    ensures { IfSome tellers.now (AreTellersOf pair.writer (map placed_value acts.now))
+        → result ≡ teller_of pair.writer pair.reader number (map placed_value acts.now) }
+{
+    if let Some(tellers) = tellers {
+        if let Some(teller) = tellers.find(acts, pair, number) {
+            return teller;
+        }
+    }
+    find_teller(acts, pair, number)
+}
+
 /// The first of these acts that tells the number of the verdict, where it is open or unfounded.
-fn teller_by(acts: &[Placed<'_>], pair: Pair, verdict: Verdict) -> Option<Teller>
-    ensures { result ≡ teller_by_lem verdict pair.writer pair.reader (map placed_value acts.now) }
+fn teller_by(
+    acts: &[Placed<'_>],
+    pair: Pair,
+    verdict: Verdict,
+    tellers: &Option<Tellers>,
+) -> Option<Teller>
+    ensures { IfSome tellers.now (AreTellersOf pair.writer (map placed_value acts.now))
+        → result ≡ teller_by_lem verdict pair.writer pair.reader (map placed_value acts.now) }
 {
     match verdict {
-        Verdict::Unfounded { number, .. } => find_teller(acts, pair, natural(number)),
-        Verdict::Open { number } => find_teller(acts, pair, natural(number)),
+        Verdict::Unfounded { number, .. } => known_teller(acts, pair, natural(number), tellers),
+        Verdict::Open { number } => known_teller(acts, pair, natural(number), tellers),
         Verdict::Conflict { .. } => None,
         Verdict::Complete { .. } => None,
     }
@@ -144,26 +173,49 @@ fn claim_by(index: &Index<'_>, pair: Pair, verdict: Verdict) -> Option<Claim>
     }
 }
 
-/// The first payload by these acts for the number of the verdict, where it is conflict.
-fn first_by<'a>(acts: &[Placed<'a>], pair: Pair, verdict: Verdict) -> Option<Sent<'a>>
-    ensures { option_map sent_value result ≡ first_by_lem verdict pair.writer pair.reader (map placed_value acts.now) }
+/// The first two payloads by these acts for a number, where those that are asked for may be known.
+fn known_two<'a>(
+    acts: &[Placed<'a>],
+    pair: Pair,
+    number: u64,
+    rivals: &Option<Rivals>,
+) -> TwoSent<'a>
+    ensures first { IfSome rivals.now (AreRivalsOf pair.writer (map placed_value acts.now))
+        → option_map sent_value result.first ≡ first_sent_lem pair.writer pair.reader number (map placed_value acts.now) }
+    ensures other { IfSome rivals.now (AreRivalsOf pair.writer (map placed_value acts.now))
+        → option_map sent_value result.other ≡ other_sent_lem pair.writer pair.reader number (map placed_value acts.now) }
 {
-    match verdict {
-        Verdict::Conflict { number } => first_sent(acts, pair, natural(number)),
-        Verdict::Unfounded { .. } => None,
-        Verdict::Open { .. } => None,
-        Verdict::Complete { .. } => None,
+    if let Some(rivals) = rivals {
+        if let Some(two) = rivals.find(acts, pair, number) {
+            return two;
+        }
+    }
+    TwoSent {
+        first: first_sent(acts, pair, number),
+        other: other_sent(acts, pair, number),
     }
 }
 
-/// The first other payload by these acts for the number of the verdict, where it is conflict.
-fn other_by<'a>(acts: &[Placed<'a>], pair: Pair, verdict: Verdict) -> Option<Sent<'a>>
-    ensures { option_map sent_value result ≡ other_by_lem verdict pair.writer pair.reader (map placed_value acts.now) }
+/// The first two payloads by these acts for the number of the verdict, where it is conflict.
+fn two_by<'a>(
+    acts: &[Placed<'a>],
+    pair: Pair,
+    verdict: Verdict,
+    rivals: &Option<Rivals>,
+) -> TwoSent<'a>
+    ensures first { IfSome rivals.now (AreRivalsOf pair.writer (map placed_value acts.now))
+        → option_map sent_value result.first ≡ first_by_lem verdict pair.writer pair.reader (map placed_value acts.now) }
+    ensures other { IfSome rivals.now (AreRivalsOf pair.writer (map placed_value acts.now))
+        → option_map sent_value result.other ≡ other_by_lem verdict pair.writer pair.reader (map placed_value acts.now) }
 {
+    let none = TwoSent {
+        first: None,
+        other: None,
+    };
     match verdict {
-        Verdict::Conflict { number } => other_sent(acts, pair, natural(number)),
-        Verdict::Unfounded { .. } => None,
-        Verdict::Open { .. } => None,
-        Verdict::Complete { .. } => None,
+        Verdict::Conflict { number } => known_two(acts, pair, natural(number), rivals),
+        Verdict::Unfounded { .. } => none,
+        Verdict::Open { .. } => none,
+        Verdict::Complete { .. } => none,
     }
 }

@@ -19,6 +19,4 @@ loop-row-preserved c =
           (All-push (λ (row : Explanation). IsEvidenceFrom c.args.from row.pair recording row.evidence) c.loop-row.explained.items _ (c.loop-row.invariant.shown recording is judged)
           (shown_row c.args.from recording _ _ _ _ c.in_ok-spoken.ensures.writer (c.in_ok-evidence.ensures.evidence recording is (said recording is)) (judged c.loop-row.row-index _ c.loop-row-test.true)));
       known = said;
-      reached = c.in_ok-spoken.ensures.reached;
-      in_range = c.in_ok-spoken.ensures.in_range;
     }

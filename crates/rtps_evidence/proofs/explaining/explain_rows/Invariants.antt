@@ -1,4 +1,4 @@
-use Rattle.std.proofs.Common.{◌≡◌, ◌-◌, ◌<◌, ◌≤◌, ◌^◌, ℕ, All, List, map, take}
+use Rattle.std.proofs.Common.{◌≡◌, ℕ, All, List, map, take}
 use Rattle.std.specs.Prelude.{IfSome}
 use Rattle.rtps_audit.specs.Index.{IsIndexOf}
 use Rattle.rtps_audit.specs.RunVerdict.{IsVerdictFrom}
@@ -17,6 +17,4 @@ invariant-loop-row l = record {
       → All (λ row. IsVerdictFrom l.fn.from (speech_of row.pair.writer row.pair.reader recording) row.verdict) l.rows
       → All (λ row. IsEvidenceFrom l.fn.from row.pair recording row.evidence) l.explained.items;
   known : (recording : List (List ℕ)) → IsIndexOf recording l.index → IfSome l.before (IsSpokenFrom l.fn.from recording);
-  reached : IfSome l.before (λ spoken. l.fn.from - 1 ≤ spoken.last);
-  in_range : IfSome l.before (λ spoken. spoken.last < 2 ^ 63);
 }

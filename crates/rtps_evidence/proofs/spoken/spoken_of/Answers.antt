@@ -1,8 +1,11 @@
-use Rattle.std.proofs.Common.{◌≡◌, ◌∙◌, ◌-◌, map, max, filter, ap, arith}
+use Rattle.std.proofs.Common.{◌≡◌, ◌∙◌, ◌-◌, map, max, filter, ap, arith, subst}
+use Rattle.std.specs.Prelude.{IfSome}
 use Rattle.std.proofs.lemmas.Int.{ints}
 use Rattle.rtps_audit.specs.Delivery.{greatest}
 use Rattle.rtps_audit.specs.Placed.{is_from, placed_in, placed_value}
 use Rattle.rtps_evidence.specs.Acting.{announcement_of, number_said}
+use Rattle.rtps_evidence.specs.Rivals.{AreRivalsOf}
+use Rattle.rtps_evidence.specs.Tellers.{AreTellersOf}
 use Rattle.rtps_evidence.proofs.OriginLemmas.{announcement_same, last_same}
 use Rattle.rtps_evidence.proofs.spoken.spoken_of.Goals as goal
 
@@ -16,5 +19,7 @@ returns-clause-spoken c = λ recording is.
       last = λ reader. last_same c.args.from writer reader recording c.greatest_number.result c.max-last.result
           (c.greatest_number.ensures.value ∙ ap (λ l. greatest (map (number_said writer) l)) acts) (c.max-last.ensures ∙ ap (max c.greatest_number.result) before);
       announcement = c.find_announcement.ensures ∙ ap (announcement_of c.args.from writer c.max-last.result) acts ∙ announcement_same c.args.from writer c.max-last.result all;
-      amounts = c.in_ok-amounts.ensures recording is;
+      heard = c.in_ok-heard.ensures recording is;
+      rivals = subst (λ l. IfSome c.in_ok-rivals.rivals (AreRivalsOf writer l)) acts c.in_ok-rivals.ensures;
+      tellers = subst (λ l. IfSome c.in_ok-tellers.tellers (AreTellersOf writer l)) acts c.in_ok-tellers.ensures;
     }

@@ -1,0 +1,14 @@
+use Rattle.std.proofs.Common.{◌≡◌, ◌-◌, ◌≤◌}
+use Rattle.rtps_evidence.specs.Counted.{count_in, stretches_have}
+use Rattle.rtps_evidence.specs.Ranked.{AreRanks}
+use Rattle.rtps_evidence.proofs.RankLemmas.{IsWalked}
+use Rattle.rtps_evidence.proofs.ranked.rank_in_order.Given as goal
+
+-- the numbers below `reached` are ranked
+abbrev pub invariant-loop-stretch : goal.invariant-loop-stretch
+invariant-loop-stretch l = record {
+  walked : IsWalked l.stretches l.fn.from l.fn.end l.stretch-index l.reached;
+  fits : l.count ≤ l.reached - l.fn.from;
+  exact : l.count ≡ count_in (stretches_have l.stretches) l.fn.from l.reached;
+  ranked : AreRanks (stretches_have l.stretches) l.fn.from l.reached l.ranks.items;
+}

@@ -1,0 +1,91 @@
+ghost use Rattle.std.specs.Prelude.{◌≡◌, ◌<◌};
+
+use crate::stretches::Stretch;
+use rtps_ids::Memory;
+use std::alloc::Global;
+use std::collections::{BTreeMap, BTreeSet};
+
+/// Of what is said to one audience: where the first act stands that has a word for a number, of numbers that are asked for.
+#[derive(Drop)]
+pub(crate) struct Firsts {
+    /// Those of which no act had a word yet.
+    pub(crate) wanted: BTreeSet<u64>,
+    /// The places of the acts that had, by number.
+    pub(crate) found: BTreeMap<u64, usize>,
+}
+
+impl Firsts {
+    ghost use Rattle.std.specs.Prelude.{◌≡◌, ◌<◌, ◌&&◌, [], ℕ, Bool, false, true, length, IfOk, IfSome, List, MatchOption, OnOk};
+    ghost use Rattle.std.specs.BTreeSet.{contains};
+    ghost use Rattle.std.specs.List.{position_or_len};
+    ghost use Rattle.std.specs.Ordering.{nat_cmp};
+    ghost use Rattle.rtps_audit.specs.Placed.{PlacedValue};
+    ghost use Rattle.rtps_evidence.specs.Counted.{stretch_has, stretches_have};
+    ghost use Rattle.rtps_evidence.specs.Firsts.{AreFirsts, AreGiven};
+
+    /// Nothing is asked for.
+    pub(crate) fn new(alloc: Global) -> Self
+        ensures { (has : ℕ → PlacedValue → Bool) → AreFirsts result has [] }
+    {
+        Firsts {
+            wanted: BTreeSet::new(alloc),
+            found: BTreeMap::new(alloc),
+        }
+    }
+
+    /// Asks for a number, before any act is gone through. After `Memory` nothing is known.
+    pub(crate) fn ask(&mut self, number: u64) -> Result<(), Memory>
+        ensures { OnOk result ((has : ℕ → PlacedValue → Bool) → AreFirsts self.old has [] → AreFirsts self.new has []) }
+    {
+        self.wanted.insert(number)?;
+        Ok(())
+    }
+
+    /// A wanted number of a stretch.
+    fn wanted_in(&self, stretch: Stretch) -> Option<u64>
+        requires { stretch.lo < stretch.hi }
+        ensures { MatchOption result ((n : ℕ) → (contains nat_cmp self.now.wanted n && stretch_has n stretch) ≡ false)
+            (λ n. (contains nat_cmp self.now.wanted n ≡ true) × (stretch_has n stretch ≡ true)) }
+    {
+        match self.wanted.range(stretch.lo..stretch.hi).next() {
+            Some(number) => Some(*number),
+            None => None,
+        }
+    }
+
+    /// Gives the wanted numbers of a stretch this place. After `Memory` nothing is known.
+    fn give(&mut self, stretch: Stretch, place: usize) -> Result<(), Memory>
+        ensures { OnOk result (AreGiven (λ n. stretch_has n stretch) place self.old self.new) }
+    {
+        if stretch.lo >= stretch.hi {
+            return Ok(());
+        }
+        'given: while let Some(number) = self.wanted_in(stretch) {
+            self.wanted.remove(&number);
+            self.found.insert(number, place)?;
+        }
+        Ok(())
+    }
+
+    /// Gives the wanted numbers of these stretches this place. After `Memory` nothing is known.
+    pub(crate) fn give_all(&mut self, stretches: &[Stretch], place: usize) -> Result<(), Memory>
+        ensures { OnOk result (AreGiven (stretches_have stretches.now) place self.old self.new) }
+    {
+        for stretch in stretches {
+            self.give(*stretch, place)?;
+        }
+        Ok(())
+    }
+
+    /// Where the first of so many acts stands that has a word for the number, or how many they are; None where the number was
+    /// not asked for.
+    pub(crate) fn place(&self, number: u64, acts: usize) -> Option<usize>
+        ensures { (has : ℕ → PlacedValue → Bool) (placed : List PlacedValue) → AreFirsts self.now has placed → acts ≡ length placed
+            → IfSome result (λ place. place ≡ position_or_len (has number) placed) }
+    {
+        if self.wanted.contains(&number) {
+            return Some(acts);
+        }
+        self.found.get(&number).copied()
+    }
+}
