@@ -11,6 +11,8 @@
                                                         as many for every reader behind one that names each
     make.py named_last|named_between FILE [MEGABYTES]   of a writer whose readers acknowledge all numbers: each hears the first by
                                                         name; their participant hears every second by name
+    make.py opened|disputed FILE [MEGABYTES]            of a writer whose readers each acknowledge up to another number; each hear
+                                                        two payloads for another number
     make.py in_order|odd_then_even|random|descending|inside_out FILE [THOUSANDS]    of numbers, each in a sample
 """
 import random
@@ -135,6 +137,8 @@ def datagrams(kind, octets):
         return of_named(kind, octets)
     if kind in ('named_last', 'named_between'):
         return of_named_last(kind, octets)
+    if kind in ('opened', 'disputed'):
+        return of_rows(kind, octets)
     if kind in OF_ONE_TOPIC:
         one, other = (next(of_one_topic(kind, 1)) for _ in range(2))
         return of_one_topic(kind, octets // (2 * (len(one) + 1) * 2))
@@ -200,6 +204,23 @@ def of_named_last(kind, octets):
         yield header(A) + to(B) + b''.join(data(WRITER, number, bytes(8), reader) for number, reader in by_name[i:i + 500])
     for i in range(0, len(readers), 500):
         yield header(B) + to(A) + b''.join(ack_nack(reader, WRITER, last + 1) for reader in readers[i:i + 500])
+
+
+def of_rows(kind, octets):
+    """A writer, readers of its topic in half of the octets, and samples for all of them; each reader's row has another number."""
+    readers = [scattered(i) for i in range(1, octets // 1024 + 1)]
+    last = octets // 4 // 64
+    numbers_of = {reader: 1 + i * last // len(readers) for i, reader in enumerate(readers)}
+    yield announced(b'\0\0\3\xc2', A, WRITER, b'')
+    for reader in readers:
+        yield announced(b'\0\0\4\xc2', B, reader, RELIABLE)
+    for i in range(1, last + 1, 1000):
+        yield header(A) + b''.join(data(WRITER, number, bytes(8)) for number in range(i, min(i + 1000, last + 1)))
+    for i in range(0, len(readers), 500):
+        some = readers[i:i + 500]
+        if kind == 'disputed':
+            yield header(A) + to(B) + b''.join(data(WRITER, numbers_of[reader], b'\1' * 8, reader) for reader in some)
+        yield header(B) + to(A) + b''.join(ack_nack(reader, WRITER, last + 1 if kind == 'disputed' else numbers_of[reader]) for reader in some)
 
 
 def write(path, sent):

@@ -26,10 +26,11 @@ use Rattle.rtps_evidence.specs.declared.slots.TwoPlaces.{TwoPlaces}
 abbrev pub slot_cmp : Slot → Slot → Ordering
 slot_cmp a b = ordering_then (bool_cmp a.directed b.directed) (ordering_then (guid_cmp a.key b.key) (nat_cmp a.number b.number))
 
--- the slot of acts for everyone, and of those for a participant
+-- the slot of acts for everyone
 abbrev pub general_slot : Guid → ℕ → Slot
 general_slot key n = record { directed = false; key = key; number = n }
 
+-- the slot of acts for a participant
 abbrev pub directed_slot : Guid → ℕ → Slot
 directed_slot key n = record { directed = true; key = key; number = n }
 
