@@ -11,6 +11,8 @@
                                                         as many for every reader behind one that names each
     make.py named_last|named_between FILE [MEGABYTES]   of a writer whose readers acknowledge all numbers: each hears the first by
                                                         name; their participant hears every second by name
+    make.py named_hole|named_crossed FILE [MEGABYTES]   the same as named_between, where each hears the first by name; where their
+                                                        participants and their entity ids are told numbers in turns
     make.py opened|disputed FILE [MEGABYTES]            of a writer whose readers each acknowledge up to another number; each hear
                                                         two payloads for another number
     make.py in_order|odd_then_even|random|descending|inside_out FILE [THOUSANDS]    of numbers, each in a sample
@@ -135,8 +137,10 @@ def datagrams(kind, octets):
         return (*map(announcement, entities), *spoken)
     if kind in ('named', 'named_too'):
         return of_named(kind, octets)
-    if kind in ('named_last', 'named_between'):
+    if kind in ('named_last', 'named_between', 'named_hole'):
         return of_named_last(kind, octets)
+    if kind == 'named_crossed':
+        return of_named_crossed(octets)
     if kind in ('opened', 'disputed'):
         return of_rows(kind, octets)
     if kind in OF_ONE_TOPIC:
@@ -196,14 +200,36 @@ def of_named_last(kind, octets):
     yield announced(b'\0\0\3\xc2', A, WRITER, b'')
     for reader in readers:
         yield announced(b'\0\0\4\xc2', B, reader, RELIABLE)
-    by_name = [(1, reader) for reader in readers] if kind == 'named_last' else [(number, bytes(4)) for number in range(2, last + 1, 2)]
-    for_all = range(2, last + 1) if kind == 'named_last' else range(1, last + 1, 2)
+    by_name, for_all = [], range(1, last + 1, 2)
+    if kind != 'named_last':
+        by_name += [(number, bytes(4)) for number in range(2, last + 1, 2)]
+    if kind != 'named_between':
+        by_name += [(1, reader) for reader in readers]
+        for_all = range(2, last + 1) if kind == 'named_last' else for_all[1:]
     for i in range(0, len(for_all), 1000):
         yield header(A) + b''.join(data(WRITER, number, bytes(8)) for number in for_all[i:i + 1000])
     for i in range(0, len(by_name), 500):
         yield header(A) + to(B) + b''.join(data(WRITER, number, bytes(8), reader) for number, reader in by_name[i:i + 500])
     for i in range(0, len(readers), 500):
         yield header(B) + to(A) + b''.join(ack_nack(reader, WRITER, last + 1) for reader in readers[i:i + 500])
+
+
+def of_named_crossed(octets):
+    """A writer, participants of which each has readers of the same entity ids, and GAPs of every second number for each of both."""
+    count = max(2, int((octets // 512) ** 0.5))
+    prefixes = [b'\xbb' * 8 + i.to_bytes(4, 'big') for i in range(count)]
+    entities = [(0x104 + 256 * i).to_bytes(4, 'big') for i in range(count)]
+    blocks = max(1, octets // 4 // (2 * count * 64))
+    yield announced(b'\0\0\3\xc2', A, WRITER, b'')
+    for prefix in prefixes:
+        yield from (announced(b'\0\0\4\xc2', prefix, entity, RELIABLE) for entity in entities)
+    for prefix in prefixes:
+        yield header(A) + to(prefix) + b''.join(gap(WRITER, 1 + 256 * i, 1 + 256 * i, [0xaaaaaaaa] * 8) for i in range(blocks))
+    for entity in entities:
+        yield header(A) + b''.join(gap(WRITER, 1 + 256 * i, 1 + 256 * i, [0x55555555] * 8, 256, entity) for i in range(blocks))
+    yield header(A) + heartbeat(WRITER, 1, 256 * blocks)
+    for prefix in prefixes:
+        yield header(prefix) + to(A) + b''.join(ack_nack(entity, WRITER, 256 * blocks + 1) for entity in entities)
 
 
 def of_rows(kind, octets):

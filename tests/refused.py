@@ -29,6 +29,9 @@ CALLS = ['note', 'participants', 'endpoints', 'matched', 'pairs', 'walk', 'add_p
 OF_INPUT = ['read_recording', 'show', 'list', 'audit_run', 'audit_from_run', 'why_run', 'json_run']
 WORDS = ['read_words', 'read_words_from', 'read_help', 'read_refused_words']
 
+# Any request may go on.
+ALL = 1 << 62
+
 # The size of the requests between which CALLS has its requests counted, as in its source.
 MARK = 7654321
 
@@ -52,9 +55,17 @@ def run(library, words, request, text, mark):
     return (done.stdout.decode(), told, done.returncode), len(told) < len(lines)
 
 
+def requests_of(library, words):
+    """how many requests a run makes"""
+    request = 1
+    while run(library, words, request, b'', 0)[1]:
+        request += 1
+    return request - 1
+
+
 def sweep(library, words, text, wanted, may_go_on, mark=0):
-    """Refuses each request in turn: how many times that is answered as wanted, how many times as with ample memory, and
-    how often otherwise."""
+    """Refuses each request in turn: how many times that is answered as wanted, how many times as with ample memory, which
+    so many of the first may do, and how often otherwise."""
     ample, _ = run(library, words, 0, text, mark)
     told = went_on = failed = request = 0
     while True:
@@ -64,7 +75,7 @@ def sweep(library, words, text, wanted, may_go_on, mark=0):
             return told, went_on, failed + (answer != ample)
         if answer == wanted:
             told += 1
-        elif answer == ample and may_go_on:
+        elif answer == ample and request <= may_go_on:
             went_on += 1
         else:
             failed += 1
@@ -92,41 +103,63 @@ def many_ranges():
     return text_of(datagrams)
 
 
+def named_readers():
+    """a recording of a writer and four readers of two participants, which are told numbers by name, by participant and by
+    entity id, with rows in conflict, open and unfounded; and of what somebody says that nobody announces"""
+    others = bytes([0xcc]) * 12
+    second = b'\0\0\2\4'
+    readers = [(make.B, make.READER), (make.B, second), (others, make.READER), (others, second)]
+    datagrams = [make.announced(b'\0\0\3\xc2', make.A, make.WRITER, b'')]
+    datagrams += [make.announced(b'\0\0\4\xc2', prefix, entity, make.RELIABLE) for prefix, entity in readers]
+    said = make.data(make.WRITER, 1, bytes(8)) + make.gap(make.WRITER, 4, 8, [0xaaaaaaaa] * 2, 64)
+    named = make.data(make.WRITER, 1, bytes([1] * 8), make.READER) + make.data(make.WRITER, 2, bytes(8))
+    datagrams.append(make.header(make.A) + said + make.data(make.WRITER, 3, bytes(8), second))
+    datagrams.append(make.header(make.A) + make.to(make.B) + named + make.gap(make.WRITER, 3, 4, [1], 32, make.READER))
+    datagrams.append(make.header(make.A) + make.to(others) + make.data(make.WRITER, 2, bytes(8), second) + make.heartbeat(make.WRITER, 2, 9))
+    datagrams += [make.header(prefix) + make.to(make.A) + make.ack_nack(entity, make.WRITER, base) for (prefix, entity), base in zip(readers, (4, 3, 6, 2))]
+    datagrams.append(make.header(b'\xdd' * 12) + make.data(make.WRITER, 1, bytes(8)) + make.heartbeat(make.WRITER, 1, 1))
+    return text_of(datagrams)
+
+
 def of_calls(calls, recordings):
-    """what is tried of the library: a name, the words, the input, what is wanted, whether it may go on, and the mark"""
+    """what is tried of the library: a name, the words, the input, what is wanted, how many requests may go on, and the mark"""
     of_capture = [f'capture_{call}' for call in OF_INPUT]
     for call in CALLS + OF_INPUT + of_capture + WORDS:
         answer = f'{call}: Memory, and then as if it were the first\n', [], 0
         for name, text in recordings.items():
-            yield f'{call}, {name}', [calls, call], text, answer, call in WORDS, MARK
+            yield f'{call}, {name}', [calls, call], text, answer, ALL if call in WORDS else 0, MARK
 
 
-def of_program(program, recording):
-    """what is tried of the program"""
+def of_program(library, program, recording):
+    """what is tried of the program: of a run on a recording, the requests may go on that are made until the FILE is opened"""
     nothing = '', ['rtps-audit: out of memory'], 3
     views = [*map(words_of, VIEWS), ['audit', '--from', '3'], ['why', '--from', '3']]
-    for words in (*([*view, '-'] for view in views), ['--help'], ['audit', '--help'], ['--version'], ['audit'], []):
-        yield f"rtps-audit {' '.join(words)}", [program, *words], recording, nothing, True
-    yield 'rtps-audit audit of a GAP whose list has 128 ranges', [program, 'audit', '-'], many_ranges(), nothing, True
-    yield 'rtps-audit sample', [program, 'sample'], b'', nothing, True
+    for words in (['--help'], ['audit', '--help'], ['--version'], ['audit'], []):
+        yield f"rtps-audit {' '.join(words)}", [program, *words], recording, nothing, ALL
+    for words in ['audit', 'absent.rec'], ['sample']:
+        yield f"rtps-audit {' '.join(words)}", [program, *words], b'', nothing, ALL
+    runs = [('', [*view, '-'], recording) for view in views]
+    runs.append((' of a GAP whose list has 128 ranges', ['audit', '-'], many_ranges()))
+    capture = file_of('examples', 'loopback.pcap')
     limits = ['--max-datagrams', '6', '--max-octets', '100000']
     for view in views:
-        yield f"rtps-audit {' '.join(view)} with limits", [program, *view, *limits, '-'], recording, nothing, True
-    yield 'rtps-audit audit of a FILE that is absent', [program, 'audit', 'absent.rec'], b'', nothing, True
-    capture = file_of('examples', 'loopback.pcap')
-    for view in views:
-        yield f"rtps-audit {' '.join(view)} - of a capture", [program, *view, '-'], capture, nothing, True
+        runs.append((' with limits', [*view, *limits, '-'], recording))
+        runs.append((' of readers that are named', [*view, '-'], named_readers()))
+        runs.append((' of a capture', [*view, '-'], capture))
+    for name, words, text in runs:
+        of_words = requests_of(library, [program, *words[:-1], 'absent.rec'])
+        yield f"rtps-audit {' '.join(words)}{name}", [program, *words], text, nothing, of_words
 
 
 def main():
     if len(sys.argv) != 3:
         raise SystemExit(__doc__)
     program, calls = map(os.path.realpath, sys.argv[1:])
-    recordings = {'of six datagrams': file_of('examples', 'pose.rec'), 'of 80 endpoints': many_endpoints()}
+    recordings = {'of six datagrams': file_of('examples', 'pose.rec'), 'of 80 endpoints': many_endpoints(), 'of readers that are named': named_readers()}
     tests = Counts()
     with tempfile.TemporaryDirectory() as folder:
         library = built(folder)
-        for name, *one in (*of_calls(calls, recordings), *of_program(program, recordings['of six datagrams'])):
+        for name, *one in (*of_calls(calls, recordings), *of_program(library, program, recordings['of six datagrams'])):
             told, went_on, others = sweep(library, *one)
             tests.count(told, others + (told == 0))
             print(f'{name}: {told} requests refused' + (f', and {went_on} that changed nothing' if went_on else ''))

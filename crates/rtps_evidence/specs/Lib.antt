@@ -5,6 +5,7 @@ pub mod Firsts
 pub mod Tellers
 pub mod Rivals
 pub mod Ranked
+pub mod Shared
 pub mod Questions
 pub mod Lists
 pub mod Shares

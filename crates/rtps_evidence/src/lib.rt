@@ -17,6 +17,7 @@ mod questions;
 mod ranked;
 mod rivals;
 mod sending;
+mod shared;
 mod shares;
 mod slots;
 mod slotting;

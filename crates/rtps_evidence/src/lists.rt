@@ -1,6 +1,7 @@
 ghost use Rattle.std.specs.Prelude.{◌≡◌};
 
 use crate::questions::{Question, push_asked};
+use crate::ranked::{Rank, ranks_of};
 use crate::stretches::Stretch;
 use rtps_audit::Placed;
 use rtps_ids::{Guid, Memory};
@@ -15,14 +16,16 @@ pub(crate) struct StretchLists {
 }
 
 impl StretchLists {
-    ghost use Rattle.std.specs.Prelude.{ℕ, ◌≡◌, ◌&&◌, ◌||◌, false, OnOk};
+    ghost use Rattle.std.specs.Prelude.{ℕ, Bool, ◌≡◌, ◌≤◌, ◌&&◌, ◌||◌, false, IfOk, OnOk};
     ghost use Rattle.std.specs.Ordering.{is_eq};
     ghost use Rattle.rtps_ids.specs.declared.identity.Guid.{Guid as GuidValue};
     ghost use Rattle.rtps_discovery.specs.GuidOrder.{guid_cmp};
+    ghost use Rattle.rtps_audit.specs.Groups.{values_at};
     ghost use Rattle.rtps_audit.specs.Placed.{placed_value};
     ghost use Rattle.rtps_evidence.specs.Questions.{asks};
     ghost use Rattle.rtps_evidence.specs.Counted.{stretches_have};
     ghost use Rattle.rtps_evidence.specs.Lists.{lists_have};
+    ghost use Rattle.rtps_evidence.specs.Ranked.{AreRanks, nothing};
 
     /// No lists.
     pub(crate) fn new(alloc: Global) -> Self
@@ -72,5 +75,29 @@ impl StretchLists {
             Some(list) => list,
             None => Vec::new(self.alloc),
         }
+    }
+
+    /// Ranks of the numbers from `from` on and below `end` of each list, by its key. Those that are for everyone are not
+    /// counted.
+    pub(crate) fn ranks(
+        &self,
+        everyone: &[Rank],
+        from: u64,
+        end: u64,
+    ) -> Result<BTreeMap<Guid, Vec<Rank>>, Memory>
+        requires { from ≤ end }
+        ensures { (general : ℕ → Bool) → AreRanks nothing general from end everyone.now → IfOk result (λ ranks.
+            (key : GuidValue) → AreRanks general (lists_have self.now.lists key) from end (values_at guid_cmp ranks key)) }
+    {
+        let mut ranks = BTreeMap::new(self.alloc);
+        for (key, list) in &self.lists {
+            let mut stretches = Vec::new(self.alloc);
+            stretches.extend_from_slice(list)?;
+            ranks.insert(
+                *key,
+                ranks_of(self.alloc, everyone, &mut stretches, from, end)?,
+            )?;
+        }
+        Ok(ranks)
     }
 }

@@ -1,13 +1,13 @@
-ghost use Rattle.std.specs.Prelude.{ℕ, Bool, ◌≡◌, ◌≤◌, ◌&&◌, not, IfOk};
+ghost use Rattle.std.specs.Prelude.{ℕ, Bool, ◌≡◌, ◌≤◌, ◌-◌, not, IfOk};
 ghost use Rattle.std.specs.List.Sorted.{IsNonDecreasingBy};
 ghost use Rattle.rtps_evidence.specs.Counted.{count_in, stretches_have};
-ghost use Rattle.rtps_evidence.specs.Ranked.{AreRanks};
+ghost use Rattle.rtps_evidence.specs.Ranked.{AreRanks, IsCutAt, nothing};
 
 use crate::stretches::Stretch;
 use rtps_ids::Memory;
 use std::alloc::Global;
 
-/// The numbers from `lo` on and below `hi`, and how many stand in the ranks before this one.
+/// The numbers from `lo` on and below `hi`, and how many that are to be counted stand in the ranks before this one.
 #[derive(Clone, Copy, Debug)]
 pub(crate) struct Rank {
     pub(crate) lo: u64,
@@ -16,16 +16,18 @@ pub(crate) struct Rank {
 }
 
 /// Ranks of the numbers from `from` on and below `end` that lie in these stretches, which stand in the order of their
-/// beginnings.
+/// beginnings. Those that are for everyone are not counted.
 fn rank_in_order(
     alloc: Global,
+    everyone: &[Rank],
     stretches: &[Stretch],
     from: u64,
     end: u64,
 ) -> Result<Vec<Rank>, Memory>
     requires sorted { IsNonDecreasingBy (λ stretch. stretch.lo) stretches.now }
     requires ordered { from ≤ end }
-    ensures { IfOk result (λ ranks. AreRanks (stretches_have stretches.now) from end ranks.items) }
+    ensures { (general : ℕ → Bool) → AreRanks nothing general from end everyone.now
+        → IfOk result (λ ranks. AreRanks general (stretches_have stretches.now) from end ranks.items) }
 {
     let mut ranks = Vec::new(alloc);
     let mut reached = from;
@@ -39,58 +41,66 @@ fn rank_in_order(
                 hi,
                 before: count,
             })?;
-            count += hi - lo;
+            count += others(everyone, lo, hi);
             reached = hi;
         }
     }
     Ok(ranks)
 }
 
-/// Ranks of the numbers from `from` on and below `end` that lie in these stretches.
+/// Ranks of the numbers from `from` on and below `end` that lie in these stretches. Those that are for everyone are not
+/// counted.
 pub(crate) fn ranks_of(
     alloc: Global,
+    everyone: &[Rank],
     stretches: &mut Vec<Stretch>,
     from: u64,
     end: u64,
 ) -> Result<Vec<Rank>, Memory>
     requires { from ≤ end }
-    ensures { IfOk result (λ ranks. AreRanks (stretches_have stretches.old.items) from end ranks.items) }
+    ensures { (general : ℕ → Bool) → AreRanks nothing general from end everyone.now
+        → IfOk result (λ ranks. AreRanks general (stretches_have stretches.old.items) from end ranks.items) }
 {
     stretches.sort_by_key(|stretch| stretch.lo)?;
-    rank_in_order(alloc, stretches, from, end)
+    rank_in_order(alloc, everyone, stretches, from, end)
 }
 
-/// How many of the numbers that are ranked stand below `x`.
-pub(crate) fn below(ranks: &[Rank], x: u64) -> u64
-    ensures { (has : ℕ → Bool) (from end : ℕ) → AreRanks has from end ranks.now → from ≤ x → x ≤ end → result ≡ count_in has from x }
+/// The last rank that begins below `x`, cut off at `x`; an empty one at `x` where none does.
+pub(crate) fn cut_at(ranks: &[Rank], x: u64) -> Rank
+    ensures { (general has : ℕ → Bool) (from end : ℕ) → AreRanks general has from end ranks.now → from ≤ x → x ≤ end
+        → IsCutAt general has from x result }
 {
     let place = ranks.partition_point(|rank| rank.lo < x);
     if place == 0 {
-        return 0;
+        return Rank {
+            lo: x,
+            hi: x,
+            before: 0,
+        };
     }
     let rank = ranks[place - 1];
-    let within = rank.hi.min(x).saturating_sub(rank.lo);
-    rank.before.saturating_add(within)
+    Rank {
+        lo: rank.lo,
+        hi: rank.hi.min(x),
+        before: rank.before,
+    }
 }
 
-/// How many of the numbers from `from` on and below `end` lie in these stretches, which stand in the order of their
-/// beginnings, and are not ranked.
-pub(crate) fn count_besides(ranks: &[Rank], stretches: &[Stretch], from: u64, end: u64) -> u64
-    requires sorted { IsNonDecreasingBy (λ stretch. stretch.lo) stretches.now }
-    requires ordered { from ≤ end }
-    ensures { (has : ℕ → Bool) → AreRanks has from end ranks.now
-        → result ≡ count_in (λ n. stretches_have stretches.now n && not (has n)) from end }
+/// How many of the numbers that are for everyone stand below `x`.
+pub(crate) fn below(everyone: &[Rank], x: u64) -> u64
+    ensures { (general : ℕ → Bool) (from end : ℕ) → AreRanks nothing general from end everyone.now → from ≤ x → x ≤ end
+        → result ≡ count_in general from x }
 {
-    let mut reached = from;
-    let mut count = 0;
-    for stretch in stretches {
-        let lo = stretch.lo.max(reached);
-        let hi = stretch.hi.min(end);
-        if lo < hi {
-            let shared = below(ranks, hi).saturating_sub(below(ranks, lo));
-            count += (hi - lo).saturating_sub(shared);
-            reached = hi;
-        }
-    }
-    count
+    let cut = cut_at(everyone, x);
+    cut.before.saturating_add(cut.hi.saturating_sub(cut.lo))
+}
+
+/// How many of the numbers from `lo` on and below `hi` are not for everyone.
+pub(crate) fn others(everyone: &[Rank], lo: u64, hi: u64) -> u64
+    ensures fits { result ≤ hi - lo }
+    ensures others { (general : ℕ → Bool) (from end : ℕ) → AreRanks nothing general from end everyone.now → from ≤ lo → lo ≤ hi → hi ≤ end
+        → result ≡ count_in (λ n. not (general n)) lo hi }
+{
+    let shared = below(everyone, hi).saturating_sub(below(everyone, lo));
+    hi.saturating_sub(lo).saturating_sub(shared)
 }

@@ -79,7 +79,7 @@ impl Rivals {
     ghost use Rattle.rtps_evidence.specs.Acting.{first_sent, other_sent, sent_value};
     ghost use Rattle.rtps_evidence.specs.Rivals.{AreEmpty, AreFourOf, AreRivalsOf, AreSlotsOf, slot_cmp};
 
-    /// No places, in the four parts that a reader hears.
+    /// Makes room for the places of a number, in the four parts that a reader hears. After `Memory` the slots are of no use.
     fn put(&mut self, asked: Asked) -> Result<(), Memory>
         ensures { OnOk result (AreEmpty self.old.slots → AreEmpty self.new.slots) }
     {
@@ -90,7 +90,7 @@ impl Rivals {
         put_slot(&mut self.slots, true, asked.reader, number)
     }
 
-    /// No places for the numbers that are asked for.
+    /// With room for the numbers that are asked for, and no act gone through.
     fn asked(alloc: Global, asked: &[Asked]) -> Result<Rivals, Memory>
         ensures { IfOk result (λ rivals. AreEmpty rivals.slots) }
     {
@@ -103,7 +103,7 @@ impl Rivals {
         Ok(rivals)
     }
 
-    /// By the act at a place, behind those that were gone through.
+    /// Goes through the act at a place, behind those that were gone through.
     fn note(&mut self, acts: &[Placed<'_>], place: usize, writer: Guid)
         requires within { place < length acts.now }
         ensures { AreSlotsOf writer (map placed_value acts.now) (map placed_value (take place acts.now)) self.old.slots

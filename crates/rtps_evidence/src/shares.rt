@@ -4,12 +4,14 @@ use crate::counting::Amounts;
 use crate::hearers::key_of;
 use crate::lists::StretchLists;
 use crate::questions::Question;
-use crate::ranked::{Rank, below, count_besides, ranks_of};
+use crate::ranked::{Rank, ranks_of};
+use crate::shared::Both;
 use crate::stretches::Stretch;
 use rtps_audit::{NOBODY, Placed, of_entity, of_participant};
 use rtps_ids::{Guid, Memory, SeqNum};
 use rtps_receiver::laws::tests_say_what_relations_say;
 use std::alloc::Global;
+use std::collections::BTreeMap;
 
 /// The numbers of which a writer's acts have what is asked, by whom the acts are for.
 #[derive(Drop)]
@@ -18,6 +20,8 @@ pub(crate) struct Share {
     pub(crate) everyone: Vec<Rank>,
     /// Those for a participant, by its prefix and the reader that is named, with zeros where none is.
     pub(crate) directed: StretchLists,
+    /// The same, ranked: what many readers of a participant hear. Those for everyone are not counted.
+    pub(crate) ranked: BTreeMap<Guid, Vec<Rank>>,
     /// Those for a reader that is named in whatever participant, by its entity id behind zeros.
     pub(crate) named: StretchLists,
 }
@@ -40,7 +44,9 @@ impl Share {
     ghost use Rattle.std.specs.List.Sorted.{IsNonDecreasingBy};
     ghost use Rattle.rtps_ids.specs.declared.identity.Guid.{Guid as GuidValue};
     ghost use Rattle.rtps_audit.specs.Audiences.{of_entity as of_entity_lem, of_participant as of_participant_lem};
+    ghost use Rattle.rtps_audit.specs.Groups.{values_at};
     ghost use Rattle.rtps_audit.specs.Placed.{PlacedValue, placed_value};
+    ghost use Rattle.rtps_discovery.specs.GuidOrder.{guid_cmp};
     ghost use Rattle.rtps_evidence.specs.Questions.{asks};
     ghost use Rattle.rtps_evidence.specs.Counted.{count_in, stretches_have};
     ghost use Rattle.rtps_evidence.specs.Hearers.{is_directed_to, is_general_to, is_of_four, within};
@@ -86,23 +92,39 @@ impl Share {
         for placed in acts {
             Share::keep(&mut directed, &mut named, placed, writer, question)?;
         }
-        let mut everyone = named.take(NOBODY);
+        let mut general = named.take(NOBODY);
+        let everyone = ranks_of(alloc, &[], &mut general, from, end)?;
         Ok(Share {
-            everyone: ranks_of(alloc, &mut everyone, from, end)?,
+            ranked: directed.ranks(&everyone, from, end)?,
+            everyone,
             directed,
             named,
         })
     }
 
-    /// The stretches that are a reader's own: not for everyone. They stand in the order of their beginnings.
+    /// What a reader hears as others do: what is for everyone, and what is for its participant.
+    fn both(&self, reader: Guid) -> Both<'_>
+        ensures everyone { result.everyone.now ≡ self.now.everyone.items }
+        ensures participant { result.participant.now ≡ values_at guid_cmp self.now.ranked (of_participant_lem reader) }
+    {
+        Both {
+            everyone: &self.everyone,
+            participant: match self.ranked.get(&of_participant(reader)) {
+                Some(ranks) => ranks,
+                None => &[],
+            },
+        }
+    }
+
+    /// The stretches that are a reader's own: neither for everyone nor for all of its participant. They stand in the order of
+    /// their beginnings.
     fn own(&self, alloc: Global, reader: Guid) -> Result<Vec<Stretch>, Memory>
         ensures sorted { IfOk result (λ own. IsNonDecreasingBy (λ stretch. stretch.lo) own.items) }
-        ensures own { IfOk result (λ own. (n : ℕ) → stretches_have own.items n ≡ (lists_have self.now.named.lists (of_entity_lem reader) n
-            || (lists_have self.now.directed.lists (of_participant_lem reader) n || lists_have self.now.directed.lists reader n))) }
+        ensures own { IfOk result (λ own. (n : ℕ) → stretches_have own.items n
+            ≡ (lists_have self.now.named.lists (of_entity_lem reader) n || lists_have self.now.directed.lists reader n)) }
     {
         let mut own = Vec::new(alloc);
         self.named.append_to(of_entity(reader), &mut own)?;
-        self.directed.append_to(of_participant(reader), &mut own)?;
         self.directed.append_to(reader, &mut own)?;
         own.sort_by_key(|stretch| stretch.lo)?;
         Ok(own)
@@ -115,8 +137,9 @@ impl Share {
             → IfOk result (λ count. count ≡ count_in (λ n. list_any (is_of_four reader (has n)) placed) from end) }
     {
         let own = self.own(alloc, reader)?;
-        let general = below(&self.everyone, end);
-        Ok(general.saturating_add(count_besides(&self.everyone, &own, from, end)))
+        let both = self.both(reader);
+        let shared = both.below(end);
+        Ok(shared.saturating_add(both.count_besides(&own, from, end)))
     }
 }
 

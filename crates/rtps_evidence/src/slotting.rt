@@ -30,7 +30,7 @@ pub(crate) fn slot_of(act: &Act<'_>) -> Option<Slot>
     })
 }
 
-/// No places for a slot.
+/// Makes room for the places of a slot, which has none yet. After `Memory` the slots are of no use.
 pub(crate) fn put_slot(
     slots: &mut BTreeMap<Slot, TwoPlaces>,
     directed: bool,

@@ -1,21 +1,8 @@
-use Rattle.std.proofs.Common.{arith, nat_lt, rules}
-use Rattle.std.proofs.lemmas.List.Sorted.{IsPartitionedBy-ltb, IsPartitionPoint-from_clause}
-use Rattle.rtps_evidence.specs.declared.ranked.Rank.{Rank}
-use Rattle.rtps_evidence.proofs.RankLemmas.{below_at, below_first}
+use Rattle.std.proofs.Common.{arith}
+use Rattle.rtps_evidence.specs.Ranked.{nothing}
+use Rattle.rtps_evidence.proofs.RankLemmas.{below_cut}
 use Rattle.rtps_evidence.proofs.ranked.below.Goals as goal
 
-pub returns-then-place-eq0 : goal.returns-then-place-eq0
-returns-then-place-eq0 c = λ has from end is a b.
-    let ranks = c.args.ranks.now in
-    let x = c.args.x in
-    let parts = IsPartitionPoint-from_clause (λ (rank : Rank). nat_lt rank.lo x) ranks c.partition_point-place.result c.partition_point-place.ensures.partitioned (IsPartitionedBy-ltb (λ (rank : Rank). rank.lo) ranks x is.sorted) (λ a r q k. search rules) in
-    below_first has from end x ranks is a b (λ k d low lt. parts.1 k d (omega (arith, c.if-place-eq0.true)) lt)
-
 pub returns : goal.returns
-returns c = λ has from end is a b.
-    let ranks = c.args.ranks.now in
-    let x = c.args.x in
-    let parts = IsPartitionPoint-from_clause (λ (rank : Rank). nat_lt rank.lo x) ranks c.partition_point-place.result c.partition_point-place.ensures.partitioned (IsPartitionedBy-ltb (λ (rank : Rank). rank.lo) ranks x is.sorted) (λ a r q k. search rules) in
-    let none : Rank = record { lo = 0; hi = 0; before = 0 } in
-    below_at has from end x c.partition_point-place.result ranks none c.min.result c.saturating_sub-within.result c.saturating_add.result is a b (omega (arith, c.ranges.x.fits)) (omega (arith, c.if-place-eq0.false)) c.partition_point-place.ensures.bound parts
-    c.min.ensures c.saturating_sub-within.ensures c.saturating_add.ensures
+returns c = λ general from end is a b.
+    below_cut general from c.args.x c.cut_at-cut.result c.saturating_sub.result c.saturating_add.result (c.cut_at-cut.ensures nothing general from end is a b) (omega (arith, c.ranges.x.fits)) c.saturating_sub.ensures c.saturating_add.ensures

@@ -16,8 +16,12 @@ rank_in_order-requires-clause-sorted c =
     subst (IsNonDecreasingBy (λ (s : Stretch). s.lo)) (sym c.deref.ensures.value) sorted
 
 pub returns : goal.returns
-returns c =
-    IfOk-weaker _ (λ (ranks : Vec Rank). AreRanks (stretches_have c.deref.result.now) c.args.from c.args.end ranks.items) (λ (ranks : Vec Rank). AreRanks (stretches_have c.args.stretches.now.items) c.args.from c.args.end ranks.items)
-    (λ ranks is. ranks_same (stretches_have c.deref.result.now) (stretches_have c.args.stretches.now.items) c.args.from c.args.end ranks.items (λ n.
-    ap (λ l. stretches_have l n) c.deref.ensures.value ∙ sym (list_any-IsPermutation (stretch_has n) c.args.stretches.now.items c.sort_by_key.new.self.items c.in_ok-sort_by_key.ensures.permutation)) is)
-    c.rank_in_order.ensures
+returns c = λ general is.
+    let stretches = c.args.stretches.now.items in
+    let sorted = c.deref.result.now in
+    let from = c.args.from in
+    let end = c.args.end in
+    IfOk-weaker _ (λ (ranks : Vec Rank). AreRanks general (stretches_have sorted) from end ranks.items) (λ (ranks : Vec Rank). AreRanks general (stretches_have stretches) from end ranks.items)
+    (λ ranks are. ranks_same general (stretches_have sorted) (stretches_have stretches) from end ranks.items (λ n.
+    ap (λ l. stretches_have l n) c.deref.ensures.value ∙ sym (list_any-IsPermutation (stretch_has n) stretches c.sort_by_key.new.self.items c.in_ok-sort_by_key.ensures.permutation)) are)
+    (c.rank_in_order.ensures general is)

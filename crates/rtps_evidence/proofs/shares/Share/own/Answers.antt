@@ -1,11 +1,10 @@
 use Rattle.std.proofs.Common.{◌≡◌, ◌||◌, ◌∙◌, ap, sym, rules}
 use Rattle.std.proofs.lemmas.List.Sorted.{IsNonDecreasingBy-from_sort_by_key, list_any-IsPermutation}
 use Rattle.rtps_ids.specs.declared.identity.Guid.{Guid}
-use Rattle.rtps_audit.specs.Audiences.{of_entity, of_participant}
+use Rattle.rtps_audit.specs.Audiences.{of_entity}
 use Rattle.rtps_evidence.specs.Counted.{stretch_has, stretches_have}
 use Rattle.rtps_evidence.specs.Lists.{lists_have}
 use Rattle.rtps_evidence.specs.declared.stretches.Stretch.{Stretch}
-use Rattle.rtps_evidence.proofs.StretchLemmas.{or_assoc}
 use Rattle.rtps_evidence.proofs.shares.Share.own.Goals as goal
 
 pub returns-clause-sorted : goal.returns-clause-sorted
@@ -17,17 +16,11 @@ returns-clause-own c = λ n.
     let directed = c.args.self.now.directed.lists in
     let reader = c.args.reader in
     let n_has = lists_have named (of_entity reader) n in
-    let p_has = lists_have directed (of_participant reader) n in
     let r_has = lists_have directed reader n in
     let one : stretches_have c.append_to.new.stretches.items n ≡ n_has =
     c.in_ok-append_to.ensures n
     ∙ ap (λ l. stretches_have l n || lists_have named c.of_entity.result n) c.new-own.ensures.items
     ∙ ap (λ (k : Guid). lists_have named k n) c.of_entity.ensures in
-    let two : stretches_have c.append_to-2.new.stretches.items n ≡ (n_has || p_has) =
-    c.in_ok-append_to-2.ensures n
-    ∙ ap (λ b. b || lists_have directed c.of_participant.result n) one
-    ∙ ap (λ (k : Guid). n_has || lists_have directed k n) c.of_participant.ensures in
-    sym (list_any-IsPermutation (stretch_has n) c.append_to-3.new.stretches.items c.sort_by_key.new.self.items c.in_ok-sort_by_key.ensures.permutation)
-    ∙ c.in_ok-append_to-3.ensures n
-    ∙ ap (λ b. b || r_has) two
-    ∙ or_assoc n_has p_has r_has
+    sym (list_any-IsPermutation (stretch_has n) c.append_to-2.new.stretches.items c.sort_by_key.new.self.items c.in_ok-sort_by_key.ensures.permutation)
+    ∙ c.in_ok-append_to-2.ensures n
+    ∙ ap (λ b. b || r_has) one

@@ -1,9 +1,9 @@
-use Rattle.std.proofs.Common.{◌+◌, ◌-◌, ◌∙◌, arith, ap}
+use Rattle.std.proofs.Common.{◌||◌, arith}
 use Rattle.rtps_evidence.specs.Counted.{stretches_have}
 use Rattle.rtps_evidence.specs.declared.stretches.Stretch.{Stretch}
 use Rattle.rtps_evidence.proofs.RankLemmas.{besides_end, besides_next, walked_next, walked_on, walked_past}
-use Rattle.rtps_evidence.proofs.ranked.count_besides.Goals as goal
-use Rattle.rtps_evidence.proofs.ranked.count_besides.Goals.{then-lo-hi, else-lo-hi}
+use Rattle.rtps_evidence.proofs.shared.Both.count_besides.Goals as goal
+use Rattle.rtps_evidence.proofs.shared.Both.count_besides.Goals.{then-lo-hi, else-lo-hi}
 
 pub loop-stretch-preserved : goal.loop-stretch-preserved
 loop-stretch-preserved c =
@@ -22,18 +22,15 @@ loop-stretch-preserved c =
           let next = walked_next stretches from end i reached none lo hi c.requires.sorted c.loop-stretch-test.true known.walked c.max-lo.ensures c.min-hi.ensures w.if-lo-hi.true in
           let past = walked_on stretches from end i reached none lo hi c.loop-stretch-test.true known.walked c.max-lo.ensures c.min-hi.ensures w.if-lo-hi.true in
           let fits = known.fits in
-          let some = w.if-lo-hi.true in
           let further = next.onward in
+          let some = next.some in
           let within = past.within in
-          let shared = w.saturating_sub-shared.ensures in
-          let added = w.saturating_sub-count.ensures in
+          let few = w.others-count.ensures.fits in
           rw (w.reached-is, w.count-is) (record {
             walked = past;
             fits = omega arith;
-            exact = λ has is.
-                ap (λ m. c.loop-stretch.count + m) (added ∙ ap (λ m. (hi - lo) - m) shared)
-                ∙ besides_next (stretches_have stretches) has from reached lo hi c.loop-stretch.count w.below-then-lo-hi.result w.below.result onward next
-                (w.below-then-lo-hi.ensures has from end is (omega arith) (omega arith)) (w.below.ensures has from end is (omega arith) within) (known.exact has is);
+            exact = λ general part is. (besides_next (stretches_have stretches) (λ n. general n || part n) from reached lo hi c.loop-stretch.count w.others-count.result onward next
+                (w.others-count.ensures.others general part from end is (omega arith) (omega arith) within) (known.exact general part is)).1;
           })
       | else-lo-hi w ↦ rw (w.reached-is, w.count-is) (record {
         walked = walked_past stretches from end i reached none lo hi c.loop-stretch-test.true known.walked c.max-lo.ensures c.min-hi.ensures w.if-lo-hi.false;
@@ -43,4 +40,6 @@ loop-stretch-preserved c =
     ]
 
 pub returns : goal.returns
-returns c = λ has is. besides_end c.args.stretches.now has c.args.from c.args.end c.loop-stretch.stretch-index c.loop-stretch.reached c.loop-stretch.count c.loop-stretch-test.false c.loop-stretch.invariant.walked (c.loop-stretch.invariant.exact has is)
+returns c = λ general part is.
+    let known = c.loop-stretch.invariant in
+    besides_end c.args.stretches.now (λ n. general n || part n) c.args.from c.args.end c.loop-stretch.stretch-index c.loop-stretch.reached c.loop-stretch.count c.loop-stretch-test.false known.walked (known.exact general part is)

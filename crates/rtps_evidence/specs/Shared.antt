@@ -1,0 +1,10 @@
+-- What many readers hear: what is for everyone, and what is for a participant. own: each is ranked once, for all of its readers.
+use Rattle.std.specs.Prelude.{ℕ, Bool}
+use Rattle.rtps_evidence.specs.Ranked.{AreRanks, nothing}
+use Rattle.rtps_evidence.specs.declared.shared.Both.{Both}
+
+-- The ranks are of the numbers from `from` on and below `end` that are general, and of those of a part, of which the general
+-- ones are not counted again.
+pub record AreBoth (general part : ℕ → Bool) (from end : ℕ) (both : Both) : Type 0 where
+  pub everyone : AreRanks nothing general from end both.everyone.now
+  pub participant : AreRanks general part from end both.participant.now
