@@ -13,6 +13,7 @@
                                                         name; their participant hears every second by name
     make.py named_hole|named_crossed FILE [MEGABYTES]   the same as named_between, where each hears the first by name; where their
                                                         participants and their entity ids are told numbers in turns
+    make.py every_number|every_second FILE [MEGABYTES]  of one pair: GAPs of 256 numbers each; of every second one of them
     make.py opened|disputed FILE [MEGABYTES]            of a writer whose readers each acknowledge up to another number; each hear
                                                         two payloads for another number
     make.py in_order|odd_then_even|random|descending|inside_out FILE [THOUSANDS]    of numbers, each in a sample
@@ -141,6 +142,11 @@ def datagrams(kind, octets):
         return of_named_last(kind, octets)
     if kind == 'named_crossed':
         return of_named_crossed(octets)
+    if kind in ('every_number', 'every_second'):
+        words = [0xffffffff if kind == 'every_number' else 0xaaaaaaaa] * 8
+        gaps = [gap(WRITER, 1 + 256 * i, 1 + 256 * i, words) for i in range(octets // 2 // 68)]
+        packed = (header(A) + b''.join(gaps[i:i + 900]) for i in range(0, len(gaps), 900))
+        return (*announcements(1), *packed, *samples([], 256 * len(gaps)))
     if kind in ('opened', 'disputed'):
         return of_rows(kind, octets)
     if kind in OF_ONE_TOPIC:

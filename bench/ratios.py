@@ -12,9 +12,10 @@
                                                 table: seconds, MB, and the ratios. Recordings stay in the folder
                                                 RTPS_BENCH_DIR, where that is set
 
-    ratios.py kinds PROGRAM [MEGABYTES] [-- OTHER]
-                                                `audit` of recordings that could cost much, beside that of HEARTBEATs of
-                                                one writer in as many octets, and beside `audit` of another program
+    ratios.py kinds PROGRAM [MEGABYTES [WORD..]] [-- OTHER]
+                                                `audit` of recordings that could cost much, or what the WORDs say in its
+                                                place, beside that of HEARTBEATs of one writer in as many octets, and
+                                                beside the same of another program
 
     ratios.py writing REWRITE FILE..            writing messages beside reading the same ones, by the program of
                                                 crates/rtps_rewrite: each message of FILE many times, less what it takes
@@ -85,16 +86,20 @@ def writing(rewrite, paths, rounds=50000):
         print(f'{os.path.basename(path)}: reading {rounds} times {reading:.3f} s, writing {written:.3f} s, {written / reading:.2f} of it')
 
 
-def kinds(program, megabytes, other):
+KINDS = ['packed', 'answers', 'readers', 'writers', 'announced', 'announced_first', 'named', 'named_too', 'named_last', 'named_between',
+         'named_hole', 'named_crossed', 'opened', 'disputed', 'every_number', 'every_second', *make.OF_ONE_TOPIC, 'hostile', 'one_data',
+         'pairs']
+
+
+def kinds(program, megabytes, other, view):
     """What each octet of a recording of some kind costs, in nanoseconds, and the ratios."""
     plain = None
     with tempfile.TemporaryDirectory() as folder:
         path = os.path.join(folder, 'recording')
-        for kind in ('packed', 'answers', 'readers', 'writers', 'announced', 'announced_first', 'named', 'named_too', 'named_last',
-                     *make.OF_ONE_TOPIC, 'hostile', 'one_data', 'pairs'):
+        for kind in KINDS:
             make.write(path, make.datagrams(kind, megabytes * 1000000))
-            others = [[other, 'audit', path]] if other else []
-            times, _ = best([[program, 'audit', path]] + others, 3)
+            others = [[other, *view, path]] if other else []
+            times, _ = best([[program, *view, path]] + others, 3)
             cost = times[0] * 1e9 / os.path.getsize(path)
             plain = plain or cost
             print(f'{kind}: {cost:.1f} ns an octet, {cost / plain:.1f} of packed'
@@ -126,8 +131,8 @@ def main():
     elif words[:1] == ['beside'] and len(words) > 3:
         with tempfile.TemporaryDirectory() as folder:
             beside(words[1], words[2], words[3], words[4:] or NAMES, os.environ.get('RTPS_BENCH_DIR', folder))
-    elif words[:1] == ['kinds'] and len(words) in (2, 3):
-        kinds(words[1], int(words[2]) if len(words) == 3 else 200, other)
+    elif words[:1] == ['kinds'] and len(words) > 1:
+        kinds(words[1], int(words[2]) if len(words) > 2 else 200, other, words[3:] or ['audit'])
     elif words[:1] == ['writing'] and len(words) > 2:
         writing(words[1], words[2:])
     elif words[:1] == ['orders'] and len(words) in (2, 3):
