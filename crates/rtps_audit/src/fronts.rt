@@ -93,7 +93,7 @@ impl Fronts {
     {
         Fronts {
             from,
-            told: Told::new(alloc),
+            told: Told::new(alloc, from),
             place: 0,
             found: Groups::new(alloc),
         }
