@@ -32,6 +32,9 @@ OF_NAMED = ['build', 'index_judge', 'index_judge_from', 'evidence', 'audit', 'au
             'why_run', 'json_run']
 WORDS = ['read_words', 'read_words_from', 'read_help', 'read_refused_words']
 
+# Any request may go on.
+ALL = 1 << 62
+
 # The size of the requests between which CALLS has its requests counted, as in its source.
 MARK = 7654321
 
@@ -55,9 +58,17 @@ def run(library, words, request, text, mark):
     return (done.stdout.decode(), told, done.returncode), len(told) < len(lines)
 
 
+def requests_of(library, words):
+    """how many requests a run makes"""
+    request = 1
+    while run(library, words, request, b'', 0)[1]:
+        request += 1
+    return request - 1
+
+
 def sweep(library, words, text, wanted, may_go_on, mark=0):
-    """Refuses each request in turn: how many times that is answered as wanted, how many times as with ample memory, and
-    how often otherwise."""
+    """Refuses each request in turn: how many times that is answered as wanted, how many times as with ample memory, which
+    so many of the first may do, and how often otherwise."""
     ample, _ = run(library, words, 0, text, mark)
     told = went_on = failed = request = 0
     while True:
@@ -67,7 +78,7 @@ def sweep(library, words, text, wanted, may_go_on, mark=0):
             return told, went_on, failed + (answer != ample)
         if answer == wanted:
             told += 1
-        elif answer == ample and may_go_on:
+        elif answer == ample and request <= may_go_on:
             went_on += 1
         else:
             failed += 1
@@ -114,24 +125,24 @@ def named_readers():
 
 
 def of_calls(calls, recordings):
-    """what is tried of the library: a name, the words, the input, what is wanted, whether it may go on, and the mark"""
+    """what is tried of the library: a name, the words, the input, what is wanted, how many requests may go on, and the mark"""
     of_capture = [f'capture_{call}' for call in OF_INPUT]
     for call in CALLS + OF_INPUT + of_capture + WORDS:
         answer = f'{call}: Memory, and then as if it were the first\n', [], 0
         for name, text in recordings.items():
-            yield f'{call}, {name}', [calls, call], text, answer, call in WORDS, MARK
+            yield f'{call}, {name}', [calls, call], text, answer, ALL if call in WORDS else 0, MARK
         if call in OF_NAMED:
-            yield f'{call}, of readers that are named', [calls, call], named_readers(), answer, False, MARK
+            yield f'{call}, of readers that are named', [calls, call], named_readers(), answer, 0, MARK
 
 
-def of_program(program, recording):
-    """what is tried of the program"""
+def of_program(library, program, recording):
+    """what is tried of the program: of a run on a recording, the requests may go on that are made until the FILE is opened"""
     nothing = '', ['rtps-audit: out of memory'], 3
     views = [*map(words_of, VIEWS), ['audit', '--from', '3'], ['why', '--from', '3']]
     for words in (['--help'], ['audit', '--help'], ['--version'], ['audit'], []):
-        yield f"rtps-audit {' '.join(words)}", [program, *words], recording, nothing, True
+        yield f"rtps-audit {' '.join(words)}", [program, *words], recording, nothing, ALL
     for words in ['audit', 'absent.rec'], ['sample']:
-        yield f"rtps-audit {' '.join(words)}", [program, *words], b'', nothing, True
+        yield f"rtps-audit {' '.join(words)}", [program, *words], b'', nothing, ALL
     runs = [('', [*view, '-'], recording) for view in views]
     runs.append((' of a GAP whose list has 128 ranges', ['audit', '-'], many_ranges()))
     capture = file_of('examples', 'loopback.pcap')
@@ -141,7 +152,8 @@ def of_program(program, recording):
         runs.append((' of readers that are named', [*view, '-'], named_readers()))
         runs.append((' of a capture', [*view, '-'], capture))
     for name, words, text in runs:
-        yield f"rtps-audit {' '.join(words)}{name}", [program, *words], text, nothing, True
+        of_words = requests_of(library, [program, *words[:-1], 'absent.rec'])
+        yield f"rtps-audit {' '.join(words)}{name}", [program, *words], text, nothing, of_words
 
 
 def main():
@@ -152,7 +164,7 @@ def main():
     tests = Counts()
     with tempfile.TemporaryDirectory() as folder:
         library = built(folder)
-        for name, *one in (*of_calls(calls, recordings), *of_program(program, recordings['of six datagrams'])):
+        for name, *one in (*of_calls(calls, recordings), *of_program(library, program, recordings['of six datagrams'])):
             told, went_on, others = sweep(library, *one)
             tests.count(told, others + (told == 0))
             print(f'{name}: {told} requests refused' + (f', and {went_on} that changed nothing' if went_on else ''))
