@@ -15,16 +15,12 @@ use Rattle.rtps_audit.specs.Audiences.{kept_under, of_entity, of_participant}
 use Rattle.rtps_audit.specs.Everyone.{nobody}
 use Rattle.rtps_audit.specs.Placed.{PlacedValue}
 use Rattle.rtps_audit.specs.Speech.{word_for, word_of}
-use Rattle.rtps_audit.proofs.AudienceLemmas.{TestsHearing}
-use Rattle.rtps_audit.proofs.ToldLemmas.{heard_directed}
+use Rattle.rtps_audit.proofs.Offered.{TestsHearing, equal_of, exact_guids, guids_total, heard_directed, or_cases}
 use Rattle.rtps_evidence.specs.Acting.{payload_in, sends, tells}
 use Rattle.rtps_evidence.specs.Hearers.{has_payload, has_word, is_directed_to, is_general_to, is_of_four}
 use Rattle.std.proofs.lemmas.Cmp.{eq_by_cmp_equiv}
 use Rattle.std.proofs.Common.{inl, inr, subst}
 use Rattle.rtps_audit.specs.Delivery.{Word}
-use Rattle.rtps_audit.proofs.GroupLemmas.{equal_of}
-use Rattle.rtps_audit.proofs.PlacedLemmas.{exact_guids, guids_total}
-use Rattle.rtps_audit.proofs.WordLemmas.{or_cases}
 
 same_test : (a b : Bool) → (a ≡ true → b ≡ true) → (b ≡ true → a ≡ true) → a ≡ b
 same_test true true f g = refl

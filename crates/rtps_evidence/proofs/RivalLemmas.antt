@@ -31,9 +31,7 @@ use Rattle.rtps_audit.specs.Delivery.Word.{Told, Gone}
 use Rattle.rtps_audit.specs.Everyone.{nobody}
 use Rattle.rtps_audit.specs.Placed.{PlacedValue}
 use Rattle.rtps_audit.specs.Speech.{word_of}
-use Rattle.rtps_audit.proofs.AudienceLemmas.{TestsHearing}
-use Rattle.rtps_audit.proofs.GroupLemmas.{entry_written, equal_of, found_alike}
-use Rattle.rtps_audit.proofs.PlacedLemmas.{exact_guids, guids_total}
+use Rattle.rtps_audit.proofs.Offered.{TestsHearing, entry_written, equal_of, exact_guids, found_alike, guids_total}
 use Rattle.rtps_evidence.specs.Acting.{SentValue, differs, first_sending, first_sent, is_same, other_sending, other_sent, payload_at, payload_for, payload_in, place_of, sends, sent_at}
 use Rattle.rtps_evidence.specs.Hearers.{has_payload, is_directed_to, is_general_to, is_of_four}
 use Rattle.rtps_evidence.specs.Rivals.{AreEmpty, AreSlotsOf, AreTwoOf, has_another, is_another, is_in_slot, is_of_part, is_other_in_slot, number_of, other_place, payload_said, payload_there, sent_said, sent_there, slot_cmp, slot_of, sooner}

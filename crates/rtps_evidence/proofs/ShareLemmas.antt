@@ -11,9 +11,7 @@ use Rattle.rtps_audit.specs.Audiences.{of_entity, of_participant}
 use Rattle.rtps_audit.specs.Everyone.{nobody}
 use Rattle.rtps_audit.specs.Groups.{items_or_none, values_at}
 use Rattle.rtps_audit.specs.Placed.{PlacedValue}
-use Rattle.rtps_audit.proofs.AudienceLemmas.{TestsHearing}
-use Rattle.rtps_audit.proofs.GroupLemmas.{entry_written, equal_of, found_alike}
-use Rattle.rtps_audit.proofs.PlacedLemmas.{guids_total}
+use Rattle.rtps_audit.proofs.Offered.{TestsHearing, entry_written, equal_of, found_alike, guids_total}
 use Rattle.rtps_evidence.specs.Acting.{sends, tells}
 use Rattle.rtps_evidence.specs.Counted.{AreAmounts, count_in, is_sent, is_told, stretches_have}
 use Rattle.rtps_evidence.specs.Hearers.{has_payload, has_word, is_directed_to, is_general_to, is_of_four, within}

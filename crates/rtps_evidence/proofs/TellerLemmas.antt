@@ -16,8 +16,7 @@ use Rattle.rtps_receiver.specs.Values.{ActValue}
 use Rattle.rtps_audit.specs.Audiences.{kept_under}
 use Rattle.rtps_audit.specs.Speech.{word_of}
 use Rattle.rtps_audit.specs.Placed.{PlacedValue}
-use Rattle.rtps_audit.proofs.GroupLemmas.{entry_written, equal_of, found_alike}
-use Rattle.rtps_audit.proofs.PlacedLemmas.{guids_total}
+use Rattle.rtps_audit.proofs.Offered.{entry_written, equal_of, found_alike, guids_total}
 use Rattle.rtps_evidence.specs.Firsts.{AreFirsts, AreFirstsOf, AreGiven}
 use Rattle.rtps_evidence.specs.Hearers.{has_word, is_directed_to, is_general_to, within}
 use Rattle.rtps_evidence.specs.declared.firsts.Firsts.{Firsts}

@@ -1,7 +1,7 @@
 use Rattle.std.proofs.Common.{◌||◌, ap, ◌∙◌, rules}
 use Rattle.std.specs.BTreeMap.Entry.{map_with_value}
 use Rattle.rtps_audit.specs.Placed.{placed_value}
-use Rattle.rtps_audit.proofs.GroupLemmas.{lent_items}
+use Rattle.rtps_audit.proofs.Offered.{lent_items}
 use Rattle.rtps_evidence.specs.Counted.{stretches_have}
 use Rattle.rtps_evidence.specs.Questions.{asks}
 use Rattle.rtps_evidence.proofs.ShareLemmas.{lists_grown}

@@ -5,7 +5,7 @@ use Rattle.std.specs.Map.Iter.{deref_pair}
 use Rattle.std.proofs.lemmas.Map.Iter.{btree_map_turn, rest_all, rest_more}
 use Rattle.rtps_discovery.specs.GuidOrder.{guid_cmp}
 use Rattle.rtps_audit.specs.Groups.{items_or_none}
-use Rattle.rtps_audit.proofs.PlacedLemmas.{guids_total}
+use Rattle.rtps_audit.proofs.Offered.{guids_total}
 use Rattle.rtps_evidence.specs.Counted.{stretches_have}
 use Rattle.rtps_evidence.specs.Lists.{lists_have}
 use Rattle.rtps_evidence.specs.Ranked.{AreRanks}
