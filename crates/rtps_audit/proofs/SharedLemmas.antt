@@ -1,18 +1,19 @@
--- How far the readers of an audience were told, by one step more; and what is kept for each audience.
-use Rattle.std.proofs.Common.{◌≡◌, ℕ, ◌-◌, ◌≤◌, ◌<◌, ◌^◌, Bool, true, false, ◌||◌, cond, Some, refl, sym, ap, ◌∙◌, subst, arith, inl, inr}
-use Rattle.std.specs.BTreeMap.{BTreeMap, Updates, get}
+-- What all that hear one audience were told, by one step more; and what is kept of it.
+use Rattle.std.proofs.Common.{◌≡◌, ℕ, ◌-◌, ◌≤◌, ◌<◌, ◌^◌, Bool, true, false, ◌||◌, ◌&&◌, refl, sym, ap, ◌∙◌, subst, arith, inl, inr, nat_le, nat_lt}
+use Rattle.std.specs.BTreeMap.{BTreeMap}
 use Rattle.std.specs.Ordering.{is_eq}
 use Rattle.std.proofs.lemmas.Bool.{cases_lt}
+use Rattle.std.proofs.lemmas.Bool.Decides.{nat_tests}
 use Rattle.rtps_ids.specs.declared.identity.Guid.{Guid}
 use Rattle.rtps_coverage.specs.BitRanges.{covered_of}
-use Rattle.rtps_coverage.specs.Coverage.{IsPast}
+use Rattle.rtps_coverage.specs.Coverage.{IsPast, TellsMore}
 use Rattle.rtps_coverage.specs.declared.bit_ranges.BitRanges.{BitRanges}
 use Rattle.rtps_discovery.specs.GuidOrder.{guid_cmp}
-use Rattle.rtps_audit.specs.Shared.{AreShared, IsToldToBoth}
+use Rattle.rtps_audit.specs.Shared.{AreShared}
+use Rattle.rtps_audit.specs.Told.{IsOnward}
 use Rattle.rtps_audit.specs.ToldSets.{told_at}
-use Rattle.rtps_audit.specs.declared.shared.Reached.{Reached}
-use Rattle.rtps_audit.proofs.GroupLemmas.{entry_written, equal_of}
-use Rattle.rtps_audit.proofs.PlacedLemmas.{exact_guids, guids_total}
+use Rattle.rtps_audit.proofs.GroupLemmas.{equal_of}
+use Rattle.rtps_audit.proofs.PlacedLemmas.{exact_guids}
 use Rattle.rtps_audit.proofs.WordLemmas.{or_cases, or_left, or_right}
 
 second_of : (x y : Bool) → y ≡ true → (x || y) ≡ true
@@ -38,53 +39,109 @@ both_stop a b past general next first second same =
     let no_b : b past ≡ false = ap b (sym same) ∙ second.outside in
     rw no_a no_b
 
--- the same numbers were told
-pub told_both_alike : (from : ℕ) (everyone every : BitRanges) (sets others : BTreeMap Guid BitRanges) (key : Guid) (number : ℕ)
-    → ((n : ℕ) → covered_of every n ≡ covered_of everyone n) → ((key : Guid) (n : ℕ) → told_at others key n ≡ told_at sets key n) → IsToldToBoth from everyone sets key number → IsToldToBoth from every others key number
-told_both_alike from everyone every sets others key number same alike is = record {
-  asked = is.asked;
-  told = λ n asked lt. ap (λ b. b || told_at others key n) (same n) ∙ ap (λ b. covered_of everyone n || b) (alike key n) ∙ is.told n asked lt;
+-- by what is kept, and then by both sets
+pub shared_past : (kept a b : ℕ → Bool) (n known past : ℕ) → 1 ≤ n → ((m : ℕ) → 1 ≤ m → m < 2 ^ 63 - 1 → kept m ≡ true → (a m || b m) ≡ true) → IsPast kept n known → IsPast (λ m. a m || b m) known past → IsPast (λ m. a m || b m) n past
+shared_past kept a b n known past low told first second = record {
+  onward = let one = first.onward in let two = second.onward in omega arith;
+  in_range = second.in_range;
+  outside = second.outside;
+  between = λ m from to. elim (cases_lt m known) [
+    | inl before ↦ let small = first.in_range in told m (omega arith) (omega arith) (first.between m from before)
+    | inr ge ↦ second.between m ge to
+  ];
 }
 
--- one more is kept
-pub shared_more : (from : ℕ) (everyone : BitRanges) (sets : BTreeMap Guid BitRanges) (old new : BTreeMap Guid Reached) (key : Guid) (front : Reached) → Updates guid_cmp old new key (Some front)
-    → IsToldToBoth from everyone sets key front.number → AreShared from everyone sets old → AreShared from everyone sets new
-shared_more from everyone sets old new key front updates here known other kept found = by_test (is_eq (guid_cmp other key)) refl (sym (entry_written guids_total old new key other front updates) ∙ found)
-  where
-    by_test : (b : Bool) → is_eq (guid_cmp other key) ≡ b → cond b (Some front) (get guid_cmp old other) ≡ Some kept → IsToldToBoth from everyone sets other kept.number
-    by_test true e is =
-        let same : front ≡ kept = cc in
-        subst (λ (f : Reached). IsToldToBoth from everyone sets other f.number) same (subst (λ (g : Guid). IsToldToBoth from everyone sets g front.number) (sym (exact_guids other key (equal_of (guid_cmp other key) e))) here)
-    by_test false e is = known other kept is
+-- ---- what is kept
 
--- ---- by what was told since
-
-pub shared_alike : (from : ℕ) (everyone every : BitRanges) (sets others : BTreeMap Guid BitRanges) (fronts : BTreeMap Guid Reached)
-    → ((n : ℕ) → covered_of every n ≡ covered_of everyone n) → ((key : Guid) (n : ℕ) → told_at others key n ≡ told_at sets key n) → AreShared from everyone sets fronts → AreShared from every others fronts
-shared_alike from everyone every sets others fronts same alike known key front found = told_both_alike from everyone every sets others key front.number same alike (known key front found)
-
-pub shared_on : (from : ℕ) (everyone every : BitRanges) (sets others : BTreeMap Guid BitRanges) (fronts : BTreeMap Guid Reached)
+-- by sets that have at least as much
+pub shared_on : (everyone every : BitRanges) (sets others rows : BTreeMap Guid BitRanges)
     → ((n : ℕ) → 1 ≤ n → n < 2 ^ 63 - 1 → covered_of everyone n ≡ true → covered_of every n ≡ true) → ((key : Guid) (n : ℕ) → 1 ≤ n → n < 2 ^ 63 - 1 → told_at sets key n ≡ true → told_at others key n ≡ true)
-    → AreShared from everyone sets fronts → AreShared from every others fronts
-shared_on from everyone every sets others fronts more grows known key front found =
-    let is = known key front found in
-    let within = front.in_range in
-    record {
-      asked = is.asked;
-      told = λ n asked lt. elim (or_cases (covered_of everyone n) (told_at sets key n) (is.told n asked lt)) [
-        | inl one ↦ or_left (covered_of every n) (told_at others key n) (more n asked.0 (omega arith) one)
-        | inr other ↦ or_right (covered_of every n) (told_at others key n) (grows key n asked.0 (omega arith) other)
-      ];
-    }
+    → AreShared everyone sets rows → AreShared every others rows
+shared_on everyone every sets others rows more grows known key n low small kept = elim (or_cases (covered_of everyone n) (told_at sets key n) (known key n low small kept)) [
+  | inl one ↦ or_left (covered_of every n) (told_at others key n) (more n low small one)
+  | inr other ↦ or_right (covered_of every n) (told_at others key n) (grows key n low small other)
+]
 
--- what was told to everyone or to its participant, or to everyone or its entity id, was told to a reader
-pub told_of_participant : (e p o x : Bool) → (e || p) ≡ true → (e || (p || (o || x))) ≡ true
-told_of_participant true p o x is = refl
-told_of_participant false true o x is = refl
-told_of_participant false false o x is = cc
+pub shared_alike : (everyone every : BitRanges) (sets others rows : BTreeMap Guid BitRanges)
+    → ((n : ℕ) → covered_of every n ≡ covered_of everyone n) → ((key : Guid) (n : ℕ) → told_at others key n ≡ told_at sets key n) → AreShared everyone sets rows → AreShared every others rows
+shared_alike everyone every sets others rows same alike known = shared_on everyone every sets others rows (λ n low small is. same n ∙ is) (λ key n low small is. alike key n ∙ is) known
 
-pub told_of_entity : (e p o x : Bool) → (e || x) ≡ true → (e || (p || (o || x))) ≡ true
-told_of_entity true p o x is = refl
-told_of_entity false true o x is = refl
-told_of_entity false false true x is = refl
-told_of_entity false false false x is = is
+-- the same rows
+pub shared_rows : (everyone : BitRanges) (sets old new : BTreeMap Guid BitRanges) → ((key : Guid) (n : ℕ) → told_at new key n ≡ told_at old key n) → AreShared everyone sets old → AreShared everyone sets new
+shared_rows everyone sets old new alike known key n low small kept = known key n low small (sym (alike key n) ∙ kept)
+
+-- one row more
+pub shared_more : (everyone : BitRanges) (sets old new : BTreeMap Guid BitRanges) (key : Guid) (first end : ℕ)
+    → ((other : Guid) → TellsMore (told_at old other) (told_at new other) (λ n. is_eq (guid_cmp other key) && (nat_le first n && nat_lt n end)))
+    → ((n : ℕ) → first ≤ n → n < end → (covered_of everyone n || told_at sets key n) ≡ true) → AreShared everyone sets old → AreShared everyone sets new
+shared_more everyone sets old new key first end joined told known other n low small kept =
+    elim (or_cases (told_at old other n) (is_eq (guid_cmp other key) && (nat_le first n && nat_lt n end)) (sym (joined other n low small) ∙ kept)) [
+      | inl was ↦ known other n low small was
+      | inr row ↦
+          let here = left_of (is_eq (guid_cmp other key)) _ row in
+          let inside = right_of (is_eq (guid_cmp other key)) _ row in
+          let same : other ≡ key = exact_guids other key (equal_of (guid_cmp other key) here) in
+          subst (λ (g : Guid). (covered_of everyone n || told_at sets g n) ≡ true) (sym same) (told n (grind (arith, nat_tests)) (grind (arith, nat_tests)))
+    ]
+  where
+    left_of : (a b : Bool) → (a && b) ≡ true → a ≡ true
+    left_of true b e = refl
+    left_of false b e = cc
+
+    right_of : (a b : Bool) → (a && b) ≡ true → b ≡ true
+    right_of true b e = e
+    right_of false b e = cc
+
+-- ---- how far on
+
+-- by everyone and the participant, by everyone and the entity id, and by the reader's own set
+pub onward_shared : (e p o x : ℕ → Bool) (n participant entity own : ℕ) → IsPast (λ m. e m || p m) n participant → IsPast (λ m. e m || x m) participant entity → IsPast o entity own
+    → IsOnward (λ m. e m || (p m || (o m || x m))) n own
+onward_shared e p o x n participant entity own first second third = record {
+  onward = let one = first.onward in let two = second.onward in let three = third.onward in omega arith;
+  in_range = third.in_range;
+  stops = stops;
+  between = between;
+}
+  where
+    stops : own ≡ n → (e n || (p n || (o n || x n))) ≡ false
+    stops same =
+        let one = first.onward in let two = second.onward in let three = third.onward in
+        let a : participant ≡ n = omega arith in
+        let b : entity ≡ n = omega arith in
+        let no_p : (e n || p n) ≡ false = ap (λ m. e m || p m) (sym a) ∙ first.outside in
+        let no_x : (e n || x n) ≡ false = ap (λ m. e m || x m) (sym b) ∙ second.outside in
+        let no_o : o n ≡ false = ap o (sym same) ∙ third.outside in
+        none (e n) (p n) (o n) (x n) no_p no_x no_o
+      where
+        none : (e p o x : Bool) → (e || p) ≡ false → (e || x) ≡ false → o ≡ false → (e || (p || (o || x))) ≡ false
+        none true p o x a b c = cc
+        none false true o x a b c = cc
+        none false false true x a b c = cc
+        none false false false x a b c = b
+
+    between : (m : ℕ) → n ≤ m → m < own → (e m || (p m || (o m || x m))) ≡ true
+    between m from to = elim (cases_lt m participant) [
+      | inl lt ↦ told_of_participant (e m) (p m) (o m) (x m) (first.between m from lt)
+      | inr ge ↦ elim (cases_lt m entity) [
+        | inl lt ↦ told_of_entity (e m) (p m) (o m) (x m) (second.between m ge lt)
+        | inr past ↦ told_own (e m) (p m) (o m) (x m) (third.between m past to)
+      ]
+    ]
+      where
+        told_of_participant : (e p o x : Bool) → (e || p) ≡ true → (e || (p || (o || x))) ≡ true
+        told_of_participant true p o x is = refl
+        told_of_participant false true o x is = refl
+        told_of_participant false false o x is = cc
+
+        told_of_entity : (e p o x : Bool) → (e || x) ≡ true → (e || (p || (o || x))) ≡ true
+        told_of_entity true p o x is = refl
+        told_of_entity false true o x is = refl
+        told_of_entity false false true x is = refl
+        told_of_entity false false false x is = is
+
+        told_own : (e p o x : Bool) → o ≡ true → (e || (p || (o || x))) ≡ true
+        told_own true p o x is = refl
+        told_own false true o x is = refl
+        told_own false false true x is = refl
+        told_own false false false x is = cc

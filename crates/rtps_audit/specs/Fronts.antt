@@ -31,7 +31,6 @@ IsToldBelow from told reader number = (from ≤ number) × ((n : ℕ) → IsAske
 -- the fronts are of what this writer says, as far as it was told
 pub record AreFrontsOf (from : ℕ) (fronts : Fronts) (writer : Guid) (briefs : List Brief) : Type 0 where
   pub within : fronts.place ≤ length briefs
-  pub asking : fronts.told.from ≡ from
   pub gathered : IsGathered fronts.told
   pub tells : TellsOf fronts.told writer (map (brief_value writer) (take fronts.place briefs))
   pub below : (reader : Guid) → All (λ front. IsToldBelow from fronts.told reader front.number) (values_at guid_cmp fronts.found.map reader)

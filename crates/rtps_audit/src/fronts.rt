@@ -93,7 +93,7 @@ impl Fronts {
     {
         Fronts {
             from,
-            told: Told::new(alloc, from),
+            told: Told::new(alloc),
             place: 0,
             found: Groups::new(alloc),
         }

@@ -1,6 +1,7 @@
 ghost use Rattle.std.specs.Prelude.{◌≡◌};
 
 use crate::brief::{Brief, add_brief};
+use crate::words::add_row;
 use rtps_coverage::{BitRanges, Coverage};
 use rtps_ids::{Guid, Memory};
 use std::alloc::Global;
@@ -14,7 +15,7 @@ pub(crate) struct ToldSets {
 }
 
 impl ToldSets {
-    ghost use Rattle.std.specs.Prelude.{◌≡◌, ◌≤◌, ◌<◌, ◌^◌, ◌&&◌, ℕ, false, is_some, IfOk, OnOk};
+    ghost use Rattle.std.specs.Prelude.{◌≡◌, ◌≤◌, ◌<◌, ◌^◌, ◌&&◌, ℕ, false, is_some, nat_le, nat_lt, IfOk, OnOk};
     ghost use Rattle.std.specs.Ordering.{is_eq};
     ghost use Rattle.rtps_ids.specs.declared.identity.Guid.{Guid as GuidValue};
     ghost use Rattle.rtps_coverage.specs.Coverage.{IsPast, TellsMore};
@@ -43,6 +44,21 @@ impl ToldSets {
             .entry(key)?
             .or_insert(BitRanges::empty(self.alloc));
         add_brief(set, brief)?;
+        Ok(())
+    }
+
+    /// Joins the numbers from `first` on and below `end` to the set of a key. After `Memory` the sets are of no use.
+    pub(crate) fn join(&mut self, key: Guid, first: u64, end: u64) -> Result<(), Memory>
+        requires positive { 1 ≤ first }
+        requires in_range { end ≤ 2 ^ 63 }
+        ensures { OnOk result ((other : GuidValue) → TellsMore (told_at self.old.sets other) (told_at self.new.sets other)
+            (λ n. is_eq (guid_cmp other key) && (nat_le first n && nat_lt n end))) }
+    {
+        let set = self
+            .sets
+            .entry(key)?
+            .or_insert(BitRanges::empty(self.alloc));
+        add_row(set, first, end)?;
         Ok(())
     }
 

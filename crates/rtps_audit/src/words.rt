@@ -107,7 +107,7 @@ pub(crate) fn add_told<C: Coverage>(told: &mut C, body: &ActBody<'_>) -> Result<
 }
 
 /// Joins the numbers from `first` on and below `end`, as far as a set reaches. There may be none.
-fn add_row<C: Coverage>(told: &mut C, first: u64, end: u64) -> Result<(), Memory>
+pub(crate) fn add_row<C: Coverage>(told: &mut C, first: u64, end: u64) -> Result<(), Memory>
     requires positive { 1 ≤ first }
     requires in_range { end ≤ 2 ^ 63 }
     ensures { OnOk result (TellsMore (C.covered told.old) (C.covered told.new) (λ n. nat_le first n && nat_lt n end)) }

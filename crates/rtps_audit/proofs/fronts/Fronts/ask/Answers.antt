@@ -1,5 +1,5 @@
 use Rattle.std.specs.List.{All}
-use Rattle.std.proofs.Common.{◌≤◌, ◌∙◌, map, subst, sym}
+use Rattle.std.proofs.Common.{◌∙◌, map, subst, sym}
 use Rattle.rtps_ids.specs.declared.identity.Guid.{Guid}
 use Rattle.rtps_discovery.specs.GuidOrder.{guid_cmp}
 use Rattle.rtps_audit.specs.Brief.{brief_value}
@@ -24,12 +24,11 @@ returns-clause-fronts c = λ writer rising known.
     let old = c.in_ok-tell_before.ensures.fronts writer known in
     let before = c.is_before.ensures c.if-not-is_before.false rising in
     let told_below = subst (λ f. IsToldBelow f now.told asked start) c.tell_before.ensures.from (c.last_front-start.ensures.below (subst (λ f. All (λ (front : FrontBefore). IsToldBelow f now.told asked front.number) (values_at guid_cmp now.found.map asked)) (sym c.tell_before.ensures.from) (old.below asked))) in
-    let past = c.in_ok-number.ensures.past old.gathered (subst (λ f. f ≤ start) (sym old.asking) told_below.0) in
+    let past = c.in_ok-number.ensures.past old.gathered in
     let next = c.past.new.self in
     let here = below_here {from = from} now.told asked start number told_below past in
     record {
       within = old.within;
-      asking = c.past.ensures.from ∙ old.asking;
       gathered = c.in_ok-number.ensures.gathered old.gathered;
       tells = tells_alike now.told next writer _ c.past.ensures.same old.tells;
       below = λ reader.

@@ -11,7 +11,6 @@ pub returns-clause-fronts : goal.returns-clause-fronts
 returns-clause-fronts c = λ writer briefs.
     record {
       within = omega arith;
-      asking = c.new.ensures.from;
       gathered = c.new.ensures.gathered;
       tells = tells_none c.new.result writer c.new.ensures.none;
       below = λ reader. subst (All (λ (front : FrontBefore). IsToldBelow c.args.from c.new.result reader front.number)) (sym (c.new-2.ensures reader)) (All-nil _);

@@ -1,4 +1,4 @@
-use Rattle.std.proofs.Common.{◌∙◌, ◌<◌, length, map, subst, sym, take, arith}
+use Rattle.std.proofs.Common.{◌<◌, length, map, subst, sym, take, arith}
 use Rattle.std.specs.Prelude.{is_some}
 use Rattle.rtps_discovery.specs.GuidOrder.{guid_cmp}
 use Rattle.rtps_audit.specs.Brief.{brief_value}
@@ -21,7 +21,6 @@ acts-preserved c =
           let old = c.acts.invariant.fronts writer known in
           record {
             within = omega (arith, lt);
-            asking = c.note.ensures.from ∙ old.asking;
             gathered = c.in_ok-note.ensures.gathered old.gathered;
             tells = subst (TellsOf c.note.new.self writer) (sym (brief_next writer briefs place brief lt c.index-briefs-self-in-acts.is)) (tells_on c.acts.self.told c.note.new.self writer (map (brief_value writer) (take place briefs)) (brief_value writer brief) (λ reader. c.in_ok-note.ensures.told writer reader) old.tells);
             below = λ reader. below_on c.acts.self.told c.note.new.self reader (λ n. is_some (word_for writer reader (brief_value writer brief).act n)) (values_at guid_cmp c.acts.self.found.map reader) (c.in_ok-note.ensures.told writer reader) (old.below reader);

@@ -34,8 +34,8 @@ returns-then-is_for_all-clause-gathered c = λ known.
     let every = c.add_brief.new.told in
     let more = λ (n : ℕ) (positive : 1 ≤ n) (small : n < 2 ^ 63 - 1) (is : covered_of told.everyone n ≡ true). c.in_ok-add_brief.ensures nobody n positive small ∙ or_left (covered_of told.everyone n) _ is in
     record {
-      participants = shared_on told.from told.everyone every told.directed.sets told.directed.sets told.participants.fronts more (λ key n positive small is. is) known.participants;
-      entities = shared_on told.from told.everyone every told.named.sets told.named.sets told.entities.fronts more (λ key n positive small is. is) known.entities;
+      participants = shared_on told.everyone every told.directed.sets told.directed.sets told.participants.rows.sets more (λ key n positive small is. is) known.participants;
+      entities = shared_on told.everyone every told.named.sets told.named.sets told.entities.rows.sets more (λ key n positive small is. is) known.entities;
     }
 
 pub returns-then-is_some-clause-gathered : goal.returns-then-is_some-clause-gathered
@@ -43,7 +43,7 @@ returns-then-is_some-clause-gathered c = λ known.
     let told = c.args.self.now in
     let next = c.add.new.self.sets in
     record {
-      participants = shared_on told.from told.everyone told.everyone told.directed.sets next told.participants.fronts (λ n positive small is. is) (λ key n positive small is. c.in_ok-add.ensures nobody key n positive small ∙ or_left (told_at told.directed.sets key n) _ is) known.participants;
+      participants = shared_on told.everyone told.everyone told.directed.sets next told.participants.rows.sets (λ n positive small is. is) (λ key n positive small is. c.in_ok-add.ensures nobody key n positive small ∙ or_left (told_at told.directed.sets key n) _ is) known.participants;
       entities = known.entities;
     }
 
@@ -53,5 +53,5 @@ returns-clause-gathered c = λ known.
     let next = c.add-2.new.self.sets in
     record {
       participants = known.participants;
-      entities = shared_on told.from told.everyone told.everyone told.named.sets next told.entities.fronts (λ n positive small is. is) (λ key n positive small is. c.in_ok-add-2.ensures nobody key n positive small ∙ or_left (told_at told.named.sets key n) _ is) known.entities;
+      entities = shared_on told.everyone told.everyone told.named.sets next told.entities.rows.sets (λ n positive small is. is) (λ key n positive small is. c.in_ok-add-2.ensures nobody key n positive small ∙ or_left (told_at told.named.sets key n) _ is) known.entities;
     }

@@ -10,9 +10,8 @@ invariant-loop-next l = record {
   onward : l.n ≤ l.past;
   in_range : l.past < 2 ^ 63;
   same : (other : Guid) (m : ℕ) → is_told l.self other m ≡ is_told l.fn.self other m;
-  from : l.self.from ≡ l.fn.self.from;
   gathered : IsGathered l.fn.self → IsGathered l.self;
-  between : IsGathered l.fn.self → l.fn.self.from ≤ l.n → (m : ℕ) → l.n ≤ m → m < l.past → is_told l.fn.self l.reader m ≡ true;
+  between : IsGathered l.fn.self → (m : ℕ) → l.n ≤ m → m < l.past → is_told l.fn.self l.reader m ≡ true;
 }
 
 abbrev pub decreases-loop-next : goal.decreases-loop-next
