@@ -4,10 +4,16 @@ use crate::audiences::{is_for_all, key_of, of_entity, of_participant};
 use crate::brief::{Brief, add_brief};
 use crate::shared::SharedRows;
 use crate::told_sets::ToldSets;
-use rtps_coverage::{BitRanges, Coverage};
+use rtps_coverage::{BitRanges, Coverage, past_together};
 use rtps_ids::{Guid, Memory};
 use rtps_receiver::laws::tests_say_what_relations_say;
 use std::alloc::Global;
+
+/// The least number that no set has.
+const LAST: u64 = i64::MAX as u64;
+
+/// So many numbers are gone through by the sets of a reader's audiences, before what many readers share is asked again.
+const STRIDE: u64 = 1024;
 
 /// The numbers that a writer told its readers so far, by whom they are for.
 #[derive(Drop)]
@@ -22,6 +28,7 @@ pub(crate) struct Told {
     pub(crate) participants: SharedRows,
     /// The same of readers of one entity id.
     pub(crate) entities: SharedRows,
+    alloc: Global,
 }
 
 impl Told {
@@ -44,6 +51,7 @@ impl Told {
             named: ToldSets::new(alloc),
             participants: SharedRows::new(alloc),
             entities: SharedRows::new(alloc),
+            alloc,
         }
     }
 
@@ -89,6 +97,26 @@ impl Told {
         Ok(own)
     }
 
+    /// The least number from `n` on of which the reader was not told, as far as so many numbers on. It may have been told of them
+    /// in turns by what is for all its audiences.
+    fn stride(&self, reader: Guid, n: u64) -> u64
+        requires positive { 1 ≤ n }
+        requires in_range { n < 2 ^ 63 }
+        ensures onward { n ≤ result }
+        ensures in_range { result < 2 ^ 63 }
+        ensures between { (m : ℕ) → n ≤ m → m < result → is_told self.now reader m ≡ true }
+    {
+        let none = BitRanges::empty(self.alloc);
+        let sets = [
+            &self.everyone,
+            self.directed.set_or(of_participant(reader), &none),
+            self.directed.set_or(reader, &none),
+            self.named.set_or(of_entity(reader), &none),
+        ];
+        let limit = n.saturating_add(STRIDE).min(LAST);
+        past_together(&sets, n, limit)
+    }
+
     /// The least number from `n` on of which the reader was not told. The sets are the same.
     pub(crate) fn past(&mut self, reader: Guid, n: u64) -> Result<u64, Memory>
         requires positive { 1 ≤ n }
@@ -105,7 +133,7 @@ impl Told {
             if next == past {
                 return Ok(past);
             }
-            past = next;
+            past = self.stride(reader, next);
         }
     }
 }

@@ -18,6 +18,7 @@ impl ToldSets {
     ghost use Rattle.std.specs.Prelude.{◌≡◌, ◌≤◌, ◌<◌, ◌^◌, ◌&&◌, ℕ, false, is_some, nat_le, nat_lt, IfOk, OnOk};
     ghost use Rattle.std.specs.Ordering.{is_eq};
     ghost use Rattle.rtps_ids.specs.declared.identity.Guid.{Guid as GuidValue};
+    ghost use Rattle.rtps_coverage.specs.BitRanges.{covered_of};
     ghost use Rattle.rtps_coverage.specs.Coverage.{IsPast, TellsMore};
     ghost use Rattle.rtps_discovery.specs.GuidOrder.{guid_cmp};
     ghost use Rattle.rtps_audit.specs.Brief.{brief_value};
@@ -60,6 +61,16 @@ impl ToldSets {
             .or_insert(BitRanges::empty(self.alloc));
         add_row(set, first, end)?;
         Ok(())
+    }
+
+    /// The set of a key, or `none` where it has none.
+    pub(crate) fn set_or<'a>(&'a self, key: Guid, none: &'a BitRanges) -> &'a BitRanges
+        ensures { (n : ℕ) → covered_of none.now n ≡ false → covered_of result.now n ≡ told_at self.now.sets key n }
+    {
+        match self.sets.get(&key) {
+            Some(set) => set,
+            None => none,
+        }
     }
 
     /// The least number from `n` on that the set of a key has not. The sets are the same.

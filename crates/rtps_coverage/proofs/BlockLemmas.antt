@@ -199,7 +199,7 @@ run_from block n given count same fits is =
 
 -- ---- bits that are joined
 
-max_or : (b x : ℕ) → b < 2 → x < 2 → nat_eq (max b x) 1 ≡ (nat_eq b 1 || nat_eq x 1)
+pub max_or : (b x : ℕ) → b < 2 → x < 2 → nat_eq (max b x) 1 ≡ (nat_eq b 1 || nat_eq x 1)
 max_or b x h k = grind (arith, nat_tests)
 
 -- whether a number is one of the bits of a block

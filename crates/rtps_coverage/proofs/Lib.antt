@@ -5,3 +5,4 @@ pub mod CoverageLemmas
 pub mod BlockLemmas
 pub mod EachBit
 pub mod BeyondLemmas
+pub mod TogetherLemmas

@@ -4,11 +4,16 @@ use Rattle.std.specs.Prelude.{ℕ, Bool, true, false, ◌≡◌, ◌≤◌, ◌<
 use Rattle.std.proofs.Math.Nat.{le_of_suc-le-suc, lt_of_lt_of_le}
 use Rattle.std.proofs.lemmas.Bool.{false≢true, leb-true, ltb-true}
 use Rattle.rtps_coverage.specs.Beyond.{is_beyond}
+use Rattle.rtps_coverage.specs.MergedRanges.{covered_of as ranges_have}
 use Rattle.rtps_coverage.specs.declared.bit_ranges.BitRanges.{BitRanges}
 
 -- the positive numbers below the front, and those beyond it
 abbrev pub covered_of : BitRanges → ℕ → Bool
 covered_of set n = nat_le 1 n && (nat_lt n set.passed || is_beyond set.blocks set.ranges n)
+
+-- whether a number lies below the front or in a long range
+abbrev pub is_in_row : BitRanges → ℕ → Bool
+is_in_row set n = nat_lt n set.passed || ranges_have set.ranges n
 
 -- ---- these numbers lie from 1 to 2^63 - 2
 

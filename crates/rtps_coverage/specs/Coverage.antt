@@ -35,3 +35,10 @@ pub record IsPast (set : ℕ → Bool) (n past : ℕ) : Type 0 where
   pub in_range : past < 2 ^ 63
   pub outside : set past ≡ false
   pub between : (m : ℕ) → n ≤ m → m < past → set m ≡ true
+
+-- the least number from n on and below a limit that is not in the set, or the limit where there is none
+pub record IsPastUpTo (set : ℕ → Bool) (n limit past : ℕ) : Type 0 where
+  pub onward : n ≤ past
+  pub within : past ≤ limit
+  pub outside : past < limit → set past ≡ false
+  pub between : (m : ℕ) → n ≤ m → m < past → set m ≡ true

@@ -99,8 +99,34 @@ fn keep(blocks: &Blocks, ranges: &mut MergedRanges, from: u64, to: u64) -> Resul
 
 impl BitRanges {
     ghost use Rattle.std.specs.Prelude.{IfOk};
+    ghost use Rattle.rtps_coverage.specs.Blocks.{block_at};
     ghost use Rattle.rtps_coverage.specs.Coverage.{IsSameSet, IsPast};
-    ghost use Rattle.rtps_coverage.specs.BitRanges.{covered_of};
+    ghost use Rattle.rtps_coverage.specs.BitRanges.{covered_of, is_in_row};
+
+    /// The numbers of a block that are kept as bits.
+    pub(crate) fn block(&self, key: u64) -> u64
+        ensures { result ≡ block_at self.now.blocks key }
+    {
+        self.blocks.block(key)
+    }
+
+    /// Where the numbers from `n` on end that lie below the front or in one long range.
+    pub(crate) fn row_end(&self, n: u64) -> u64
+        requires positive { 1 ≤ n }
+        requires in_range { n < 2 ^ 63 - 1 }
+        ensures onward { n ≤ result }
+        ensures in_range { result < 2 ^ 63 }
+        ensures members { (m : ℕ) → n ≤ m → m < result → covered_of self.now m ≡ true }
+        ensures stops { result ≡ n → is_in_row self.now n ≡ false }
+    {
+        if n < self.passed {
+            return self.passed;
+        }
+        match self.ranges.end_of(n) {
+            Some(end) => end,
+            None => n,
+        }
+    }
 
     /// The least number from `n` on that is not in the set; 2^63 - 1 is in none. A long row that is passed on the way is kept
     /// as one range from then on, so that it is not walked again. `Memory` is answered where there is none for that. The set is

@@ -42,7 +42,7 @@ impl Blocks {
     }
 
     /// The block of a key.
-    fn block(&self, key: u64) -> u64
+    pub(crate) fn block(&self, key: u64) -> u64
         ensures { result ≡ block_at self.now key }
     {
         if key == self.key {

@@ -8,8 +8,10 @@ pub mod laws;
 mod merged_ranges;
 mod plain_ranges;
 mod span;
+mod together;
 
 pub use bit_ranges::BitRanges;
 pub use coverage::Coverage;
 pub use merged_ranges::MergedRanges;
 pub use plain_ranges::PlainRanges;
+pub use together::past_together;
