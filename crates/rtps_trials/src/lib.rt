@@ -26,6 +26,8 @@ mod said;
 #[cfg(test)]
 mod sets;
 #[cfg(test)]
+mod texts;
+#[cfg(test)]
 mod verdicts;
 #[cfg(test)]
 mod written;

@@ -1,9 +1,7 @@
 use crate::captures::{DATAGRAM, HEADER, IGNORED};
 use crate::pieces::in_pieces;
-use crate::said::{ACK_NACK_2, DATA_1_AND_2, READER, WRITER, number};
 use rtps_tool::{
-    Ending, Limits, RecFault, RunFault, read_input, read_recording, read_recording_within,
-    run_why_from, write_fault,
+    Limits, RecFault, RunFault, read_input, read_recording, read_recording_within, write_fault,
 };
 use std::alloc::{AllocError, Global};
 use std::test::Fail;
@@ -115,30 +113,4 @@ fn a_fault_behind_the_last_datagram_is_told_where_there_is_room_for_it(
 fn a_line_that_cannot_be_written_is_told(rt: HostRuntime) {
     let mut room = [0u8; 8];
     assert!(rt; !write_fault(&RunFault::Input, &mut room.as_mut_slice()));
-}
-
-/// What is told of number 2, which is sent and is not acknowledged.
-const WHY_FROM_2: &str = "\
-pairs 1
-pair aaaaaaaaaaaaaaaaaaaaaaaa.00000103 bbbbbbbbbbbbbbbbbbbbbbbb.00000104 open 2
-  topic \"pose\" type \"Pose\"
-  announced 2 by data in datagram 3 at 52
-  acknowledged nothing
-  payloads 1 gone 0 untold 0
-  number 2 told by data in datagram 3 at 52
-datagrams 4 refused 0 skipped 0 fragments 0 undirected 0 unsettled 0
-";
-
-#[test]
-fn it_is_told_why_from_a_number_on(rt: HostRuntime) -> Result<(), Fail> {
-    let mut text = String::new(rt.alloc());
-    for line in [WRITER, READER, DATA_1_AND_2, ACK_NACK_2] {
-        text.push_str(line)?;
-        text.push_str("\n")?;
-    }
-    let mut output = Vec::new(rt.alloc());
-    let ending = run_why_from(rt.alloc(), &mut text.as_bytes(), &mut output, number(2)?);
-    assert_eq!(rt; ending, Ok(Ending::Unclean));
-    assert_eq!(rt; output.as_slice(), WHY_FROM_2.as_bytes());
-    Ok(())
 }
