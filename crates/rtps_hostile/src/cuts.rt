@@ -1,4 +1,4 @@
-//! Each datagram is cut to each length. Where a cut lies in a submessage, the items before that one are read, and then it
+//! Each datagram is cut to each length below its own, and read whole too. Where a cut lies in a submessage, the items before that one are read, and then it
 //! is refused: its header is cut, or its body overruns. What else is read is read as of the whole.
 
 use crate::fault::Fault;
@@ -18,15 +18,22 @@ pub(crate) fn count(recordings: &[Recording]) -> Result<(usize, usize), Fault> {
     let mut cuts = 0usize;
     for (place, recording) in recordings.iter().enumerate() {
         let known = if place == 0 { 0 } else { ANNOUNCING };
-        for datagram in recording.datagrams().skip(known) {
-            datagrams = datagrams.saturating_add(1);
-            cuts = cuts.saturating_add(cut_everywhere(datagram)?);
-        }
+        datagrams = datagrams.saturating_add(recording.datagrams().skip(known).count());
+        cuts = cuts.saturating_add(cut_each(recording, known)?);
     }
     Ok((datagrams, cuts))
 }
 
-/// Cuts a datagram to each length, its own included, and answers how many there are.
+/// Cuts each datagram but for the first ones, and counts cuts.
+fn cut_each(recording: &Recording, known: usize) -> Result<usize, Fault> {
+    let mut cuts = 0usize;
+    for datagram in recording.datagrams().skip(known) {
+        cuts = cuts.saturating_add(cut_everywhere(datagram)?);
+    }
+    Ok(cuts)
+}
+
+/// Cuts a datagram to each length below its own, and answers how many there are.
 fn cut_everywhere(datagram: &[u8]) -> Result<usize, Fault> {
     for length in 0..datagram.len() {
         if !is_read_as_cut(datagram, length) {
@@ -36,7 +43,7 @@ fn cut_everywhere(datagram: &[u8]) -> Result<usize, Fault> {
     if !is_read_as_cut(datagram, datagram.len()) {
         return Err(Fault::Differs("a whole datagram is read otherwise"));
     }
-    Ok(datagram.len().saturating_add(1))
+    Ok(datagram.len())
 }
 
 /// What a cut has at a place.

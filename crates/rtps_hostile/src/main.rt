@@ -23,6 +23,7 @@ use fault::Fault;
 use std::io::Write;
 use std::process::ExitCode;
 use std::{env, io};
+use verdicts::Counted;
 
 fn main(rt: HostRuntime) -> ExitCode {
     match run(&rt) {
@@ -68,9 +69,11 @@ fn try_all(rt: &HostRuntime, text: &str) -> Result<(), Fault> {
 fn count_changes(rt: &HostRuntime, texts: &[String]) -> Result<(), Fault> {
     let recordings = recordings::read(rt.alloc(), texts)?;
     let (datagrams, cuts) = cuts::count(&recordings)?;
-    println!(rt; "cuts: {cuts} of {datagrams} datagrams")?;
-    let (octets, verdicts) = verdicts::count(rt.alloc(), &recordings)?;
-    println!(rt; "changed octets: {octets}, each in 3 ways, with {verdicts} rows of audits")?;
+    println!(rt; "cuts: {cuts} of {datagrams} datagrams, which are read whole too")?;
+    let Counted { settings, rows } = verdicts::count(rt.alloc(), &recordings)?;
+    println!(rt;
+        "settings that change an octet, to 00, to ff or in its lowest bit: {settings}, with {rows} rows of audits"
+    )?;
     let first = recordings.first().ok_or(Fault::Input)?;
     let many = acknowledgements::count(rt.alloc(), first)?;
     println!(rt; "ACKNACKs in one datagram: {many}")?;

@@ -1,5 +1,5 @@
-//! Each octet of each datagram of each recording is set to 00, to ff and has its lowest bit turned. `audit` answers, and
-//! each verdict is what every other way to judge gives.
+//! Each octet of each datagram of each recording is set to 00, to ff and has its lowest bit turned, where that changes it.
+//! `audit` answers, and each verdict is what every other way to judge gives.
 
 use crate::fault::Fault;
 use crate::recordings::{ANNOUNCING, datagrams};
@@ -21,36 +21,94 @@ pub(crate) const PAIR: Pair = Pair {
     },
 };
 
-/// Counts octets that were changed and verdicts. The datagrams that announce the pair are changed in the first recording.
-pub(crate) fn count(alloc: Global, recordings: &[Recording]) -> Result<(usize, usize), Fault> {
-    let mut octets = 0usize;
-    let mut verdicts = 0usize;
-    for (place, recording) in recordings.iter().enumerate() {
-        let known = if place == 0 { 0 } else { ANNOUNCING };
-        let whole = datagrams(alloc, recording)?;
-        for changed in known..whole.len() {
-            octets = octets.saturating_add(whole[changed].len());
-            verdicts = verdicts.saturating_add(change_everywhere(alloc, &whole, changed)?);
-        }
-    }
-    Ok((octets, verdicts))
+/// What is counted.
+#[derive(Clone, Copy)]
+pub(crate) struct Counted {
+    /// Settings of an octet that change it.
+    pub settings: usize,
+    /// Rows of the audits of what is changed.
+    pub rows: usize,
 }
 
-/// Changes each octet of one datagram, and counts verdicts.
-fn change_everywhere(alloc: Global, recording: &[&[u8]], changed: usize) -> Result<usize, Fault> {
-    let Some(whole) = recording.get(changed) else {
-        return Ok(0);
+/// Changes each datagram of each recording. Those that announce the pair are changed in the first recording.
+pub(crate) fn count(alloc: Global, recordings: &[Recording]) -> Result<Counted, Fault> {
+    let mut counted = Counted {
+        settings: 0,
+        rows: 0,
     };
-    let mut verdicts = 0usize;
-    for at in 0..whole.len() {
-        for octet in [0, 0xff, whole[at] ^ 1] {
-            let mut datagram = Vec::from_slice(alloc, whole)?;
-            datagram[at] = octet;
-            let found = judge_changed(alloc, recording, changed, &datagram)?;
-            verdicts = verdicts.saturating_add(found);
+    for (place, recording) in recordings.iter().enumerate() {
+        let known = if place == 0 { 0 } else { ANNOUNCING };
+        change_each(alloc, recording, known, &mut counted)?;
+    }
+    Ok(counted)
+}
+
+/// Changes each datagram but for the first ones.
+fn change_each(
+    alloc: Global,
+    recording: &Recording,
+    known: usize,
+    counted: &mut Counted,
+) -> Result<(), Fault> {
+    let whole = datagrams(alloc, recording)?;
+    for datagram in known..whole.len() {
+        change_everywhere(alloc, &whole, datagram, counted)?;
+    }
+    Ok(())
+}
+
+/// Changes each octet of one datagram.
+fn change_everywhere(
+    alloc: Global,
+    recording: &[&[u8]],
+    datagram: usize,
+    counted: &mut Counted,
+) -> Result<(), Fault> {
+    let Some(whole) = recording.get(datagram) else {
+        return Ok(());
+    };
+    for (at, octet) in whole.iter().copied().enumerate() {
+        let place = Place { datagram, at };
+        change_octet(alloc, recording, place, octet, counted)?;
+    }
+    Ok(())
+}
+
+/// Where an octet stands in a recording.
+#[derive(Clone, Copy)]
+struct Place {
+    datagram: usize,
+    at: usize,
+}
+
+/// Sets one octet in each way that changes it.
+fn change_octet(
+    alloc: Global,
+    recording: &[&[u8]],
+    place: Place,
+    octet: u8,
+    counted: &mut Counted,
+) -> Result<(), Fault> {
+    for other in [0, 0xff, octet ^ 1] {
+        if other != octet {
+            let rows = judge_set(alloc, recording, place, other)?;
+            counted.settings = counted.settings.saturating_add(1);
+            counted.rows = counted.rows.saturating_add(rows);
         }
     }
-    Ok(verdicts)
+    Ok(())
+}
+
+/// Judges a recording with this octet at a place.
+fn judge_set(alloc: Global, recording: &[&[u8]], place: Place, octet: u8) -> Result<usize, Fault> {
+    let Some(whole) = recording.get(place.datagram) else {
+        return Ok(0);
+    };
+    let mut changed = Vec::from_slice(alloc, whole)?;
+    if let Some(old) = changed.get_mut(place.at) {
+        *old = octet;
+    }
+    judge_changed(alloc, recording, place.datagram, &changed)
 }
 
 /// Judges a recording in which this datagram stands in the place of another.
