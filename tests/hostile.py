@@ -12,6 +12,7 @@ import sys
 
 sys.dont_write_bytecode = True
 import program
+import captures
 import make
 import reference
 from program import ROOT, file_of, text_of
@@ -109,6 +110,21 @@ def announced_late(tests):
     for place in (0, len(said) // 2, len(said)):
         tests.agrees(f'120 announcements behind {place} datagrams', text_of(said[:place] + known + said[place:]), ('audit', 'why'))
     print(f'recordings whose first datagrams, or one of them, come last: {count}; 60 pairs that are announced behind what they say: 3')
+
+
+# ---- read and written octet by octet
+
+def octet_by_octet(tests):
+    announced, first = file_of('crates', 'rtps_hostile', 'stdin').split(b'\n\n')[:2]
+    text = announced + b'\n' + first
+    frames = [frame for datagram in reference.recording_of(text) for frame in (b'\x45', captures.packet(datagram))]
+    printed = file_of('crates', 'rtps_hostile', 'stdout').decode()
+    runs = [('show', 1), ('list', 1), ('audit', 1), ('audit', 2), ('why', 1), ('json', 2)]
+    for form, octets in (('a text', text), ('a capture', captures.capture(frames))):
+        texts = ''.join(reference.answer(view, octets, number)[0] for view, number in runs)
+        wanted = f'{form}, octets that were read and written one by one: {len(texts)}\n{texts}'
+        tests.holds(f'{form}, what is wanted of rtps_hostile', 1, printed.count(wanted))
+    print(f'runs whose octets are read and written one by one by rtps_hostile: {2 * len(runs)}')
 
 
 # ---- large datagrams
@@ -335,7 +351,7 @@ def many_datagrams(tests):
 
 
 if __name__ == '__main__':
-    sys.exit(program.main(__doc__, (cut_by_table, cut_and_changed, audits_of_changed, announced_late, empty_submessages,
-                                    parameter_lists, endpoints_that_disagree, endpoints_of_one_topic, readers_that_are_named, rows_past_what_is_named,
-                                    topics_of_every_octet, acknowledgements,
+    sys.exit(program.main(__doc__, (cut_by_table, cut_and_changed, audits_of_changed, announced_late, octet_by_octet,
+                                    empty_submessages, parameter_lists, endpoints_that_disagree, endpoints_of_one_topic,
+                                    readers_that_are_named, rows_past_what_is_named, topics_of_every_octet, acknowledgements,
                                     gaps_of_many_ranges, many_datagrams)))

@@ -2,7 +2,8 @@
 //! that is refused. Standard input has recordings, with an empty line between them; the first one announces the pair,
 //! and each other goes on from there.
 //!
-//!     rtps_hostile              tries all recordings, and prints a line for each group with what was counted
+//!     rtps_hostile              tries all recordings, and prints a line for each group with what was counted, and the texts
+//!                               of the first one that are read and written octet by octet
 //!     rtps_hostile CALL         makes this call on the first recording, once more where it is refused memory, and
 //!                               prints whether it was; `tests/refused.py` has each request refused in turn
 //!
@@ -94,7 +95,13 @@ fn try_streams(rt: &HostRuntime, form: &str, input: &[u8]) -> Result<(), Fault> 
     println!(rt; "{form}, early ends: {ends}")?;
     let writers = streams::count_writers(rt.alloc(), input)?;
     println!(rt; "{form}, failed writes: {writers}")?;
-    let octets = streams::count_octets(rt.alloc(), input)?;
+    print_texts(rt, form, input)
+}
+
+fn print_texts(rt: &HostRuntime, form: &str, input: &[u8]) -> Result<(), Fault> {
+    let texts = streams::texts(rt.alloc(), input)?;
+    let octets = texts.len();
     println!(rt; "{form}, octets that were read and written one by one: {octets}")?;
+    rt.stdout().write_all(&texts)?;
     Ok(())
 }

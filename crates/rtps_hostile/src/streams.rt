@@ -246,25 +246,30 @@ fn fail_each_write(
     Ok(text.len())
 }
 
-/// Counts the octets of the texts of runs whose octets are read and written one by one.
-pub(crate) fn count_octets(alloc: Global, input: &[u8]) -> Result<usize, Fault> {
-    let mut count = 0usize;
+/// The texts of the runs, one behind the other, with octets that are read and written one by one.
+pub(crate) fn texts(alloc: Global, input: &[u8]) -> Result<Vec<u8>, Fault> {
+    let held = Vec::new(alloc);
+    let (most, room, fails) = (1, usize::MAX, true);
+    let mut output = Narrow {
+        held,
+        most,
+        room,
+        fails,
+    };
     for run in RUNS {
-        let (text, ending) = text_of(alloc, run, input)?;
-        let held = Vec::new(alloc);
-        let (most, room, fails) = (1, usize::MAX, true);
-        let mut output = Narrow {
-            held,
-            most,
-            room,
-            fails,
-        };
-        let mut input = octet_by_octet(input, 0, ErrorKind::Other);
-        let outcome = run.of(alloc, &mut input, &mut output);
-        if outcome != Ok(ending) || output.held.as_slice() != text.as_slice() {
-            return Err(Fault::Differs("what comes and goes octet by octet is another text"));
-        }
-        count = count.saturating_add(text.len());
+        write_slowly(alloc, run, input, &mut output)?;
     }
-    Ok(count)
+    Ok(output.held)
+}
+
+/// Writes the text of a run behind what the writer holds. It is the text of the run on a plain reader and writer.
+fn write_slowly(alloc: Global, run: Run, input: &[u8], output: &mut Narrow) -> Result<(), Fault> {
+    let (text, ending) = text_of(alloc, run, input)?;
+    let before = output.held.len();
+    let mut input = octet_by_octet(input, 0, ErrorKind::Other);
+    let outcome = run.of(alloc, &mut input, output);
+    if outcome != Ok(ending) || output.held.get(before..) != Some(text.as_slice()) {
+        return Err(Fault::Differs("what comes and goes octet by octet is another text"));
+    }
+    Ok(())
 }
