@@ -23,9 +23,10 @@ from reference import words_of
 import make
 
 # The calls on a recording, those that take a capture of it too, and those on words.
-CALLS = ['note', 'participants', 'endpoints', 'matched', 'pairs', 'walk', 'add_plain', 'add_merged', 'add_bits', 'judge',
-         'judge_by_plain', 'judge_from_plain', 'judge_from_merged', 'judge_from_bits', 'build', 'index_judge',
-         'index_judge_from', 'evidence', 'audit', 'audit_from', 'write_list', 'write_message']
+CALLS = ['note', 'note_all', 'participants', 'endpoints', 'matched', 'pairs', 'walk', 'add_plain', 'add_merged', 'add_bits',
+         'add_bits_to_plain', 'add_bits_to_merged', 'add_bits_to_bits', 'past', 'judge', 'judge_by_plain', 'judge_from_plain',
+         'judge_from_merged', 'judge_from_bits', 'build', 'index_judge', 'index_judge_from', 'evidence', 'audit', 'audit_from',
+         'put_u16', 'put_u32', 'put_number', 'write_list', 'write_message']
 OF_INPUT = ['read_recording', 'show', 'list', 'audit_run', 'audit_from_run', 'why_run', 'json_run']
 # Those that hear what a writer says to readers that it names.
 OF_NAMED = ['build', 'index_judge', 'index_judge_from', 'evidence', 'audit', 'audit_from', 'audit_run', 'audit_from_run',

@@ -62,7 +62,7 @@ fn try_all(rt: &HostRuntime, text: &str) -> Result<(), Fault> {
     let first = texts.first().ok_or(Fault::Input)?;
     try_forms(rt, first.as_str())?;
     for call in refusals::CALLS {
-        try_refused(rt, call, first.as_str())?;
+        try_refused(rt, *call, first.as_str())?;
     }
     Ok(())
 }
@@ -98,6 +98,7 @@ fn try_streams(rt: &HostRuntime, form: &str, input: &[u8]) -> Result<(), Fault> 
     print_texts(rt, form, input)
 }
 
+/// Prints texts that come and go octet by octet, which the gate compares with what the second implementation says.
 fn print_texts(rt: &HostRuntime, form: &str, input: &[u8]) -> Result<(), Fault> {
     let texts = streams::texts(rt.alloc(), input)?;
     let octets = texts.len();

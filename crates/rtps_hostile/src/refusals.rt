@@ -2,6 +2,7 @@
 //! and where that is refused a third time: its answer has to be the first one then, and what it grows has to be unchanged by the refusal.
 
 mod library;
+mod sets;
 mod tool;
 mod writers;
 
@@ -12,8 +13,9 @@ use rtps_tool::Recording;
 use std::alloc::{AllocError, Global};
 
 /// All calls that can be tried. One whose name begins with `capture_` is given a capture of the recording.
-pub(crate) const CALLS: [&str; 40] = [
+pub(crate) const CALLS: &[&str] = &[
     "note",
+    "note_all",
     "participants",
     "endpoints",
     "matched",
@@ -22,6 +24,10 @@ pub(crate) const CALLS: [&str; 40] = [
     "add_plain",
     "add_merged",
     "add_bits",
+    "add_bits_to_plain",
+    "add_bits_to_merged",
+    "add_bits_to_bits",
+    "past",
     "judge",
     "judge_by_plain",
     "judge_from_plain",
@@ -33,6 +39,9 @@ pub(crate) const CALLS: [&str; 40] = [
     "evidence",
     "audit",
     "audit_from",
+    "put_u16",
+    "put_u32",
+    "put_number",
     "write_list",
     "write_message",
     "read_words",
@@ -58,10 +67,9 @@ pub(crate) const CALLS: [&str; 40] = [
 /// Requests between one of this size and the next are counted by `tests/refuse_requests.c`. Nothing else asks for so much.
 const MARK: usize = 7_654_321;
 
-/// Begins or ends a count of requests.
-fn mark(alloc: Global) -> Result<(), AllocError> {
-    let _room: Vec<u8> = Vec::with_capacity(alloc, MARK)?;
-    Ok(())
+/// Begins or ends a count of requests: asking is enough.
+fn mark(alloc: Global) {
+    let _room: Result<Vec<u8>, AllocError> = Vec::with_capacity(alloc, MARK);
 }
 
 /// Whether the call was refused memory on the recording that is the text. An `Err` tells of another fault, or of an
@@ -74,6 +82,9 @@ pub(crate) fn try_call(alloc: Global, call: &str, text: &str) -> Result<bool, Fa
         return Ok(refused);
     }
     if let Some(refused) = tool::try_words(alloc, call)? {
+        return Ok(refused);
+    }
+    if let Some(refused) = sets::try_call(alloc, call)? {
         return Ok(refused);
     }
     let recording = read_one(alloc, text)?;

@@ -5,8 +5,8 @@ use crate::fault::Fault;
 use crate::streams::asked_from;
 use crate::verdicts::PAIR;
 use rtps_audit::{
-    BitRanges, Counts, Coverage, Index, MergedRanges, PlainRanges, Row, Verdict, audit, audit_from,
-    judge, judge_by, judge_from,
+    BitRanges, Counts, Index, MergedRanges, PlainRanges, Row, Verdict, audit, audit_from, judge,
+    judge_by, judge_from,
 };
 use rtps_discovery::{Directory, Endpoint, Match, Noted, Pair};
 use rtps_evidence::Evidence;
@@ -18,9 +18,9 @@ use std::alloc::Global;
 macro_rules! is_refused {
     ($alloc:expr, $call:expr) => {{
         let wanted = $call?;
-        mark($alloc)?;
+        mark($alloc);
         let first = $call;
-        mark($alloc)?;
+        mark($alloc);
         let (answer, refused) = match first {
             Ok(answer) => (answer, false),
             Err(Memory) => ($call?, true),
@@ -39,14 +39,11 @@ pub(super) fn try_call(
     recording: &[&[u8]],
 ) -> Result<Option<bool>, Fault> {
     let refused = match call {
-        "note" => is_note_refused(alloc, recording),
+        "note" | "note_all" => is_note_refused(alloc, call, recording),
         "participants" | "endpoints" | "matched" | "pairs" => {
             is_listing_refused(alloc, call, recording)
         }
         "walk" => is_walk_refused(alloc, recording),
-        "add_plain" => is_add_refused::<PlainRanges>(alloc),
-        "add_merged" => is_add_refused::<MergedRanges>(alloc),
-        "add_bits" => is_add_refused::<BitRanges>(alloc),
         "judge"
         | "judge_by_plain"
         | "judge_from_plain"
@@ -118,23 +115,80 @@ fn audited(alloc: Global, call: &str, recording: &[&[u8]]) -> Result<(Vec<Row>, 
     Ok((report.rows, report.counts))
 }
 
-fn is_note_refused(alloc: Global, recording: &[&[u8]]) -> Result<bool, Fault> {
+/// Whether a directory was refused memory for any act, by either way to note them.
+fn is_note_refused(alloc: Global, call: &str, recording: &[&[u8]]) -> Result<bool, Fault> {
     let mut walk = Walk::new(alloc);
     let mut wanted = Directory::new(alloc);
     let mut tried = Directory::new(alloc);
     let mut refused = false;
     for datagram in recording {
         let _ = walk.read(datagram)?;
-        for act in walk.acts() {
-            if is_one_note_refused(alloc, &mut wanted, &mut tried, act)? {
-                refused = true;
-            }
+        if are_notes_refused(alloc, call, &mut wanted, &mut tried, walk.acts())? {
+            refused = true;
         }
     }
     if !are_same(&wanted, &tried)? {
         return Err(Fault::Differs("the directory is another after a refusal"));
     }
     Ok(refused)
+}
+
+/// Notes the acts of a datagram in both directories, at once or one by one, and answers whether any was refused memory.
+fn are_notes_refused<'a>(
+    alloc: Global,
+    call: &str,
+    wanted: &mut Directory<'a>,
+    tried: &mut Directory<'a>,
+    acts: &[Act<'a>],
+) -> Result<bool, Fault> {
+    if call == "note_all" {
+        return is_note_all_refused(alloc, wanted, tried, acts);
+    }
+    let mut refused = false;
+    for act in acts {
+        if is_one_note_refused(alloc, wanted, tried, act)? {
+            refused = true;
+        }
+    }
+    Ok(refused)
+}
+
+/// Notes acts at once in both directories, in the one of them a second time where they are refused.
+fn is_note_all_refused<'a>(
+    alloc: Global,
+    wanted: &mut Directory<'a>,
+    tried: &mut Directory<'a>,
+    acts: &[Act<'a>],
+) -> Result<bool, Fault> {
+    mark(alloc);
+    let first = tried.note_all(acts);
+    mark(alloc);
+    if first.is_err() && !are_some_noted(wanted, tried, acts)? {
+        return Err(Fault::Differs("a refusal leaves another directory than the first acts make"));
+    }
+    let (faults, refused) = match first {
+        Ok(faults) => (faults, false),
+        Err(Memory) => (tried.note_all(acts)?, true),
+    };
+    if faults != wanted.note_all(acts)? {
+        return Err(Fault::Differs("acts are noted otherwise after a refusal"));
+    }
+    Ok(refused)
+}
+
+/// Notes acts in the first directory until it lists the same as the second one, and answers whether it comes to that.
+fn are_some_noted<'a>(
+    wanted: &mut Directory<'a>,
+    tried: &Directory<'a>,
+    acts: &[Act<'a>],
+) -> Result<bool, Fault> {
+    for act in acts {
+        if are_same(wanted, tried)? {
+            return Ok(true);
+        }
+        let _ = wanted.note(act)?;
+    }
+    are_same(wanted, tried)
 }
 
 /// Notes an act in both directories, in the one of them a second time where it is refused.
@@ -144,9 +198,9 @@ fn is_one_note_refused<'a>(
     tried: &mut Directory<'a>,
     act: &Act<'a>,
 ) -> Result<bool, Fault> {
-    mark(alloc)?;
+    mark(alloc);
     let first = tried.note(act);
-    mark(alloc)?;
+    mark(alloc);
     if first.is_err() && !are_same(wanted, tried)? {
         return Err(Fault::Differs("a refusal changes the directory"));
     }
@@ -222,14 +276,15 @@ fn pairs<'a>(directory: &Directory<'a>) -> Result<Listing<'a>, Memory> {
     Ok(Listing::Pairs(directory.pairs()?))
 }
 
+/// Whether a walk was refused memory for any datagram. It has the same acts then as one that was not.
 fn is_walk_refused(alloc: Global, recording: &[&[u8]]) -> Result<bool, Fault> {
     let mut wanted = Walk::new(alloc);
     let mut tried = Walk::new(alloc);
     let mut refused = false;
     for datagram in recording {
-        mark(alloc)?;
+        mark(alloc);
         let first = tried.read(datagram);
-        mark(alloc)?;
+        mark(alloc);
         let tally = match first {
             Ok(tally) => tally,
             Err(Memory) => {
@@ -237,57 +292,54 @@ fn is_walk_refused(alloc: Global, recording: &[&[u8]]) -> Result<bool, Fault> {
                 tried.read(datagram)?
             }
         };
-        if tally != wanted.read(datagram)? || tried.acts().len() != wanted.acts().len() {
+        if tally != wanted.read(datagram)? || !are_equal(tried.acts(), wanted.acts()) {
             return Err(Fault::Differs("a datagram is read otherwise after a refusal"));
         }
     }
     Ok(refused)
 }
 
-/// Short ranges and long ones in turn, all apart, the greatest first. Some of the short ones lie in two words.
-fn is_add_refused<C: Coverage>(alloc: Global) -> Result<bool, Fault> {
-    let mut wanted = C::empty(alloc);
-    let mut tried = C::empty(alloc);
-    let mut refused = false;
-    for n in 0..40u8 {
-        let lo = 8000 - 200 * i64::from(n);
-        let hi = if n % 2 == 0 { lo + 40 } else { lo + 100 };
-        mark(alloc)?;
-        let first = tried.add(lo, hi);
-        mark(alloc)?;
-        if first.is_err() {
-            refused = true;
-            if !are_same_numbers(&wanted, &tried) {
-                return Err(Fault::Differs("a refusal changes the set"));
-            }
-            tried.add(lo, hi)?;
-        }
-        wanted.add(lo, hi)?;
-    }
-    if !are_same_numbers(&wanted, &tried) {
-        return Err(Fault::Differs("the set is another after a refusal"));
-    }
-    Ok(refused)
+/// Whether two lists are the same.
+fn are_equal<T: PartialEq>(one: &[T], other: &[T]) -> bool {
+    one == other
 }
 
-/// Whether two sets have the same of the numbers below 8200.
-fn are_same_numbers<C: Coverage>(one: &C, other: &C) -> bool {
-    one.front() == other.front() && (0..8200).all(|n| one.covers(n) == other.covers(n))
-}
-
+/// Whether the index of a recording was refused memory.
 fn is_build_refused(alloc: Global, recording: &[&[u8]]) -> Result<bool, Fault> {
-    Ok(is_refused!(alloc, built(alloc, recording)))
+    let wanted = Index::build(alloc, recording)?;
+    is_index_refused(alloc, recording, &wanted)
 }
 
-/// What an index says that is built.
-fn built(alloc: Global, recording: &[&[u8]]) -> Result<(usize, usize, Verdict), Memory> {
-    said(&Index::build(alloc, recording)?)
+/// The same, beside an index that was not refused.
+fn is_index_refused<'a>(
+    alloc: Global,
+    recording: &[&'a [u8]],
+    wanted: &Index<'a>,
+) -> Result<bool, Fault> {
+    mark(alloc);
+    let first = Index::build(alloc, recording);
+    mark(alloc);
+    match first {
+        Ok(index) => {
+            hold_same(&index, wanted)?;
+            Ok(false)
+        }
+        Err(Memory) => {
+            hold_same(&Index::build(alloc, recording)?, wanted)?;
+            Ok(true)
+        }
+    }
 }
 
-/// How many acts each of the pair has in an index, and the verdict.
-fn said(index: &Index<'_>) -> Result<(usize, usize, Verdict), Memory> {
-    let written = index.acts_of(PAIR.writer).len();
-    let read = index.acts_of(PAIR.reader).len();
-    let verdict = index.judge(PAIR)?;
-    Ok((written, read, verdict))
+/// Two indices have to say the same of the pair: its acts, its answers and its verdict.
+fn hold_same<'a>(one: &Index<'a>, other: &Index<'a>) -> Result<(), Fault> {
+    if are_equal(one.acts_of(PAIR.writer), other.acts_of(PAIR.writer))
+        && are_equal(one.acts_of(PAIR.reader), other.acts_of(PAIR.reader))
+        && one.answers_of(PAIR) == other.answers_of(PAIR)
+        && one.judge(PAIR)? == other.judge(PAIR)?
+    {
+        Ok(())
+    } else {
+        Err(Fault::Differs("the index is another after a refusal"))
+    }
 }

@@ -35,9 +35,9 @@ pub(super) fn try_words(alloc: Global, call: &str) -> Result<Option<bool>, Fault
 
 fn is_reading_refused(alloc: Global, input: &[u8]) -> Result<bool, Fault> {
     let wanted = read_recording(alloc, input)?;
-    mark(alloc)?;
+    mark(alloc);
     let first = read_recording(alloc, input);
-    mark(alloc)?;
+    mark(alloc);
     match first {
         Ok(recording) => {
             hold_same(&recording, &wanted)?;
@@ -63,9 +63,9 @@ fn hold_same(one: &Recording, other: &Recording) -> Result<(), Fault> {
 /// The words may be read as with ample memory although a request was refused.
 fn are_words_refused(alloc: Global, words: &[&str]) -> Result<bool, Fault> {
     let wanted = answer_of(alloc, read_words(alloc, words))?.ok_or(Fault::Memory)?;
-    mark(alloc)?;
+    mark(alloc);
     let first = read_words(alloc, words);
-    mark(alloc)?;
+    mark(alloc);
     let (found, refused) = match answer_of(alloc, first)? {
         Some(found) => (found, false),
         None => {
@@ -120,9 +120,9 @@ fn told(alloc: Global, fault: &WordFault) -> Result<String, AllocError> {
 fn is_run_refused(alloc: Global, run: Run, input: &[u8]) -> Result<bool, Fault> {
     let (wanted, ending) = text_of(alloc, run, input)?;
     let mut output = Vec::with_capacity(alloc, wanted.len())?;
-    mark(alloc)?;
+    mark(alloc);
     let first = run.of(alloc, &mut { input }, &mut output);
-    mark(alloc)?;
+    mark(alloc);
     let refused = first == Err(RunFault::Memory);
     if refused && !output.is_empty() {
         return Err(Fault::Differs("a refused run writes"));

@@ -1,8 +1,8 @@
-//! The calls that append to octets: a list of parameters, and the messages of a recording.
+//! The calls that append to octets: numbers, a list of parameters, and the messages of a recording.
 
 use super::mark;
 use crate::fault::Fault;
-use rtps_ids::Order;
+use rtps_ids::{Order, put_number, put_u16, put_u32};
 use rtps_params::{ListFault, write_list};
 use rtps_wire::{Header, Item, Items, WriteFault, write_message};
 use std::alloc::Global;
@@ -26,6 +26,9 @@ pub(super) fn try_call(
     recording: &[&[u8]],
 ) -> Result<Option<bool>, Fault> {
     let refused = match call {
+        "put_u16" => is_append_refused(alloc, Appended::Short(0x0102)),
+        "put_u32" => is_append_refused(alloc, Appended::Long(0x0102_0304)),
+        "put_number" => is_append_refused(alloc, Appended::Number(0x0001_0203_0405_0607)),
         "write_list" => is_append_refused(alloc, Appended::List(&PARAMETERS)),
         "write_message" => is_any_message_refused(alloc, recording),
         _ => return Ok(None),
@@ -62,6 +65,9 @@ fn items_of<'a>(alloc: Global, datagram: &'a [u8]) -> Result<(Header, Vec<Item<'
 /// What is appended to octets.
 #[derive(Clone, Copy)]
 enum Appended<'a> {
+    Short(u16),
+    Long(u32),
+    Number(i64),
     List(&'a [(u16, &'a [u8])]),
     Message(&'a Header, &'a [Item<'a>]),
 }
@@ -70,6 +76,9 @@ impl Appended<'_> {
     /// Appends it, and answers whether memory was refused.
     fn append_to(self, out: &mut Vec<u8>) -> Result<bool, Fault> {
         match self {
+            Appended::Short(value) => Ok(put_u16(Order::Little, value, out).is_err()),
+            Appended::Long(value) => Ok(put_u32(Order::Little, value, out).is_err()),
+            Appended::Number(value) => Ok(put_number(Order::Little, value, out).is_err()),
             Appended::List(params) => match write_list(params, Order::Little, out) {
                 Ok(()) => Ok(false),
                 Err(ListFault::Memory) => Ok(true),
@@ -91,9 +100,9 @@ fn is_append_refused(alloc: Global, appended: Appended<'_>) -> Result<bool, Faul
         return Err(Fault::Memory);
     }
     let mut tried = Vec::from_slice(alloc, BEFORE)?;
-    mark(alloc)?;
+    mark(alloc);
     let first = appended.append_to(&mut tried);
-    mark(alloc)?;
+    mark(alloc);
     let refused = first?;
     if refused && tried.as_slice() != BEFORE {
         return Err(Fault::Differs("a refusal changes the octets"));
