@@ -143,6 +143,13 @@ def with_list(octets, number=1):
     return submessage(0x15, 6, body + bytes(8))
 
 
+def filled(before, parameters, flags):
+    """a datagram of the greatest size, of a DATA that is these octets and then a list of these parameters, one that fills it, and the end"""
+    octets = before + parameters
+    octets += parameter(0x8001, bytes(MOST - 24 - len(octets) - 8)) + END
+    return make.header(A) + submessage(0x15, flags, octets)
+
+
 def empty_submessages(tests):
     datagram = make.header(A) + b'\1\0\0\0' * 16378 + bytes(3)
     assert len(datagram) == MOST
@@ -169,13 +176,16 @@ def parameter_lists(tests):
              parameter(0x8001, bytes(room - 8)) + END, parameter(0x8001, bytes(room - 7))[:room], b'\x80\1\xff\xff' + bytes(room - 4)]
     datagrams = [make.header(A) + with_list(octets) for octets in lists]
     little = make.header(A) + bytes([0x15, 7]) + bytes(2) + b'\0\0\x10\0' + bytes(4) + WRITER + bytes(4) + b'\1\0\0\0' + b'\x70\0\0\0' * 16000 + b'\1\0\0\0'
-    tests.agrees('inline lists', text_of([*datagrams, little]))
-    assert max(map(len, datagrams)) == MOST
+    to_the_end = filled(b'\0\0\0\x10' + bytes(4) + WRITER + (1).to_bytes(8, 'big'), b'', 2)
+    tests.agrees('inline lists', text_of([*datagrams, little, to_the_end]))
+    assert max(map(len, datagrams)) == len(to_the_end) == MOST
     names = make.NAMES * 1000
     announced = [make.announced(b'\0\0\3\xc2', A, WRITER, names + nested[:8000]), make.announced(b'\0\0\4\xc2', B, READER, make.RELIABLE * 4000)]
     announced += [make.announced(b'\0\0\4\xc2', B, b'\0\0\2\4', names + make.RELIABLE), make.announced(b'\0\1\0\xc2', A, WRITER, b'\0\x50\0\x10' + A + b'\0\0\1\xc1')]
-    tests.agrees('announcements with lists that repeat', text_of(announced))
-    print(f'parameter lists: {len(lists) + 1} of up to {room} octets, one {depth} lists deep; 4 in announcements')
+    announced.append(filled(b'\0\0\0\x10' + bytes(4) + b'\0\0\3\xc2' + (1).to_bytes(8, 'big') + b'\0\2\0\0', b'\0\x5a\0\x10' + A + b'\0\0\2\3' + make.NAMES, 4))
+    assert len(announced[-1]) == MOST
+    tests.agrees('announcements with lists that repeat, or fill a datagram', text_of(announced))
+    print(f'parameter lists: {len(lists) + 2} of up to {room + 8} octets, one {depth} lists deep; {len(announced)} in announcements; of both one ends with its datagram, of {MOST} octets')
 
 
 def endpoints_that_disagree(tests):
