@@ -275,6 +275,27 @@ def rows_past_what_is_named(tests):
     print(f'rows of {last} numbers with holes that some readers hear by name: {count} recordings of {len(NAMED)} readers')
 
 
+def numbers_in_turns(tests):
+    """rows of numbers that readers are told in turns: by what is for all of them, for participants, for entity ids, and for each"""
+    count, rng, last, every = 12, random.Random(45), 2600, bytes(4)
+    prefixes, entities = sorted({prefix for prefix, _ in NAMED}), sorted({entity for _, entity in NAMED})
+    groups = [[(None, every)], [(prefix, every) for prefix in prefixes], [(None, entity) for entity in entities], NAMED]
+    for _ in range(count):
+        said = {audience: b'' for group in groups for audience in group}
+        number = 1
+        while number <= last:
+            end = number + rng.choice((1, 1, 2, 70))
+            # Now and then somebody is not told.
+            told = [audience for audience in rng.choice(groups) if rng.random() > 0.004]
+            for prefix, entity in told:
+                said[prefix, entity] += make.gap(WRITER, number, end, [], 0, entity)
+            number = end
+        sent = [make.header(A) + (make.to(prefix) if prefix else b'') + octets for (prefix, _), octets in said.items()]
+        sent += [make.header(A) + make.heartbeat(WRITER, 1, last), *(answer_of(reader, last + 1) for reader in NAMED)]
+        tests.agrees('numbers in turns', text_of(announced_readers() + sent), ('audit', 'why'))
+    print(f'rows of {last} numbers that readers hear in turns from all their audiences: {count} recordings of {len(NAMED)} readers')
+
+
 def announcement(built_in, octets):
     return make.header(A) + make.data(built_in, 1, b'\0\2\0\0' + octets + END)
 
@@ -363,5 +384,5 @@ def many_datagrams(tests):
 if __name__ == '__main__':
     sys.exit(program.main(__doc__, (cut_by_table, cut_and_changed, audits_of_changed, announced_late, octet_by_octet,
                                     empty_submessages, parameter_lists, endpoints_that_disagree, endpoints_of_one_topic,
-                                    readers_that_are_named, rows_past_what_is_named, topics_of_every_octet, acknowledgements,
+                                    readers_that_are_named, rows_past_what_is_named, numbers_in_turns, topics_of_every_octet, acknowledgements,
                                     gaps_of_many_ranges, many_datagrams)))
