@@ -12,6 +12,7 @@ pub mod TellerLemmas
 pub mod PlaceLemmas
 pub mod RivalLemmas
 pub mod RankLemmas
+pub mod SharedLemmas
 pub mod ShareLemmas
 pub mod OneExplanation
 pub mod AnswerLemmas

@@ -1,6 +1,5 @@
 -- Stretches that are gone through in order, ranks that are made of them, and how many numbers are in stretches and not ranked.
-use Rattle.std.proofs.Common.{◌≡◌, ℕ, suc, ◌+◌, ◌-◌, ◌^◌, ◌<◌, ◌≤◌, Bool, true, false, refl, sym, ap, ◌∙◌, arith, ◌||◌, ◌&&◌, nat_le, nat_lt, max, min, List, [], ◌∷◌, ◌++◌, length, inl, inr, not, take, drop, get_or}
-use Rattle.std.specs.List.{AllWithin}
+use Rattle.std.proofs.Common.{◌≡◌, ℕ, suc, ◌+◌, ◌-◌, ◌^◌, ◌<◌, ◌≤◌, Bool, true, false, refl, sym, ap, subst, ◌∙◌, arith, ◌||◌, ◌&&◌, nat_le, nat_lt, max, min, List, [], ◌∷◌, ◌++◌, length, inl, inr, not, take, drop, get_or}
 use Rattle.std.specs.List.Sorted.{IsNonDecreasingBy, IsPartitionPoint}
 use Rattle.std.proofs.lemmas.Bool.{cases_lt, ltb-false, ltb-true}
 use Rattle.std.proofs.lemmas.Bool.Decides.{nat_tests}
@@ -8,7 +7,7 @@ use Rattle.std.proofs.lemmas.List.{get_or_append_left, get_or_default, get_or-dr
 use Rattle.std.proofs.lemmas.List.Folds.{list_any-append, list_any_at, list_any_more}
 use Rattle.std.proofs.lemmas.List.Sorted.{IsNonDecreasingBy-push}
 use Rattle.rtps_evidence.specs.Counted.{count_in, stretch_has, stretches_have}
-use Rattle.rtps_evidence.specs.Ranked.{AreRanks, IsCutAt, besides, nothing}
+use Rattle.rtps_evidence.specs.Ranked.{AreRanks, IsCutAt, IsPlace, besides, nothing}
 use Rattle.rtps_evidence.specs.declared.ranked.Rank.{Rank}
 use Rattle.rtps_evidence.specs.declared.stretches.Stretch.{Stretch}
 use Rattle.rtps_evidence.proofs.CountLemmas.{count_all, count_none, count_others, count_rest, count_same, count_split}
@@ -297,17 +296,26 @@ ranks_same general one other from end ranks same is = record {
     alike x = count_same (besides general one) (besides general other) from x (λ n c d. ap (λ b. b && not (general n)) (same n))
 
 -- where a search by halves ends
-pub cut_first : (general has : ℕ → Bool) (from end x : ℕ) (ranks : List Rank) → AreRanks general has from end ranks → from ≤ x → x ≤ end → AllWithin (λ (rank : Rank). nat_lt rank.lo x ≡ false) ranks 0 (length ranks)
+pub place_parts : (ranks : List Rank) (x place : ℕ) → place ≤ length ranks → IsPartitionPoint (λ (r : Rank). nat_lt r.lo x ≡ true) (λ (r : Rank). nat_lt r.lo x ≡ false) ranks place → IsPlace ranks x place
+place_parts ranks x place inside parts = record {
+  within = inside;
+  low = λ d some. ltb-true (get_or ranks (place - 1) d).lo x (parts.0 (place - 1) d (omega arith) (omega arith));
+  high = λ d lt. ltb-false (get_or ranks place d).lo x (parts.1 place d (omega arith) lt);
+}
+
+-- where no rank begins below a number
+pub cut_first : (general has : ℕ → Bool) (from end x place : ℕ) (ranks : List Rank) → AreRanks general has from end ranks → from ≤ x → x ≤ end → IsPlace ranks x place → place ≡ 0
     → IsCutAt general has from x (record { lo = x; hi = x; before = 0 })
-cut_first general has from end x ranks is a b late =
+cut_first general has from end x place ranks is a b at first =
     let empty = count_none (λ n. not (general n)) x x (λ n low high. absurd (omega arith)) in
-    let none = is.none x a b (λ d lt. let out = late 0 d (omega arith) lt in ltb-false (get_or ranks 0 d).lo x out) in
+    let none = is.none x a b (λ d lt. subst (λ k. x ≤ (get_or ranks k d).lo) first (at.high d (omega arith))) in
     record { onward = a; some = omega arith; within = omega arith; exact = omega arith }
 
-pub cut_last : (general has : ℕ → Bool) (from end x place : ℕ) (ranks : List Rank) (d : Rank) (reach : ℕ) → AreRanks general has from end ranks → from ≤ x → x ≤ end → 0 < place → place ≤ length ranks
-    → IsPartitionPoint (λ (r : Rank). nat_lt r.lo x ≡ true) (λ (r : Rank). nat_lt r.lo x ≡ false) ranks place → reach ≡ min (get_or ranks (place - 1) d).hi x
+pub cut_last : (general has : ℕ → Bool) (from end x place : ℕ) (ranks : List Rank) (d : Rank) (reach : ℕ) → AreRanks general has from end ranks → from ≤ x → x ≤ end → 0 < place
+    → IsPlace ranks x place → reach ≡ min (get_or ranks (place - 1) d).hi x
     → IsCutAt general has from x (record { lo = (get_or ranks (place - 1) d).lo; hi = reach; before = (get_or ranks (place - 1) d).before })
-cut_last general has from end x place ranks d reach is a b some inside parts reach_is =
+cut_last general has from end x place ranks d reach is a b some at reach_is =
+    let inside = at.within in
     let ordered = is.some (place - 1) d (omega arith) in
     let lower = low in
     record {
@@ -318,10 +326,10 @@ cut_last general has from end x place ranks d reach is a b some inside parts rea
     }
   where
     low : (get_or ranks (place - 1) d).lo ≤ x
-    low = let lower = ltb-true (get_or ranks (place - 1) d).lo x (parts.0 (place - 1) d (omega arith) (omega arith)) in omega arith
+    low = let lower = at.low d some in omega arith
 
     up_to : (place - 1) + 1 < length ranks → x ≤ (get_or ranks ((place - 1) + 1) d).lo
-    up_to lt = ltb-false (get_or ranks ((place - 1) + 1) d).lo x (parts.1 ((place - 1) + 1) d (omega arith) lt)
+    up_to lt = let same : place ≡ place - 1 + 1 = omega arith in subst (λ k. x ≤ (get_or ranks k d).lo) same (at.high d (omega arith))
 
 -- ---- how many stand below a number
 

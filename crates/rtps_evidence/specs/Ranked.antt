@@ -1,6 +1,6 @@
 -- Numbers in stretches that stand in order and do not overlap, each with how many stand before it. own: how many of them
 -- stand below a number takes one search by halves.
-use Rattle.std.specs.Prelude.{ℕ, Bool, false, ◌+◌, ◌≡◌, ◌<◌, ◌≤◌, ◌&&◌, not, List, length, min, slice_index_or}
+use Rattle.std.specs.Prelude.{ℕ, Bool, false, ◌+◌, ◌-◌, ◌≡◌, ◌<◌, ◌≤◌, ◌&&◌, not, List, length, min, slice_index_or}
 use Rattle.std.specs.List.Sorted.{IsNonDecreasingBy}
 use Rattle.rtps_evidence.specs.Counted.{count_in}
 use Rattle.rtps_evidence.specs.declared.ranked.Rank.{Rank}
@@ -24,6 +24,12 @@ pub record AreRanks (general has : ℕ → Bool) (from end : ℕ) (ranks : List 
   pub none : (x : ℕ) → from ≤ x → x ≤ end → ((d : Rank) → 0 < length ranks → x ≤ (slice_index_or ranks 0 d).lo) → count_in (besides general has) from x ≡ 0
   pub counted : (k x : ℕ) (d : Rank) → k < length ranks → (slice_index_or ranks k d).lo ≤ x → from ≤ x → x ≤ end → (k + 1 < length ranks → x ≤ (slice_index_or ranks (k + 1) d).lo)
       → (slice_index_or ranks k d).before + count_in (λ n. not (general n)) (slice_index_or ranks k d).lo (min (slice_index_or ranks k d).hi x) ≡ count_in (besides general has) from x
+
+-- so many ranks, which stand in order, begin below x: the last of them does, and the next one does not
+pub record IsPlace (ranks : List Rank) (x place : ℕ) : Type 0 where
+  pub within : place ≤ length ranks
+  pub low : (d : Rank) → 0 < place → (slice_index_or ranks (place - 1) d).lo < x
+  pub high : (d : Rank) → place < length ranks → x ≤ (slice_index_or ranks place d).lo
 
 -- The rank ends at x or before, and says how many below x have it and are not general, where those of its own that are not
 -- general are added.

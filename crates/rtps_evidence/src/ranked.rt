@@ -1,7 +1,7 @@
-ghost use Rattle.std.specs.Prelude.{ℕ, Bool, ◌≡◌, ◌≤◌, ◌-◌, not, IfOk};
+ghost use Rattle.std.specs.Prelude.{ℕ, Bool, ◌≡◌, ◌≤◌, ◌-◌, not, length, IfOk, IsTrue};
 ghost use Rattle.std.specs.List.Sorted.{IsNonDecreasingBy};
 ghost use Rattle.rtps_evidence.specs.Counted.{count_in, stretches_have};
-ghost use Rattle.rtps_evidence.specs.Ranked.{AreRanks, IsCutAt, nothing};
+ghost use Rattle.rtps_evidence.specs.Ranked.{AreRanks, IsCutAt, IsPlace, nothing};
 
 use crate::stretches::Stretch;
 use rtps_ids::Memory;
@@ -32,6 +32,7 @@ fn rank_in_order(
     let mut ranks = Vec::new(alloc);
     let mut reached = from;
     let mut count = 0;
+    let mut near = 0;
     for stretch in stretches {
         let lo = stretch.lo.max(reached);
         let hi = stretch.hi.min(end);
@@ -41,7 +42,8 @@ fn rank_in_order(
                 hi,
                 before: count,
             })?;
-            count += others(everyone, lo, hi);
+            near = place_of(everyone, near, hi);
+            count += others(everyone, near, lo, hi);
             reached = hi;
         }
     }
@@ -65,12 +67,36 @@ pub(crate) fn ranks_of(
     rank_in_order(alloc, everyone, stretches, from, end)
 }
 
-/// The last rank that begins below `x`, cut off at `x`; an empty one at `x` where none does.
-pub(crate) fn cut_at(ranks: &[Rank], x: u64) -> Rank
-    ensures { (general has : ℕ → Bool) (from end : ℕ) → AreRanks general has from end ranks.now → from ≤ x → x ≤ end
+/// Whether so many ranks begin below `x`, by those that stand there.
+fn is_place(ranks: &[Rank], place: usize, x: u64) -> bool
+    ensures { IsTrue result → IsPlace ranks.now x place }
+{
+    place <= ranks.len()
+        && (place == 0 || ranks[place - 1].lo < x)
+        && (place == ranks.len() || x <= ranks[place].lo)
+}
+
+/// How many ranks begin below `x`. It is looked for at `near` and behind that first, where numbers are asked for in order.
+pub(crate) fn place_of(ranks: &[Rank], near: usize, x: u64) -> usize
+    ensures bound { result ≤ length ranks.now }
+    ensures place { IsNonDecreasingBy (λ rank. rank.lo) ranks.now → IsPlace ranks.now x result }
+{
+    if is_place(ranks, near, x) {
+        return near;
+    }
+    let next = near.saturating_add(1);
+    if is_place(ranks, next, x) {
+        return next;
+    }
+    ranks.partition_point(|rank| rank.lo < x)
+}
+
+/// The last rank that begins below `x`, cut off at `x`, where so many ranks do; an empty one at `x` where none does.
+pub(crate) fn cut_at(ranks: &[Rank], place: usize, x: u64) -> Rank
+    requires { place ≤ length ranks.now }
+    ensures { (general has : ℕ → Bool) (from end : ℕ) → AreRanks general has from end ranks.now → IsPlace ranks.now x place → from ≤ x → x ≤ end
         → IsCutAt general has from x result }
 {
-    let place = ranks.partition_point(|rank| rank.lo < x);
     if place == 0 {
         return Rank {
             lo: x,
@@ -86,21 +112,21 @@ pub(crate) fn cut_at(ranks: &[Rank], x: u64) -> Rank
     }
 }
 
-/// How many of the numbers that are for everyone stand below `x`.
-pub(crate) fn below(everyone: &[Rank], x: u64) -> u64
+/// How many of the numbers that are for everyone stand below `x`, which is looked for at the rank `near` first.
+pub(crate) fn below(everyone: &[Rank], near: usize, x: u64) -> u64
     ensures { (general : ℕ → Bool) (from end : ℕ) → AreRanks nothing general from end everyone.now → from ≤ x → x ≤ end
         → result ≡ count_in general from x }
 {
-    let cut = cut_at(everyone, x);
+    let cut = cut_at(everyone, place_of(everyone, near, x), x);
     cut.before.saturating_add(cut.hi.saturating_sub(cut.lo))
 }
 
-/// How many of the numbers from `lo` on and below `hi` are not for everyone.
-pub(crate) fn others(everyone: &[Rank], lo: u64, hi: u64) -> u64
+/// How many of the numbers from `lo` on and below `hi`, which are looked for at the rank `near` first, are not for everyone.
+pub(crate) fn others(everyone: &[Rank], near: usize, lo: u64, hi: u64) -> u64
     ensures fits { result ≤ hi - lo }
     ensures others { (general : ℕ → Bool) (from end : ℕ) → AreRanks nothing general from end everyone.now → from ≤ lo → lo ≤ hi → hi ≤ end
         → result ≡ count_in (λ n. not (general n)) lo hi }
 {
-    let shared = below(everyone, hi).saturating_sub(below(everyone, lo));
+    let shared = below(everyone, near, hi).saturating_sub(below(everyone, near, lo));
     hi.saturating_sub(lo).saturating_sub(shared)
 }

@@ -113,6 +113,8 @@ impl Share {
                 Some(ranks) => ranks,
                 None => &[],
             },
+            near_everyone: 0,
+            near_participant: 0,
         }
     }
 
@@ -137,7 +139,7 @@ impl Share {
             → IfOk result (λ count. count ≡ count_in (λ n. list_any (is_of_four reader (has n)) placed) from end) }
     {
         let own = self.own(alloc, reader)?;
-        let both = self.both(reader);
+        let mut both = self.both(reader);
         let shared = both.below(end);
         Ok(shared.saturating_add(both.count_besides(&own, from, end)))
     }

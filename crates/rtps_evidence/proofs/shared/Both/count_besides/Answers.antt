@@ -2,6 +2,7 @@ use Rattle.std.proofs.Common.{◌||◌, arith}
 use Rattle.rtps_evidence.specs.Counted.{stretches_have}
 use Rattle.rtps_evidence.specs.declared.stretches.Stretch.{Stretch}
 use Rattle.rtps_evidence.proofs.RankLemmas.{besides_end, besides_next, walked_next, walked_on, walked_past}
+use Rattle.rtps_evidence.proofs.SharedLemmas.{both_on, same_on}
 use Rattle.rtps_evidence.proofs.shared.Both.count_besides.Goals as goal
 use Rattle.rtps_evidence.proofs.shared.Both.count_besides.Goals.{then-lo-hi, else-lo-hi}
 
@@ -26,15 +27,17 @@ loop-stretch-preserved c =
           let some = next.some in
           let within = past.within in
           let few = w.others-count.ensures.fits in
-          rw (w.reached-is, w.count-is) (record {
+          rw (w.reached-is, w.count-is, w.self-is) (record {
             walked = past;
             fits = omega arith;
+            same = same_on known.same w.others-count.ensures.same;
             exact = λ general part is. (besides_next (stretches_have stretches) (λ n. general n || part n) from reached lo hi c.loop-stretch.count w.others-count.result onward next
-                (w.others-count.ensures.others general part from end is (omega arith) (omega arith) within) (known.exact general part is)).1;
+                (w.others-count.ensures.others general part from end (both_on known.same is) (omega arith) (omega arith) within) (known.exact general part is)).1;
           })
-      | else-lo-hi w ↦ rw (w.reached-is, w.count-is) (record {
+      | else-lo-hi w ↦ rw (w.reached-is, w.count-is, w.self-is) (record {
         walked = walked_past stretches from end i reached none lo hi c.loop-stretch-test.true known.walked c.max-lo.ensures c.min-hi.ensures w.if-lo-hi.false;
         fits = known.fits;
+        same = known.same;
         exact = known.exact;
       })
     ]

@@ -8,6 +8,7 @@ use Rattle.rtps_evidence.specs.Shared.{AreBoth}
 use Rattle.rtps_evidence.specs.Shares.{part_has}
 use Rattle.rtps_evidence.specs.declared.stretches.Stretch.{Stretch}
 use Rattle.rtps_evidence.proofs.ShareLemmas.{share_count}
+use Rattle.rtps_evidence.proofs.SharedLemmas.{both_on}
 use Rattle.rtps_evidence.proofs.shares.Share.count.Goals as goal
 
 pub returns : goal.returns
@@ -21,7 +22,7 @@ returns c = λ has placed is.
       everyone = subst (AreRanks nothing everyone from end) (sym c.both-both.ensures.everyone) is.everyone;
       participant = subst (AreRanks everyone part from end) (sym c.both-both.ensures.participant) (is.ranked (of_participant reader));
     } in
-    let shared = c.below-shared.ensures everyone part from end both c.requires (omega arith) in
-    let rest = c.count_besides.ensures everyone part both in
+    let shared = c.below-shared.ensures.below everyone part from end both c.requires (omega arith) in
+    let rest = c.count_besides.ensures everyone part (both_on c.below-shared.ensures.same both) in
     share_count has from end reader placed c.args.self.now c.in_ok-own.own.items c.below-shared.result c.count_besides.result c.saturating_add.result is (omega (arith, c.ranges.end.fits)) c.in_ok-own.ensures.own shared
     (subst (λ (l : List Stretch). c.count_besides.result ≡ count_in (besides (λ (n : ℕ). everyone n || part n) (stretches_have l)) from end) c.deref.ensures.value rest) c.saturating_add.ensures
