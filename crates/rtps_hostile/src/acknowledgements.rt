@@ -1,7 +1,6 @@
 //! One datagram of more ACKNACKs than a recording can hold in one; a call of the library takes any slice.
 
 use crate::fault::Fault;
-use crate::recordings::ANNOUNCING;
 use crate::verdicts::{PAIR, judge_every_way};
 use rtps_audit::{Verdict, judge};
 use rtps_tool::Recording;
@@ -28,22 +27,32 @@ const VERDICT: Verdict = Verdict::Unfounded {
 
 /// Counts the ACKNACKs of the datagram, which is judged behind the announcements of the pair.
 pub(crate) fn count(alloc: Global, first: &Recording) -> Result<usize, Fault> {
+    let datagram = many(alloc)?;
+    let (Some(writer), Some(reader)) = (first.datagram(0), first.datagram(1)) else {
+        return Err(Fault::Input);
+    };
+    judge_many(alloc, &[writer, reader, datagram.as_slice()])?;
+    Ok(usize::from(COUNT))
+}
+
+/// The datagram of all ACKNACKs.
+fn many(alloc: Global) -> Result<Vec<u8>, Fault> {
     let mut datagram = Vec::from_slice(alloc, &TO_WRITER)?;
     for base in 0..COUNT {
         let mut piece = ACK_NACK;
         piece[18..20].copy_from_slice(&base.to_be_bytes());
         datagram.extend_from_slice(&piece)?;
     }
-    let mut recording: Vec<&[u8]> = Vec::new(alloc);
-    for announced in first.datagrams().take(ANNOUNCING) {
-        recording.push(announced)?;
-    }
-    recording.push(datagram.as_slice())?;
-    if judge_every_way(alloc, &recording)? != 1 {
+    Ok(datagram)
+}
+
+/// The recording has one row, of the verdict.
+fn judge_many(alloc: Global, recording: &[&[u8]]) -> Result<(), Fault> {
+    if judge_every_way(alloc, recording)? != 1 {
         return Err(Fault::Differs("the pair has no row"));
     }
-    if judge(alloc, &recording, PAIR)? != VERDICT {
+    if judge(alloc, recording, PAIR)? != VERDICT {
         return Err(Fault::Differs("number 1 is claimed without a word, and not found"));
     }
-    Ok(usize::from(COUNT))
+    Ok(())
 }

@@ -28,6 +28,7 @@ pub(crate) fn capture_of(alloc: Global, recording: &Recording) -> Result<Vec<u8>
     Ok(octets)
 }
 
+/// Appends the frame of a datagram.
 fn push_frame(octets: &mut Vec<u8>, datagram: &[u8]) -> Result<(), Fault> {
     let Ok(size) = u16::try_from(datagram.len()) else {
         return Err(Fault::Input);
@@ -35,15 +36,25 @@ fn push_frame(octets: &mut Vec<u8>, datagram: &[u8]) -> Result<(), Fault> {
     let length = size.saturating_add(8);
     let total = length.saturating_add(20);
     let captured = u32::from(total).to_le_bytes();
-    let mut ip = IP;
-    ip[2..4].copy_from_slice(&total.to_be_bytes());
-    let mut udp = UDP;
-    udp[4..6].copy_from_slice(&length.to_be_bytes());
     octets.extend_from_slice(&[0; 8])?;
     octets.extend_from_slice(&captured)?;
     octets.extend_from_slice(&captured)?;
-    octets.extend_from_slice(&ip)?;
-    octets.extend_from_slice(&udp)?;
+    octets.extend_from_slice(&ip_of(total))?;
+    octets.extend_from_slice(&udp_of(length))?;
     octets.extend_from_slice(datagram)?;
     Ok(())
+}
+
+/// The header of an IP packet of so many octets.
+fn ip_of(total: u16) -> [u8; 20] {
+    let mut ip = IP;
+    ip[2..4].copy_from_slice(&total.to_be_bytes());
+    ip
+}
+
+/// The header of a UDP datagram of so many octets.
+fn udp_of(length: u16) -> [u8; 8] {
+    let mut udp = UDP;
+    udp[4..6].copy_from_slice(&length.to_be_bytes());
+    udp
 }

@@ -18,19 +18,22 @@ pub(crate) fn count(recordings: &[Recording]) -> Result<(usize, usize), Fault> {
     let mut cuts = 0usize;
     for (place, recording) in recordings.iter().enumerate() {
         let known = if place == 0 { 0 } else { ANNOUNCING };
-        datagrams = datagrams.saturating_add(recording.datagrams().skip(known).count());
-        cuts = cuts.saturating_add(cut_each(recording, known)?);
+        let (found, made) = cut_each(recording, known)?;
+        datagrams = datagrams.saturating_add(found);
+        cuts = cuts.saturating_add(made);
     }
     Ok((datagrams, cuts))
 }
 
-/// Cuts each datagram but for the first ones, and counts cuts.
-fn cut_each(recording: &Recording, known: usize) -> Result<usize, Fault> {
+/// Cuts each datagram but for the first ones, and counts them and the cuts.
+fn cut_each(recording: &Recording, known: usize) -> Result<(usize, usize), Fault> {
+    let mut datagrams = 0usize;
     let mut cuts = 0usize;
     for datagram in recording.datagrams().skip(known) {
+        datagrams = datagrams.saturating_add(1);
         cuts = cuts.saturating_add(cut_everywhere(datagram)?);
     }
-    Ok(cuts)
+    Ok((datagrams, cuts))
 }
 
 /// Cuts a datagram to each length below its own, and answers how many there are.

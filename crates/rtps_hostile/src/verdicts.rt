@@ -127,14 +127,19 @@ fn judge_changed(
 
 /// Counts the rows of the audit. Each verdict is the same by every way to judge, and so is that of the pair.
 pub(crate) fn judge_every_way(alloc: Global, recording: &[&[u8]]) -> Result<usize, Fault> {
-    let report = audit(alloc, recording)?;
     let index = Index::build(alloc, recording)?;
+    let _ = judged_alike(alloc, recording, &index, PAIR)?;
+    judge_rows(alloc, recording, &index)
+}
+
+/// Counts the rows of the audit, whose verdicts are those of the index.
+fn judge_rows(alloc: Global, recording: &[&[u8]], index: &Index<'_>) -> Result<usize, Fault> {
+    let report = audit(alloc, recording)?;
     for row in &report.rows {
-        if row.verdict != judged_alike(alloc, recording, &index, row.pair)? {
+        if row.verdict != judged_alike(alloc, recording, index, row.pair)? {
             return Err(Fault::Differs("a verdict is another by another way"));
         }
     }
-    let _ = judged_alike(alloc, recording, &index, PAIR)?;
     Ok(report.rows.len())
 }
 

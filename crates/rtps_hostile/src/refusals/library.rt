@@ -310,25 +310,22 @@ fn is_build_refused(alloc: Global, recording: &[&[u8]]) -> Result<bool, Fault> {
     is_index_refused(alloc, recording, &wanted)
 }
 
-/// The same, beside an index that was not refused.
+/// The same, beside an index of ample memory. It is built a second time where it was refused.
 fn is_index_refused<'a>(
     alloc: Global,
     recording: &[&'a [u8]],
     wanted: &Index<'a>,
 ) -> Result<bool, Fault> {
-    mark(alloc);
-    let first = Index::build(alloc, recording);
-    mark(alloc);
-    match first {
-        Ok(index) => {
+    for refused in [false, true] {
+        mark(alloc);
+        let built = Index::build(alloc, recording);
+        mark(alloc);
+        if let Ok(index) = built {
             hold_same(&index, wanted)?;
-            Ok(false)
-        }
-        Err(Memory) => {
-            hold_same(&Index::build(alloc, recording)?, wanted)?;
-            Ok(true)
+            return Ok(refused);
         }
     }
+    Err(Fault::Memory)
 }
 
 /// Two indices have to say the same of the pair: its acts, its answers and its verdict.
