@@ -4,13 +4,10 @@ use crate::audiences::{is_for_all, key_of, of_entity, of_participant};
 use crate::brief::{Brief, add_brief};
 use crate::shared::SharedRows;
 use crate::told_sets::ToldSets;
-use rtps_coverage::{BitRanges, Coverage, past_together};
+use rtps_coverage::{BitRanges, Coverage, LAST, past_together};
 use rtps_ids::{Guid, Memory};
 use rtps_receiver::laws::tests_say_what_relations_say;
 use std::alloc::Global;
-
-/// The least number that no set has.
-const LAST: u64 = i64::MAX as u64;
 
 /// So many numbers are gone through by the sets of a reader's audiences, before what many readers share is asked again.
 const STRIDE: u64 = 1024;

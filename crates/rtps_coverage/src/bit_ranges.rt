@@ -2,16 +2,13 @@ ghost use Rattle.std.specs.Prelude.{ℕ, Bool, ◌≡◌, ◌≤◌, ◌<◌, �
 ghost use Rattle.rtps_coverage.specs.Beyond.{is_beyond};
 
 use crate::blocks::Blocks;
-use crate::coverage::Coverage;
+use crate::coverage::{Coverage, LAST};
 use crate::merged_ranges::MergedRanges;
 use rtps_ids::Memory;
 use std::alloc::Global;
 
 /// Ranges of at most so many numbers are kept as bits.
 const SHORT: u64 = 64;
-
-/// The least number that no set has.
-const LAST: u64 = i64::MAX as u64;
 
 /// A row of more numbers than this, which are two blocks, is kept as one range once it was walked.
 const ROW: u64 = 128;

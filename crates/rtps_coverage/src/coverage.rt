@@ -5,9 +5,10 @@ ghost use Rattle.rtps_coverage.specs.Coverage.{JoinsRange, IsSameSet, has, IsFro
 use rtps_ids::Memory;
 use std::alloc::Global;
 
+/// The least number that no set has (own: an answer claims the numbers below its base, and no base passes 2^63 - 1).
+pub const LAST: u64 = i64::MAX as u64;
+
 /// A growing set of sequence numbers from 1 to 2^63 - 2.
-///
-/// No set has 2^63 - 1 (own: an answer claims the numbers below its base, and no base passes 2^63 - 1).
 pub trait Coverage: Sized + Drop {
     /// Whether the set has a number.
     ghost covered: { Self → ℕ → Bool };

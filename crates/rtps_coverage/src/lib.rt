@@ -11,7 +11,7 @@ mod span;
 mod together;
 
 pub use bit_ranges::BitRanges;
-pub use coverage::Coverage;
+pub use coverage::{Coverage, LAST};
 pub use merged_ranges::MergedRanges;
 pub use plain_ranges::PlainRanges;
 pub use together::past_together;

@@ -6,9 +6,7 @@ ghost use Rattle.rtps_coverage.specs.Blocks.{block_at};
 ghost use Rattle.rtps_coverage.specs.Coverage.{IsPastUpTo};
 
 use crate::bit_ranges::BitRanges;
-
-/// The least number that no set has.
-const LAST: u64 = i64::MAX as u64;
+use crate::coverage::LAST;
 
 /// The numbers of a block that some of the sets keep as bits.
 fn block_of(sets: &[&BitRanges], key: u64) -> u64
