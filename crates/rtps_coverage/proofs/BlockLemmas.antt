@@ -1,14 +1,11 @@
 -- Sets of numbers as bits, 64 to a block.
-use Rattle.std.specs.BTreeMap as tree
-use Rattle.std.proofs.Common.{ℕ, zero, Bool, true, false, ◌≡◌, ◌≢◌, ◌≤◌, ◌<◌, ◌+◌, ◌-◌, ◌*◌, ◌/◌, ◌%◌, ◌^◌, ◌||◌, ◌&&◌, max, bit_or, nat_le, nat_lt, nat_eq, refl, ◌∙◌, sym, ap, subst, inl, inr, arith, w64}
-use Rattle.std.specs.Prelude.{if◌then◌else◌, OnOk, OnErr, Result, Ok, Err}
-use Rattle.std.specs.Option.{unwrap_or}
+use Rattle.std.proofs.Common.{ℕ, zero, List, length, get_or, set, get_or-set_same, get_or-set_other, Bool, true, false, ◌≡◌, ◌≢◌, ◌≤◌, ◌<◌, ◌+◌, ◌-◌, ◌*◌, ◌/◌, ◌%◌, ◌^◌, ◌||◌, ◌&&◌, max, bit_or, nat_le, nat_lt, nat_eq, refl, ◌∙◌, sym, ap, subst, inl, inr, arith, w64}
+use Rattle.std.specs.Prelude.{OnOk, OnErr, Result, Ok, Err}
 use Rattle.std.specs.Int.{bit_at, trailing_ones}
 use Rattle.std.specs.Int.Count.{trailing_of_zero}
-use Rattle.std.specs.Ordering.{nat_cmp}
 use Rattle.std.proofs.Math.Nat.{div-add-mod', div-le_self, mod-lt}
 use Rattle.std.proofs.Math.Pow.{pow_pos, pow_mono}
-use Rattle.std.proofs.lemmas.Bool.{cases_lt, false≢true}
+use Rattle.std.proofs.lemmas.Bool.{cases_eq, cases_lt, false≢true}
 use Rattle.std.proofs.lemmas.Bool.Decides.{nat_tests}
 use Rattle.std.proofs.lemmas.Nat.{one_shl}
 use Rattle.std.proofs.lemmas.Nat.Bits.{bit_at-lt, bit_at_or, bit_at_ones, bit_at_above, bit_at_cat_high, bit_at_cat_low, bit_at-zero, bit_at_mask_inside, bit_at_mask_below, bit_at_mask_above, bit_at-trailing_ones, ones_shr}
@@ -35,17 +32,50 @@ ones_between from to some few =
 
 -- ---- the block of a number
 
-pub at_hand : (blocks : Blocks) (key : ℕ) → blocks.key ≡ key → block_at blocks key ≡ blocks.block
-at_hand blocks key same =
-    let test : nat_eq key blocks.key ≡ true = grind (arith, nat_tests) in
-    ap (λ b. if b then blocks.block else unwrap_or (tree.get nat_cmp blocks.kept key) 0) test
+-- a set that is the same has the same blocks
+same_block : (old new : Blocks) (key : ℕ) → IsSameAs old new → block_at new key ≡ block_at old key
+unfolding block_at
+same_block old new key same = rw (same.group, same.hand, same.kept) refl
 
--- another block does not change with the one at hand
-pub not_at_hand : (blocks : Blocks) (block key : ℕ) → key ≢ blocks.key → block_at (record blocks { block = block }) key ≡ block_at blocks key
-not_at_hand blocks block key other =
-    let test : nat_eq key blocks.key ≡ false = grind (arith, nat_tests) in
-    ap (λ b. if b then block else unwrap_or (tree.get nat_cmp blocks.kept key) 0) test
-    ∙ sym (ap (λ b. if b then blocks.block else unwrap_or (tree.get nat_cmp blocks.kept key) 0) test)
+at_hand : (blocks : Blocks) (key : ℕ) → blocks.group ≡ key / 8 → block_at blocks key ≡ get_or blocks.hand (key % 8) 0
+unfolding block_at
+at_hand blocks key same =
+    let test : nat_eq (key / 8) blocks.group ≡ true = grind (arith, nat_tests) in
+    rw test refl
+
+-- a block of another group does not change with the one at hand
+not_at_hand : (blocks : Blocks) (hand : List ℕ) (key : ℕ) → key / 8 ≢ blocks.group → block_at (record blocks { hand = hand }) key ≡ block_at blocks key
+unfolding block_at
+not_at_hand blocks hand key other =
+    let test : nat_eq (key / 8) blocks.group ≡ false = grind (arith, nat_tests) in
+    rw test refl
+
+-- a block of the group at hand is written
+written : (blocks : Blocks) (key block : ℕ) → blocks.group ≡ key / 8 → length blocks.hand ≡ 8
+    → block_at (record blocks { hand = set blocks.hand (key % 8) block }) key ≡ block
+written blocks key block same eight =
+    at_hand (record blocks { hand = set blocks.hand (key % 8) block }) key same ∙ get_or-set_same blocks.hand (key % 8) block 0 (omega arith)
+
+-- and the others stay
+not_written : (blocks : Blocks) (key block other : ℕ) → blocks.group ≡ key / 8 → other ≢ key
+    → block_at (record blocks { hand = set blocks.hand (key % 8) block }) other ≡ block_at blocks other
+not_written blocks key block other same apart = elim (cases_eq (other / 8) blocks.group) [
+  | inl here ↦
+      let new : Blocks = record blocks { hand = set blocks.hand (key % 8) block } in
+      at_hand new other (sym here) ∙ get_or-set_other blocks.hand (key % 8) (other % 8) block 0 (λ e. apart (omega arith)) ∙ sym (at_hand blocks other (sym here))
+  | inr away ↦ not_at_hand blocks _ other away
+]
+
+-- all blocks are as they were once the one that was written is
+pub taken_back : (old written_to new : Blocks) (key before passed : ℕ) → written_to.group ≡ key / 8 → IsSameAs written_to new → length new.hand ≡ 8 → before ≡ block_at old key
+    → ((other : ℕ) → passed / 64 ≤ other → other ≢ key → block_at written_to other ≡ block_at old other)
+    → (n : ℕ) → passed ≤ n → blocks_have (record new { hand = set new.hand (key % 8) before }) n ≡ blocks_have old n
+taken_back old written_to new key before passed group same eight is others n past =
+    let here : new.group ≡ key / 8 = same.group ∙ group in
+    ap (λ w. nat_eq (bit_at w (n % 64)) 1) (elim (cases_eq (n / 64) key) [
+      | inl at ↦ ap (block_at (record new { hand = set new.hand (key % 8) before })) at ∙ written new key before here eight ∙ is ∙ ap (block_at old) (sym at)
+      | inr apart ↦ not_written new key before (n / 64) here apart ∙ same_block written_to new (n / 64) same ∙ others (n / 64) (omega arith) apart
+    ])
 
 with_max : (b x : ℕ) → b < 2 → x ≡ 0 → nat_eq (max b x) 1 ≡ (nat_eq b 1 || false)
 with_max b x h k = grind (arith, nat_tests)
@@ -333,7 +363,7 @@ in_two lo bits n fits = elim (cases_lt (n / 64) (lo / 64)) [
 
 -- a set that is the same has the same numbers
 pub same_numbers : (old new : Blocks) → IsSameAs old new → (n : ℕ) → blocks_have new n ≡ blocks_have old n
-same_numbers old new same n = rw (same.key, same.block, same.kept) refl
+same_numbers old new same n = ap (λ w. nat_eq (bit_at w (n % 64)) 1) (same_block old new (n / 64) same)
 
 or_neither : (a b : Bool) → (a || b) ≡ false → (a ≡ false) × (b ≡ false)
 or_neither true b e = absurd (false≢true (sym e))
