@@ -6,3 +6,4 @@ pub mod BlockLemmas
 pub mod EachBit
 pub mod BeyondLemmas
 pub mod TogetherLemmas
+pub mod Offered
