@@ -1,19 +1,17 @@
 -- Where the first act stands that has something, with one act more, and in one of several parts.
-use Rattle.std.proofs.Common.{eqb, ◌≡◌, ℕ, ◌+◌, ◌<◌, Bool, true, false, cond, not, ◌&&◌, ◌||◌, List, [], ◌∷◌, ◌++◌, length, min, Option, Some, refl, sym, ap, ◌∙◌, arith}
+use Rattle.std.proofs.Common.{eqb, ◌≡◌, ℕ, ◌+◌, ◌<◌, ◌≤◌, Bool, true, false, cond, not, ◌&&◌, ◌||◌, List, [], ◌∷◌, ◌++◌, length, min, Option, Some, refl, sym, ap, ◌∙◌, arith}
 use Rattle.std.specs.Prelude.{if◌then◌else◌}
 use Rattle.std.specs.BTreeMap.{get}
 use Rattle.std.specs.BTreeSet.{contains}
 use Rattle.std.specs.List.{position_or_len}
 use Rattle.std.specs.Ordering.{nat_cmp}
-use Rattle.std.specs.BTreeMap.Range.{IsInRange}
-use Rattle.std.specs.declared.ops.Bound.TheVariants.{Excluded, Included}
+use Rattle.std.specs.BTreeMap.Range.{IsInRange, IsLeBy}
+use Rattle.std.specs.declared.ops.Bound.TheVariants.{Included}
 use Rattle.std.proofs.lemmas.Bool.Decides.{nat_tests}
 use Rattle.std.proofs.lemmas.List.Folds.{position_or_len_push}
 use Rattle.rtps_audit.specs.Placed.{PlacedValue}
 use Rattle.rtps_evidence.specs.Firsts.{AreFirsts, AreGiven}
-use Rattle.rtps_evidence.specs.Counted.{stretch_has}
 use Rattle.rtps_evidence.specs.declared.firsts.Firsts.{Firsts}
-use Rattle.rtps_evidence.specs.declared.stretches.Stretch.{Stretch}
 
 -- ---- the first of two kinds
 
@@ -136,14 +134,18 @@ given_more old mid new one other both place joins first second = record {
 
 -- ---- one wanted number of a stretch after the other
 
-pub has_between : (stretch : Stretch) (n : ℕ) → IsInRange nat_cmp (Included stretch.lo) (Excluded stretch.hi) n → stretch_has n stretch ≡ true
-has_between stretch n inside =
-    let from = inside.0 in
-    let to = inside.1 in
-    grind (arith, nat_tests)
+-- a number lies in a range where it lies between two, and the other way round
+pub in_range : (first last n : ℕ) → first ≤ n → n ≤ last → IsInRange nat_cmp (Included first) (Included last) n
+in_range first last n from to = (grind (arith, nat_tests), grind (arith, nat_tests))
 
-pub is_between : (stretch : Stretch) (n : ℕ) → stretch_has n stretch ≡ true → IsInRange nat_cmp (Included stretch.lo) (Excluded stretch.hi) n
-is_between stretch n has = (grind (arith, nat_tests), grind (arith, nat_tests))
+pub from_range : (first last n : ℕ) → IsInRange nat_cmp (Included first) (Included last) n → first ≤ n
+from_range first last n inside = let from = inside.0 in grind (arith, nat_tests)
+
+pub to_range : (first last n : ℕ) → IsInRange nat_cmp (Included first) (Included last) n → n ≤ last
+to_range first last n inside = let to = inside.1 in grind (arith, nat_tests)
+
+pub not_above : (n other : ℕ) → IsLeBy nat_cmp n other → n ≤ other
+not_above n other le = grind (arith, nat_tests)
 
 -- some of the wanted numbers among these were found at the place, and are wanted no more
 pub record AreTaken (given : ℕ → Bool) (place : ℕ) (old new : Firsts) : Type 0 where

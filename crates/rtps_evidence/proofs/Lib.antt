@@ -2,6 +2,8 @@ pub mod CountLemmas
 pub mod FindLemmas
 pub mod MadeLemmas
 pub mod StretchLemmas
+pub mod ApartLemmas
+pub mod JoinLemmas
 pub mod OriginLemmas
 pub mod Shown
 pub mod RowLemmas

@@ -58,21 +58,21 @@ lists_taken old new key other list n found updated = ap (λ o. stretches_have li
     by_test false e = refl
 
 -- the list of the next key is ranked, and the ranks of the others stay
-pub lists_ranked : (lists : BTreeMap Guid (Vec Stretch)) (old new : BTreeMap Guid (Vec Rank)) (general : ℕ → Bool) (from end : ℕ) (key : Guid) (list : Vec Stretch) (ranks : Vec Rank) (left rest : List (Guid × Vec Stretch))
-    → left ≡ (key, list) ∷ rest → get guid_cmp lists key ≡ Some list → Updates guid_cmp old new key (Some ranks) → AreRanks general (stretches_have list.items) from end ranks.items
-    → ((other : Guid) → lookup (is_at (guid_cmp other)) left ≡ None → AreRanks general (lists_have lists other) from end (values_at guid_cmp old other))
-    → (other : Guid) → lookup (is_at (guid_cmp other)) rest ≡ None → AreRanks general (lists_have lists other) from end (values_at guid_cmp new other)
-lists_ranked lists old new general from end key list ranks left rest left_is found updates are known other gone = by_test (is_eq (guid_cmp other key)) refl
+pub lists_ranked : (lists : BTreeMap Guid (Vec Stretch)) (old new : BTreeMap Guid (Vec Rank)) (general : ℕ → Bool) (end : ℕ) (key : Guid) (list : Vec Stretch) (ranks : Vec Rank) (left rest : List (Guid × Vec Stretch))
+    → left ≡ (key, list) ∷ rest → get guid_cmp lists key ≡ Some list → Updates guid_cmp old new key (Some ranks) → AreRanks general (stretches_have list.items) end ranks.items
+    → ((other : Guid) → lookup (is_at (guid_cmp other)) left ≡ None → AreRanks general (lists_have lists other) end (values_at guid_cmp old other))
+    → (other : Guid) → lookup (is_at (guid_cmp other)) rest ≡ None → AreRanks general (lists_have lists other) end (values_at guid_cmp new other)
+lists_ranked lists old new general end key list ranks left rest left_is found updates are known other gone = by_test (is_eq (guid_cmp other key)) refl
   where
     written : get guid_cmp new other ≡ cond (is_eq (guid_cmp other key)) (Some ranks) (get guid_cmp old other)
     written = entry_written guids_total old new key other ranks updates
 
-    by_test : (b : Bool) → is_eq (guid_cmp other key) ≡ b → AreRanks general (lists_have lists other) from end (values_at guid_cmp new other)
+    by_test : (b : Bool) → is_eq (guid_cmp other key) ≡ b → AreRanks general (lists_have lists other) end (values_at guid_cmp new other)
     by_test true e =
-        subst (λ found. AreRanks general (lists_have lists other) from end (items_or_none found)) (sym (written ∙ ap (λ b. cond b (Some ranks) (get guid_cmp old other)) e))
-        (ranks_same general (stretches_have list.items) (lists_have lists other) from end ranks.items (λ n. ap (λ found. stretches_have (items_or_none found) n) (sym (found_alike guids_total other key (equal_of (guid_cmp other key) e) lists.entries ∙ found))) are)
+        subst (λ found. AreRanks general (lists_have lists other) end (items_or_none found)) (sym (written ∙ ap (λ b. cond b (Some ranks) (get guid_cmp old other)) e))
+        (ranks_same general (stretches_have list.items) (lists_have lists other) end ranks.items (λ n. ap (λ found. stretches_have (items_or_none found) n) (sym (found_alike guids_total other key (equal_of (guid_cmp other key) e) lists.entries ∙ found))) are)
     by_test false e =
-        subst (λ found. AreRanks general (lists_have lists other) from end (items_or_none found)) (sym (written ∙ ap (λ b. cond b (Some ranks) (get guid_cmp old other)) e))
+        subst (λ found. AreRanks general (lists_have lists other) end (items_or_none found)) (sym (written ∙ ap (λ b. cond b (Some ranks) (get guid_cmp old other)) e))
         (known other (ap (lookup (is_at (guid_cmp other))) left_is ∙ ap (λ b. cond b (Some list) (lookup (is_at (guid_cmp other)) rest)) e ∙ gone))
 
 -- ---- what a reader hears
@@ -102,7 +102,7 @@ any_of_four reader has placed =
     ∙ ap (λ b. list_any (within (is_general_to (of_entity reader)) has) placed || b) (any_or (within (is_directed_to (of_participant reader)) has) (within (is_directed_to reader) has) placed))
 
 -- what is for everyone, what is for a reader's participant and what is its own are all that it hears
-pub share_count : (has : ℕ → PlacedValue → Bool) (from end : ℕ) (reader : Guid) (placed : List PlacedValue) (share : Share) (own : List Stretch) (shared rest whole : ℕ) → IsShareOf has from end placed share → end < 2 ^ 64
+pub share_count : (has : ℕ → PlacedValue → Bool) (from end : ℕ) (reader : Guid) (placed : List PlacedValue) (share : Share) (own : List Stretch) (shared rest whole : ℕ) → IsShareOf has end placed share → end < 2 ^ 64
     → ((n : ℕ) → stretches_have own n ≡ (lists_have share.named.lists (of_entity reader) n || lists_have share.directed.lists reader n))
     → shared ≡ count_in (λ n. part_has (is_general_to nobody) has placed n || part_has (is_directed_to (of_participant reader)) has placed n) from end
     → rest ≡ count_in (besides (λ n. part_has (is_general_to nobody) has placed n || part_has (is_directed_to (of_participant reader)) has placed n) (stretches_have own)) from end

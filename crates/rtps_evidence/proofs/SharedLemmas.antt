@@ -5,10 +5,10 @@ use Rattle.rtps_evidence.specs.Shared.{AreBoth, IsSameBoth}
 use Rattle.rtps_evidence.specs.declared.ranked.Rank.{Rank}
 use Rattle.rtps_evidence.specs.declared.shared.Both.{Both}
 
-pub both_on : {old new : Both} {general part : ℕ → Bool} {from end : ℕ} → IsSameBoth old new → AreBoth general part from end old → AreBoth general part from end new
-both_on {old} {new} {general} {part} {from} {end} same is = record {
-  everyone = subst (λ (ranks : List Rank). AreRanks nothing general from end ranks) (sym same.everyone) is.everyone;
-  participant = subst (λ (ranks : List Rank). AreRanks general part from end ranks) (sym same.participant) is.participant;
+pub both_on : {old new : Both} {general part : ℕ → Bool} {end : ℕ} → IsSameBoth old new → AreBoth general part end old → AreBoth general part end new
+both_on {old} {new} {general} {part} {end} same is = record {
+  everyone = subst (λ (ranks : List Rank). AreRanks nothing general end ranks) (sym same.everyone) is.everyone;
+  participant = subst (λ (ranks : List Rank). AreRanks general part end ranks) (sym same.participant) is.participant;
 }
 
 pub same_on : {old middle new : Both} → IsSameBoth old middle → IsSameBoth middle new → IsSameBoth old new

@@ -1,6 +1,7 @@
 -- How many numbers have a payload, are gone, or have no word. own: numbers go up to 2^63 - 1, so they are counted by stretches
--- of them and never one by one.
-use Rattle.std.specs.Prelude.{ℕ, Bool, ◌-◌, ◌+◌, ◌≡◌, ◌&&◌, nat_le, nat_lt, not, List, filter, length}
+-- of them, block by block, and never one by one.
+use Rattle.std.specs.Prelude.{ℕ, Bool, ◌-◌, ◌+◌, ◌/◌, ◌%◌, ◌^◌, ◌≡◌, ◌==◌, ◌&&◌, if◌then◌else◌, nat_le, nat_lt, not, List, filter, length}
+use Rattle.std.specs.Int.{bit_at}
 use Rattle.std.specs.List.{list_any, range_with_len}
 use Rattle.rtps_ids.specs.declared.identity.Guid.{Guid}
 use Rattle.rtps_audit.specs.Placed.{PlacedValue}
@@ -12,9 +13,13 @@ use Rattle.rtps_evidence.specs.declared.stretches.Stretch.{Stretch}
 abbrev pub count_in : (ℕ → Bool) → ℕ → ℕ → ℕ
 count_in has lo hi = length (filter has (range_with_len lo (hi - lo)))
 
--- whether a stretch has a number
+-- the bits of each block of a stretch: all of them where it has more than one block
+abbrev pub bits_of : Stretch → ℕ
+bits_of stretch = if nat_lt (stretch.key + 1) stretch.end then 2 ^ 64 - 1 else stretch.bits
+
+-- whether a stretch has a number: one of its blocks has its bit
 abbrev pub stretch_has : ℕ → Stretch → Bool
-stretch_has n stretch = nat_le stretch.lo n && nat_lt n stretch.hi
+stretch_has n stretch = (nat_le stretch.key (n / 64) && nat_lt (n / 64) stretch.end) && bit_at (bits_of stretch) (n % 64) == 1
 
 -- whether some stretch does
 abbrev pub stretches_have : List Stretch → ℕ → Bool

@@ -1,8 +1,8 @@
 -- Which act has the first word for a number. own: the numbers that are asked for are known before the acts are gone through, so
 -- that these are gone through once. DDSI-RTPS 2.5, 8.3.8.2 "Data", 8.3.8.4 "Gap" and 8.3.8.6 "Heartbeat".
-use Rattle.std.specs.Prelude.{ℕ, ◌≡◌, ◌<◌, ◌&&◌, Bool, true, if◌then◌else◌, not, length, List, Some, IfSome}
+use Rattle.std.specs.Prelude.{ℕ, ◌≡◌, ◌<◌, ◌≤◌, ◌&&◌, Bool, true, if◌then◌else◌, not, length, List, Some, IfSome}
 use Rattle.std.specs.BTreeMap.{BTreeMap, get}
-use Rattle.std.specs.BTreeSet.{contains}
+use Rattle.std.specs.BTreeSet.{BTreeSet, contains}
 use Rattle.std.specs.List.{position_or_len}
 use Rattle.std.specs.Ordering.{nat_cmp}
 use Rattle.rtps_ids.specs.declared.identity.Guid.{Guid}
@@ -11,6 +11,13 @@ use Rattle.rtps_receiver.specs.Values.{ActValue}
 use Rattle.rtps_audit.specs.Placed.{PlacedValue}
 use Rattle.rtps_evidence.specs.Hearers.{has_word, within}
 use Rattle.rtps_evidence.specs.declared.firsts.Firsts.{Firsts}
+
+-- the least number of a set from the one to the other
+pub record IsLeastWanted (wanted : BTreeSet ℕ) (first last least : ℕ) : Type 0 where
+  pub among : contains nat_cmp wanted least ≡ true
+  pub from : first ≤ least
+  pub to : least ≤ last
+  pub before : (n : ℕ) → contains nat_cmp wanted n ≡ true → first ≤ n → least ≤ n
 
 -- what is kept of the acts so far: of a number that is wanted, none has it, and of one that is found, the first that has it
 -- stands at the place

@@ -1,5 +1,6 @@
 pub mod Acting
 pub mod Counted
+pub mod Apart
 pub mod Hearers
 pub mod Firsts
 pub mod Tellers

@@ -3,9 +3,10 @@ ghost use Rattle.rtps_receiver.specs.Values.{act_body_value};
 ghost use Rattle.rtps_audit.specs.Placed.{placed_value};
 ghost use Rattle.rtps_audit.specs.Speech.{word_of};
 ghost use Rattle.rtps_evidence.specs.Acting.{payload_in, sends, tells};
-ghost use Rattle.rtps_evidence.specs.Counted.{AreAmounts, is_sent, is_told, stretches_have};
+ghost use Rattle.rtps_evidence.specs.Counted.{AreAmounts, count_in, is_sent, is_told, stretches_have};
 
-use crate::stretches::{Stretch, count_of, push_gap};
+use crate::ranked::{below, ranks_of};
+use crate::stretches::{Stretch, push_gap, push_range};
 use rtps_audit::Placed;
 use rtps_discovery::Pair;
 use rtps_ids::{Memory, SeqNum};
@@ -27,14 +28,11 @@ pub(crate) fn push_words(stretches: &mut Vec<Stretch>, body: &ActBody<'_>) -> Re
 {
     match body {
         ActBody::Data(data) => {
-            let lo = data.number.get().cast_unsigned();
-            stretches.push(Stretch { lo, hi: lo + 1 })?;
-            Ok(())
+            let number = data.number.get().cast_unsigned();
+            push_range(stretches, number, number + 1)
         }
         ActBody::Heartbeat(heartbeat) => {
-            let hi = heartbeat.first.get().cast_unsigned();
-            stretches.push(Stretch { lo: 0, hi })?;
-            Ok(())
+            push_range(stretches, 0, heartbeat.first.get().cast_unsigned())
         }
         ActBody::Gap(gap) => push_gap(stretches, gap),
         ActBody::AckNack(_) => Ok(()),
@@ -58,8 +56,8 @@ pub(crate) fn push_payload(stretches: &mut Vec<Stretch>, body: &ActBody<'_>) -> 
         ≡ (stretches_have stretches.old.items n || is_some (payload_in (word_of (act_body_value body.now) n)))) }
 {
     if let ActBody::Data(data) = body {
-        let lo = data.number.get().cast_unsigned();
-        stretches.push(Stretch { lo, hi: lo + 1 })?;
+        let number = data.number.get().cast_unsigned();
+        return push_range(stretches, number, number + 1);
     }
     Ok(())
 }
@@ -99,6 +97,15 @@ fn sent_by(alloc: Global, acts: &[Placed<'_>], pair: Pair) -> Result<Vec<Stretch
     Ok(stretches)
 }
 
+/// How many of the numbers from `from` on and below `end` lie in these stretches.
+fn count_of(alloc: Global, stretches: &mut Vec<Stretch>, from: u64, end: u64) -> Result<u64, Memory>
+    requires { from ≤ end }
+    ensures { IfOk result (λ count. count ≡ count_in (stretches_have stretches.old.items) from end) }
+{
+    let ranks = ranks_of(alloc, &[], stretches, end)?;
+    Ok(below(&ranks, 0, end).saturating_sub(below(&ranks, 0, from)))
+}
+
 /// The amounts of the numbers from `from` to `last`, which is `from` - 1 or above, by these acts.
 pub(crate) fn count_amounts(
     alloc: Global,
@@ -114,8 +121,8 @@ pub(crate) fn count_amounts(
     let first = from.get().cast_unsigned();
     let mut told = told_by(alloc, acts, pair)?;
     let mut sent = sent_by(alloc, acts, pair)?;
-    let told = count_of(&mut told, first, last + 1)?;
-    let payloads = count_of(&mut sent, first, last + 1)?;
+    let told = count_of(alloc, &mut told, first, last + 1)?;
+    let payloads = count_of(alloc, &mut sent, first, last + 1)?;
     Ok(Amounts {
         payloads,
         gone: told - payloads,

@@ -1,4 +1,6 @@
-ghost use Rattle.std.specs.Prelude.{◌≡◌, ◌<◌};
+ghost use Rattle.std.specs.Prelude.{ℕ, ◌≡◌, ◌<◌, ◌≤◌, ◌^◌, true};
+ghost use Rattle.std.specs.BTreeSet.{contains};
+ghost use Rattle.std.specs.Ordering.{nat_cmp};
 
 use crate::stretches::Stretch;
 use rtps_ids::Memory;
@@ -12,16 +14,15 @@ pub(crate) struct Firsts {
     pub(crate) wanted: BTreeSet<u64>,
     /// The places of the acts that had, by number.
     pub(crate) found: BTreeMap<u64, usize>,
+    ghost fit: { (n : ℕ) → contains nat_cmp wanted n ≡ true → n < 2 ^ 64 },
 }
 
 impl Firsts {
-    ghost use Rattle.std.specs.Prelude.{◌≡◌, ◌<◌, ◌&&◌, [], ℕ, Bool, false, true, length, IfOk, IfSome, List, MatchOption, OnOk};
-    ghost use Rattle.std.specs.BTreeSet.{contains};
+    ghost use Rattle.std.specs.Prelude.{◌&&◌, [], Bool, false, length, IfOk, IfSome, List, MatchOption, OnOk};
     ghost use Rattle.std.specs.List.{position_or_len};
-    ghost use Rattle.std.specs.Ordering.{nat_cmp};
     ghost use Rattle.rtps_audit.specs.Placed.{PlacedValue};
     ghost use Rattle.rtps_evidence.specs.Counted.{stretch_has, stretches_have};
-    ghost use Rattle.rtps_evidence.specs.Firsts.{AreFirsts, AreGiven};
+    ghost use Rattle.rtps_evidence.specs.Firsts.{AreFirsts, AreGiven, IsLeastWanted};
 
     /// Nothing is asked for.
     pub(crate) fn new(alloc: Global) -> Self
@@ -41,25 +42,40 @@ impl Firsts {
         Ok(())
     }
 
-    /// A wanted number of a stretch.
-    fn wanted_in(&self, stretch: Stretch) -> Option<u64>
-        requires { stretch.lo < stretch.hi }
-        ensures { MatchOption result ((n : ℕ) → (contains nat_cmp self.now.wanted n && stretch_has n stretch) ≡ false)
-            (λ n. (contains nat_cmp self.now.wanted n ≡ true) × (stretch_has n stretch ≡ true)) }
+    /// The least wanted number from `first` to `last`.
+    fn wanted_from(&self, first: u64, last: u64) -> Option<u64>
+        requires { first ≤ last }
+        ensures { MatchOption result ((n : ℕ) → contains nat_cmp self.now.wanted n ≡ true → first ≤ n → last < n)
+            (λ least. IsLeastWanted self.now.wanted first last least) }
     {
-        match self.wanted.range(stretch.lo..stretch.hi).next() {
+        match self.wanted.range(first..=last).next() {
             Some(number) => Some(*number),
             None => None,
         }
+    }
+
+    /// A wanted number of a stretch.
+    fn wanted_in(&self, stretch: Stretch) -> Option<u64>
+        ensures { MatchOption result ((n : ℕ) → (contains nat_cmp self.now.wanted n && stretch_has n stretch) ≡ false)
+            (λ n. (contains nat_cmp self.now.wanted n ≡ true) × (stretch_has n stretch ≡ true)) }
+    {
+        let (mut at, last) = stretch.span()?;
+        'other: while let Some(number) = self.wanted_from(at, last) {
+            if stretch.has(number) {
+                return Some(number);
+            }
+            if number == last {
+                return None;
+            }
+            at = number + 1;
+        }
+        None
     }
 
     /// Gives the wanted numbers of a stretch this place. After `Memory` nothing is known.
     fn give(&mut self, stretch: Stretch, place: usize) -> Result<(), Memory>
         ensures { OnOk result (AreGiven (λ n. stretch_has n stretch) place self.old self.new) }
     {
-        if stretch.lo >= stretch.hi {
-            return Ok(());
-        }
         'given: while let Some(number) = self.wanted_in(stretch) {
             self.wanted.remove(&number);
             self.found.insert(number, place)?;

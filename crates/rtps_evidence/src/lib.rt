@@ -4,6 +4,7 @@
 
 mod announcing;
 mod answering;
+mod apart;
 mod asked;
 mod counting;
 mod explaining;

@@ -16,7 +16,7 @@ pub(crate) struct StretchLists {
 }
 
 impl StretchLists {
-    ghost use Rattle.std.specs.Prelude.{ℕ, Bool, ◌≡◌, ◌≤◌, ◌&&◌, ◌||◌, false, IfOk, OnOk};
+    ghost use Rattle.std.specs.Prelude.{ℕ, Bool, ◌≡◌, ◌&&◌, ◌||◌, false, IfOk, OnOk};
     ghost use Rattle.std.specs.Ordering.{is_eq};
     ghost use Rattle.rtps_ids.specs.declared.identity.Guid.{Guid as GuidValue};
     ghost use Rattle.rtps_discovery.specs.GuidOrder.{guid_cmp};
@@ -77,26 +77,20 @@ impl StretchLists {
         }
     }
 
-    /// Ranks of the numbers from `from` on and below `end` of each list, by its key. Those that are for everyone are not
-    /// counted.
+    /// Ranks of the numbers of each list, by its key. Those below `end` are counted that are not for everyone.
     pub(crate) fn ranks(
         &self,
         everyone: &[Rank],
-        from: u64,
         end: u64,
     ) -> Result<BTreeMap<Guid, Vec<Rank>>, Memory>
-        requires { from ≤ end }
-        ensures { (general : ℕ → Bool) → AreRanks nothing general from end everyone.now → IfOk result (λ ranks.
-            (key : GuidValue) → AreRanks general (lists_have self.now.lists key) from end (values_at guid_cmp ranks key)) }
+        ensures { (general : ℕ → Bool) → AreRanks nothing general end everyone.now → IfOk result (λ ranks.
+            (key : GuidValue) → AreRanks general (lists_have self.now.lists key) end (values_at guid_cmp ranks key)) }
     {
         let mut ranks = BTreeMap::new(self.alloc);
         for (key, list) in &self.lists {
             let mut stretches = Vec::new(self.alloc);
             stretches.extend_from_slice(list)?;
-            ranks.insert(
-                *key,
-                ranks_of(self.alloc, everyone, &mut stretches, from, end)?,
-            )?;
+            ranks.insert(*key, ranks_of(self.alloc, everyone, &mut stretches, end)?)?;
         }
         Ok(ranks)
     }

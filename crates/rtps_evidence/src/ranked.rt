@@ -1,132 +1,138 @@
-ghost use Rattle.std.specs.Prelude.{ℕ, Bool, ◌≡◌, ◌≤◌, ◌-◌, not, length, IfOk, IsTrue};
-ghost use Rattle.std.specs.List.Sorted.{IsNonDecreasingBy};
-ghost use Rattle.rtps_evidence.specs.Counted.{count_in, stretches_have};
-ghost use Rattle.rtps_evidence.specs.Ranked.{AreRanks, IsCutAt, IsPlace, nothing};
+ghost use Rattle.std.specs.Prelude.{ℕ, Bool, ◌≡◌, ◌==◌, ◌≤◌, ◌<◌, ◌-◌, ◌/◌, ◌%◌, not, length, slice_index_or, IfOk, IsTrue, MatchOption};
+ghost use Rattle.std.specs.Int.{bit_at};
+ghost use Rattle.rtps_evidence.specs.Apart.{AreApart, IsPlace};
+ghost use Rattle.rtps_evidence.specs.Counted.{count_in, stretch_has, stretches_have};
+ghost use Rattle.rtps_evidence.specs.Ranked.{AreRanks, besides, nothing, ranked};
+ghost use Rattle.rtps_evidence.specs.declared.ranked.Rank.{Rank as RankValue};
 
+use crate::apart::in_order;
 use crate::stretches::Stretch;
 use rtps_ids::Memory;
 use std::alloc::Global;
 
-/// The numbers from `lo` on and below `hi`, and how many that are to be counted stand in the ranks before this one.
+/// A stretch, and how many numbers that are to be counted stand in those before it.
 #[derive(Clone, Copy, Debug)]
 pub(crate) struct Rank {
-    pub(crate) lo: u64,
-    pub(crate) hi: u64,
+    pub(crate) stretch: Stretch,
     pub(crate) before: u64,
 }
 
-/// Ranks of the numbers from `from` on and below `end` that lie in these stretches, which stand in the order of their
-/// beginnings. Those that are for everyone are not counted.
+/// Ranks of these stretches. Numbers below `end` are counted that are not for everyone.
 fn rank_in_order(
     alloc: Global,
     everyone: &[Rank],
     stretches: &[Stretch],
-    from: u64,
     end: u64,
 ) -> Result<Vec<Rank>, Memory>
-    requires sorted { IsNonDecreasingBy (λ stretch. stretch.lo) stretches.now }
-    requires ordered { from ≤ end }
-    ensures { (general : ℕ → Bool) → AreRanks nothing general from end everyone.now
-        → IfOk result (λ ranks. AreRanks general (stretches_have stretches.now) from end ranks.items) }
+    requires { AreApart stretches.now }
+    ensures { (general : ℕ → Bool) → AreRanks nothing general end everyone.now
+        → IfOk result (λ ranks. AreRanks general (stretches_have stretches.now) end ranks.items) }
 {
     let mut ranks = Vec::new(alloc);
-    let mut reached = from;
-    let mut count = 0;
+    let mut before = 0u64;
     let mut near = 0;
     for stretch in stretches {
-        let lo = stretch.lo.max(reached);
-        let hi = stretch.hi.min(end);
-        if lo < hi {
-            ranks.push(Rank {
-                lo,
-                hi,
-                before: count,
-            })?;
-            near = place_of(everyone, near, hi);
-            count += others(everyone, near, lo, hi);
-            reached = hi;
-        }
+        ranks.push(Rank {
+            stretch: *stretch,
+            before,
+        })?;
+        near = place_of(everyone, near, stretch.key);
+        before = before.saturating_add(others(everyone, near, stretch, 0, end));
     }
     Ok(ranks)
 }
 
-/// Ranks of the numbers from `from` on and below `end` that lie in these stretches. Those that are for everyone are not
-/// counted.
+/// Ranks of the numbers that lie in these stretches. Those below `end` are counted that are not for everyone.
 pub(crate) fn ranks_of(
     alloc: Global,
     everyone: &[Rank],
     stretches: &mut Vec<Stretch>,
-    from: u64,
     end: u64,
 ) -> Result<Vec<Rank>, Memory>
-    requires { from ≤ end }
-    ensures { (general : ℕ → Bool) → AreRanks nothing general from end everyone.now
-        → IfOk result (λ ranks. AreRanks general (stretches_have stretches.old.items) from end ranks.items) }
+    ensures { (general : ℕ → Bool) → AreRanks nothing general end everyone.now
+        → IfOk result (λ ranks. AreRanks general (stretches_have stretches.old.items) end ranks.items) }
 {
-    stretches.sort_by_key(|stretch| stretch.lo)?;
-    rank_in_order(alloc, everyone, stretches, from, end)
+    let apart = in_order(alloc, stretches)?;
+    rank_in_order(alloc, everyone, &apart, end)
 }
 
-/// Whether so many ranks begin below `x`, by those that stand there.
-fn is_place(ranks: &[Rank], place: usize, x: u64) -> bool
-    ensures { IsTrue result → IsPlace ranks.now x place }
+/// Whether so many ranks begin at a block or before it, by those that stand there.
+fn is_place(ranks: &[Rank], place: usize, key: u64) -> bool
+    ensures { IsTrue result → IsPlace (ranked ranks.now) key place }
 {
     place <= ranks.len()
-        && (place == 0 || ranks[place - 1].lo < x)
-        && (place == ranks.len() || x <= ranks[place].lo)
+        && (place == 0 || ranks[place - 1].stretch.key <= key)
+        && (place == ranks.len() || key < ranks[place].stretch.key)
 }
 
-/// How many ranks begin below `x`. It is looked for at `near` and behind that first, where numbers are asked for in order.
-pub(crate) fn place_of(ranks: &[Rank], near: usize, x: u64) -> usize
+/// How many ranks begin at a block or before it. It is looked for at `near` and behind that first, where blocks are asked for in
+/// order.
+pub(crate) fn place_of(ranks: &[Rank], near: usize, key: u64) -> usize
     ensures bound { result ≤ length ranks.now }
-    ensures place { IsNonDecreasingBy (λ rank. rank.lo) ranks.now → IsPlace ranks.now x result }
+    ensures place { AreApart (ranked ranks.now) → IsPlace (ranked ranks.now) key result }
 {
-    if is_place(ranks, near, x) {
+    if is_place(ranks, near, key) {
         return near;
     }
     let next = near.saturating_add(1);
-    if is_place(ranks, next, x) {
+    if is_place(ranks, next, key) {
         return next;
     }
-    ranks.partition_point(|rank| rank.lo < x)
+    ranks.partition_point(|rank| rank.stretch.key <= key)
 }
 
-/// The last rank that begins below `x`, cut off at `x`, where so many ranks do; an empty one at `x` where none does.
-pub(crate) fn cut_at(ranks: &[Rank], place: usize, x: u64) -> Rank
+/// The last of so many ranks, which is the one that may have numbers of the block up to which they begin.
+pub(crate) fn last_of(ranks: &[Rank], place: usize) -> Option<&Rank>
     requires { place ≤ length ranks.now }
-    ensures { (general has : ℕ → Bool) (from end : ℕ) → AreRanks general has from end ranks.now → IsPlace ranks.now x place → from ≤ x → x ≤ end
-        → IsCutAt general has from x result }
+    ensures { MatchOption result (place ≡ 0) (λ rank. (0 < place) × ((d : RankValue) → slice_index_or ranks.now (place - 1) d ≡ rank.now)) }
 {
-    if place == 0 {
-        return Rank {
-            lo: x,
-            hi: x,
-            before: 0,
-        };
-    }
-    let rank = ranks[place - 1];
-    Rank {
-        lo: rank.lo,
-        hi: rank.hi.min(x),
-        before: rank.before,
+    ranks.get(place.checked_sub(1)?)
+}
+
+/// The bits of a block of numbers that have it, where so many ranks begin at it or before it.
+pub(crate) fn block(ranks: &[Rank], place: usize, key: u64) -> u64
+    requires { place ≤ length ranks.now }
+    ensures { (general has : ℕ → Bool) (end : ℕ) → AreRanks general has end ranks.now → IsPlace (ranked ranks.now) key place
+        → (n : ℕ) → n / 64 ≡ key → (bit_at result (n % 64) == 1) ≡ has n }
+{
+    let Some(rank) = last_of(ranks, place) else {
+        return 0;
+    };
+    if key < rank.stretch.end {
+        rank.stretch.block()
+    } else {
+        0
     }
 }
 
 /// How many of the numbers that are for everyone stand below `x`, which is looked for at the rank `near` first.
 pub(crate) fn below(everyone: &[Rank], near: usize, x: u64) -> u64
-    ensures { (general : ℕ → Bool) (from end : ℕ) → AreRanks nothing general from end everyone.now → from ≤ x → x ≤ end
-        → result ≡ count_in general from x }
+    ensures { (general : ℕ → Bool) (end : ℕ) → AreRanks nothing general end everyone.now → x ≤ end → result ≡ count_in general 0 x }
 {
-    let cut = cut_at(everyone, place_of(everyone, near, x), x);
-    cut.before.saturating_add(cut.hi.saturating_sub(cut.lo))
+    match last_of(everyone, place_of(everyone, near, x / 64)) {
+        Some(rank) => rank.before.saturating_add(rank.stretch.count(0, x)),
+        None => 0,
+    }
 }
 
 /// How many of the numbers from `lo` on and below `hi`, which are looked for at the rank `near` first, are not for everyone.
-pub(crate) fn others(everyone: &[Rank], near: usize, lo: u64, hi: u64) -> u64
-    ensures fits { result ≤ hi - lo }
-    ensures others { (general : ℕ → Bool) (from end : ℕ) → AreRanks nothing general from end everyone.now → from ≤ lo → lo ≤ hi → hi ≤ end
-        → result ≡ count_in (λ n. not (general n)) lo hi }
+fn others_between(everyone: &[Rank], near: usize, lo: u64, hi: u64) -> u64
+    ensures { (general : ℕ → Bool) (end : ℕ) → AreRanks nothing general end everyone.now → hi ≤ end → result ≡ count_in (λ n. not (general n)) lo hi }
 {
     let shared = below(everyone, near, hi).saturating_sub(below(everyone, near, lo));
     hi.saturating_sub(lo).saturating_sub(shared)
+}
+
+/// How many of the numbers of a stretch, from `lo` on and below `hi`, are not for everyone. They are looked for at the rank `near`
+/// first.
+pub(crate) fn others(everyone: &[Rank], near: usize, stretch: &Stretch, lo: u64, hi: u64) -> u64
+    ensures { (general : ℕ → Bool) (end : ℕ) → AreRanks nothing general end everyone.now → hi ≤ end
+        → result ≡ count_in (besides general (λ n. stretch_has n stretch.now)) lo hi }
+{
+    if stretch.is_long() {
+        let (first, behind) = stretch.ends(lo, hi);
+        return others_between(everyone, near, first, behind);
+    }
+    let shared = block(everyone, place_of(everyone, near, stretch.key), stretch.key);
+    u64::from((stretch.part(lo, hi) & !shared).count_ones())
 }

@@ -1,5 +1,6 @@
 ghost use Rattle.std.specs.Prelude.{◌≤◌};
 
+use crate::apart::in_order;
 use crate::counting::Amounts;
 use crate::hearers::key_of;
 use crate::lists::StretchLists;
@@ -39,15 +40,15 @@ pub(crate) struct Shares {
 }
 
 impl Share {
-    ghost use Rattle.std.specs.Prelude.{ℕ, Bool, ◌≡◌, ◌≤◌, ◌||◌, List, map, IfOk, OnOk};
+    ghost use Rattle.std.specs.Prelude.{ℕ, Bool, ◌≡◌, ◌||◌, List, map, IfOk, OnOk};
     ghost use Rattle.std.specs.List.{list_any};
-    ghost use Rattle.std.specs.List.Sorted.{IsNonDecreasingBy};
     ghost use Rattle.rtps_ids.specs.declared.identity.Guid.{Guid as GuidValue};
     ghost use Rattle.rtps_audit.specs.Audiences.{of_entity as of_entity_lem, of_participant as of_participant_lem};
     ghost use Rattle.rtps_audit.specs.Groups.{values_at};
     ghost use Rattle.rtps_audit.specs.Placed.{PlacedValue, placed_value};
     ghost use Rattle.rtps_discovery.specs.GuidOrder.{guid_cmp};
     ghost use Rattle.rtps_evidence.specs.Questions.{asks};
+    ghost use Rattle.rtps_evidence.specs.Apart.{AreApart};
     ghost use Rattle.rtps_evidence.specs.Counted.{count_in, stretches_have};
     ghost use Rattle.rtps_evidence.specs.Hearers.{is_directed_to, is_general_to, is_of_four, within};
     ghost use Rattle.rtps_evidence.specs.Lists.{lists_have};
@@ -75,17 +76,15 @@ impl Share {
         }
     }
 
-    /// Of these acts of a writer, in the numbers from `from` on and below `end`.
+    /// Of these acts of a writer. Numbers below `end` are counted.
     fn of(
         alloc: Global,
         acts: &[Placed<'_>],
         writer: Guid,
         question: Question,
-        from: u64,
         end: u64,
     ) -> Result<Share, Memory>
-        requires { from ≤ end }
-        ensures { IfOk result (IsShareOf (asks question writer) from end (map placed_value acts.now)) }
+        ensures { IfOk result (IsShareOf (asks question writer) end (map placed_value acts.now)) }
     {
         let mut directed = StretchLists::new(alloc);
         let mut named = StretchLists::new(alloc);
@@ -93,9 +92,9 @@ impl Share {
             Share::keep(&mut directed, &mut named, placed, writer, question)?;
         }
         let mut general = named.take(NOBODY);
-        let everyone = ranks_of(alloc, &[], &mut general, from, end)?;
+        let everyone = ranks_of(alloc, &[], &mut general, end)?;
         Ok(Share {
-            ranked: directed.ranks(&everyone, from, end)?,
+            ranked: directed.ranks(&everyone, end)?,
             everyone,
             directed,
             named,
@@ -118,29 +117,27 @@ impl Share {
         }
     }
 
-    /// The stretches that are a reader's own: neither for everyone nor for all of its participant. They stand in the order of
-    /// their beginnings.
+    /// The stretches that are a reader's own: neither for everyone nor for all of its participant. They stand in order and share
+    /// no block.
     fn own(&self, alloc: Global, reader: Guid) -> Result<Vec<Stretch>, Memory>
-        ensures sorted { IfOk result (λ own. IsNonDecreasingBy (λ stretch. stretch.lo) own.items) }
+        ensures apart { IfOk result (λ own. AreApart own.items) }
         ensures own { IfOk result (λ own. (n : ℕ) → stretches_have own.items n
             ≡ (lists_have self.now.named.lists (of_entity_lem reader) n || lists_have self.now.directed.lists reader n)) }
     {
         let mut own = Vec::new(alloc);
         self.named.append_to(of_entity(reader), &mut own)?;
         self.directed.append_to(reader, &mut own)?;
-        own.sort_by_key(|stretch| stretch.lo)?;
-        Ok(own)
+        in_order(alloc, &mut own)
     }
 
     /// How many of the numbers from `from` on and below `end` a reader hears.
     fn count(&self, alloc: Global, reader: Guid, from: u64, end: u64) -> Result<u64, Memory>
-        requires { from ≤ end }
-        ensures { (has : ℕ → PlacedValue → Bool) (placed : List PlacedValue) → IsShareOf has from end placed self.now
+        ensures { (has : ℕ → PlacedValue → Bool) (placed : List PlacedValue) → IsShareOf has end placed self.now
             → IfOk result (λ count. count ≡ count_in (λ n. list_any (is_of_four reader (has n)) placed) from end) }
     {
         let own = self.own(alloc, reader)?;
         let mut both = self.both(reader);
-        let shared = both.below(end);
+        let shared = both.count(from, end);
         Ok(shared.saturating_add(both.count_besides(&own, from, end)))
     }
 }
@@ -167,8 +164,8 @@ impl Shares {
         let first = from.get().cast_unsigned();
         let end = last + 1;
         Ok(Shares {
-            words: Share::of(alloc, acts, writer, Question::Word, first, end)?,
-            payloads: Share::of(alloc, acts, writer, Question::Payload, first, end)?,
+            words: Share::of(alloc, acts, writer, Question::Word, end)?,
+            payloads: Share::of(alloc, acts, writer, Question::Payload, end)?,
             from: first,
             end,
         })

@@ -1,45 +1,202 @@
-ghost use Rattle.std.specs.Prelude.{ℕ, ◌≡◌, ◌≤◌, ◌||◌, IfOk, OnOk};
-ghost use Rattle.std.specs.List.Sorted.{IsNonDecreasingBy, IsPermutation};
+ghost use Rattle.std.specs.Prelude.{ℕ, ◌≡◌, ◌==◌, ◌≤◌, ◌<◌, ◌+◌, ◌/◌, ◌%◌, ◌^◌, ◌&&◌, ◌||◌, nat_eq, nat_le, nat_lt, length, IsTrue, OnOk};
+ghost use Rattle.std.specs.Int.{bit_at};
+ghost use Rattle.rtps_ids.specs.NumberSet.{is_member};
+ghost use Rattle.rtps_coverage.specs.Bits.{is_bit_from};
 ghost use Rattle.rtps_audit.specs.Speech.{is_in_gap};
-ghost use Rattle.rtps_evidence.specs.Counted.{count_in, stretches_have};
+ghost use Rattle.rtps_evidence.specs.Apart.{IsWidened, last_of};
+ghost use Rattle.rtps_evidence.specs.Counted.{stretch_has, stretches_have};
 
-use rtps_ids::Memory;
+use rtps_ids::laws::bits_up_to_the_count_are_kept;
+use rtps_ids::{Memory, NumberSet};
 use rtps_wire::GapBody;
 
-/// The numbers from `lo` on and below `hi`; there may be none.
+/// Numbers in blocks of 64: those from 64 times `key` on and below 64 times `end` whose bit is set, the lowest being bit 0.
+/// Where there is more than one block, each has all of its numbers.
 #[derive(Clone, Copy, Debug)]
 pub(crate) struct Stretch {
-    pub(crate) lo: u64,
-    pub(crate) hi: u64,
+    pub(crate) key: u64,
+    pub(crate) end: u64,
+    pub(crate) bits: u64,
 }
 
-/// How many of the numbers from `from` on and below `end` lie in these stretches, which stand in the order of their
-/// beginnings.
-pub(crate) fn count_in_order(stretches: &[Stretch], from: u64, end: u64) -> u64
-    requires sorted { IsNonDecreasingBy (λ stretch. stretch.lo) stretches.now }
-    requires ordered { from ≤ end }
-    ensures { result ≡ count_in (stretches_have stretches.now) from end }
+/// The bits of a block whose numbers lie from `lo` on and below `hi`.
+fn part(key: u64, lo: u64, hi: u64) -> u64
+    ensures { (n : ℕ) → n / 64 ≡ key → (bit_at result (n % 64) == 1) ≡ (nat_le lo n && nat_lt n hi) }
 {
-    let mut reached = from;
-    let mut count = 0;
-    for stretch in stretches {
-        let lo = stretch.lo.max(reached);
-        let hi = stretch.hi.min(end);
-        if lo < hi {
-            count += hi - lo;
-            reached = hi;
-        }
+    let first = key.saturating_mul(64);
+    let from = lo.saturating_sub(first);
+    let to = hi.saturating_sub(first).min(64);
+    if to <= from {
+        return 0;
     }
-    count
+    (u64::MAX >> (64 - to)) - ((1 << from) - 1)
 }
 
-/// How many of the numbers from `from` on and below `end` lie in these stretches.
-pub(crate) fn count_of(stretches: &mut Vec<Stretch>, from: u64, end: u64) -> Result<u64, Memory>
-    requires { from ≤ end }
-    ensures { IfOk result (λ count. count ≡ count_in (stretches_have stretches.old.items) from end) }
+impl Stretch {
+    ghost use Rattle.std.specs.Prelude.{◌-◌, ◌*◌, min, max, false, true, MatchOption};
+    ghost use Rattle.rtps_evidence.specs.Counted.{bits_of, count_in, stretch_has};
+
+    /// Whether it has more than one block.
+    pub(crate) fn is_long(&self) -> bool
+        ensures { result ≡ nat_lt (self.now.key + 1) self.now.end }
+    {
+        self.key.saturating_add(1) < self.end
+    }
+
+    /// The bits of each of its blocks.
+    pub(crate) fn block(&self) -> u64
+        ensures { result ≡ bits_of self.now }
+    {
+        if self.is_long() { u64::MAX } else { self.bits }
+    }
+
+    /// The bits of its only block, of the numbers from `lo` on and below `hi`.
+    pub(crate) fn part(&self, lo: u64, hi: u64) -> u64
+        requires { self.now.end ≤ self.now.key + 1 }
+        ensures { (n : ℕ) → n / 64 ≡ self.now.key → (bit_at result (n % 64) == 1) ≡ (stretch_has n self.now && (nat_le lo n && nat_lt n hi)) }
+    {
+        if self.end <= self.key {
+            return 0;
+        }
+        self.bits & part(self.key, lo, hi)
+    }
+
+    /// Its first number from `lo` on, and the one behind its last one below `hi`, where it has all numbers of its blocks.
+    pub(crate) fn ends(&self, lo: u64, hi: u64) -> (u64, u64)
+        ensures first { result.0 ≡ max lo (min (64 * self.now.key) (2 ^ 64 - 1)) }
+        ensures behind { result.1 ≡ min hi (64 * self.now.end) }
+    {
+        (
+            lo.max(self.key.saturating_mul(64)),
+            hi.min(self.end.saturating_mul(64)),
+        )
+    }
+
+    /// Whether it has a number.
+    pub(crate) fn has(&self, number: u64) -> bool
+        ensures { result ≡ stretch_has number self.now }
+    {
+        let key = number / 64;
+        self.key <= key && key < self.end && (self.block() >> (number % 64)) & 1 == 1
+    }
+
+    /// Two numbers between which all of its numbers stand, where it has any.
+    pub(crate) fn span(&self) -> Option<(u64, u64)>
+        ensures { MatchOption result ((n : ℕ) → stretch_has n self.now ≡ false)
+            (λ span. (span.0 ≤ span.1) × ((n : ℕ) → n < 2 ^ 64 → stretch_has n self.now ≡ true → (span.0 ≤ n) × (n ≤ span.1))) }
+    {
+        if self.end <= self.key {
+            return None;
+        }
+        let first = self.key.saturating_mul(64);
+        let last = (self.end - 1).saturating_mul(64).saturating_add(63);
+        Some((first, last))
+    }
+
+    /// How many of its numbers stand from `lo` on and below `hi`.
+    pub(crate) fn count(&self, lo: u64, hi: u64) -> u64
+        ensures { result ≡ count_in (λ n. stretch_has n self.now) lo hi }
+    {
+        if self.is_long() {
+            let (first, behind) = self.ends(lo, hi);
+            return behind.saturating_sub(first);
+        }
+        u64::from(self.part(lo, hi).count_ones())
+    }
+}
+
+/// Sets bits in each block of the last stretch.
+pub(crate) fn widen_last(stretches: &mut Vec<Stretch>, bits: u64)
+    requires { 0 < length stretches.old.items }
+    ensures { IsWidened stretches.old.items stretches.new.items bits }
 {
-    stretches.sort_by_key(|stretch| stretch.lo)?;
-    Ok(count_in_order(stretches, from, end))
+    let last = stretches.len() - 1;
+    stretches[last].bits |= bits;
+}
+
+/// Whether the last stretch has the same blocks as this one.
+fn is_beside(stretches: &[Stretch], stretch: &Stretch) -> bool
+    ensures { IsTrue result → (0 < length stretches.now) × (last_of stretches.now).key ≡ stretch.now.key × (last_of stretches.now).end ≡ stretch.now.end }
+{
+    match stretches.last() {
+        Some(last) => last.key == stretch.key && last.end == stretch.end,
+        None => false,
+    }
+}
+
+/// Appends a stretch, or joins it to the last one where that has the same blocks. After `Memory` the stretches are the same.
+fn push(stretches: &mut Vec<Stretch>, stretch: Stretch) -> Result<(), Memory>
+    ensures { OnOk result ((n : ℕ) → stretches_have stretches.new.items n ≡ (stretches_have stretches.old.items n || stretch_has n stretch)) }
+{
+    if is_beside(stretches, &stretch) {
+        widen_last(stretches, stretch.bits);
+    } else {
+        stretches.push(stretch)?;
+    }
+    Ok(())
+}
+
+/// Appends the numbers of one block whose bits are set.
+fn push_block(stretches: &mut Vec<Stretch>, key: u64, bits: u64) -> Result<(), Memory>
+    requires { key + 1 < 2 ^ 64 }
+    ensures { OnOk result ((n : ℕ) → stretches_have stretches.new.items n
+        ≡ (stretches_have stretches.old.items n || (nat_eq (n / 64) key && nat_eq (bit_at bits (n % 64)) 1))) }
+{
+    if bits == 0 {
+        return Ok(());
+    }
+    let end = key + 1;
+    push(stretches, Stretch { key, end, bits })
+}
+
+/// Appends all numbers of the blocks from `key` on and below `end`.
+fn push_whole(stretches: &mut Vec<Stretch>, key: u64, end: u64) -> Result<(), Memory>
+    ensures { OnOk result ((n : ℕ) → stretches_have stretches.new.items n ≡ (stretches_have stretches.old.items n || (nat_le key (n / 64) && nat_lt (n / 64) end))) }
+{
+    if end <= key {
+        return Ok(());
+    }
+    let bits = u64::MAX;
+    push(stretches, Stretch { key, end, bits })
+}
+
+/// Appends the numbers from `lo` on and below `hi`. After `Memory` the stretches are of no use.
+pub(crate) fn push_range(stretches: &mut Vec<Stretch>, lo: u64, hi: u64) -> Result<(), Memory>
+    ensures { OnOk result ((n : ℕ) → stretches_have stretches.new.items n ≡ (stretches_have stretches.old.items n || (nat_le lo n && nat_lt n hi))) }
+{
+    let whole = lo.div_ceil(64);
+    let first = whole.saturating_mul(64);
+    let end = hi / 64;
+    push_block(stretches, lo / 64, part(lo / 64, lo, hi.min(first)))?;
+    push_whole(stretches, whole, end)?;
+    push_block(stretches, end, part(end, lo.max(first), hi))
+}
+
+/// Appends the number `lo` + i for each bit i that is set, the lowest being bit 0. After `Memory` the stretches are of no use.
+fn push_bits(stretches: &mut Vec<Stretch>, lo: u64, bits: u64) -> Result<(), Memory>
+    ensures { OnOk result ((n : ℕ) → stretches_have stretches.new.items n ≡ (stretches_have stretches.old.items n || is_bit_from lo bits n)) }
+{
+    let place = lo % 64;
+    push_block(stretches, lo / 64, bits << place)?;
+    if place == 0 {
+        return Ok(());
+    }
+    push_block(stretches, lo / 64 + 1, bits >> (64 - place))
+}
+
+/// Appends the numbers of a set, word by word. After `Memory` the stretches are of no use.
+fn push_set(stretches: &mut Vec<Stretch>, set: &NumberSet) -> Result<(), Memory>
+    ensures { OnOk result ((n : ℕ) → stretches_have stretches.new.items n ≡ (stretches_have stretches.old.items n || is_member set.now n)) }
+{
+    // Bits past the count are clear.
+    bits_up_to_the_count_are_kept();
+    let base = set.base().cast_unsigned();
+    let words = set.count().div_ceil(32);
+    for i in 0..words {
+        let bits = u64::from(set.word(i as usize).reverse_bits());
+        push_bits(stretches, base + 32 * u64::from(i), bits)?;
+    }
+    Ok(())
 }
 
 /// Appends the numbers that a GAP says will not come. After `Memory` the stretches are of no use.
@@ -48,14 +205,6 @@ pub(crate) fn push_gap(stretches: &mut Vec<Stretch>, gap: &GapBody) -> Result<()
 {
     let lo = gap.start.get().cast_unsigned();
     let hi = gap.list.base().cast_unsigned();
-    stretches.push(Stretch { lo, hi })?;
-    let mut at = hi;
-    'apart: while let Some(members) = gap.list.range_from(at) {
-        stretches.push(Stretch {
-            lo: members.start,
-            hi: members.end,
-        })?;
-        at = members.end;
-    }
-    Ok(())
+    push_range(stretches, lo, hi)?;
+    push_set(stretches, &gap.list)
 }

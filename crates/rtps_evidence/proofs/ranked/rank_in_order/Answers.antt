@@ -1,53 +1,36 @@
-use Rattle.std.proofs.Common.{arith, subst, sym}
-use Rattle.rtps_evidence.specs.Counted.{stretches_have}
-use Rattle.rtps_evidence.specs.Ranked.{AreRanks}
+use Rattle.std.proofs.Common.{◌∙◌, ◌+◌, ap, arith, subst, sym}
+use Rattle.std.proofs.lemmas.List.{take_all}
+use Rattle.rtps_evidence.specs.Ranked.{ranked}
 use Rattle.rtps_evidence.specs.declared.stretches.Stretch.{Stretch}
-use Rattle.rtps_evidence.proofs.RankLemmas.{besides_next, ranks_more, ranks_on, walked_end, walked_next, walked_on, walked_past}
+use Rattle.rtps_evidence.proofs.RankLemmas.{IsRanked, ranked_all, ranked_count, ranked_more, ranked_none, ranked_same}
 use Rattle.rtps_evidence.proofs.ranked.rank_in_order.Goals as goal
-use Rattle.rtps_evidence.proofs.ranked.rank_in_order.Goals.{then-lo-hi+in_ok-push, else-lo-hi}
+
+pub loop-stretch-init : goal.loop-stretch-init
+loop-stretch-init c = record {
+  same = ap ranked c.new-ranks.ensures.items;
+  counted = λ general is. subst (IsRanked c.args.stretches.now general c.args.end 0 0) (sym c.new-ranks.ensures.items) (ranked_none c.args.stretches.now general c.args.end);
+}
 
 pub loop-stretch-preserved : goal.loop-stretch-preserved
 loop-stretch-preserved c =
-    let none : Stretch = record { lo = 0; hi = 0 } in
+    let none : Stretch = record { key = 0; end = 0; bits = 0 } in
     let stretches = c.args.stretches.now in
-    let from = c.args.from in
     let end = c.args.end in
     let i = c.loop-stretch.stretch-index in
-    let reached = c.loop-stretch.reached in
+    let ranks = c.loop-stretch.ranks.items in
+    let before = c.loop-stretch.before in
     let known = c.loop-stretch.invariant in
-    let onward = known.walked.onward in
-    let lo = c.max-lo.result in
-    let hi = c.min-hi.result in
-    elim c.if-lo-hi.branch [
-      | then-lo-hi+in_ok-push w ↦
-          let next = walked_next stretches from end i reached none lo hi c.requires.sorted c.loop-stretch-test.true known.walked c.max-lo.ensures c.min-hi.ensures w.if-lo-hi.true in
-          let past = walked_on stretches from end i reached none lo hi c.loop-stretch-test.true known.walked c.max-lo.ensures c.min-hi.ensures w.if-lo-hi.true in
-          let fits = known.fits in
-          let further = next.onward in
-          let some = next.some in
-          let within = past.within in
-          let few = w.others-count.ensures.fits in
-          rw (w.reached-is, w.count-is, w.ranks-is) (record {
-            walked = past;
-            fits = omega arith;
-            exact = λ general is. (besides_next (stretches_have stretches) general from reached lo hi c.loop-stretch.count w.others-count.result onward next
-                (w.others-count.ensures.others general from end is (omega arith) (omega arith) within) (known.exact general is)).1;
-            ranked = λ general is.
-                let counts = besides_next (stretches_have stretches) general from reached lo hi c.loop-stretch.count w.others-count.result onward next
-                (w.others-count.ensures.others general from end is (omega arith) (omega arith) within) (known.exact general is) in
-                subst (AreRanks general (stretches_have stretches) from hi) (sym w.in_ok-push.ensures.items)
-                (ranks_more general (stretches_have stretches) from lo hi c.loop-stretch.count c.loop-stretch.ranks.items (omega arith) some next.all counts.0 (ranks_on general (stretches_have stretches) from reached lo c.loop-stretch.ranks.items onward further next.apart (known.ranked general is)));
-          })
-      | else-lo-hi w ↦ rw (w.reached-is, w.count-is, w.ranks-is) (record {
-        walked = walked_past stretches from end i reached none lo hi c.loop-stretch-test.true known.walked c.max-lo.ensures c.min-hi.ensures w.if-lo-hi.false;
-        fits = known.fits;
-        exact = known.exact;
-        ranked = known.ranked;
-      })
-    ]
+    let lt = c.loop-stretch-test.true in
+    record {
+      same = ap ranked c.in_ok-push.ensures.items ∙ ranked_same stretches i before none ranks lt known.same;
+      counted = λ general is. subst (IsRanked stretches general end (i + 1) c.saturating_add-before.result) (sym c.in_ok-push.ensures.items)
+          (ranked_more stretches general end i before c.others.result c.saturating_add-before.result none ranks c.requires lt (ranked_count stretches i ranks known.same (omega arith)) (known.counted general is)
+          (c.others.ensures general end is (omega arith)) c.ranges.end.fits c.saturating_add-before.ensures);
+    }
 
 pub returns : goal.returns
 returns c = λ general is.
-    let walked = c.loop-stretch.invariant.walked in
-    ranks_on general (stretches_have c.args.stretches.now) c.args.from c.loop-stretch.reached c.args.end c.loop-stretch.ranks.items walked.onward walked.within
-    (walked_end c.args.stretches.now c.args.from c.args.end c.loop-stretch.stretch-index c.loop-stretch.reached c.loop-stretch-test.false walked) (c.loop-stretch.invariant.ranked general is)
+    let stretches = c.args.stretches.now in
+    let i = c.loop-stretch.stretch-index in
+    let known = c.loop-stretch.invariant in
+    ranked_all stretches general c.args.end i c.loop-stretch.before c.loop-stretch.ranks.items c.requires (known.same ∙ take_all i stretches c.loop-stretch-test.false) (known.counted general is)

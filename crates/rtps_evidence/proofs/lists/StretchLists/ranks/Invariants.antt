@@ -10,5 +10,5 @@ use Rattle.rtps_evidence.proofs.lists.StretchLists.ranks.Given as goal
 
 -- the lists of the keys that are not to come any more are ranked
 abbrev pub invariant-loop-key : goal.invariant-loop-key
-invariant-loop-key l = (general : ℕ → Bool) → AreRanks nothing general l.fn.from l.fn.end l.everyone → (key : Guid) → lookup (is_at (guid_cmp key)) l.key-iterator ≡ None
-    → AreRanks general (lists_have l.self.lists key) l.fn.from l.fn.end (values_at guid_cmp l.ranks key)
+invariant-loop-key l = (general : ℕ → Bool) → AreRanks nothing general l.fn.end l.everyone → (key : Guid) → lookup (is_at (guid_cmp key)) l.key-iterator ≡ None
+    → AreRanks general (lists_have l.self.lists key) l.fn.end (values_at guid_cmp l.ranks key)

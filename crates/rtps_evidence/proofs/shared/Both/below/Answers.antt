@@ -1,12 +1,12 @@
-use Rattle.std.proofs.Common.{arith}
-use Rattle.rtps_evidence.proofs.RankLemmas.{below_both}
+use Rattle.std.proofs.Common.{subst, sym, List}
+use Rattle.rtps_evidence.specs.Ranked.{AreRanks, nothing}
+use Rattle.rtps_evidence.specs.declared.ranked.Rank.{Rank}
+use Rattle.rtps_evidence.proofs.RankLemmas.{both_below}
 use Rattle.rtps_evidence.proofs.shared.Both.below.Goals as goal
 
 pub returns-clause-below : goal.returns-clause-below
-returns-clause-below c = λ general part from end is a b.
-    let cut = c.cut_at-cut.ensures general part from end is.participant (c.place_of-self-2.ensures.place is.participant.sorted) a b in
-    let onward = cut.onward in
-    let some = cut.some in
-    let within = cut.within in
-    below_both general part from c.args.x c.cut_at-cut.result c.others-own.result c.saturating_add-besides.result c.below.result c.saturating_add.result cut (omega (arith, c.ranges.x.fits))
-    (c.others-own.ensures.others general from end is.everyone onward some (omega arith)) c.saturating_add-besides.ensures (c.below.ensures general from end is.everyone a b) c.saturating_add.ensures
+returns-clause-below c = λ general part end is le.
+    both_below general part c.args.x c.below.result c.below_besides-besides.result c.saturating_add.result c.ranges.x.fits
+    (c.below.ensures general end (subst (λ (l : List Rank). AreRanks nothing general end l) (sym c.below_besides-besides.ensures.same.everyone) is.everyone) le)
+    (c.below_besides-besides.ensures.below general part end (record { everyone = is.everyone; participant = is.participant }) le)
+    c.saturating_add.ensures

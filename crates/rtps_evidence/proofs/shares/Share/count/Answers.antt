@@ -18,11 +18,11 @@ returns c = λ has placed is.
     let reader = c.args.reader in
     let everyone = part_has (is_general_to nobody) has placed in
     let part = part_has (is_directed_to (of_participant reader)) has placed in
-    let both : AreBoth everyone part from end c.both-both.result = record {
-      everyone = subst (AreRanks nothing everyone from end) (sym c.both-both.ensures.everyone) is.everyone;
-      participant = subst (AreRanks everyone part from end) (sym c.both-both.ensures.participant) (is.ranked (of_participant reader));
+    let both : AreBoth everyone part end c.both-both.result = record {
+      everyone = subst (AreRanks nothing everyone end) (sym c.both-both.ensures.everyone) is.everyone;
+      participant = subst (AreRanks everyone part end) (sym c.both-both.ensures.participant) (is.ranked (of_participant reader));
     } in
-    let shared = c.below-shared.ensures.below everyone part from end both c.requires (omega arith) in
-    let rest = c.count_besides.ensures everyone part (both_on c.below-shared.ensures.same both) in
-    share_count has from end reader placed c.args.self.now c.in_ok-own.own.items c.below-shared.result c.count_besides.result c.saturating_add.result is (omega (arith, c.ranges.end.fits)) c.in_ok-own.ensures.own shared
+    let shared = c.count-shared.ensures.count everyone part end both (omega arith) in
+    let rest = c.count_besides.ensures everyone part end (both_on c.count-shared.ensures.same both) (omega arith) in
+    share_count has from end reader placed c.args.self.now c.in_ok-own.own.items c.count-shared.result c.count_besides.result c.saturating_add.result is (omega (arith, c.ranges.end.fits)) c.in_ok-own.ensures.own shared
     (subst (λ (l : List Stretch). c.count_besides.result ≡ count_in (besides (λ (n : ℕ). everyone n || part n) (stretches_have l)) from end) c.deref.ensures.value rest) c.saturating_add.ensures

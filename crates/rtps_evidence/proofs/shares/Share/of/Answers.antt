@@ -17,8 +17,6 @@ use Rattle.rtps_evidence.proofs.shares.Share.of.Goals as goal
 
 pub returns : goal.returns
 returns c =
-    let from = c.args.from in
-    let end = c.args.end in
     let has = asks c.args.question c.args.writer in
     let placed = map placed_value c.args.acts.now in
     let all = take_all c.loop-placed.placed-index c.args.acts.now c.loop-placed-test.false in
@@ -27,8 +25,8 @@ returns c =
     let named = λ (key : Guid) (n : ℕ). c.loop-placed.invariant.named key n ∙ ap (λ l. part_has (is_general_to key) has (map placed_value l) n) all in
     let directed = λ (key : Guid) (n : ℕ). c.loop-placed.invariant.directed key n ∙ ap (λ l. part_has (is_directed_to key) has (map placed_value l) n) all in
     let general = λ (n : ℕ). c.take-general.ensures.taken n ∙ named nobody n in
-    let first : AreRanks nothing everyone from end c.in_ok-everyone.everyone.items =
-    ranks_same nothing listed everyone from end c.in_ok-everyone.everyone.items general (c.in_ok-everyone.ensures nothing (ranks_empty nothing nothing from end c.requires (λ n. refl))) in
+    let first : AreRanks nothing everyone c.args.end c.in_ok-everyone.everyone.items =
+    ranks_same nothing listed everyone c.args.end c.in_ok-everyone.everyone.items general (c.in_ok-everyone.ensures nothing (ranks_empty nothing nothing c.args.end (λ n. refl))) in
     record {
       everyone = first;
       named = λ key n.
@@ -37,6 +35,6 @@ returns c =
           ∙ ap (λ b. b || lists_have c.loop-placed.named.lists key n) (general n)
           ∙ ap (λ b. everyone n || b) (named key n);
       directed = directed;
-      ranked = λ key. ranks_same everyone (lists_have c.loop-placed.directed.lists key) (part_has (is_directed_to key) has placed) from end (values_at guid_cmp c.in_ok-ranks.field-0 key) (directed key)
-          (c.in_ok-ranks.ensures everyone (subst (λ (l : List Rank). AreRanks nothing everyone from end l) (sym c.deref.ensures.value) first) key);
+      ranked = λ key. ranks_same everyone (lists_have c.loop-placed.directed.lists key) (part_has (is_directed_to key) has placed) c.args.end (values_at guid_cmp c.in_ok-ranks.field-0 key) (directed key)
+          (c.in_ok-ranks.ensures everyone (subst (λ (l : List Rank). AreRanks nothing everyone c.args.end l) (sym c.deref.ensures.value) first) key);
     }
