@@ -19,7 +19,7 @@ const ACK_NACK: [u8; 28] = *b"\
 /// How many ACKNACKs there are, with bases from 0 on.
 const COUNT: u16 = 16_378;
 
-/// The verdict on the pair: in the datagram behind the announcements the reader claims number 1, for which no word was given.
+/// The verdict on the pair: the datagram behind the announcements claims number 1, for which no word was given.
 const VERDICT: Verdict = Verdict::Unfounded {
     datagram: 3,
     number: 1,

@@ -1,5 +1,5 @@
-//! Hostile use of the libraries, counted: datagrams that are cut and turned, readers and writers that fail, and memory
-//! that is refused. Standard input has recordings, with an empty line between them; the first one announces the pair,
+//! Hostile use of the libraries, counted: datagrams with a changed octet, readers and writers that fail, and memory that is
+//! refused. Standard input has recordings, with an empty line between them; the first one announces the pair,
 //! and each other goes on from there.
 //!
 //!     rtps_hostile              tries all recordings, and prints a line for each group with what was counted, and the texts
@@ -13,7 +13,6 @@
 
 mod acknowledgements;
 mod captures;
-mod cuts;
 mod fault;
 mod recordings;
 mod refusals;
@@ -69,8 +68,6 @@ fn try_all(rt: &HostRuntime, text: &str) -> Result<(), Fault> {
 
 fn count_changes(rt: &HostRuntime, texts: &[String]) -> Result<(), Fault> {
     let recordings = recordings::read(rt.alloc(), texts)?;
-    let (datagrams, cuts) = cuts::count(&recordings)?;
-    println!(rt; "cuts: {cuts} of {datagrams} datagrams, which are read whole too")?;
     let Counted { settings, rows } = verdicts::count(rt.alloc(), &recordings)?;
     println!(rt;
         "settings that change an octet, to 00, to ff or in its lowest bit: {settings}, with {rows} rows of audits"

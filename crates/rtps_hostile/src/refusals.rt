@@ -1,5 +1,5 @@
-//! Calls that may be refused memory. Each is made with ample memory first, then once more with its requests counted,
-//! and where that is refused a third time: its answer has to be the first one then, and what it grows has to be unchanged by the refusal.
+//! Calls that may be refused memory. Each is made with ample memory first, then once more with its requests counted, and where
+//! that is refused a third time: its answer has to be the first one then, and what it grows unchanged by the refusal.
 
 mod library;
 mod sets;
