@@ -20,12 +20,23 @@ const UDP: [u8; 8] = *b"\x1c\xe8\x1c\xe8\x00\x00\x00\x00";
 
 /// A capture with a frame for each datagram, and one that gives none before each.
 pub(crate) fn capture_of(alloc: Global, recording: &Recording) -> Result<Vec<u8>, Fault> {
-    let mut octets = Vec::from_slice(alloc, &HEADER)?;
+    let mut octets = begun(alloc)?;
     for datagram in recording.datagrams() {
-        octets.extend_from_slice(&IGNORED)?;
+        push_ignored(&mut octets)?;
         push_frame(&mut octets, datagram)?;
     }
     Ok(octets)
+}
+
+/// A capture without frames.
+fn begun(alloc: Global) -> Result<Vec<u8>, Fault> {
+    Ok(Vec::from_slice(alloc, &HEADER)?)
+}
+
+/// Appends a frame that gives no datagram.
+fn push_ignored(octets: &mut Vec<u8>) -> Result<(), Fault> {
+    octets.extend_from_slice(&IGNORED)?;
+    Ok(())
 }
 
 /// Appends the frame of a datagram.
