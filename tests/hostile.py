@@ -296,6 +296,36 @@ def numbers_in_turns(tests):
     print(f'rows of {last} numbers that readers hear in turns from all their audiences: {count} recordings of {len(NAMED)} readers')
 
 
+# Numbers about the ends of blocks of 64, up to the greatest one.
+EDGES = [middle + more for middle in (64, 128, 192, 512, 1 << 40, 1 << 62) for more in (-1, 0, 1)] + [1, 2, 300, (1 << 63) - 65, (1 << 63) - 2, (1 << 63) - 1]
+
+
+def ends_of_blocks(tests):
+    """ranges and lists of numbers that begin and end about the ends of blocks, for six readers and for some of them"""
+    count, rng, known = 150, random.Random(64), announced_readers()
+    for _ in range(count):
+        sent = []
+        for _ in range(rng.randrange(2, 14)):
+            named = rng.choice([bytes(4), bytes(4), *(entity for _, entity in NAMED)])
+            start, end = sorted(rng.sample(EDGES, 2))
+            most = min(256, (1 << 63) - end)
+            words = [rng.choice([0, 0xffffffff, 0xaaaaaaaa, rng.getrandbits(32)]) for _ in range(8)]
+            sent.append(make.header(A) + rng.choice([b'', *(make.to(prefix) for prefix, _ in NAMED)]) + rng.choice([
+                make.gap(WRITER, start, end, words, rng.randrange(most + 1), named),
+                make.gap(WRITER, start, end, [], 0, named),
+                make.gap(WRITER, end, end, words, rng.randrange(most + 1), named),
+                make.data(WRITER, start, bytes(8), named) + make.data(WRITER, end, bytes(8), named),
+                make.heartbeat(WRITER, start, end, named),
+            ]))
+        sent.append(make.header(A) + make.heartbeat(WRITER, 1, rng.choice(EDGES)))
+        sent += [answer_of(reader, rng.choice(EDGES)) for reader in NAMED]
+        text, first = text_of(known + sent), rng.choice(EDGES)
+        tests.agrees('ends of blocks', text, ('audit', 'why'))
+        for view in ('audit', 'why', 'json'):
+            tests.answers(f'ends of blocks, from {first} on', view, text, *reference.answer(view, text, first), ('--from', str(first)))
+    print(f'ranges and lists that end about multiples of 64, and up to 2^63 - 1: {count} recordings of {len(NAMED)} readers')
+
+
 def announcement(built_in, octets):
     return make.header(A) + make.data(built_in, 1, b'\0\2\0\0' + octets + END)
 
@@ -384,5 +414,5 @@ def many_datagrams(tests):
 if __name__ == '__main__':
     sys.exit(program.main(__doc__, (cut_by_table, cut_and_changed, audits_of_changed, announced_late, octet_by_octet,
                                     empty_submessages, parameter_lists, endpoints_that_disagree, endpoints_of_one_topic,
-                                    readers_that_are_named, rows_past_what_is_named, numbers_in_turns, topics_of_every_octet, acknowledgements,
+                                    readers_that_are_named, rows_past_what_is_named, numbers_in_turns, ends_of_blocks, topics_of_every_octet, acknowledgements,
                                     gaps_of_many_ranges, many_datagrams)))
