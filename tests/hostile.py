@@ -302,7 +302,7 @@ EDGES = [middle + more for middle in (64, 128, 192, 512, 1 << 40, 1 << 62) for m
 
 def ends_of_blocks(tests):
     """ranges and lists of numbers that begin and end about the ends of blocks, for six readers and for some of them"""
-    count, rng, known = 150, random.Random(64), announced_readers()
+    count, rng, known = 80, random.Random(64), announced_readers()
     for _ in range(count):
         sent = []
         for _ in range(rng.randrange(2, 14)):

@@ -87,19 +87,25 @@ fn try_forms(rt: &HostRuntime, text: &str) -> Result<(), Fault> {
 
 fn try_streams(rt: &HostRuntime, form: &str, input: &[u8]) -> Result<(), Fault> {
     let reads = streams::count_reads(rt.alloc(), input)?;
-    println!(rt; "{form}, failed reads: {reads}")?;
+    tell(rt, form, "failed reads", reads)?;
     let ends = streams::count_ends(rt.alloc(), input)?;
-    println!(rt; "{form}, early ends: {ends}")?;
+    tell(rt, form, "early ends", ends)?;
     let writers = streams::count_writers(rt.alloc(), input)?;
-    println!(rt; "{form}, failed writes: {writers}")?;
+    tell(rt, form, "failed writes", writers)?;
     print_texts(rt, form, input)
+}
+
+/// Prints how many there were of something, of a recording in a form.
+fn tell(rt: &HostRuntime, form: &str, what: &str, count: usize) -> Result<(), Fault> {
+    println!(rt; "{form}, {what}: {count}")?;
+    Ok(())
 }
 
 /// Prints texts that come and go octet by octet, which the gate compares with what the second implementation says.
 fn print_texts(rt: &HostRuntime, form: &str, input: &[u8]) -> Result<(), Fault> {
     let texts = streams::texts(rt.alloc(), input)?;
-    let octets = texts.len();
-    println!(rt; "{form}, octets that were read and written one by one: {octets}")?;
+    let what = "octets that were read and written one by one";
+    tell(rt, form, what, texts.len())?;
     rt.stdout().write_all(&texts)?;
     Ok(())
 }

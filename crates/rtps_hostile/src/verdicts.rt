@@ -128,8 +128,13 @@ fn judge_changed(
 /// Counts the rows of the audit. Each verdict is the same by every way to judge, and so is that of the pair.
 pub(crate) fn judge_every_way(alloc: Global, recording: &[&[u8]]) -> Result<usize, Fault> {
     let index = Index::build(alloc, recording)?;
-    let _ = judged_alike(alloc, recording, &index, PAIR)?;
-    judge_rows(alloc, recording, &index)
+    judge_beside(alloc, recording, &index)
+}
+
+/// The same, beside an index of the recording.
+fn judge_beside(alloc: Global, recording: &[&[u8]], index: &Index<'_>) -> Result<usize, Fault> {
+    let _ = judged_alike(alloc, recording, index, PAIR)?;
+    judge_rows(alloc, recording, index)
 }
 
 /// Counts the rows of the audit, whose verdicts are those of the index.

@@ -120,14 +120,26 @@ fn is_note_refused(alloc: Global, call: &str, recording: &[&[u8]]) -> Result<boo
     let mut walk = Walk::new(alloc);
     let mut wanted = Directory::new(alloc);
     let mut tried = Directory::new(alloc);
+    is_any_note_refused(alloc, call, recording, &mut walk, &mut wanted, &mut tried)
+}
+
+/// The same, of two directories, which have to list the same at the end.
+fn is_any_note_refused<'a>(
+    alloc: Global,
+    call: &str,
+    recording: &[&'a [u8]],
+    walk: &mut Walk<'a>,
+    wanted: &mut Directory<'a>,
+    tried: &mut Directory<'a>,
+) -> Result<bool, Fault> {
     let mut refused = false;
     for datagram in recording {
         let _ = walk.read(datagram)?;
-        if are_notes_refused(alloc, call, &mut wanted, &mut tried, walk.acts())? {
+        if are_notes_refused(alloc, call, wanted, tried, walk.acts())? {
             refused = true;
         }
     }
-    if !are_same(&wanted, &tried)? {
+    if !are_same(wanted, tried)? {
         return Err(Fault::Differs("the directory is another after a refusal"));
     }
     Ok(refused)
@@ -227,11 +239,21 @@ fn are_same(one: &Directory<'_>, other: &Directory<'_>) -> Result<bool, Fault> {
 fn is_listing_refused(alloc: Global, call: &str, recording: &[&[u8]]) -> Result<bool, Fault> {
     let mut walk = Walk::new(alloc);
     let mut directory = Directory::new(alloc);
+    note_each(recording, &mut walk, &mut directory)?;
+    is_list_refused(alloc, call, &directory)
+}
+
+/// Notes the acts of each datagram.
+fn note_each<'a>(
+    recording: &[&'a [u8]],
+    walk: &mut Walk<'a>,
+    directory: &mut Directory<'a>,
+) -> Result<(), Memory> {
     for datagram in recording {
         let _ = walk.read(datagram)?;
         let _ = directory.note_all(walk.acts())?;
     }
-    is_list_refused(alloc, call, &directory)
+    Ok(())
 }
 
 fn is_list_refused(alloc: Global, call: &str, directory: &Directory<'_>) -> Result<bool, Fault> {
@@ -280,6 +302,16 @@ fn pairs<'a>(directory: &Directory<'a>) -> Result<Listing<'a>, Memory> {
 fn is_walk_refused(alloc: Global, recording: &[&[u8]]) -> Result<bool, Fault> {
     let mut wanted = Walk::new(alloc);
     let mut tried = Walk::new(alloc);
+    is_any_read_refused(alloc, recording, &mut wanted, &mut tried)
+}
+
+/// The same, of two walks. A datagram that is refused is read once more.
+fn is_any_read_refused<'a>(
+    alloc: Global,
+    recording: &[&'a [u8]],
+    wanted: &mut Walk<'a>,
+    tried: &mut Walk<'a>,
+) -> Result<bool, Fault> {
     let mut refused = false;
     for datagram in recording {
         mark(alloc);

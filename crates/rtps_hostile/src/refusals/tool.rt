@@ -35,20 +35,22 @@ pub(super) fn try_words(alloc: Global, call: &str) -> Result<Option<bool>, Fault
 
 fn is_reading_refused(alloc: Global, input: &[u8]) -> Result<bool, Fault> {
     let wanted = read_recording(alloc, input)?;
-    mark(alloc);
-    let first = read_recording(alloc, input);
-    mark(alloc);
-    match first {
-        Ok(recording) => {
-            hold_same(&recording, &wanted)?;
-            Ok(false)
+    is_recording_refused(alloc, input, &wanted)
+}
+
+/// The same, beside a recording of ample memory. It is read a second time where it was refused.
+fn is_recording_refused(alloc: Global, input: &[u8], wanted: &Recording) -> Result<bool, Fault> {
+    for refused in [false, true] {
+        mark(alloc);
+        let read = read_recording(alloc, input);
+        mark(alloc);
+        match read {
+            Ok(recording) => return hold_same(&recording, wanted).map(|()| refused),
+            Err(RecFault::Memory) => {}
+            Err(_) => return Err(Fault::Differs("a refusal is answered by another fault")),
         }
-        Err(RecFault::Memory) => {
-            hold_same(&read_recording(alloc, input)?, &wanted)?;
-            Ok(true)
-        }
-        Err(_) => Err(Fault::Differs("a refusal is answered by another fault")),
     }
+    Err(Fault::Memory)
 }
 
 /// Two recordings have to be the same.

@@ -100,18 +100,28 @@ fn is_append_refused(alloc: Global, appended: Appended<'_>) -> Result<bool, Faul
         return Err(Fault::Memory);
     }
     let mut tried = Vec::from_slice(alloc, BEFORE)?;
+    let refused = is_growth_refused(alloc, appended, &mut tried)?;
+    if tried != wanted {
+        return Err(Fault::Differs("what is appended is another after a refusal"));
+    }
+    Ok(refused)
+}
+
+/// Appends to the octets, once more where that is refused, and answers whether it was.
+fn is_growth_refused(
+    alloc: Global,
+    appended: Appended<'_>,
+    tried: &mut Vec<u8>,
+) -> Result<bool, Fault> {
     mark(alloc);
-    let first = appended.append_to(&mut tried);
+    let first = appended.append_to(tried);
     mark(alloc);
     let refused = first?;
     if refused && tried.as_slice() != BEFORE {
         return Err(Fault::Differs("a refusal changes the octets"));
     }
-    if refused && appended.append_to(&mut tried)? {
+    if refused && appended.append_to(tried)? {
         return Err(Fault::Memory);
-    }
-    if tried != wanted {
-        return Err(Fault::Differs("what is appended is another after a refusal"));
     }
     Ok(refused)
 }
