@@ -1,4 +1,4 @@
-ghost use Rattle.std.specs.Prelude.{◌≡◌, ◌≤◌, ◌<◌, ◌^◌};
+ghost use Rattle.std.specs.Prelude.{◌≡◌, ◌≤◌, ◌<◌, ◌-◌, ◌*◌, ◌^◌, if◌then◌else◌, min, nat_lt};
 
 use crate::audiences::{is_for_all, key_of, of_entity, of_participant};
 use crate::brief::{Brief, add_brief};
@@ -9,8 +9,19 @@ use rtps_ids::{Guid, Memory};
 use rtps_receiver::laws::tests_say_what_relations_say;
 use std::alloc::Global;
 
-/// So many numbers are gone through by the sets of a reader's audiences, before what many readers share is asked again.
+/// So many numbers are gone through at first by the sets of a reader's audiences, before what many readers share is asked again.
 const STRIDE: u64 = 1024;
+
+/// How many numbers are gone through next: twice as many as before, unless what many readers share had gone further than that.
+fn next_length(length: u64, shared: u64) -> u64
+    ensures { result ≡ (if nat_lt length shared then 1024 else min (length * 2) (2 ^ 64 - 1)) }
+{
+    if length < shared {
+        STRIDE
+    } else {
+        length.saturating_mul(2)
+    }
+}
 
 /// The numbers that a writer told its readers so far, by whom they are for.
 #[derive(Drop)]
@@ -94,9 +105,9 @@ impl Told {
         Ok(own)
     }
 
-    /// The least number from `n` on of which the reader was not told, as far as so many numbers on. It may have been told of them
+    /// The least number from `n` on of which the reader was not told, as far as `length` numbers on. It may have been told of them
     /// in turns by what is for all its audiences.
-    fn stride(&self, reader: Guid, n: u64) -> u64
+    fn stride(&self, reader: Guid, n: u64, length: u64) -> u64
         requires positive { 1 ≤ n }
         requires in_range { n < 2 ^ 63 }
         ensures onward { n ≤ result }
@@ -110,7 +121,7 @@ impl Told {
             self.directed.set_or(reader, &none),
             self.named.set_or(of_entity(reader), &none),
         ];
-        let limit = n.saturating_add(STRIDE).min(LAST);
+        let limit = n.saturating_add(length).min(LAST);
         past_together(&sets, n, limit)
     }
 
@@ -125,12 +136,15 @@ impl Told {
         ensures past { IfOk result (λ past. IsGathered self.old → IsPast (is_told self.old reader) n past) }
     {
         let mut past = n;
+        let mut length = STRIDE;
         loop {
             let next = self.onward(reader, past)?;
             if next == past {
                 return Ok(past);
             }
-            past = self.stride(reader, next);
+            let shared = next - past;
+            past = self.stride(reader, next, length);
+            length = next_length(length, shared);
         }
     }
 }

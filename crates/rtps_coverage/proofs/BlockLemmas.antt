@@ -1,15 +1,15 @@
 -- Sets of numbers as bits, 64 to a block.
-use Rattle.std.proofs.Common.{ℕ, zero, List, length, get_or, set, get_or-set_same, get_or-set_other, Bool, true, false, ◌≡◌, ◌≢◌, ◌≤◌, ◌<◌, ◌+◌, ◌-◌, ◌*◌, ◌/◌, ◌%◌, ◌^◌, ◌||◌, ◌&&◌, max, bit_or, nat_le, nat_lt, nat_eq, refl, ◌∙◌, sym, ap, subst, inl, inr, arith, w64}
+use Rattle.std.proofs.Common.{ℕ, zero, suc, List, length, get_or, set, get_or-set_same, get_or-set_other, Bool, true, false, ◌≡◌, ◌≢◌, ◌≤◌, ◌<◌, ◌+◌, ◌-◌, ◌*◌, ◌/◌, ◌%◌, ◌^◌, ◌||◌, ◌&&◌, max, min, bit_or, nat_le, nat_lt, nat_eq, refl, ◌∙◌, sym, ap, subst, inl, inr, arith, w64}
 use Rattle.std.specs.Prelude.{OnOk, OnErr, Result, Ok, Err}
 use Rattle.std.specs.Int.{bit_at, trailing_ones}
 use Rattle.std.specs.Int.Count.{trailing_of_zero}
-use Rattle.std.proofs.Math.Nat.{div-add-mod', div-le_self, mod-lt}
+use Rattle.std.proofs.Math.Nat.{div-add-mod', div-div-eq-div-mul, div-le_self, mod-lt, pow-succ'}
 use Rattle.std.proofs.Math.Pow.{pow_pos, pow_mono}
 use Rattle.std.proofs.lemmas.Bool.{cases_eq, cases_lt, false≢true}
 use Rattle.std.proofs.lemmas.Bool.Decides.{nat_tests}
 use Rattle.std.proofs.lemmas.Nat.{one_shl}
 use Rattle.std.proofs.lemmas.Nat.Bits.{bit_at-lt, bit_at_or, bit_at_ones, bit_at_above, bit_at_cat_high, bit_at_cat_low, bit_at-zero, bit_at_mask_inside, bit_at_mask_below, bit_at_mask_above, bit_at-trailing_ones, ones_shr}
-use Rattle.rtps_coverage.specs.Bits.{is_bit_from}
+use Rattle.rtps_coverage.specs.Bits.{is_bit_from, is_in_block}
 use Rattle.rtps_coverage.specs.Blocks.{block_at, blocks_have, has_bit, IsSameAs}
 use Rattle.rtps_coverage.specs.declared.blocks.Blocks.{Blocks}
 
@@ -29,6 +29,28 @@ ones_between from to some few =
     let more : 2 ^ from ≤ 2 ^ to = pow_mono {i = from} {j = to} (omega arith) in
     let some_low : zero < 2 ^ from = pow_pos from in
     record { fits = omega arith; value = omega arith }
+
+-- ---- the bits of a part of a block
+
+pub part_bits : (key lo hi first from to bits n : ℕ) → first ≡ min (key * 64) (2 ^ 64 - 1) → from ≡ lo - first → to ≡ min (hi - first) 64 → lo < 2 ^ 64 → hi < 2 ^ 64 → from < to → bits ≡ 2 ^ to - 2 ^ from → n / 64 ≡ key
+    → nat_eq (bit_at bits (n % 64)) 1 ≡ (nat_le lo n && nat_lt n hi)
+part_bits key lo hi first from to bits n first_is from_is to_is small few some bits_is here =
+    ap (λ w. nat_eq (bit_at w (n % 64)) 1) bits_is ∙ elim (cases_lt (n % 64) from) [
+      | inl lt ↦ ap (λ b. nat_eq b 1) (bit_at_mask_below from to (n % 64) lt) ∙ outside lo hi n (λ low high. omega arith)
+      | inr le ↦ elim (cases_lt (n % 64) to) [
+        | inl lt ↦ ap (λ b. nat_eq b 1) (bit_at_mask_inside from to (n % 64) le lt) ∙ inside lo hi n (omega arith) (omega arith)
+        | inr ge ↦ ap (λ b. nat_eq b 1) (bit_at_mask_above from to (n % 64) ge) ∙ outside lo hi n (λ low high. omega arith)
+      ]
+    ]
+  where
+    outside : (lo hi n : ℕ) → (lo ≤ n → n < hi → ⊥) → false ≡ (nat_le lo n && nat_lt n hi)
+    outside lo hi n never = elim (cases_lt n lo) [
+      | inl lt ↦ grind (arith, nat_tests)
+      | inr le ↦ elim (cases_lt n hi) [ inl lt ↦ absurd (never le lt) | inr ge ↦ grind (arith, nat_tests) ]
+    ]
+
+    inside : (lo hi n : ℕ) → lo ≤ n → n < hi → true ≡ (nat_le lo n && nat_lt n hi)
+    inside lo hi n le lt = grind (arith, nat_tests)
 
 -- ---- the block of a number
 
@@ -77,12 +99,6 @@ taken_back old written_to new key before passed group same eight is others n pas
       | inr apart ↦ not_written new key before (n / 64) here apart ∙ same_block written_to new (n / 64) same ∙ others (n / 64) (omega arith) apart
     ])
 
-with_max : (b x : ℕ) → b < 2 → x ≡ 0 → nat_eq (max b x) 1 ≡ (nat_eq b 1 || false)
-with_max b x h k = grind (arith, nat_tests)
-
-with_one : (b x : ℕ) → b < 2 → x ≡ 1 → nat_eq (max b x) 1 ≡ (nat_eq b 1 || true)
-with_one b x h k = grind (arith, nat_tests)
-
 pub none_within : (n lo hi : ℕ) → (lo ≤ n → n < hi → ⊥) → (nat_le lo n && nat_lt n hi) ≡ false
 none_within n lo hi f = elim (cases_lt n lo) [
   | inl lt ↦ grind (arith, nat_tests)
@@ -95,54 +111,6 @@ is_within n lo hi h k = grind (arith, nat_tests)
 or_false : (b : Bool) → b ≡ (b || false)
 or_false true = refl
 or_false false = refl
-
--- one bit of a block in which the bits of the numbers from lo on and below hi are set
-joined_bit : (block key lo hi n : ℕ) → 64 * key ≤ lo → lo < hi → hi ≤ 64 * key + 64 → n / 64 ≡ key
-    → nat_eq (bit_at (bit_or block (2 ^ (hi - 64 * key) - 2 ^ (lo - 64 * key))) (n % 64)) 1
-    ≡ (nat_eq (bit_at block (n % 64)) 1 || (nat_le lo n && nat_lt n hi))
-joined_bit block key lo hi n above some within same =
-    let mask = 2 ^ (hi - 64 * key) - 2 ^ (lo - 64 * key) in
-    let b = bit_at block (n % 64) in
-    let few : b < 2 = bit_at-lt block (n % 64) in
-    ap (λ k. nat_eq k 1) (bit_at_or block mask (n % 64))
-    ∙ elim (cases_lt n lo) [
-      | inl lt ↦
-          with_max b (bit_at mask (n % 64)) few (bit_at_mask_below (lo - 64 * key) (hi - 64 * key) (n % 64) (omega arith))
-          ∙ ap (λ t. nat_eq b 1 || t) (sym (none_within n lo hi (λ from to. omega arith)))
-      | inr le ↦ elim (cases_lt n hi) [
-        | inl lt ↦
-            with_one b (bit_at mask (n % 64)) few (bit_at_mask_inside (lo - 64 * key) (hi - 64 * key) (n % 64) (omega arith) (omega arith))
-            ∙ ap (λ t. nat_eq b 1 || t) (sym (is_within n lo hi le lt))
-        | inr ge ↦
-            with_max b (bit_at mask (n % 64)) few (bit_at_mask_above (lo - 64 * key) (hi - 64 * key) (n % 64) (omega arith))
-            ∙ ap (λ t. nat_eq b 1 || t) (sym (none_within n lo hi (λ from to. omega arith)))
-      ]
-    ]
-
--- the set after one of its blocks has the bits of the numbers from lo on and below hi, where the others stay from a block on
-pub joins_bits : (old new : ℕ → ℕ) (key lo hi passed : ℕ) → 64 * key ≤ lo → lo < hi → hi ≤ 64 * key + 64
-    → new key ≡ bit_or (old key) (2 ^ (hi - 64 * key) - 2 ^ (lo - 64 * key))
-    → ((other : ℕ) → passed / 64 ≤ other → other ≢ key → new other ≡ old other)
-    → (n : ℕ) → passed ≤ n → has_bit new n ≡ (has_bit old n || (nat_le lo n && nat_lt n hi))
-joins_bits old new key lo hi passed above some within at others n past =
-    elim (cases_lt (n / 64) key) [
-      | inl lt ↦ elsewhere (λ same. omega arith)
-      | inr ge ↦ elim (cases_lt key (n / 64)) [
-        | inl lt ↦ elsewhere (λ same. omega arith)
-        | inr le ↦
-            let same : n / 64 ≡ key = omega arith in
-            ap (λ k. nat_eq (bit_at (new k) (n % 64)) 1) same
-            ∙ ap (λ w. nat_eq (bit_at w (n % 64)) 1) at
-            ∙ joined_bit (old key) key lo hi n above some within same
-            ∙ ap (λ k. nat_eq (bit_at (old k) (n % 64)) 1 || (nat_le lo n && nat_lt n hi)) (sym same)
-      ]
-    ]
-  where
-    elsewhere : n / 64 ≢ key → has_bit new n ≡ (has_bit old n || (nat_le lo n && nat_lt n hi))
-    elsewhere other =
-        ap (λ w. nat_eq (bit_at w (n % 64)) 1) (others (n / 64) (omega arith) other)
-        ∙ or_false (has_bit old n)
-        ∙ ap (λ t. has_bit old n || t) (sym (none_within n lo hi (λ from to. other (omega arith))))
 
 -- two ranges of which one begins where the other ends
 pub joins_both : (a : Bool) (lo middle hi n : ℕ) → lo ≤ middle → middle ≤ hi
@@ -232,10 +200,6 @@ run_from block n given count same fits is =
 pub max_or : (b x : ℕ) → b < 2 → x < 2 → nat_eq (max b x) 1 ≡ (nat_eq b 1 || nat_eq x 1)
 max_or b x h k = grind (arith, nat_tests)
 
--- whether a number is one of the bits of a block
-abbrev pub is_in_block : ℕ → ℕ → ℕ → Bool
-is_in_block key bits n = nat_eq (n / 64) key && nat_eq (bit_at bits (n % 64)) 1
-
 pub elsewhere_none : (key bits n : ℕ) → n / 64 ≢ key → is_in_block key bits n ≡ false
 elsewhere_none key bits n other =
     let test : nat_eq (n / 64) key ≡ false = grind (arith, nat_tests) in
@@ -278,6 +242,14 @@ joins_word old new key bits passed at others n past =
         ap (λ w. nat_eq (bit_at w (n % 64)) 1) (others (n / 64) (omega arith) other)
         ∙ or_false (has_bit old n)
         ∙ ap (λ t. has_bit old n || t) (sym (elsewhere_none key bits n other))
+
+-- the bits of a part of one block
+pub one_block : (key bits lo hi n : ℕ) → 64 * key ≤ lo → hi ≤ 64 * key + 64 → (n / 64 ≡ key → nat_eq (bit_at bits (n % 64)) 1 ≡ (nat_le lo n && nat_lt n hi))
+    → is_in_block key bits n ≡ (nat_le lo n && nat_lt n hi)
+one_block key bits lo hi n above within is = elim (cases_eq (n / 64) key) [
+  | inl here ↦ here_bit key bits n here ∙ is here
+  | inr other ↦ elsewhere_none key bits n other ∙ sym (none_within n lo hi (λ from to. other (omega arith)))
+]
 
 -- the bits below a place, and from it on
 low_bit : (x k : ℕ) → k < 64 → bit_at (x % 2 ^ 64) k ≡ bit_at x k
@@ -331,17 +303,7 @@ or_none : (a b : Bool) → b ≡ false → (a || b) ≡ a
 or_none true b e = refl
 or_none false b e = e
 
--- the bits at the beginning of a block
-pub in_one : (lo bits n : ℕ) → bits < 2 ^ 64 → lo % 64 ≡ 0 → is_in_block (lo / 64) (bits * 2 ^ (lo % 64) % 2 ^ 64) n ≡ is_bit_from lo bits n
-in_one lo bits n fits begins = elim (cases_lt (n / 64) (lo / 64)) [
-  | inl lt ↦ elsewhere_none _ _ n (λ same. omega arith) ∙ sym (none_below lo bits n (omega arith))
-  | inr ge ↦ elim (cases_lt (lo / 64) (n / 64)) [
-    | inl gt ↦ elsewhere_none _ _ n (λ same. omega arith) ∙ sym (none_far lo bits n fits (omega arith))
-    | inr le ↦ let same : n / 64 ≡ lo / 64 = omega arith in here_bit _ _ n same ∙ first_block lo bits n same
-  ]
-]
-
--- and in two blocks
+-- the bits of two blocks
 pub in_two : (lo bits n : ℕ) → bits < 2 ^ 64
     → (is_in_block (lo / 64) (bits * 2 ^ (lo % 64) % 2 ^ 64) n || is_in_block (lo / 64 + 1) (bits / 2 ^ (64 - lo % 64)) n) ≡ is_bit_from lo bits n
 in_two lo bits n fits = elim (cases_lt (n / 64) (lo / 64)) [
@@ -360,6 +322,12 @@ in_two lo bits n fits = elim (cases_lt (n / 64) (lo / 64)) [
         or_none _ _ (elsewhere_none _ _ n (λ next. omega arith)) ∙ here_bit _ _ n same ∙ first_block lo bits n same
   ]
 ]
+
+-- a shift by two shifts
+pub shifted_twice : (bits place : ℕ) → place < 64 → bits / 2 / 2 ^ (63 - place) ≡ bits / 2 ^ (64 - place)
+shifted_twice bits place lt =
+    let next : suc (63 - place) ≡ 64 - place = omega arith in
+    div-div-eq-div-mul bits 2 (2 ^ (63 - place)) ∙ ap (λ k. bits / k) (sym (pow-succ' 2 (63 - place)) ∙ ap (λ k. 2 ^ k) next)
 
 -- a set that is the same has the same numbers
 pub same_numbers : (old new : Blocks) → IsSameAs old new → (n : ℕ) → blocks_have new n ≡ blocks_have old n

@@ -1,28 +1,57 @@
 -- Several sets at once.
-use Rattle.std.proofs.Common.{ℕ, Bool, true, false, ◌≡◌, ◌≤◌, ◌<◌, ◌+◌, ◌-◌, ◌/◌, ◌%◌, ◌^◌, ◌||◌, ◌&&◌, List, [], ◌∷◌, length, get_or, take, bit_or, nat_eq, nat_le, nat_lt, refl, ◌∙◌, sym, ap, inl, inr, arith, w64}
-use Rattle.std.specs.Int.{bit_at, trailing_ones}
+use Rattle.std.proofs.Common.{ℕ, Bool, true, false, ◌≡◌, ◌≤◌, ◌<◌, ◌+◌, ◌-◌, ◌/◌, ◌%◌, ◌^◌, ◌||◌, ◌&&◌, List, [], ◌∷◌, length, get_or, get_or-set_same, get_or-set_other, set, take, bit_or, nat_eq, nat_le, nat_lt, refl, ◌∙◌, sym, ap, inl, inr, arith}
+use Rattle.std.specs.Prelude.{slice_index}
+use Rattle.std.specs.Int.{bit_at}
 use Rattle.std.specs.List.{list_any}
+use Rattle.std.proofs.lemmas.Bool.{cases_eq}
 use Rattle.std.proofs.lemmas.Bool.Decides.{nat_tests}
 use Rattle.std.proofs.lemmas.List.Folds.{list_any_more}
 use Rattle.std.proofs.lemmas.Nat.Bits.{bit_at_or, bit_at-lt}
-use Rattle.rtps_coverage.specs.Blocks.{block_at, has_bit}
+use Rattle.rtps_coverage.specs.Blocks.{block_at, blocks_have, group_at, group_has}
 use Rattle.rtps_coverage.specs.BitRanges.{covered_of, is_in_row}
 use Rattle.rtps_coverage.specs.declared.bit_ranges.BitRanges.{BitRanges}
-use Rattle.rtps_coverage.proofs.BlockLemmas.{max_or, run_from}
-use Rattle.rtps_coverage.proofs.KeptLemmas.{IsLesser}
+use Rattle.rtps_coverage.specs.declared.blocks.Blocks.{Blocks}
+use Rattle.rtps_coverage.proofs.BlockLemmas.{max_or}
+
+-- a block is one of its group's
+pub in_group : (blocks : Blocks) (group n : ℕ) → n / 512 ≡ group → blocks_have blocks n ≡ group_has (group_at blocks group) n
+unfolding block_at
+in_group blocks group n same =
+    let key : n / 64 / 8 ≡ group = omega arith in
+    ap (λ g. nat_eq (bit_at (slice_index (group_at blocks g) (n / 64 % 8)) (n % 64)) 1) key
+
+-- the blocks so far have the bits of both groups, and the others those of the one
+pub record AreJoined (old more new : List ℕ) (k : ℕ) : Type 0 where
+  pub joined : (i : ℕ) → i < k → get_or new i 0 ≡ bit_or (get_or old i 0) (get_or more i 0)
+  pub rest : (i : ℕ) → k ≤ i → get_or new i 0 ≡ get_or old i 0
+
+pub one_more : (old more mid : List ℕ) (k : ℕ) → k < length mid → AreJoined old more mid k → AreJoined old more (set mid k (bit_or (get_or mid k 0) (get_or more k 0))) (k + 1)
+one_more old more mid k within known = record {
+  joined = λ i lt. elim (cases_eq i k) [
+    | inl here ↦
+        ap (λ j. get_or (set mid k block) j 0) here ∙ get_or-set_same mid k block 0 within
+        ∙ ap (λ w. bit_or w (get_or more k 0)) (known.rest k (omega arith)) ∙ ap (λ j. bit_or (get_or old j 0) (get_or more j 0)) (sym here)
+    | inr there ↦ get_or-set_other mid k i block 0 there ∙ known.joined i (omega arith)
+  ];
+  rest = λ i le. get_or-set_other mid k i block 0 (λ e. absurd (omega arith)) ∙ known.rest i (omega arith);
+}
+  where
+    block : ℕ
+    block = bit_or (get_or mid k 0) (get_or more k 0)
+
+pub all_joined : (old more new : List ℕ) (n : ℕ) → AreJoined old more new 8 → group_has new n ≡ (group_has old n || group_has more n)
+all_joined old more new n known =
+    let key = n / 64 % 8 in
+    let i = n % 64 in
+    ap (λ w. nat_eq (bit_at w i) 1) (known.joined key (omega arith))
+    ∙ ap (λ b. nat_eq b 1) (bit_at_or (get_or old key 0) (get_or more key 0) i)
+    ∙ max_or (bit_at (get_or old key 0) i) (bit_at (get_or more key 0) i) (bit_at-lt (get_or old key 0) i) (bit_at-lt (get_or more key 0) i)
 
 -- the bits of one set more
-pub more_bits : {X : Type 0} (bits : X → ℕ) (xs : List X) (k : ℕ) (x : X) (block more i : ℕ) → k < length xs → x ≡ get_or xs k x → more ≡ bits x
-    → nat_eq (bit_at block i) 1 ≡ list_any (λ set. nat_eq (bit_at (bits set) i) 1) (take k xs)
-    → nat_eq (bit_at (bit_or block more) i) 1 ≡ list_any (λ set. nat_eq (bit_at (bits set) i) 1) (take (k + 1) xs)
-more_bits {X} bits xs k x block more i within is same before =
-    let p = λ (set : X). nat_eq (bit_at (bits set) i) 1 in
-    ap (λ b. nat_eq b 1) (bit_at_or block more i)
-    ∙ max_or (bit_at block i) (bit_at more i) (bit_at-lt block i) (bit_at-lt more i)
-    ∙ ap (λ b. b || nat_eq (bit_at more i) 1) before
-    ∙ ap (λ w. list_any p (take k xs) || nat_eq (bit_at w i) 1) same
-    ∙ ap (λ set. list_any p (take k xs) || p set) is
-    ∙ sym (list_any_more p xs k x within)
+pub more_bits : {X : Type 0} (bits : X → Bool) (xs : List X) (k : ℕ) (x : X) (before more after : Bool) → k < length xs → x ≡ get_or xs k x → after ≡ (before || more) → more ≡ bits x
+    → before ≡ list_any bits (take k xs) → after ≡ list_any bits (take (k + 1) xs)
+more_bits bits xs k x before more after within is joined same so_far =
+    joined ∙ ap (λ b. b || more) so_far ∙ ap (λ b. list_any bits (take k xs) || b) same ∙ ap (λ y. list_any bits (take k xs) || bits y) is ∙ sym (list_any_more bits xs k x within)
 
 -- what each that passes a test passes, too
 pub any_on : {X : Type 0} (p q : X → Bool) (xs : List X) → ((x : X) → p x ≡ true → q x ≡ true) → list_any p xs ≡ true → list_any q xs ≡ true
@@ -49,10 +78,9 @@ none_of_both p q r (x ∷ xs) on one other =
     halves false b e = (refl, e)
     halves true b e = cc
 
--- a number of a block's bits is in the set
-pub bit_covered : (set : BitRanges) (n m : ℕ) → 1 ≤ m → m < 2 ^ 63 - 1 → n / 64 ≡ m / 64 → nat_eq (bit_at (block_at set.blocks (n / 64)) (m % 64)) 1 ≡ true → covered_of set m ≡ true
-bit_covered set n m positive small same is =
-    let here : has_bit (block_at set.blocks) m ≡ true = ap (λ k. nat_eq (bit_at (block_at set.blocks k) (m % 64)) 1) (sym same) ∙ is in
+-- a number of the blocks is in the set
+pub bit_covered : (set : BitRanges) (m : ℕ) → 1 ≤ m → m < 2 ^ 63 - 1 → blocks_have set.blocks m ≡ true → covered_of set m ≡ true
+bit_covered set m positive small here =
     all _ _ _ _ _ (grind (arith, nat_tests)) (grind (arith, nat_tests)) here
   where
     all : (a b c d e : Bool) → a ≡ true → c ≡ true → d ≡ true → (a && (b || (c && (d || e)))) ≡ true
@@ -62,8 +90,8 @@ bit_covered set n m positive small same is =
         last true = refl
         last false = refl
 
--- a number that is neither in a row nor among the bits is not in the set
-pub not_covered : (set : BitRanges) (n : ℕ) → is_in_row set n ≡ false → nat_eq (bit_at (block_at set.blocks (n / 64)) (n % 64)) 1 ≡ false → covered_of set n ≡ false
+-- a number that is neither in a row nor in the blocks is not in the set
+pub not_covered : (set : BitRanges) (n : ℕ) → is_in_row set n ≡ false → blocks_have set.blocks n ≡ false → covered_of set n ≡ false
 not_covered set n row bit = none (nat_le 1 n) (nat_lt n set.passed) (nat_lt n (2 ^ 63 - 1)) _ _ row bit
   where
     none : (a b c d e : Bool) → (b || e) ≡ false → d ≡ false → (a && (b || (c && (d || e)))) ≡ false
@@ -72,18 +100,3 @@ not_covered set n row bit = none (nat_le 1 n) (nat_lt n set.passed) (nat_lt n (2
     none true false false d e i j = refl
     none true false true true e i j = cc
     none true false true false e i j = i
-
--- how far the bits of a block go on from a number, up to a limit
-pub record IsStep (block n last step : ℕ) : Type 0 where
-  pub members : (m : ℕ) → n ≤ m → m < step → (n / 64 ≡ m / 64) × (m < last) × (nat_eq (bit_at block (m % 64)) 1 ≡ true)
-  pub stops : step ≡ n → nat_eq (bit_at block (n % 64)) 1 ≡ false
-
-pub step_by_bits : (block n last count step : ℕ) → block < 2 ^ 64 → n < last → count ≡ trailing_ones w64 (block / 2 ^ (n % 64)) → IsLesser (n + count) last step → IsStep block n last step
-step_by_bits block n last count step fits small is least =
-    let run = run_from (λ (k : ℕ). block) n block count refl fits is in
-    let far = least.left in
-    let within = run.within in
-    record {
-      members = λ m from to. (let end = least.left in let all = run.within in omega arith, let end = least.right in omega arith, run.members m from (let end = least.left in omega arith));
-      stops = λ same. run.stops (elim least.one [ inl e ↦ omega arith | inr e ↦ absurd (omega arith) ]);
-    }

@@ -22,6 +22,10 @@ has_bit block n = bit_at (block (n / 64)) (n % 64) == 1
 abbrev pub blocks_have : Blocks → ℕ → Bool
 blocks_have blocks n = has_bit (block_at blocks) n
 
+-- whether the blocks of a group have the bit of a number
+abbrev pub group_has : List ℕ → ℕ → Bool
+group_has blocks n = has_bit (λ key. slice_index blocks (key % 8)) n
+
 -- the same group is at hand, and the same groups are kept
 pub record IsSameAs (old new : Blocks) : Type 0 where
   pub group : new.group ≡ old.group

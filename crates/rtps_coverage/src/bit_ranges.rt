@@ -96,15 +96,15 @@ fn keep(blocks: &Blocks, ranges: &mut MergedRanges, from: u64, to: u64) -> Resul
 
 impl BitRanges {
     ghost use Rattle.std.specs.Prelude.{IfOk};
-    ghost use Rattle.rtps_coverage.specs.Blocks.{block_at};
+    ghost use Rattle.rtps_coverage.specs.Blocks.{group_at};
     ghost use Rattle.rtps_coverage.specs.Coverage.{IsSameSet, IsPast};
     ghost use Rattle.rtps_coverage.specs.BitRanges.{covered_of, is_in_row};
 
-    /// The numbers of a block that are kept as bits.
-    pub(crate) fn block(&self, key: u64) -> u64
-        ensures { result ≡ block_at self.now.blocks key }
+    /// The numbers of a group that are kept as bits.
+    pub(crate) fn group(&self, group: u64) -> &[u64; 8]
+        ensures { result.now ≡ group_at self.now.blocks group }
     {
-        self.blocks.block(key)
+        self.blocks.group(group)
     }
 
     /// Where the numbers from `n` on end that lie below the front or in one long range.

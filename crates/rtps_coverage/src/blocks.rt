@@ -1,10 +1,11 @@
 ghost use Rattle.std.specs.Prelude.{ℕ, ◌≡◌, ◌≢◌, ◌≤◌, ◌<◌, ◌+◌, ◌-◌, ◌*◌, ◌/◌, ◌%◌, ◌^◌, ◌||◌, ◌&&◌, nat_eq, nat_le, nat_lt, true, false, OnOk, OnErr};
 ghost use Rattle.std.specs.Int.{bit_at};
 ghost use Rattle.std.specs.Int.RustNames.{bit_or};
-ghost use Rattle.rtps_coverage.specs.Bits.{is_bit_from};
+ghost use Rattle.rtps_coverage.specs.Bits.{is_bit_from, is_in_block};
 ghost use Rattle.std.specs.BTreeMap as tree;
 ghost use Rattle.std.specs.Ordering.{nat_cmp};
 
+use crate::bits::{bits_within, halves};
 use rtps_ids::Memory;
 use std::alloc::Global;
 use std::collections::BTreeMap;
@@ -18,15 +19,6 @@ pub(crate) struct Blocks {
     group: u64,
     hand: [u64; 8],
     kept: BTreeMap<u64, [u64; 8]>,
-}
-
-/// The block with the bits from `from` on and below `to`.
-fn ones(from: u64, to: u64) -> u64
-    requires some { from < to }
-    requires few { to ≤ 64 }
-    ensures { result ≡ 2 ^ to - 2 ^ from }
-{
-    (u64::MAX >> (64 - to)) - ((1 << from) - 1)
 }
 
 impl Blocks {
@@ -45,7 +37,7 @@ impl Blocks {
     }
 
     /// The blocks of a group.
-    fn group(&self, group: u64) -> &[u64; 8]
+    pub(crate) fn group(&self, group: u64) -> &[u64; 8]
         ensures { result.now ≡ group_at self.now group }
     {
         if group == self.group {
@@ -137,7 +129,7 @@ impl Blocks {
         ensures err { OnErr result (IsSameAs self.old self.new) }
     {
         let key = lo / 64;
-        self.join(key, ones(lo - 64 * key, hi - 64 * key), passed)
+        self.join(key, bits_within(key, lo, hi), passed)
     }
 
     /// Joins the numbers from `lo` on and below `hi`, of which there are at most 64; those below `passed` are of no account.
@@ -168,8 +160,7 @@ impl Blocks {
     /// Joins the numbers of the bits of one block; those below `passed` are of no account. The set is the same after `Memory`.
     fn put_bits(&mut self, key: u64, bits: u64, passed: u64) -> Result<(), Memory>
         requires passed { passed / 64 ≤ key }
-        ensures ok { OnOk result ((n : ℕ) → passed ≤ n → blocks_have self.new n
-            ≡ (blocks_have self.old n || (nat_eq (n / 64) key && nat_eq (bit_at bits (n % 64)) 1))) }
+        ensures ok { OnOk result ((n : ℕ) → passed ≤ n → blocks_have self.new n ≡ (blocks_have self.old n || is_in_block key bits n)) }
         ensures err { OnErr result (IsSameAs self.old self.new) }
     {
         if bits == 0 {
@@ -187,11 +178,8 @@ impl Blocks {
         ensures ok { OnOk result ((n : ℕ) → passed ≤ n → blocks_have self.new n ≡ (blocks_have self.old n || is_bit_from lo bits n)) }
         ensures below { (n : ℕ) → passed ≤ n → n < lo → blocks_have self.new n ≡ blocks_have self.old n }
     {
-        let place = lo % 64;
-        self.put_bits(lo / 64, bits << place, passed)?;
-        if place == 0 {
-            return Ok(());
-        }
-        self.put_bits(lo / 64 + 1, bits >> (64 - place), passed)
+        let (first, second) = halves(lo, bits);
+        self.put_bits(lo / 64, first, passed)?;
+        self.put_bits(lo / 64 + 1, second, passed)
     }
 }

@@ -2,6 +2,7 @@
 #![tactic(auto)]
 
 mod bit_ranges;
+mod bits;
 mod blocks;
 mod coverage;
 pub mod laws;
@@ -11,6 +12,7 @@ mod span;
 mod together;
 
 pub use bit_ranges::BitRanges;
+pub use bits::{bits_within, halves};
 pub use coverage::{Coverage, LAST};
 pub use merged_ranges::MergedRanges;
 pub use plain_ranges::PlainRanges;

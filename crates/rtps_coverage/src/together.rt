@@ -1,22 +1,51 @@
-ghost use Rattle.std.specs.Prelude.{ℕ, ◌≡◌, ◌==◌, ◌≤◌, ◌<◌, ◌-◌, ◌^◌, true, false};
-ghost use Rattle.std.specs.Int.{bit_at};
+ghost use Rattle.std.specs.Prelude.{ℕ, ◌≡◌, ◌≤◌, ◌<◌, ◌+◌, ◌-◌, ◌*◌, ◌/◌, ◌^◌, ◌||◌, true, false};
 ghost use Rattle.std.specs.List.{list_any};
 ghost use Rattle.rtps_coverage.specs.BitRanges.{covered_of, is_in_row};
-ghost use Rattle.rtps_coverage.specs.Blocks.{block_at};
+ghost use Rattle.rtps_coverage.specs.Blocks.{blocks_have, group_has};
 ghost use Rattle.rtps_coverage.specs.Coverage.{IsPastUpTo};
 
 use crate::bit_ranges::BitRanges;
 use crate::coverage::LAST;
 
-/// The numbers of a block that some of the sets keep as bits.
-fn block_of(sets: &[&BitRanges], key: u64) -> u64
-    ensures { (i : ℕ) → (bit_at result i == 1) ≡ list_any (λ set. bit_at (block_at set.now.blocks key) i == 1) sets.now }
+/// Sets in each block of a group the bits that another group has.
+fn join(blocks: &mut [u64; 8], more: &[u64; 8])
+    ensures { (n : ℕ) → group_has blocks.new n ≡ (group_has blocks.old n || group_has more.now n) }
 {
-    let mut block = 0;
-    for set in sets {
-        block |= set.block(key);
+    for k in 0..8 {
+        blocks[k] |= more[k];
     }
-    block
+}
+
+/// The numbers of a group that some of the sets keep as bits.
+fn group_of(sets: &[&BitRanges], group: u64) -> [u64; 8]
+    ensures { (n : ℕ) → n / 512 ≡ group → group_has result n ≡ list_any (λ set. blocks_have set.now.blocks n) sets.now }
+{
+    let mut blocks = [0; 8];
+    for set in sets {
+        join(&mut blocks, set.group(group));
+    }
+    blocks
+}
+
+/// Where the numbers from `n` on end that its group has.
+fn bits_end(blocks: &[u64; 8], n: u64) -> u64
+    requires { n < 2 ^ 63 }
+    ensures onward { n ≤ result }
+    ensures within { result ≤ 512 * (n / 512) + 512 }
+    ensures members { (m : ℕ) → n ≤ m → m < result → group_has blocks.now m ≡ true }
+    ensures stops { result ≡ n → group_has blocks.now n ≡ false }
+{
+    let behind = 512 * (n / 512) + 512;
+    let mut end = n;
+    while end < behind {
+        let rest = blocks[(end / 64 % 8) as usize] >> (end % 64);
+        let ones = rest.trailing_ones();
+        if ones == 0 {
+            return end;
+        }
+        end += u64::from(ones);
+    }
+    end
 }
 
 /// Where the longest row of one of the sets ends that has `n`, or `n` where none has it.
@@ -35,7 +64,7 @@ fn row_end(sets: &[&BitRanges], n: u64) -> u64
     end
 }
 
-/// Where the numbers from `n` on end that a row of one of the sets has, or their bits of one block.
+/// Where the numbers from `n` on end that a row of one of the sets has, or their bits of one group.
 fn run_end(sets: &[&BitRanges], n: u64) -> u64
     requires positive { 1 ≤ n }
     requires in_range { n < 2 ^ 63 - 1 }
@@ -48,13 +77,12 @@ fn run_end(sets: &[&BitRanges], n: u64) -> u64
     if n < row {
         return row;
     }
-    let rest = block_of(sets, n / 64) >> (n % 64);
-    let end = n + u64::from(rest.trailing_ones());
-    end.min(LAST)
+    let blocks = group_of(sets, n / 512);
+    bits_end(&blocks, n).min(LAST)
 }
 
 /// The least number from `n` on and below `limit` that none of the sets has, or `limit` where there is none. Numbers that
-/// the sets have in turns are passed 64 at once.
+/// the sets have in turns are passed 512 at once.
 pub fn past_together(sets: &[&BitRanges], n: u64, limit: u64) -> u64
     requires positive { 1 ≤ n }
     requires ordered { n ≤ limit }
