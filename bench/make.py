@@ -14,6 +14,9 @@
     make.py named_hole|named_crossed FILE [MEGABYTES]   the same as named_between, where each hears the first by name; where their
                                                         participants and their entity ids are told numbers in turns
     make.py every_number|every_second FILE [MEGABYTES]  of one pair: GAPs of 256 numbers each; of every second one of them
+    make.py far_apart|far_apart_random FILE [MEGABYTES] of one pair: GAPs of one number each, 1,000 apart, in order and in none
+    make.py one_block FILE [MEGABYTES]                  of a writer whose 60 readers each wait for another number, and DATA for all of
+                                                        them, each of the same number, which is the last
     make.py opened|disputed FILE [MEGABYTES]            of a writer whose readers each acknowledge up to another number; each hear
                                                         two payloads for another number
     make.py in_order|odd_then_even|random|descending|inside_out FILE [THOUSANDS]    of numbers, each in a sample
@@ -147,6 +150,15 @@ def datagrams(kind, octets):
         gaps = [gap(WRITER, 1 + 256 * i, 1 + 256 * i, words) for i in range(octets // 2 // 68)]
         packed = (header(A) + b''.join(gaps[i:i + 900]) for i in range(0, len(gaps), 900))
         return (*announcements(1), *packed, *samples([], 256 * len(gaps)))
+    if kind in ('far_apart', 'far_apart_random'):
+        numbers = [1 + 1000 * i for i in range(octets // 2 // 36)]
+        if kind == 'far_apart_random':
+            random.Random(len(numbers)).shuffle(numbers)
+        gaps = [gap(WRITER, number, number + 1, [], 0) for number in numbers]
+        packed = (header(A) + b''.join(gaps[i:i + 900]) for i in range(0, len(gaps), 900))
+        return (*announcements(1), *packed, *samples([], 1000 * len(gaps)))
+    if kind == 'one_block':
+        return of_one_block(octets)
     if kind in ('opened', 'disputed'):
         return of_rows(kind, octets)
     if kind in OF_ONE_TOPIC:
@@ -236,6 +248,20 @@ def of_named_crossed(octets):
     yield header(A) + heartbeat(WRITER, 1, 256 * blocks)
     for prefix in prefixes:
         yield header(prefix) + to(A) + b''.join(ack_nack(entity, WRITER, 256 * blocks + 1) for entity in entities)
+
+
+def of_one_block(octets):
+    """Sixty readers, the first told of 1, the next of 1 and 2, and so on; DATA 63 for all, and each acknowledges one number too many."""
+    readers = [scattered(i) for i in range(1, 61)]
+    yield announced(b'\0\0\3\xc2', A, WRITER, b'')
+    for reader in readers:
+        yield announced(b'\0\0\4\xc2', B, reader, RELIABLE)
+    yield header(A) + to(B) + b''.join(gap(WRITER, 1, 2 + i, [], 0, reader) for i, reader in enumerate(readers))
+    last = data(WRITER, 63, bytes(8))
+    for _ in range(octets // (2 * 500 * len(last))):
+        yield header(A) + last * 500
+    yield header(A) + heartbeat(WRITER, 1, 63)
+    yield header(B) + to(A) + b''.join(ack_nack(reader, WRITER, 3 + i) for i, reader in enumerate(readers))
 
 
 def of_rows(kind, octets):

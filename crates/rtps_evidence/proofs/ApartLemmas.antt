@@ -76,18 +76,21 @@ has_block key bits n =
     here : (k : ℕ) → (nat_le key k && nat_lt k (key + 1)) ≡ nat_eq k key
     here k = grind (arith, nat_tests)
 
+-- the bits of two words
+pub both_bits : (a b k : ℕ) → nat_eq (bit_at (bit_and a b) k) 1 ≡ (nat_eq (bit_at a k) 1 && nat_eq (bit_at b k) 1)
+both_bits a b k = ap (λ w. nat_eq w 1) (bit_at_and a b k) ∙ test (bit_at a k) (bit_at b k) (bit_at-lt a k) (bit_at-lt b k)
+  where
+    test : (x y : ℕ) → x < 2 → y < 2 → nat_eq (min x y) 1 ≡ (nat_eq x 1 && nat_eq y 1)
+    test x y h k = grind (arith, nat_tests)
+
 -- the bits of its only block that lie in a part
 pub part_of : (stretch : Stretch) (part n : ℕ) (within : Bool) → stretch.key < stretch.end → stretch.end ≤ stretch.key + 1 → n / 64 ≡ stretch.key → nat_eq (bit_at part (n % 64)) 1 ≡ within
     → nat_eq (bit_at (bit_and stretch.bits part) (n % 64)) 1 ≡ (stretch_has n stretch && within)
 part_of stretch part n within some short here is =
-    ap (λ b. nat_eq b 1) (bit_at_and stretch.bits part (n % 64))
-    ∙ test (bit_at stretch.bits (n % 64)) (bit_at part (n % 64)) (bit_at-lt stretch.bits (n % 64)) (bit_at-lt part (n % 64))
+    both_bits stretch.bits part (n % 64)
     ∙ ap (λ b. nat_eq (bit_at stretch.bits (n % 64)) 1 && b) is
     ∙ ap (λ bits. nat_eq (bit_at bits (n % 64)) 1 && within) (sym (short_bits stretch short))
     ∙ ap (λ b. b && within) (sym (within_blocks stretch n (omega arith) (omega arith)))
-  where
-    test : (x y : ℕ) → x < 2 → y < 2 → nat_eq (min x y) 1 ≡ (nat_eq x 1 && nat_eq y 1)
-    test x y h k = grind (arith, nat_tests)
 
 -- a number that it has lies in one of its blocks
 pub record IsWithin (stretch : Stretch) (n : ℕ) : Type 0 where

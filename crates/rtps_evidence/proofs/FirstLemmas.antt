@@ -1,16 +1,13 @@
 -- Where the first act stands that has something, with one act more, and in one of several parts.
-use Rattle.std.proofs.Common.{eqb, ◌≡◌, ℕ, ◌+◌, ◌<◌, ◌≤◌, Bool, true, false, cond, not, ◌&&◌, ◌||◌, List, [], ◌∷◌, ◌++◌, length, min, Option, Some, refl, sym, ap, ◌∙◌, arith}
+use Rattle.std.proofs.Common.{eqb, ◌≡◌, ℕ, ◌+◌, ◌<◌, Bool, true, false, cond, not, ◌&&◌, ◌||◌, List, [], ◌∷◌, ◌++◌, length, min, Option, Some, refl, sym, ap, ◌∙◌, arith}
 use Rattle.std.specs.Prelude.{if◌then◌else◌}
 use Rattle.std.specs.BTreeMap.{get}
-use Rattle.std.specs.BTreeSet.{contains}
 use Rattle.std.specs.List.{position_or_len}
 use Rattle.std.specs.Ordering.{nat_cmp}
-use Rattle.std.specs.BTreeMap.Range.{IsInRange, IsLeBy}
-use Rattle.std.specs.declared.ops.Bound.TheVariants.{Included}
 use Rattle.std.proofs.lemmas.Bool.Decides.{nat_tests}
 use Rattle.std.proofs.lemmas.List.Folds.{position_or_len_push}
 use Rattle.rtps_audit.specs.Placed.{PlacedValue}
-use Rattle.rtps_evidence.specs.Firsts.{AreFirsts, AreGiven}
+use Rattle.rtps_evidence.specs.Firsts.{AreFirsts, AreGiven, is_wanted}
 use Rattle.rtps_evidence.specs.declared.firsts.Firsts.{Firsts}
 
 -- ---- the first of two kinds
@@ -64,13 +61,13 @@ pub firsts_on : (old new : Firsts) (has : ℕ → PlacedValue → Bool) (given :
     → AreGiven given (length placed) old new → AreFirsts old has placed → AreFirsts new has (placed ++ at ∷ [])
 firsts_on old new has given placed at same step known = record { wanted = wanted; found = found }
   where
-    wanted : (n : ℕ) → contains nat_cmp new.wanted n ≡ true → position_or_len (has n) (placed ++ at ∷ []) ≡ length (placed ++ at ∷ [])
+    wanted : (n : ℕ) → is_wanted new n ≡ true → position_or_len (has n) (placed ++ at ∷ []) ≡ length (placed ++ at ∷ [])
     wanted n is =
         let both = sym (step.wanted n) ∙ is in
         pushed_none (has n) placed at false (same n ∙ right_of _ _ both) (known.wanted n (left_of _ _ both)) ∙ sym (pushed_length placed at)
 
     found : (n place : ℕ) → get nat_cmp new.found n ≡ Some place → (position_or_len (has n) (placed ++ at ∷ []) ≡ place) × (place < length (placed ++ at ∷ []))
-    found n place is = by_tests (contains nat_cmp old.wanted n) (given n) refl refl (sym (step.found n) ∙ is)
+    found n place is = by_tests (is_wanted old n) (given n) refl refl (sym (step.found n) ∙ is)
       where
         earlier : get nat_cmp old.found n ≡ Some place → (position_or_len (has n) (placed ++ at ∷ []) ≡ place) × (place < length (placed ++ at ∷ []))
         earlier was =
@@ -80,7 +77,7 @@ firsts_on old new has given placed at same step known = record { wanted = wanted
             let long = pushed_length placed at in
             (pushed_some (has n) placed at (omega arith) ∙ here, omega arith)
 
-        by_tests : (a b : Bool) → contains nat_cmp old.wanted n ≡ a → given n ≡ b → (if a && b then Some (length placed) else get nat_cmp old.found n) ≡ Some place
+        by_tests : (a b : Bool) → is_wanted old n ≡ a → given n ≡ b → (if a && b then Some (length placed) else get nat_cmp old.found n) ≡ Some place
             → (position_or_len (has n) (placed ++ at ∷ []) ≡ place) × (place < length (placed ++ at ∷ []))
         by_tests true true was now e =
             let here : length placed ≡ place = cc in
@@ -90,8 +87,8 @@ firsts_on old new has given placed at same step known = record { wanted = wanted
         by_tests true false was now e = earlier e
         by_tests false b was now e = earlier e
 
-none_given : (firsts : Firsts) (place : ℕ) → AreGiven (λ n. false) place firsts firsts
-none_given firsts place = record { wanted = λ n. stays (contains nat_cmp firsts.wanted n); found = λ n. kept (contains nat_cmp firsts.wanted n) (get nat_cmp firsts.found n) }
+pub none_given : (firsts : Firsts) (place : ℕ) → AreGiven (λ n. false) place firsts firsts
+none_given firsts place = record { wanted = λ n. stays (is_wanted firsts n); found = λ n. kept (is_wanted firsts n) (get nat_cmp firsts.found n) }
   where
     stays : (b : Bool) → b ≡ (b && not false)
     stays true = refl
@@ -107,19 +104,16 @@ firsts_past firsts has placed at none known = firsts_on firsts firsts has (λ n.
 
 -- ---- the numbers of stretches
 
-pub none_given_yet : (firsts : Firsts) (place : ℕ) → AreGiven (λ n. false) place firsts firsts
-none_given_yet firsts place = none_given firsts place
-
 -- those of some and then those of others
 pub given_more : (old mid new : Firsts) (one other both : ℕ → Bool) (place : ℕ) → ((n : ℕ) → both n ≡ (one n || other n)) → AreGiven one place old mid → AreGiven other place mid new → AreGiven both place old new
 given_more old mid new one other both place joins first second = record {
-  wanted = λ n. second.wanted n ∙ ap (λ b. b && not (other n)) (first.wanted n) ∙ left (contains nat_cmp old.wanted n) (one n) (other n) ∙ ap (λ b. contains nat_cmp old.wanted n && not b) (sym (joins n));
+  wanted = λ n. second.wanted n ∙ ap (λ b. b && not (other n)) (first.wanted n) ∙ left (is_wanted old n) (one n) (other n) ∙ ap (λ b. is_wanted old n && not b) (sym (joins n));
   found = λ n.
       second.found n
       ∙ ap (λ b. if b && other n then Some place else get nat_cmp mid.found n) (first.wanted n)
-      ∙ ap (λ o. if (contains nat_cmp old.wanted n && not (one n)) && other n then Some place else o) (first.found n)
-      ∙ had (contains nat_cmp old.wanted n) (one n) (other n) (get nat_cmp old.found n)
-      ∙ ap (λ b. if contains nat_cmp old.wanted n && b then Some place else get nat_cmp old.found n) (sym (joins n));
+      ∙ ap (λ o. if (is_wanted old n && not (one n)) && other n then Some place else o) (first.found n)
+      ∙ had (is_wanted old n) (one n) (other n) (get nat_cmp old.found n)
+      ∙ ap (λ b. if is_wanted old n && b then Some place else get nat_cmp old.found n) (sym (joins n));
 }
   where
     left : (a b c : Bool) → ((a && not b) && not c) ≡ (a && not (b || c))
@@ -131,56 +125,3 @@ given_more old mid new one other both place joins first second = record {
     had true false true o = refl
     had true false false o = refl
     had false b c o = refl
-
--- ---- one wanted number of a stretch after the other
-
--- a number lies in a range where it lies between two, and the other way round
-pub in_range : (first last n : ℕ) → first ≤ n → n ≤ last → IsInRange nat_cmp (Included first) (Included last) n
-in_range first last n from to = (grind (arith, nat_tests), grind (arith, nat_tests))
-
-pub from_range : (first last n : ℕ) → IsInRange nat_cmp (Included first) (Included last) n → first ≤ n
-from_range first last n inside = let from = inside.0 in grind (arith, nat_tests)
-
-pub to_range : (first last n : ℕ) → IsInRange nat_cmp (Included first) (Included last) n → n ≤ last
-to_range first last n inside = let to = inside.1 in grind (arith, nat_tests)
-
-pub not_above : (n other : ℕ) → IsLeBy nat_cmp n other → n ≤ other
-not_above n other le = grind (arith, nat_tests)
-
--- some of the wanted numbers among these were found at the place, and are wanted no more
-pub record AreTaken (given : ℕ → Bool) (place : ℕ) (old new : Firsts) : Type 0 where
-  pub kept : (n : ℕ) → contains nat_cmp new.wanted n ≡ true → contains nat_cmp old.wanted n ≡ true
-  pub rest : (n : ℕ) → given n ≡ false → contains nat_cmp new.wanted n ≡ contains nat_cmp old.wanted n
-  pub found : (n : ℕ) → get nat_cmp new.found n ≡ (if contains nat_cmp old.wanted n && not (contains nat_cmp new.wanted n) then Some place else get nat_cmp old.found n)
-
-pub none_taken : (given : ℕ → Bool) (place : ℕ) (firsts : Firsts) → AreTaken given place firsts firsts
-none_taken given place firsts = record { kept = λ n is. is; rest = λ n none. refl; found = λ n. same (contains nat_cmp firsts.wanted n) (get nat_cmp firsts.found n) }
-  where
-    same : (b : Bool) (o : Option ℕ) → o ≡ (if b && not b then Some place else o)
-    same true o = refl
-    same false o = refl
-
--- where none is left among these, all are given
-pub all_taken : (given : ℕ → Bool) (place : ℕ) (old new : Firsts) → ((n : ℕ) → (contains nat_cmp new.wanted n && given n) ≡ false) → AreTaken given place old new → AreGiven given place old new
-all_taken given place old new none taken = record { wanted = wanted; found = λ n. taken.found n ∙ ap (λ b. if b then Some place else get nat_cmp old.found n) (alike n) }
-  where
-    wanted : (n : ℕ) → contains nat_cmp new.wanted n ≡ (contains nat_cmp old.wanted n && not (given n))
-    wanted n = by_tests (contains nat_cmp new.wanted n) (contains nat_cmp old.wanted n) (given n) (none n) (taken.kept n) (taken.rest n)
-      where
-        by_tests : (now was g : Bool) → (now && g) ≡ false → (now ≡ true → was ≡ true) → (g ≡ false → now ≡ was) → now ≡ (was && not g)
-        by_tests now true true none kept rest = no_more now none
-          where
-            no_more : (b : Bool) → (b && true) ≡ false → b ≡ false
-            no_more true e = cc
-            no_more false e = refl
-        by_tests now true false none kept rest = rest refl
-        by_tests true false g none kept rest = sym (kept refl)
-        by_tests false false g none kept rest = refl
-
-    alike : (n : ℕ) → (contains nat_cmp old.wanted n && not (contains nat_cmp new.wanted n)) ≡ (contains nat_cmp old.wanted n && given n)
-    alike n = ap (λ b. contains nat_cmp old.wanted n && not b) (wanted n) ∙ turned (contains nat_cmp old.wanted n) (given n)
-      where
-        turned : (a b : Bool) → (a && not (a && not b)) ≡ (a && b)
-        turned true true = refl
-        turned true false = refl
-        turned false b = refl

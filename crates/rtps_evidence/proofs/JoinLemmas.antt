@@ -267,9 +267,6 @@ module _ (old middle : List Stretch) (stretch : Stretch) (are : AreApart old) (f
     middle_are : AreApart middle
     middle_are = near_is.apart
 
-    middle_ends : (last_of middle).end ≡ reached
-    middle_ends = near_is.ends
-
     has : (n : ℕ) → stretches_have middle n ≡ (stretches_have old n || near n)
     has n = near_is.joined n
 

@@ -10,6 +10,7 @@ pub mod RowLemmas
 pub mod HeardLemmas
 pub mod HearerLemmas
 pub mod FirstLemmas
+pub mod GivenLemmas
 pub mod TellerLemmas
 pub mod PlaceLemmas
 pub mod RivalLemmas

@@ -1,11 +1,10 @@
 -- Numbers that are appended to stretches.
-use Rattle.std.proofs.Common.{◌≡◌, ℕ, ◌+◌, ◌-◌, ◌*◌, ◌/◌, ◌%◌, ◌^◌, ◌<◌, ◌≤◌, Bool, true, false, ◌&&◌, ◌||◌, nat_eq, nat_le, nat_lt, max, min, List, [], ◌∷◌, ◌++◌, ap, ◌∙◌, refl, arith, inl, inr}
+use Rattle.std.proofs.Common.{◌≡◌, ℕ, ◌+◌, ◌-◌, ◌*◌, ◌/◌, ◌%◌, ◌^◌, ◌<◌, Bool, true, false, ◌&&◌, ◌||◌, nat_eq, nat_le, nat_lt, max, min, List, [], ◌∷◌, ◌++◌, ap, ◌∙◌, refl, arith, inl, inr}
 use Rattle.std.specs.Int.{bit_at}
 use Rattle.std.specs.List.{list_any}
 use Rattle.std.proofs.lemmas.Bool.{cases_lt}
 use Rattle.std.proofs.lemmas.Bool.Decides.{nat_tests}
 use Rattle.std.proofs.lemmas.List.Folds.{list_any-append}
-use Rattle.std.proofs.lemmas.Nat.Bits.{bit_at_mask_above, bit_at_mask_below, bit_at_mask_inside}
 use Rattle.rtps_evidence.specs.Counted.{stretch_has, stretches_have}
 use Rattle.rtps_evidence.specs.declared.stretches.Stretch.{Stretch}
 
@@ -20,28 +19,6 @@ has_pushed old new stretch n is = ap (list_any (stretch_has n)) is ∙ list_any-
 pub or_assoc : (a b c : Bool) → ((a || b) || c) ≡ (a || (b || c))
 or_assoc true b c = refl
 or_assoc false b c = refl
-
--- ---- the bits of a part of a block
-
-pub part_bits : (key lo hi first from to bits n : ℕ) → first ≡ min (key * 64) (2 ^ 64 - 1) → from ≡ lo - first → to ≡ min (hi - first) 64 → lo < 2 ^ 64 → hi < 2 ^ 64 → from < to → bits ≡ 2 ^ to - 2 ^ from → n / 64 ≡ key
-    → nat_eq (bit_at bits (n % 64)) 1 ≡ (nat_le lo n && nat_lt n hi)
-part_bits key lo hi first from to bits n first_is from_is to_is small few some bits_is here =
-    ap (λ w. nat_eq (bit_at w (n % 64)) 1) bits_is ∙ elim (cases_lt (n % 64) from) [
-      | inl lt ↦ ap (λ b. nat_eq b 1) (bit_at_mask_below from to (n % 64) lt) ∙ outside lo hi n (λ low high. omega arith)
-      | inr le ↦ elim (cases_lt (n % 64) to) [
-        | inl lt ↦ ap (λ b. nat_eq b 1) (bit_at_mask_inside from to (n % 64) le lt) ∙ inside lo hi n (omega arith) (omega arith)
-        | inr ge ↦ ap (λ b. nat_eq b 1) (bit_at_mask_above from to (n % 64) ge) ∙ outside lo hi n (λ low high. omega arith)
-      ]
-    ]
-  where
-    outside : (lo hi n : ℕ) → (lo ≤ n → n < hi → ⊥) → false ≡ (nat_le lo n && nat_lt n hi)
-    outside lo hi n never = elim (cases_lt n lo) [
-      | inl lt ↦ grind (arith, nat_tests)
-      | inr le ↦ elim (cases_lt n hi) [ inl lt ↦ absurd (never le lt) | inr ge ↦ grind (arith, nat_tests) ]
-    ]
-
-    inside : (lo hi n : ℕ) → lo ≤ n → n < hi → true ≡ (nat_le lo n && nat_lt n hi)
-    inside lo hi n le lt = grind (arith, nat_tests)
 
 -- ---- the numbers of a range
 

@@ -1,10 +1,9 @@
 -- What is kept under each key of the acts so far, where one value is written or one act comes more.
 use Rattle.std.proofs.Common.{◌≡◌, ℕ, Bool, true, false, cond, not, ◌&&◌, ◌||◌, List, [], ◌∷◌, ◌++◌, length, get_or, map, take, ◌+◌, ◌<◌, ◌≤◌, slice_get, find, option_map, arith, min, inl, inr, Option, Some, None, refl, sym, ap, ◌∙◌, subst}
-use Rattle.std.specs.Prelude.{if◌then◌else◌, IfSome, is_some, unwrap_or}
+use Rattle.std.specs.Prelude.{IfSome, is_some, unwrap_or}
 use Rattle.std.specs.BTreeMap.{BTreeMap, Updates, get}
-use Rattle.std.specs.BTreeSet.{contains}
 use Rattle.std.specs.Option.{is_none}
-use Rattle.std.specs.Ordering.{is_eq, nat_cmp}
+use Rattle.std.specs.Ordering.{is_eq}
 use Rattle.std.specs.List.{position_or_len}
 use Rattle.std.proofs.lemmas.List.{get_or_default, length-map, length-take-le, map-append, take_more}
 use Rattle.std.proofs.lemmas.List.Folds.{find_at}
@@ -21,6 +20,7 @@ use Rattle.rtps_evidence.specs.Firsts.{AreFirsts, AreFirstsOf, AreGiven}
 use Rattle.rtps_evidence.specs.Hearers.{has_word, is_directed_to, is_general_to, within}
 use Rattle.rtps_evidence.specs.declared.firsts.Firsts.{Firsts}
 use Rattle.rtps_evidence.proofs.FirstLemmas.{firsts_on, firsts_past, position_alike, position_or}
+use Rattle.rtps_evidence.proofs.GivenLemmas.{given_as}
 
 -- ---- a value that is written
 
@@ -155,9 +155,4 @@ general_apart key at to has = ap (λ b. (b && is_eq (guid_cmp key (kept_under at
 
 -- what is given by equal tests
 pub given_alike : (one other : ℕ → Bool) (place count : ℕ) (old new : Firsts) → ((n : ℕ) → one n ≡ other n) → place ≡ count → AreGiven one place old new → AreGiven other count old new
-given_alike one other place count old new same at given = record {
-  wanted = λ n. given.wanted n ∙ ap (λ b. contains nat_cmp old.wanted n && not b) (same n);
-  found = λ n.
-      given.found n ∙ ap (λ b. if contains nat_cmp old.wanted n && b then Some place else get nat_cmp old.found n) (same n)
-      ∙ ap (λ p. if contains nat_cmp old.wanted n && other n then Some p else get nat_cmp old.found n) at;
-}
+given_alike one other place count old new same at given = subst (λ p. AreGiven other p old new) at (given_as old new one other place (λ n was. same n) given)

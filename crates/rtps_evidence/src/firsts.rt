@@ -1,84 +1,117 @@
-ghost use Rattle.std.specs.Prelude.{ℕ, ◌≡◌, ◌<◌, ◌≤◌, ◌^◌, true};
-ghost use Rattle.std.specs.BTreeSet.{contains};
+ghost use Rattle.std.specs.Prelude.{ℕ, ◌≡◌, ◌≤◌, ◌<◌, ◌^◌, None};
+ghost use Rattle.std.specs.BTreeMap.{get};
 ghost use Rattle.std.specs.Ordering.{nat_cmp};
 
 use crate::stretches::Stretch;
 use rtps_ids::Memory;
 use std::alloc::Global;
-use std::collections::{BTreeMap, BTreeSet};
+use std::collections::BTreeMap;
 
 /// Of what is said to one audience: where the first act stands that has a word for a number, of numbers that are asked for.
 #[derive(Drop)]
 pub(crate) struct Firsts {
-    /// Those of which no act had a word yet.
-    pub(crate) wanted: BTreeSet<u64>,
+    /// Those of which no act had a word yet, as bits of blocks of 64. A block without such numbers is not kept.
+    pub(crate) wanted: BTreeMap<u64, u64>,
     /// The places of the acts that had, by number.
     pub(crate) found: BTreeMap<u64, usize>,
-    ghost fit: { (n : ℕ) → contains nat_cmp wanted n ≡ true → n < 2 ^ 64 },
+    ghost fit: { (key : ℕ) → 2 ^ 58 ≤ key → get nat_cmp wanted key ≡ None },
 }
 
 impl Firsts {
-    ghost use Rattle.std.specs.Prelude.{◌&&◌, [], Bool, false, length, IfOk, IfSome, List, MatchOption, OnOk};
+    ghost use Rattle.std.specs.Prelude.{◌&&◌, ◌+◌, ◌==◌, [], Bool, if◌then◌else◌, length, IfOk, IfSome, List, MatchOption, OnOk, Some};
+    ghost use Rattle.std.specs.Int.{bit_at};
+    ghost use Rattle.std.specs.Int.RustNames.{bit_or};
     ghost use Rattle.std.specs.List.{position_or_len};
+    ghost use Rattle.rtps_coverage.specs.Bits.{is_in_block};
     ghost use Rattle.rtps_audit.specs.Placed.{PlacedValue};
     ghost use Rattle.rtps_evidence.specs.Counted.{stretch_has, stretches_have};
-    ghost use Rattle.rtps_evidence.specs.Firsts.{AreFirsts, AreGiven, IsLeastWanted};
+    ghost use Rattle.rtps_evidence.specs.Firsts.{AreFirsts, AreGiven, AreNoneWanted, wanted_of};
 
     /// Nothing is asked for.
     pub(crate) fn new(alloc: Global) -> Self
         ensures { (has : ℕ → PlacedValue → Bool) → AreFirsts result has [] }
     {
         Firsts {
-            wanted: BTreeSet::new(alloc),
+            wanted: BTreeMap::new(alloc),
             found: BTreeMap::new(alloc),
         }
+    }
+
+    /// The wanted numbers of a block, as bits.
+    fn block(&self, key: u64) -> u64
+        ensures { result ≡ wanted_of self.now.wanted key }
+    {
+        self.wanted.get(&key).copied().unwrap_or(0)
+    }
+
+    /// Makes these bits the wanted numbers of a block. After `Memory` nothing is known.
+    fn keep(&mut self, key: u64, bits: u64) -> Result<(), Memory>
+        requires { key < 2 ^ 58 }
+        ensures found { self.new.found ≡ self.old.found }
+        ensures wanted { OnOk result ((other : ℕ) → wanted_of self.new.wanted other ≡ (if other == key then bits else wanted_of self.old.wanted other)) }
+    {
+        if bits == 0 {
+            self.wanted.remove(&key);
+        } else {
+            self.wanted.insert(key, bits)?;
+        }
+        Ok(())
     }
 
     /// Asks for a number, before any act is gone through. After `Memory` nothing is known.
     pub(crate) fn ask(&mut self, number: u64) -> Result<(), Memory>
         ensures { OnOk result ((has : ℕ → PlacedValue → Bool) → AreFirsts self.old has [] → AreFirsts self.new has []) }
     {
-        self.wanted.insert(number)?;
+        let key = number / 64;
+        self.keep(key, self.block(key) | (1 << (number % 64)))
+    }
+
+    /// Notes the place of each number of a block whose bit is set. After `Memory` nothing is known.
+    fn note(&mut self, key: u64, bits: u64, place: usize) -> Result<(), Memory>
+        requires { key < 2 ^ 58 }
+        ensures wanted { self.new.wanted ≡ self.old.wanted }
+        ensures found { OnOk result ((n : ℕ) → get nat_cmp self.new.found n ≡ (if is_in_block key bits n then Some place else get nat_cmp self.old.found n)) }
+    {
+        for i in 0..64u32 {
+            if (bits >> i) % 2 == 1 {
+                self.found.insert(64 * key + u64::from(i), place)?;
+            }
+        }
         Ok(())
     }
 
-    /// The least wanted number from `first` to `last`.
-    fn wanted_from(&self, first: u64, last: u64) -> Option<u64>
-        requires { first ≤ last }
-        ensures { MatchOption result ((n : ℕ) → contains nat_cmp self.now.wanted n ≡ true → first ≤ n → last < n)
-            (λ least. IsLeastWanted self.now.wanted first last least) }
+    /// Gives the wanted numbers of a block whose bits are set this place. After `Memory` nothing is known.
+    fn give_block(&mut self, key: u64, bits: u64, place: usize) -> Result<(), Memory>
+        ensures { OnOk result (AreGiven (is_in_block key bits) place self.old self.new) }
     {
-        match self.wanted.range(first..=last).next() {
-            Some(number) => Some(*number),
-            None => None,
+        let block = self.block(key);
+        if block & bits == 0 {
+            return Ok(());
         }
+        self.note(key, block & bits, place)?;
+        self.keep(key, block & !bits)
     }
 
-    /// A wanted number of a stretch.
-    fn wanted_in(&self, stretch: Stretch) -> Option<u64>
-        ensures { MatchOption result ((n : ℕ) → (contains nat_cmp self.now.wanted n && stretch_has n stretch) ≡ false)
-            (λ n. (contains nat_cmp self.now.wanted n ≡ true) × (stretch_has n stretch ≡ true)) }
+    /// The first block from `key` on and below `end` that has wanted numbers.
+    fn first_block(&self, key: u64, end: u64) -> Option<u64>
+        requires { key < end }
+        ensures { MatchOption result (AreNoneWanted self.now.wanted key end) (λ first. (key ≤ first) × (first < end) × AreNoneWanted self.now.wanted key first) }
     {
-        let (mut at, last) = stretch.span()?;
-        'other: while let Some(number) = self.wanted_from(at, last) {
-            if stretch.has(number) {
-                return Some(number);
-            }
-            if number == last {
-                return None;
-            }
-            at = number + 1;
-        }
-        None
+        let (first, _) = self.wanted.range(key..end).next()?;
+        Some(*first)
     }
 
     /// Gives the wanted numbers of a stretch this place. After `Memory` nothing is known.
     fn give(&mut self, stretch: Stretch, place: usize) -> Result<(), Memory>
         ensures { OnOk result (AreGiven (λ n. stretch_has n stretch) place self.old self.new) }
     {
-        'given: while let Some(number) = self.wanted_in(stretch) {
-            self.wanted.remove(&number);
-            self.found.insert(number, place)?;
+        let mut at = stretch.key;
+        while at < stretch.end {
+            let Some(key) = self.first_block(at, stretch.end) else {
+                return Ok(());
+            };
+            self.give_block(key, stretch.block(), place)?;
+            at = key + 1;
         }
         Ok(())
     }
@@ -99,7 +132,7 @@ impl Firsts {
         ensures { (has : ℕ → PlacedValue → Bool) (placed : List PlacedValue) → AreFirsts self.now has placed → acts ≡ length placed
             → IfSome result (λ place. place ≡ position_or_len (has number) placed) }
     {
-        if self.wanted.contains(&number) {
+        if (self.block(number / 64) >> (number % 64)) & 1 == 1 {
             return Some(acts);
         }
         self.found.get(&number).copied()

@@ -1,11 +1,12 @@
 ghost use Rattle.std.specs.Prelude.{ℕ, ◌≡◌, ◌==◌, ◌≤◌, ◌<◌, ◌+◌, ◌/◌, ◌%◌, ◌^◌, ◌&&◌, ◌||◌, nat_eq, nat_le, nat_lt, length, IsTrue, OnOk};
 ghost use Rattle.std.specs.Int.{bit_at};
 ghost use Rattle.rtps_ids.specs.NumberSet.{is_member};
-ghost use Rattle.rtps_coverage.specs.Bits.{is_bit_from};
+ghost use Rattle.rtps_coverage.specs.Bits.{is_bit_from, is_in_block};
 ghost use Rattle.rtps_audit.specs.Speech.{is_in_gap};
 ghost use Rattle.rtps_evidence.specs.Apart.{IsWidened, last_of};
 ghost use Rattle.rtps_evidence.specs.Counted.{stretch_has, stretches_have};
 
+use rtps_coverage::{bits_within, halves};
 use rtps_ids::laws::bits_up_to_the_count_are_kept;
 use rtps_ids::{Memory, NumberSet};
 use rtps_wire::GapBody;
@@ -17,19 +18,6 @@ pub(crate) struct Stretch {
     pub(crate) key: u64,
     pub(crate) end: u64,
     pub(crate) bits: u64,
-}
-
-/// The bits of a block whose numbers lie from `lo` on and below `hi`.
-fn part(key: u64, lo: u64, hi: u64) -> u64
-    ensures { (n : ℕ) → n / 64 ≡ key → (bit_at result (n % 64) == 1) ≡ (nat_le lo n && nat_lt n hi) }
-{
-    let first = key.saturating_mul(64);
-    let from = lo.saturating_sub(first);
-    let to = hi.saturating_sub(first).min(64);
-    if to <= from {
-        return 0;
-    }
-    (u64::MAX >> (64 - to)) - ((1 << from) - 1)
 }
 
 impl Stretch {
@@ -58,7 +46,7 @@ impl Stretch {
         if self.end <= self.key {
             return 0;
         }
-        self.bits & part(self.key, lo, hi)
+        self.bits & bits_within(self.key, lo, hi)
     }
 
     /// Its first number from `lo` on, and the one behind its last one below `hi`, where it has all numbers of its blocks.
@@ -70,27 +58,6 @@ impl Stretch {
             lo.max(self.key.saturating_mul(64)),
             hi.min(self.end.saturating_mul(64)),
         )
-    }
-
-    /// Whether it has a number.
-    pub(crate) fn has(&self, number: u64) -> bool
-        ensures { result ≡ stretch_has number self.now }
-    {
-        let key = number / 64;
-        self.key <= key && key < self.end && (self.block() >> (number % 64)) & 1 == 1
-    }
-
-    /// Two numbers between which all of its numbers stand, where it has any.
-    pub(crate) fn span(&self) -> Option<(u64, u64)>
-        ensures { MatchOption result ((n : ℕ) → stretch_has n self.now ≡ false)
-            (λ span. (span.0 ≤ span.1) × ((n : ℕ) → n < 2 ^ 64 → stretch_has n self.now ≡ true → (span.0 ≤ n) × (n ≤ span.1))) }
-    {
-        if self.end <= self.key {
-            return None;
-        }
-        let first = self.key.saturating_mul(64);
-        let last = (self.end - 1).saturating_mul(64).saturating_add(63);
-        Some((first, last))
     }
 
     /// How many of its numbers stand from `lo` on and below `hi`.
@@ -139,8 +106,7 @@ fn push(stretches: &mut Vec<Stretch>, stretch: Stretch) -> Result<(), Memory>
 /// Appends the numbers of one block whose bits are set.
 fn push_block(stretches: &mut Vec<Stretch>, key: u64, bits: u64) -> Result<(), Memory>
     requires { key + 1 < 2 ^ 64 }
-    ensures { OnOk result ((n : ℕ) → stretches_have stretches.new.items n
-        ≡ (stretches_have stretches.old.items n || (nat_eq (n / 64) key && nat_eq (bit_at bits (n % 64)) 1))) }
+    ensures { OnOk result ((n : ℕ) → stretches_have stretches.new.items n ≡ (stretches_have stretches.old.items n || is_in_block key bits n)) }
 {
     if bits == 0 {
         return Ok(());
@@ -167,21 +133,18 @@ pub(crate) fn push_range(stretches: &mut Vec<Stretch>, lo: u64, hi: u64) -> Resu
     let whole = lo.div_ceil(64);
     let first = whole.saturating_mul(64);
     let end = hi / 64;
-    push_block(stretches, lo / 64, part(lo / 64, lo, hi.min(first)))?;
+    push_block(stretches, lo / 64, bits_within(lo / 64, lo, hi.min(first)))?;
     push_whole(stretches, whole, end)?;
-    push_block(stretches, end, part(end, lo.max(first), hi))
+    push_block(stretches, end, bits_within(end, lo.max(first), hi))
 }
 
 /// Appends the number `lo` + i for each bit i that is set, the lowest being bit 0. After `Memory` the stretches are of no use.
 fn push_bits(stretches: &mut Vec<Stretch>, lo: u64, bits: u64) -> Result<(), Memory>
     ensures { OnOk result ((n : ℕ) → stretches_have stretches.new.items n ≡ (stretches_have stretches.old.items n || is_bit_from lo bits n)) }
 {
-    let place = lo % 64;
-    push_block(stretches, lo / 64, bits << place)?;
-    if place == 0 {
-        return Ok(());
-    }
-    push_block(stretches, lo / 64 + 1, bits >> (64 - place))
+    let (first, second) = halves(lo, bits);
+    push_block(stretches, lo / 64, first)?;
+    push_block(stretches, lo / 64 + 1, second)
 }
 
 /// Appends the numbers of a set, word by word. After `Memory` the stretches are of no use.

@@ -11,8 +11,8 @@ returns c = on_ok_weaker c.push_block-2.result (λ all n.
     let hi = c.args.hi in
     let first = c.saturating_mul-first.result in
     let whole = c.div_ceil-whole.result in
-    let head = block_part (lo / 64) c.part.result n (nat_le lo n && nat_lt n c.min.result) (c.part.ensures n) in
-    let tail = block_part (hi / 64) c.part-2.result n (nat_le c.max.result n && nat_lt n hi) (c.part-2.ensures n) in
+    let head = block_part (lo / 64) c.bits_within.result n (nat_le lo n && nat_lt n c.min.result) (c.bits_within.ensures n) in
+    let tail = block_part (hi / 64) c.bits_within-2.result n (nat_le c.max.result n && nat_lt n hi) (c.bits_within-2.ensures n) in
     all n
     ∙ ap (λ b. stretches_have c.push_whole.new.stretches.items n || b) tail
     ∙ ap (λ b. b || (nat_eq (n / 64) (hi / 64) && (nat_le c.max.result n && nat_lt n hi))) (c.in_ok-push_whole.ensures n ∙ ap (λ b. b || (nat_le whole (n / 64) && nat_lt (n / 64) (hi / 64))) (c.in_ok-push_block.ensures n ∙ ap (λ b. old || b) head))

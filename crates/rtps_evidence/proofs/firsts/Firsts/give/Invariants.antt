@@ -1,10 +1,14 @@
-use Rattle.std.proofs.Common.{length}
-use Rattle.rtps_evidence.specs.Counted.{stretch_has}
-use Rattle.rtps_evidence.proofs.FirstLemmas.{AreTaken}
+use Rattle.std.proofs.Common.{◌≤◌, ◌-◌}
+use Rattle.rtps_evidence.specs.Firsts.{AreGiven}
+use Rattle.rtps_evidence.proofs.GivenLemmas.{is_below}
 use Rattle.rtps_evidence.proofs.firsts.Firsts.give.Given as goal
 
-abbrev pub invariant-given : goal.invariant-given
-invariant-given l = AreTaken (λ n. stretch_has n l.stretch) l.place l.fn.self l.self
+-- those of the blocks below are given
+abbrev pub invariant-loop-at : goal.invariant-loop-at
+invariant-loop-at l = record {
+  from : l.stretch.key ≤ l.at;
+  given : AreGiven (is_below l.stretch l.at) l.place l.fn.self l.self;
+}
 
-abbrev pub decreases-given : goal.decreases-given
-decreases-given l = length l.self.wanted.keys
+abbrev pub decreases-loop-at : goal.decreases-loop-at
+decreases-loop-at l = l.stretch.end - l.at
