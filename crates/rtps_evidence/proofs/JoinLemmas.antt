@@ -1,7 +1,7 @@
 -- How a stretch joins others: at the end of a list, and in order.
 use Rattle.std.proofs.Common.{◌≡◌, ℕ, ◌+◌, ◌-◌, ◌/◌, ◌%◌, ◌<◌, ◌≤◌, Bool, true, false, refl, sym, ap, subst, ◌∙◌, arith, ◌||◌, ◌&&◌, nat_eq, nat_le, nat_lt, max, List, [], ◌∷◌, ◌++◌, length, inl, inr, take, get_or, bit_or}
 use Rattle.std.specs.Int.{bit_at}
-use Rattle.std.proofs.lemmas.Bool.{cases_lt, false≢true, le-ltb, lt-ltb, ltb-true}
+use Rattle.std.proofs.lemmas.Bool.{cases_lt, eqb-true, false≢true, le-ltb, lt-ltb, ltb-true}
 use Rattle.std.proofs.lemmas.Bool.Decides.{nat_tests}
 use Rattle.std.proofs.lemmas.List.{get_or_append_left, get_or_default, get_or_push, length_push}
 use Rattle.std.proofs.lemmas.Nat.Bits.{bit_at-lt, bit_at_or}
@@ -49,6 +49,13 @@ both false b e = absurd (false≢true e)
 
 right : (a b : Bool) → b ≡ true → (a || b) ≡ true
 right a b e = ap (λ c. a || c) e ∙ or_true a
+
+-- what the test of the last stretch says
+pub beside_all : (length key other end last : ℕ) → (nat_lt 0 length && (nat_eq key other && nat_eq end last)) ≡ true → (0 < length) × (key ≡ other) × (end ≡ last)
+beside_all length key other end last is =
+    let some = both (nat_lt 0 length) (nat_eq key other && nat_eq end last) is in
+    let ends = both (nat_eq key other) (nat_eq end last) some.1 in
+    (ltb-true 0 length some.0, eqb-true key other ends.0, eqb-true end last ends.1)
 
 -- ---- bits that are set in a stretch
 

@@ -83,7 +83,7 @@ pub(crate) fn widen_last(stretches: &mut Vec<Stretch>, bits: u64)
 
 /// Whether the last stretch has the same blocks as this one.
 fn is_beside(stretches: &[Stretch], stretch: &Stretch) -> bool
-    ensures { IsTrue result → (0 < length stretches.now) × (last_of stretches.now).key ≡ stretch.now.key × (last_of stretches.now).end ≡ stretch.now.end }
+    ensures { result ≡ (nat_lt 0 (length stretches.now) && (nat_eq (last_of stretches.now).key stretch.now.key && nat_eq (last_of stretches.now).end stretch.now.end)) }
 {
     match stretches.last() {
         Some(last) => last.key == stretch.key && last.end == stretch.end,
