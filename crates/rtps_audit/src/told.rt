@@ -1,4 +1,4 @@
-ghost use Rattle.std.specs.Prelude.{◌≡◌, ◌≤◌, ◌<◌, ◌-◌, ◌*◌, ◌^◌, if◌then◌else◌, min, nat_lt};
+ghost use Rattle.std.specs.Prelude.{◌≡◌, ◌≤◌, ◌<◌, ◌*◌, ◌^◌, if◌then◌else◌, min, nat_lt};
 
 use crate::audiences::{is_for_all, key_of, of_entity, of_participant};
 use crate::brief::{Brief, add_brief};
@@ -9,17 +9,20 @@ use rtps_ids::{Guid, Memory};
 use rtps_receiver::laws::tests_say_what_relations_say;
 use std::alloc::Global;
 
-/// So many numbers are gone through at first by the sets of a reader's audiences, before what many readers share is asked again.
+/// So many numbers are gone through at first by the sets of a reader's audiences, before what many readers share is asked again,
+/// and so many at most.
 const STRIDE: u64 = 1024;
+const LONGEST: u64 = 8192;
 
-/// How many numbers are gone through next: twice as many as before, unless what many readers share had gone further than that.
+/// How many numbers are gone through next: twice as many as before, up to the most; as many as at first where what many readers
+/// share went further than those of before.
 fn next_length(length: u64, shared: u64) -> u64
-    ensures { result ≡ (if nat_lt length shared then 1024 else min (length * 2) (2 ^ 64 - 1)) }
+    ensures { result ≡ (if nat_lt length shared then 1024 else min (length * 2) 8192) }
 {
     if length < shared {
         STRIDE
     } else {
-        length.saturating_mul(2)
+        length.saturating_mul(2).min(LONGEST)
     }
 }
 

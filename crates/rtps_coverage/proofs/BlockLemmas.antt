@@ -3,6 +3,7 @@ use Rattle.std.proofs.Common.{ℕ, zero, suc, List, length, get_or, set, get_or-
 use Rattle.std.specs.Prelude.{OnOk, OnErr, Result, Ok, Err}
 use Rattle.std.specs.Int.{bit_at, trailing_ones}
 use Rattle.std.specs.Int.Count.{trailing_of_zero}
+use Rattle.std.proofs.Math.Bool.{and-false, or-false}
 use Rattle.std.proofs.Math.Nat.{div-add-mod', div-div-eq-div-mul, div-le_self, mod-lt, pow-succ'}
 use Rattle.std.proofs.Math.Pow.{pow_pos, pow_mono}
 use Rattle.std.proofs.lemmas.Bool.{cases_eq, cases_lt, false≢true}
@@ -30,27 +31,29 @@ ones_between from to some few =
     let some_low : zero < 2 ^ from = pow_pos from in
     record { fits = omega arith; value = omega arith }
 
+-- ---- the numbers from one on and below another
+
+pub none_within : (n lo hi : ℕ) → (lo ≤ n → n < hi → ⊥) → (nat_le lo n && nat_lt n hi) ≡ false
+none_within n lo hi f = elim (cases_lt n lo) [
+  | inl lt ↦ grind (arith, nat_tests)
+  | inr le ↦ elim (cases_lt n hi) [ inl lt ↦ absurd (f le lt) | inr ge ↦ grind (arith, nat_tests) ]
+]
+
+is_within : (n lo hi : ℕ) → lo ≤ n → n < hi → (nat_le lo n && nat_lt n hi) ≡ true
+is_within n lo hi h k = grind (arith, nat_tests)
+
 -- ---- the bits of a part of a block
 
 pub part_bits : (key lo hi first from to bits n : ℕ) → first ≡ min (key * 64) (2 ^ 64 - 1) → from ≡ lo - first → to ≡ min (hi - first) 64 → lo < 2 ^ 64 → hi < 2 ^ 64 → from < to → bits ≡ 2 ^ to - 2 ^ from → n / 64 ≡ key
     → nat_eq (bit_at bits (n % 64)) 1 ≡ (nat_le lo n && nat_lt n hi)
 part_bits key lo hi first from to bits n first_is from_is to_is small few some bits_is here =
     ap (λ w. nat_eq (bit_at w (n % 64)) 1) bits_is ∙ elim (cases_lt (n % 64) from) [
-      | inl lt ↦ ap (λ b. nat_eq b 1) (bit_at_mask_below from to (n % 64) lt) ∙ outside lo hi n (λ low high. omega arith)
+      | inl lt ↦ ap (λ b. nat_eq b 1) (bit_at_mask_below from to (n % 64) lt) ∙ sym (none_within n lo hi (λ low high. omega arith))
       | inr le ↦ elim (cases_lt (n % 64) to) [
-        | inl lt ↦ ap (λ b. nat_eq b 1) (bit_at_mask_inside from to (n % 64) le lt) ∙ inside lo hi n (omega arith) (omega arith)
-        | inr ge ↦ ap (λ b. nat_eq b 1) (bit_at_mask_above from to (n % 64) ge) ∙ outside lo hi n (λ low high. omega arith)
+        | inl lt ↦ ap (λ b. nat_eq b 1) (bit_at_mask_inside from to (n % 64) le lt) ∙ sym (is_within n lo hi (omega arith) (omega arith))
+        | inr ge ↦ ap (λ b. nat_eq b 1) (bit_at_mask_above from to (n % 64) ge) ∙ sym (none_within n lo hi (λ low high. omega arith))
       ]
     ]
-  where
-    outside : (lo hi n : ℕ) → (lo ≤ n → n < hi → ⊥) → false ≡ (nat_le lo n && nat_lt n hi)
-    outside lo hi n never = elim (cases_lt n lo) [
-      | inl lt ↦ grind (arith, nat_tests)
-      | inr le ↦ elim (cases_lt n hi) [ inl lt ↦ absurd (never le lt) | inr ge ↦ grind (arith, nat_tests) ]
-    ]
-
-    inside : (lo hi n : ℕ) → lo ≤ n → n < hi → true ≡ (nat_le lo n && nat_lt n hi)
-    inside lo hi n le lt = grind (arith, nat_tests)
 
 -- ---- the block of a number
 
@@ -98,19 +101,6 @@ taken_back old written_to new key before passed group same eight is others n pas
       | inl at ↦ ap (block_at (record new { hand = set new.hand (key % 8) before })) at ∙ written new key before here eight ∙ is ∙ ap (block_at old) (sym at)
       | inr apart ↦ not_written new key before (n / 64) here apart ∙ same_block written_to new (n / 64) same ∙ others (n / 64) (omega arith) apart
     ])
-
-pub none_within : (n lo hi : ℕ) → (lo ≤ n → n < hi → ⊥) → (nat_le lo n && nat_lt n hi) ≡ false
-none_within n lo hi f = elim (cases_lt n lo) [
-  | inl lt ↦ grind (arith, nat_tests)
-  | inr le ↦ elim (cases_lt n hi) [ inl lt ↦ absurd (f le lt) | inr ge ↦ grind (arith, nat_tests) ]
-]
-
-is_within : (n lo hi : ℕ) → lo ≤ n → n < hi → (nat_le lo n && nat_lt n hi) ≡ true
-is_within n lo hi h k = grind (arith, nat_tests)
-
-or_false : (b : Bool) → b ≡ (b || false)
-or_false true = refl
-or_false false = refl
 
 -- two ranges of which one begins where the other ends
 pub joins_both : (a : Bool) (lo middle hi n : ℕ) → lo ≤ middle → middle ≤ hi
@@ -197,8 +187,12 @@ run_from block n given count same fits is =
 
 -- ---- bits that are joined
 
-pub max_or : (b x : ℕ) → b < 2 → x < 2 → nat_eq (max b x) 1 ≡ (nat_eq b 1 || nat_eq x 1)
-max_or b x h k = grind (arith, nat_tests)
+-- the bits of two words together
+pub either_bit : (a b k : ℕ) → nat_eq (bit_at (bit_or a b) k) 1 ≡ (nat_eq (bit_at a k) 1 || nat_eq (bit_at b k) 1)
+either_bit a b k = ap (λ w. nat_eq w 1) (bit_at_or a b k) ∙ greater (bit_at a k) (bit_at b k) (bit_at-lt a k) (bit_at-lt b k)
+  where
+    greater : (x y : ℕ) → x < 2 → y < 2 → nat_eq (max x y) 1 ≡ (nat_eq x 1 || nat_eq y 1)
+    greater x y h k = grind (arith, nat_tests)
 
 pub elsewhere_none : (key bits n : ℕ) → n / 64 ≢ key → is_in_block key bits n ≡ false
 elsewhere_none key bits n other =
@@ -211,11 +205,7 @@ here_bit key bits n same =
     rw test refl
 
 pub no_bits : (key n : ℕ) → is_in_block key 0 n ≡ false
-no_bits key n = rw (bit_at-zero (n % 64)) (and_false (nat_eq (n / 64) key))
-  where
-    and_false : (a : Bool) → (a && false) ≡ false
-    and_false true = refl
-    and_false false = refl
+no_bits key n = rw (bit_at-zero (n % 64)) (and-false (nat_eq (n / 64) key))
 
 -- the set after one of its blocks has these bits, too
 pub joins_word : (old new : ℕ → ℕ) (key bits passed : ℕ) → new key ≡ bit_or (old key) bits
@@ -230,8 +220,7 @@ joins_word old new key bits passed at others n past =
             let same : n / 64 ≡ key = omega arith in
             ap (λ k. nat_eq (bit_at (new k) (n % 64)) 1) same
             ∙ ap (λ w. nat_eq (bit_at w (n % 64)) 1) at
-            ∙ ap (λ b. nat_eq b 1) (bit_at_or (old key) bits (n % 64))
-            ∙ max_or (bit_at (old key) (n % 64)) (bit_at bits (n % 64)) (bit_at-lt (old key) (n % 64)) (bit_at-lt bits (n % 64))
+            ∙ either_bit (old key) bits (n % 64)
             ∙ ap (λ k. nat_eq (bit_at (old k) (n % 64)) 1 || nat_eq (bit_at bits (n % 64)) 1) (sym same)
             ∙ ap (λ t. has_bit old n || t) (sym (here_bit key bits n same))
       ]
@@ -240,7 +229,7 @@ joins_word old new key bits passed at others n past =
     elsewhere : n / 64 ≢ key → has_bit new n ≡ (has_bit old n || is_in_block key bits n)
     elsewhere other =
         ap (λ w. nat_eq (bit_at w (n % 64)) 1) (others (n / 64) (omega arith) other)
-        ∙ or_false (has_bit old n)
+        ∙ sym (or-false (has_bit old n))
         ∙ ap (λ t. has_bit old n || t) (sym (elsewhere_none key bits n other))
 
 -- the bits of a part of one block

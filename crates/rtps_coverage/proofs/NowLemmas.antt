@@ -1,4 +1,5 @@
 -- The ranges of a set as they are now: what the map has, with the recent range in the place of what it was.
+use Rattle.std.proofs.Math.Bool.{or-false}
 use Rattle.std.proofs.Common.{ℕ, Bool, true, false, cond, ◌≡◌, ◌<◌, ◌||◌, List, [], ◌∷◌, Option, Some, None, ◌⊎◌, refl, ◌∙◌, sym, ap, subst, inl, inr, arith}
 use Rattle.std.specs.Prelude.{is_some, suc, length, IfSome}
 use Rattle.std.specs.List.{list_any, AllByRecursion}
@@ -141,10 +142,6 @@ now_has n key now (x ∷ xs) there f = step (λ t g. now_has n key now xs t g) (
     step rest true t g = swap_in (has_number n x.1) (has_number n now) (list_any (has_number n) (values_of xs)) (g x.1 refl)
     step rest false t g = or_assoc (has_number n x.1) (list_any (has_number n) (values_of xs)) (has_number n now) _ (rest t g)
 
-or_false : (b : Bool) → (b || false) ≡ b
-or_false true = refl
-or_false false = refl
-
 -- each old number is one of the recent range
 pub larger : (kept : BTreeMap ℕ Span) (recent : Recent) (n : ℕ) → IsRecent kept recent → (old : Span) → HasRange kept recent.key old → has_number n old ≡ true → has_number n recent.span ≡ true
 larger kept recent n is old e h = in_larger n old.lo old.hi recent.span.lo recent.span.hi (is.lower old e) (is.upper old e) h
@@ -155,7 +152,7 @@ apart_with kept (Some recent) h is = now_apart kept recent h (is recent refl)
 
 numbers_with : (kept : BTreeMap ℕ Span) (recent : Option Recent) (n : ℕ) → ForSome recent (IsRecent kept)
     → (kept_has kept n || recent_has recent n) ≡ list_any (has_number n) (values_of (now_of kept.entries recent))
-numbers_with kept None n is = or_false (kept_has kept n)
+numbers_with kept None n is = or-false (kept_has kept n)
 numbers_with kept (Some recent) n is =
     let last = is recent refl in
     sym (now_has n recent.key recent.span kept.entries last.there (larger kept recent n last))

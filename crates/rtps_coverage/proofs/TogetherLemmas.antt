@@ -6,12 +6,11 @@ use Rattle.std.specs.List.{list_any}
 use Rattle.std.proofs.lemmas.Bool.{cases_eq}
 use Rattle.std.proofs.lemmas.Bool.Decides.{nat_tests}
 use Rattle.std.proofs.lemmas.List.Folds.{list_any_more}
-use Rattle.std.proofs.lemmas.Nat.Bits.{bit_at_or, bit_at-lt}
 use Rattle.rtps_coverage.specs.Blocks.{block_at, blocks_have, group_at, group_has}
 use Rattle.rtps_coverage.specs.BitRanges.{covered_of, is_in_row}
 use Rattle.rtps_coverage.specs.declared.bit_ranges.BitRanges.{BitRanges}
 use Rattle.rtps_coverage.specs.declared.blocks.Blocks.{Blocks}
-use Rattle.rtps_coverage.proofs.BlockLemmas.{max_or}
+use Rattle.rtps_coverage.proofs.BlockLemmas.{either_bit}
 
 -- a block is one of its group's
 pub in_group : (blocks : Blocks) (group n : ℕ) → n / 512 ≡ group → blocks_have blocks n ≡ group_has (group_at blocks group) n
@@ -44,8 +43,7 @@ all_joined old more new n known =
     let key = n / 64 % 8 in
     let i = n % 64 in
     ap (λ w. nat_eq (bit_at w i) 1) (known.joined key (omega arith))
-    ∙ ap (λ b. nat_eq b 1) (bit_at_or (get_or old key 0) (get_or more key 0) i)
-    ∙ max_or (bit_at (get_or old key 0) i) (bit_at (get_or more key 0) i) (bit_at-lt (get_or old key 0) i) (bit_at-lt (get_or more key 0) i)
+    ∙ either_bit (get_or old key 0) (get_or more key 0) i
 
 -- the bits of one set more
 pub more_bits : {X : Type 0} (bits : X → Bool) (xs : List X) (k : ℕ) (x : X) (before more after : Bool) → k < length xs → x ≡ get_or xs k x → after ≡ (before || more) → more ≡ bits x

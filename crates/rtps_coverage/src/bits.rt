@@ -17,10 +17,10 @@ pub fn bits_within(key: u64, lo: u64, hi: u64) -> u64
 }
 
 /// The bits from `lo` on, bit i being that of the number `lo` + i, as bits of the block of `lo` and of the block behind it.
-pub fn halves(lo: u64, bits: u64) -> (u64, u64)
+pub fn in_two_blocks(lo: u64, bits: u64) -> (u64, u64)
     ensures { (n : ℕ) → (is_in_block (lo / 64) result.0 n || is_in_block (lo / 64 + 1) result.1 n) ≡ is_bit_from lo bits n }
 {
     let place = lo % 64;
-    // By two shifts, since one by 64 is no shift.
+    // By two shifts, since one by 64 overflows.
     (bits << place, (bits >> 1) >> (63 - place))
 }

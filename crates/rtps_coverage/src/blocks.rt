@@ -1,11 +1,10 @@
-ghost use Rattle.std.specs.Prelude.{ℕ, ◌≡◌, ◌≢◌, ◌≤◌, ◌<◌, ◌+◌, ◌-◌, ◌*◌, ◌/◌, ◌%◌, ◌^◌, ◌||◌, ◌&&◌, nat_eq, nat_le, nat_lt, true, false, OnOk, OnErr};
-ghost use Rattle.std.specs.Int.{bit_at};
+ghost use Rattle.std.specs.Prelude.{ℕ, ◌≡◌, ◌≢◌, ◌≤◌, ◌<◌, ◌+◌, ◌*◌, ◌/◌, ◌%◌, ◌^◌, ◌||◌, ◌&&◌, nat_le, nat_lt, true, false, OnOk, OnErr};
 ghost use Rattle.std.specs.Int.RustNames.{bit_or};
 ghost use Rattle.rtps_coverage.specs.Bits.{is_bit_from, is_in_block};
 ghost use Rattle.std.specs.BTreeMap as tree;
 ghost use Rattle.std.specs.Ordering.{nat_cmp};
 
-use crate::bits::{bits_within, halves};
+use crate::bits::{bits_within, in_two_blocks};
 use rtps_ids::Memory;
 use std::alloc::Global;
 use std::collections::BTreeMap;
@@ -178,7 +177,7 @@ impl Blocks {
         ensures ok { OnOk result ((n : ℕ) → passed ≤ n → blocks_have self.new n ≡ (blocks_have self.old n || is_bit_from lo bits n)) }
         ensures below { (n : ℕ) → passed ≤ n → n < lo → blocks_have self.new n ≡ blocks_have self.old n }
     {
-        let (first, second) = halves(lo, bits);
+        let (first, second) = in_two_blocks(lo, bits);
         self.put_bits(lo / 64, first, passed)?;
         self.put_bits(lo / 64 + 1, second, passed)
     }

@@ -12,7 +12,7 @@ mod span;
 mod together;
 
 pub use bit_ranges::BitRanges;
-pub use bits::{bits_within, halves};
+pub use bits::{bits_within, in_two_blocks};
 pub use coverage::{Coverage, LAST};
 pub use merged_ranges::MergedRanges;
 pub use plain_ranges::PlainRanges;

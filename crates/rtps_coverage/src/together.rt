@@ -1,4 +1,4 @@
-ghost use Rattle.std.specs.Prelude.{ℕ, ◌≡◌, ◌≤◌, ◌<◌, ◌+◌, ◌-◌, ◌*◌, ◌/◌, ◌^◌, ◌||◌, true, false};
+ghost use Rattle.std.specs.Prelude.{ℕ, ◌≡◌, ◌≤◌, ◌<◌, ◌+◌, ◌-◌, ◌*◌, ◌/◌, ◌^◌, ◌||◌, true, false, IsTrue};
 ghost use Rattle.std.specs.List.{list_any};
 ghost use Rattle.rtps_coverage.specs.BitRanges.{covered_of, is_in_row};
 ghost use Rattle.rtps_coverage.specs.Blocks.{blocks_have, group_has};
@@ -27,7 +27,18 @@ fn group_of(sets: &[&BitRanges], group: u64) -> [u64; 8]
     blocks
 }
 
-/// Where the numbers from `n` on end that its group has.
+/// Whether these blocks have all numbers of their group.
+fn is_full(blocks: &[u64; 8]) -> bool
+    ensures { IsTrue result → (n : ℕ) → group_has blocks.now n ≡ true }
+{
+    let mut all = u64::MAX;
+    for k in 0..8 {
+        all &= blocks[k];
+    }
+    all == u64::MAX
+}
+
+/// Where the numbers from `n` on end that these blocks have, which are those of its group.
 fn bits_end(blocks: &[u64; 8], n: u64) -> u64
     requires { n < 2 ^ 63 }
     ensures onward { n ≤ result }
@@ -36,6 +47,9 @@ fn bits_end(blocks: &[u64; 8], n: u64) -> u64
     ensures stops { result ≡ n → group_has blocks.now n ≡ false }
 {
     let behind = 512 * (n / 512) + 512;
+    if is_full(blocks) {
+        return behind;
+    }
     let mut end = n;
     while end < behind {
         let rest = blocks[(end / 64 % 8) as usize] >> (end % 64);
@@ -82,7 +96,7 @@ fn run_end(sets: &[&BitRanges], n: u64) -> u64
 }
 
 /// The least number from `n` on and below `limit` that none of the sets has, or `limit` where there is none. Numbers that
-/// the sets have in turns are passed 512 at once.
+/// the sets keep as bits, in turns, are passed at once as far as their group of 512 goes.
 pub fn past_together(sets: &[&BitRanges], n: u64, limit: u64) -> u64
     requires positive { 1 ≤ n }
     requires ordered { n ≤ limit }

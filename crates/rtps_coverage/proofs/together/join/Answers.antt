@@ -1,5 +1,5 @@
 use Rattle.std.proofs.Common.{subst, arith}
-use Rattle.std.proofs.Common.{◌≡◌}
+use Rattle.std.proofs.Common.{◌≡◌, subst, arith}
 use Rattle.rtps_coverage.proofs.TogetherLemmas.{AreJoined, all_joined}
 use Rattle.rtps_coverage.proofs.together.join.Goals as goal
 

@@ -12,13 +12,13 @@ returns-clause-ok c =
     on_ok c.put_bits-2.result c.put_bits-2.ensures.ok
     (λ second n past.
     second n past
-    ∙ ap (λ b. b || is_in_block (lo / 64 + 1) c.halves-first.result.1 n) (first n past)
+    ∙ ap (λ b. b || is_in_block (lo / 64 + 1) c.in_two_blocks-first.result.1 n) (first n past)
     ∙ sym (or_assoc (blocks_have c.args.self.now n) _ _)
-    ∙ ap (λ b. blocks_have c.args.self.now n || b) (c.halves-first.ensures n))
+    ∙ ap (λ b. blocks_have c.args.self.now n || b) (c.in_two_blocks-first.ensures n))
 
 pub returns-clause-below : goal.returns-clause-below
 returns-clause-below c = λ n past below.
     let lo = c.args.lo in
-    same_below c.put_bits-2.result c.args.self.now c.put_bits.new.self c.put_bits-2.new.self _ (is_in_block (lo / 64 + 1) c.halves-first.result.1 n) n
-    (c.halves-first.ensures n ∙ none_below lo c.args.bits n below) (c.in_ok-put_bits.ensures.ok n past)
+    same_below c.put_bits-2.result c.args.self.now c.put_bits.new.self c.put_bits-2.new.self _ (is_in_block (lo / 64 + 1) c.in_two_blocks-first.result.1 n) n
+    (c.in_two_blocks-first.ensures n ∙ none_below lo c.args.bits n below) (c.in_ok-put_bits.ensures.ok n past)
     (on_ok c.put_bits-2.result c.put_bits-2.ensures.ok (λ second. second n past)) c.put_bits-2.ensures.err

@@ -1,7 +1,7 @@
 use Rattle.std.proofs.Common.{◌||◌, ◌+◌, ◌*◌, ◌/◌, ◌%◌, ◌^◌, ◌∙◌, ap, arith}
 use Rattle.rtps_coverage.specs.Bits.{is_in_block}
 use Rattle.rtps_coverage.proofs.BlockLemmas.{in_two, shifted_twice}
-use Rattle.rtps_coverage.proofs.bits.halves.Goals as goal
+use Rattle.rtps_coverage.proofs.bits.in_two_blocks.Goals as goal
 
 pub returns : goal.returns
 returns c = λ n.
