@@ -15,6 +15,8 @@
                                                         participants and their entity ids are told numbers in turns
     make.py every_number|every_second FILE [MEGABYTES]  of one pair: GAPs of 256 numbers each; of every second one of them
     make.py far_apart|far_apart_random FILE [MEGABYTES] of one pair: GAPs of one number each, 1,000 apart, in order and in none
+    make.py named_breaks FILE [MEGABYTES]               of a writer whose readers hear most numbers in turns from what is for all and
+                                                        for their participant, and some of them by name
     make.py one_block FILE [MEGABYTES]                  of a writer whose 60 readers each wait for another number, and DATA for all of
                                                         them, each of the same number, which is the last
     make.py opened|disputed FILE [MEGABYTES]            of a writer whose readers each acknowledge up to another number; each hear
@@ -151,12 +153,14 @@ def datagrams(kind, octets):
         packed = (header(A) + b''.join(gaps[i:i + 900]) for i in range(0, len(gaps), 900))
         return (*announcements(1), *packed, *samples([], 256 * len(gaps)))
     if kind in ('far_apart', 'far_apart_random'):
-        numbers = [1 + 1000 * i for i in range(octets // 2 // 36)]
+        numbers = [1 + 1000 * i for i in range(octets // 2 // 32)]
         if kind == 'far_apart_random':
             random.Random(len(numbers)).shuffle(numbers)
         gaps = [gap(WRITER, number, number + 1, [], 0) for number in numbers]
         packed = (header(A) + b''.join(gaps[i:i + 900]) for i in range(0, len(gaps), 900))
         return (*announcements(1), *packed, *samples([], 1000 * len(gaps)))
+    if kind == 'named_breaks':
+        return of_named_breaks(octets)
     if kind == 'one_block':
         return of_one_block(octets)
     if kind in ('opened', 'disputed'):
@@ -248,6 +252,34 @@ def of_named_crossed(octets):
     yield header(A) + heartbeat(WRITER, 1, 256 * blocks)
     for prefix in prefixes:
         yield header(prefix) + to(A) + b''.join(ack_nack(entity, WRITER, 256 * blocks + 1) for entity in entities)
+
+
+def of_named_breaks(octets):
+    """GAPs of every second number for all readers and of the others for their participant, and some numbers for each reader by name."""
+    count = max(2, octets // 2400)
+    readers = [scattered(i) for i in range(1, count + 1)]
+    pieces = octets // 8 // 68
+    # A number stands just behind where a stride that is twice as long as the one before ends, and then every so many numbers.
+    breaks, length = [1], 1024
+    while breaks[-1] + length + 1 < 256 * pieces:
+        breaks.append(breaks[-1] + length + 1)
+        length = min(2 * length, max(8192, 256 * pieces // 16))
+    yield announced(b'\0\0\3\xc2', A, WRITER, b'')
+    for reader in readers:
+        yield announced(b'\0\0\4\xc2', B, reader, RELIABLE)
+    for bits, more in ((0xaaaaaaaa, b''), (0x55555555, to(B))):
+        words = [[bits] * 8 for _ in range(pieces)]
+        for number in breaks:
+            piece, place = divmod(number - 1, 256)
+            words[piece][place // 32] &= ~(1 << (31 - place % 32))
+        gaps = [gap(WRITER, 1 + 256 * i, 1 + 256 * i, words[i]) for i in range(pieces)]
+        for i in range(0, pieces, 900):
+            yield header(A) + more + b''.join(gaps[i:i + 900])
+    for reader in readers:
+        yield header(A) + to(B) + b''.join(gap(WRITER, number, number + 1, [], 0, reader) for number in breaks)
+    yield header(A) + heartbeat(WRITER, 1, 256 * pieces)
+    for i in range(0, count, 1000):
+        yield header(B) + to(A) + b''.join(ack_nack(reader, WRITER, 256 * pieces + 1) for reader in readers[i:i + 1000])
 
 
 def of_one_block(octets):

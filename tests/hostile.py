@@ -296,6 +296,48 @@ def numbers_in_turns(tests):
     print(f'rows of {last} numbers that readers hear in turns from all their audiences: {count} recordings of {len(NAMED)} readers')
 
 
+def lists_in_turns(tests):
+    """lists of 256 numbers that readers are told in turns, by two kinds of audiences, with long rows for all of them between"""
+    count, rng, every = 8, random.Random(46), bytes(4)
+    prefixes, entities = sorted({prefix for prefix, _ in NAMED}), sorted({entity for _, entity in NAMED})
+    groups = [[(None, every)], [(prefix, every) for prefix in prefixes], [(None, entity) for entity in entities], NAMED]
+    for place in range(count):
+        sent, number = [], 1
+        while number < 40000:
+            one, other = rng.sample(groups, 2)
+            words = [rng.getrandbits(32) for _ in range(8)]
+            for group, bits in ((one, words), (other, [word ^ 0xffffffff for word in words])):
+                for prefix, entity in group:
+                    # Now and then somebody is not told.
+                    if place < 2 or rng.random() > 0.002:
+                        sent.append(make.header(A) + (make.to(prefix) if prefix else b'') + make.gap(WRITER, number, number, bits, 256, entity))
+            number += 256
+            if rng.random() < 0.1:
+                end = number + rng.choice((1, 700, 1100, 5000))
+                sent.append(make.header(A) + make.gap(WRITER, number, end, [], 0))
+                number = end
+        sent += [make.header(A) + make.heartbeat(WRITER, 1, number - 1), *(answer_of(reader, number) for reader in NAMED)]
+        tests.agrees('lists in turns', text_of(announced_readers() + sent), ('audit', 'why'))
+    print(f'lists of 256 numbers that readers hear in turns, up to 40,000: {count} recordings of {len(NAMED)} readers')
+
+
+def numbers_of_one_block(tests):
+    """numbers of three blocks that 60 readers ask for, of which acts tell some and not the others"""
+    count, last, rng = 20, 192, random.Random(63)
+    prefixes, entities = [b'\xbb' * 12, b'\xcc' * 12, b'\xaa' * 12], [(0x104 + 256 * i).to_bytes(4, 'big') for i in range(20)]
+    readers = [(prefix, entity) for prefix in prefixes for entity in entities]
+    known = [make.announced(b'\0\0\3\xc2', A, WRITER, b'')] + [make.announced(b'\0\0\4\xc2', prefix, entity, make.RELIABLE) for prefix, entity in readers]
+    for _ in range(count):
+        sent = [some_said(rng, rng.sample(readers, 6), last) for _ in range(rng.randrange(6, 20))]
+        for prefix, entity in readers:
+            end = rng.randrange(1, last + 1)
+            sent.insert(rng.randrange(len(sent) + 1), make.header(A) + make.to(prefix) + make.gap(WRITER, 1, end, [], 0, entity))
+            sent.append(answer_of((prefix, entity), rng.choice((end, end + 1, last + 1))))
+        sent.append(make.header(A) + make.heartbeat(WRITER, 1, rng.choice((1, last))))
+        tests.agrees('numbers of one block', text_of(known + sent), ('audit', 'why'))
+    print(f'numbers of three blocks that readers ask for: {count} recordings of {len(readers)} readers')
+
+
 # Numbers about the ends of blocks of 64, up to the greatest one.
 EDGES = [middle + more for middle in (64, 128, 192, 512, 1 << 40, 1 << 62) for more in (-1, 0, 1)] + [1, 2, 300, (1 << 63) - 65, (1 << 63) - 2, (1 << 63) - 1]
 
@@ -414,5 +456,5 @@ def many_datagrams(tests):
 if __name__ == '__main__':
     sys.exit(program.main(__doc__, (cut_by_table, cut_and_changed, audits_of_changed, announced_late, octet_by_octet,
                                     empty_submessages, parameter_lists, endpoints_that_disagree, endpoints_of_one_topic,
-                                    readers_that_are_named, rows_past_what_is_named, numbers_in_turns, ends_of_blocks, topics_of_every_octet, acknowledgements,
-                                    gaps_of_many_ranges, many_datagrams)))
+                                    readers_that_are_named, rows_past_what_is_named, numbers_in_turns, lists_in_turns, numbers_of_one_block,
+                                    ends_of_blocks, topics_of_every_octet, acknowledgements, gaps_of_many_ranges, many_datagrams)))

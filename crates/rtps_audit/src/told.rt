@@ -9,9 +9,10 @@ use rtps_ids::{Guid, Memory};
 use rtps_receiver::laws::tests_say_what_relations_say;
 use std::alloc::Global;
 
-/// So many numbers are gone through at first by the sets of a reader's audiences, before what many readers share is asked again,
-/// and so many at most.
+/// So many numbers are gone through at first by the sets of a reader's audiences, before what many readers share is asked again.
 const STRIDE: u64 = 1024;
+
+/// So many numbers are gone through at most before that. A row that many readers share may lie in them, and is not found then.
 const LONGEST: u64 = 8192;
 
 /// How many numbers are gone through next: twice as many as before, up to the most; as many as at first where what many readers

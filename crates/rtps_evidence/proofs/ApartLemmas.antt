@@ -3,27 +3,17 @@ use Rattle.std.proofs.Common.{◌≡◌, ℕ, zero, suc, ◌+◌, ◌-◌, ◌/�
 use Rattle.std.specs.Prelude.{if◌then◌else◌}
 use Rattle.std.specs.Int.{bit_at}
 use Rattle.std.specs.List.{list_any}
+use Rattle.std.proofs.Math.Bool.{and-false, and-true, or-false}
 use Rattle.std.proofs.lemmas.Bool.{cases_lt, false≢true}
 use Rattle.std.proofs.lemmas.Bool.Decides.{nat_tests}
 use Rattle.std.proofs.lemmas.List.{get_or_default, get_or-drop, get_or-set_other, get_or-take, length-drop, length-set, length-take, take-append-drop, take-set, take_all}
 use Rattle.std.proofs.lemmas.Grind.{get_or-set_at}
 use Rattle.std.proofs.lemmas.List.Folds.{list_any-append, list_any_more}
 use Rattle.std.proofs.lemmas.Nat.Bits.{bit_at-lt, bit_at_and, bit_at_ones}
+use Rattle.rtps_coverage.specs.Bits.{is_in_block}
 use Rattle.rtps_evidence.specs.Apart.{AreApart, IsPlace, IsWidened, last_of}
 use Rattle.rtps_evidence.specs.Counted.{bits_of, stretch_has, stretches_have}
 use Rattle.rtps_evidence.specs.declared.stretches.Stretch.{Stretch}
-
-and_true : (a : Bool) → (a && true) ≡ a
-and_true true = refl
-and_true false = refl
-
-and_false : (a : Bool) → (a && false) ≡ false
-and_false true = refl
-and_false false = refl
-
-or_false : (a : Bool) → (a || false) ≡ a
-or_false true = refl
-or_false false = refl
 
 -- ---- one stretch
 
@@ -34,7 +24,7 @@ pub out_behind : (stretch : Stretch) (n : ℕ) → stretch.end ≤ n / 64 → st
 out_behind stretch n le =
     let late : nat_lt (n / 64) stretch.end ≡ false = grind (arith, nat_tests) in
     ap (λ b. (nat_le stretch.key (n / 64) && b) && nat_eq (bit_at (bits_of stretch) (n % 64)) 1) late
-    ∙ ap (λ b. b && nat_eq (bit_at (bits_of stretch) (n % 64)) 1) (and_false (nat_le stretch.key (n / 64)))
+    ∙ ap (λ b. b && nat_eq (bit_at (bits_of stretch) (n % 64)) 1) (and-false (nat_le stretch.key (n / 64)))
 
 -- in its blocks it has the numbers of its bits
 pub within_blocks : (stretch : Stretch) (n : ℕ) → stretch.key ≤ n / 64 → n / 64 < stretch.end → stretch_has n stretch ≡ nat_eq (bit_at (bits_of stretch) (n % 64)) 1
@@ -61,14 +51,14 @@ has_all key end n =
     let all : bits_of (record { key = key; end = end; bits = 2 ^ 64 - 1 }) ≡ 2 ^ 64 - 1 = by_test (nat_lt (key + 1) end) in
     ap (λ bits. (nat_le key (n / 64) && nat_lt (n / 64) end) && nat_eq (bit_at bits (n % 64)) 1) all
     ∙ ap (λ b. (nat_le key (n / 64) && nat_lt (n / 64) end) && nat_eq b 1) (bit_at_ones 64 (n % 64) (omega arith))
-    ∙ and_true (nat_le key (n / 64) && nat_lt (n / 64) end)
+    ∙ and-true (nat_le key (n / 64) && nat_lt (n / 64) end)
   where
     by_test : (b : Bool) → (if b then 2 ^ 64 - 1 else 2 ^ 64 - 1) ≡ 2 ^ 64 - 1
     by_test true = refl
     by_test false = refl
 
 -- one of one block has the numbers of its bits
-pub has_block : (key bits n : ℕ) → stretch_has n (record { key = key; end = key + 1; bits = bits }) ≡ (nat_eq (n / 64) key && nat_eq (bit_at bits (n % 64)) 1)
+pub has_block : (key bits n : ℕ) → stretch_has n (record { key = key; end = key + 1; bits = bits }) ≡ is_in_block key bits n
 has_block key bits n =
     let short : bits_of (record { key = key; end = key + 1; bits = bits }) ≡ bits = short_bits (record { key = key; end = key + 1; bits = bits }) (omega arith) in
     ap (λ w. (nat_le key (n / 64) && nat_lt (n / 64) (key + 1)) && nat_eq (bit_at w (n % 64)) 1) short ∙ ap (λ b. b && nat_eq (bit_at bits (n % 64)) 1) (here (n / 64))
@@ -150,7 +140,7 @@ up_to_place stretches place key n d are at some le =
     ap (λ l. stretches_have l n) (sym (take-append-drop place stretches))
     ∙ list_any-append (stretch_has n) (take place stretches) (drop place stretches)
     ∙ ap (λ b. stretches_have (take place stretches) n || b) (none_ahead stretches place key n are at le)
-    ∙ or_false (stretches_have (take place stretches) n)
+    ∙ or-false (stretches_have (take place stretches) n)
     ∙ ap (λ m. stretches_have (take m stretches) n) (sym back)
     ∙ list_any_more (stretch_has n) stretches (place - 1) d (omega arith)
 

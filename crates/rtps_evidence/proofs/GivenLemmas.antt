@@ -9,6 +9,7 @@ use Rattle.std.proofs.lemmas.Bool.{cases_eq, cases_lt, false≢true}
 use Rattle.std.proofs.lemmas.Bool.Decides.{nat_tests}
 use Rattle.std.proofs.lemmas.Nat.Bits.{bit_at-zero}
 use Rattle.rtps_coverage.specs.Bits.{is_in_block}
+use Rattle.rtps_coverage.proofs.Offered.{elsewhere_none, here_bit, no_bits}
 use Rattle.rtps_evidence.specs.Counted.{bits_of, stretch_has}
 use Rattle.rtps_evidence.specs.Firsts.{AreGiven, AreNoneWanted, is_wanted, wanted_of}
 use Rattle.rtps_evidence.specs.declared.firsts.Firsts.{Firsts}
@@ -34,19 +35,13 @@ given_as old new one other place same given = record {
 
 -- ---- the numbers of one block
 
-in_block_if : (key bits n : ℕ) → n / 64 ≡ key → is_in_block key bits n ≡ nat_eq (bit_at bits (n % 64)) 1
-in_block_if key bits n here = let test : nat_eq (n / 64) key ≡ true = grind (arith, nat_tests) in rw test refl
-
-in_block_not : (key bits n : ℕ) → n / 64 ≢ key → is_in_block key bits n ≡ false
-in_block_not key bits n other = let test : nat_eq (n / 64) key ≡ false = grind (arith, nat_tests) in rw test refl
-
 -- those that are wanted and whose bits are set
 pub met : (firsts : Firsts) (key block bits n : ℕ) → block ≡ wanted_of firsts.wanted key → is_in_block key (bit_and block bits) n ≡ (is_wanted firsts n && is_in_block key bits n)
 met firsts key block bits n is = elim (cases_eq (n / 64) key) [
   | inl here ↦
       let wanted : is_wanted firsts n ≡ nat_eq (bit_at block (n % 64)) 1 = ap (λ k. nat_eq (bit_at (wanted_of firsts.wanted k) (n % 64)) 1) here ∙ ap (λ w. nat_eq (bit_at w (n % 64)) 1) (sym is) in
-      in_block_if key (bit_and block bits) n here ∙ both_bits block bits (n % 64) ∙ ap (λ b. b && nat_eq (bit_at bits (n % 64)) 1) (sym wanted) ∙ ap (λ b. is_wanted firsts n && b) (sym (in_block_if key bits n here))
-  | inr other ↦ in_block_not key (bit_and block bits) n other ∙ sym (and-false (is_wanted firsts n)) ∙ ap (λ b. is_wanted firsts n && b) (sym (in_block_not key bits n other))
+      here_bit key (bit_and block bits) n here ∙ both_bits block bits (n % 64) ∙ ap (λ b. b && nat_eq (bit_at bits (n % 64)) 1) (sym wanted) ∙ ap (λ b. is_wanted firsts n && b) (sym (here_bit key bits n here))
+  | inr other ↦ elsewhere_none key (bit_and block bits) n other ∙ sym (and-false (is_wanted firsts n)) ∙ ap (λ b. is_wanted firsts n && b) (sym (elsewhere_none key bits n other))
 ]
 
 -- and those that are left
@@ -59,21 +54,18 @@ left_over old new key block bits n fits is kept = elim (cases_eq (n / 64) key) [
       let now : wanted_of new.wanted (n / 64) ≡ bit_and block (bit_not w64 bits) = kept (n / 64) ∙ ap (λ b. if b then bit_and block (bit_not w64 bits) else wanted_of old.wanted (n / 64)) test in
       let wanted : is_wanted old n ≡ nat_eq (bit_at block (n % 64)) 1 = ap (λ k. nat_eq (bit_at (wanted_of old.wanted k) (n % 64)) 1) here ∙ ap (λ w. nat_eq (bit_at w (n % 64)) 1) (sym is) in
       ap (λ w. nat_eq (bit_at w (n % 64)) 1) now ∙ other_bits block bits (n % 64) fits (omega arith)
-      ∙ ap (λ b. b && not (nat_eq (bit_at bits (n % 64)) 1)) (sym wanted) ∙ ap (λ b. is_wanted old n && not b) (sym (in_block_if key bits n here))
+      ∙ ap (λ b. b && not (nat_eq (bit_at bits (n % 64)) 1)) (sym wanted) ∙ ap (λ b. is_wanted old n && not b) (sym (here_bit key bits n here))
   | inr other ↦
       let test : nat_eq (n / 64) key ≡ false = grind (arith, nat_tests) in
       let now : wanted_of new.wanted (n / 64) ≡ wanted_of old.wanted (n / 64) = kept (n / 64) ∙ ap (λ b. if b then bit_and block (bit_not w64 bits) else wanted_of old.wanted (n / 64)) test in
-      ap (λ w. nat_eq (bit_at w (n % 64)) 1) now ∙ sym (and-true (is_wanted old n)) ∙ ap (λ b. is_wanted old n && not b) (sym (in_block_not key bits n other))
+      ap (λ w. nat_eq (bit_at w (n % 64)) 1) now ∙ sym (and-true (is_wanted old n)) ∙ ap (λ b. is_wanted old n && not b) (sym (elsewhere_none key bits n other))
 ]
 
 -- a block of which none is both
 pub none_met : (firsts : Firsts) (key block bits place : ℕ) → block ≡ wanted_of firsts.wanted key → bit_and block bits ≡ 0 → AreGiven (is_in_block key bits) place firsts firsts
 none_met firsts key block bits place is none =
-    given_as firsts firsts (λ n. false) (is_in_block key bits) place (λ n wanted. alike (is_wanted firsts n) (is_in_block key bits n) wanted (sym (met firsts key block bits n is) ∙ ap (λ w. is_in_block key w n) none ∙ no_bits n)) (none_given firsts place)
+    given_as firsts firsts (λ n. false) (is_in_block key bits) place (λ n wanted. alike (is_wanted firsts n) (is_in_block key bits n) wanted (sym (met firsts key block bits n is) ∙ ap (λ w. is_in_block key w n) none ∙ no_bits key n)) (none_given firsts place)
   where
-    no_bits : (n : ℕ) → is_in_block key 0 n ≡ false
-    no_bits n = ap (λ w. nat_eq (n / 64) key && nat_eq w 1) (bit_at-zero (n % 64)) ∙ and-false (nat_eq (n / 64) key)
-
     alike : (a b : Bool) → a ≡ true → (a && b) ≡ false → false ≡ b
     alike true b w e = sym e
     alike false b w e = cc
@@ -86,13 +78,13 @@ is_noted key bits i n = is_in_block key bits n && nat_lt n (64 * key + i)
 pub none_noted : (key bits n : ℕ) → is_noted key bits 0 n ≡ false
 none_noted key bits n = elim (cases_eq (n / 64) key) [
   | inl here ↦ let test : nat_lt n (64 * key + 0) ≡ false = grind (arith, nat_tests) in ap (λ b. is_in_block key bits n && b) test ∙ and-false (is_in_block key bits n)
-  | inr other ↦ ap (λ b. b && nat_lt n (64 * key + 0)) (in_block_not key bits n other)
+  | inr other ↦ ap (λ b. b && nat_lt n (64 * key + 0)) (elsewhere_none key bits n other)
 ]
 
 pub all_noted : (key bits n : ℕ) → is_noted key bits 64 n ≡ is_in_block key bits n
 all_noted key bits n = elim (cases_eq (n / 64) key) [
   | inl here ↦ let test : nat_lt n (64 * key + 64) ≡ true = grind (arith, nat_tests) in ap (λ b. is_in_block key bits n && b) test ∙ and-true (is_in_block key bits n)
-  | inr other ↦ ap (λ b. b && nat_lt n (64 * key + 64)) (in_block_not key bits n other) ∙ sym (in_block_not key bits n other)
+  | inr other ↦ ap (λ b. b && nat_lt n (64 * key + 64)) (elsewhere_none key bits n other) ∙ sym (elsewhere_none key bits n other)
 ]
 
 -- a number but that of the bit
@@ -108,7 +100,7 @@ noted_here key bits i n few at =
     let here : n / 64 ≡ key = omega arith in
     let place : n % 64 ≡ i = omega arith in
     let test : nat_lt n (64 * key + (i + 1)) ≡ true = grind (arith, nat_tests) in
-    ap (λ b. is_in_block key bits n && b) test ∙ and-true (is_in_block key bits n) ∙ in_block_if key bits n here ∙ ap (λ k. nat_eq (bit_at bits k) 1) place
+    ap (λ b. is_in_block key bits n && b) test ∙ and-true (is_in_block key bits n) ∙ here_bit key bits n here ∙ ap (λ k. nat_eq (bit_at bits k) 1) place
 
 pub noted_clear : (key bits i n : ℕ) → i < 64 → bit_at bits i ≢ 1 → is_noted key bits i n ≡ is_noted key bits (i + 1) n
 noted_clear key bits i n few clear = elim (cases_eq n (64 * key + i)) [
@@ -209,7 +201,7 @@ one_below old mid new stretch at key bits place is from onward within none befor
       | inl lt ↦
           let one : nat_lt (n / 64) at ≡ true = grind (arith, nat_tests) in
           let other : nat_lt (n / 64) (key + 1) ≡ true = grind (arith, nat_tests) in
-          ap (λ b. is_below stretch at n || b) (in_block_not key bits n (λ e. absurd (omega arith))) ∙ or-false (is_below stretch at n) ∙ ap (λ b. stretch_has n stretch && b) (one ∙ sym other)
+          ap (λ b. is_below stretch at n || b) (elsewhere_none key bits n (λ e. absurd (omega arith))) ∙ or-false (is_below stretch at n) ∙ ap (λ b. stretch_has n stretch && b) (one ∙ sym other)
       | inr ge ↦
           let late : nat_lt (n / 64) at ≡ false = grind (arith, nat_tests) in
           let out : is_below stretch at n ≡ false = ap (λ b. stretch_has n stretch && b) late ∙ and-false (stretch_has n stretch) in
@@ -218,10 +210,10 @@ one_below old mid new stretch at key bits place is from onward within none befor
             | inr past ↦ elim (cases_eq (n / 64) key) [
               | inl here ↦
                   let test : nat_lt (n / 64) (key + 1) ≡ true = grind (arith, nat_tests) in
-                  in_block_if key bits n here ∙ sym (ap (λ b. stretch_has n stretch && b) test ∙ and-true (stretch_has n stretch) ∙ has_here n here)
+                  here_bit key bits n here ∙ sym (ap (λ b. stretch_has n stretch && b) test ∙ and-true (stretch_has n stretch) ∙ has_here n here)
               | inr behind ↦
                   let test : nat_lt (n / 64) (key + 1) ≡ false = grind (arith, nat_tests) in
-                  in_block_not key bits n behind ∙ sym (ap (λ b. stretch_has n stretch && b) test ∙ and-false (stretch_has n stretch))
+                  elsewhere_none key bits n behind ∙ sym (ap (λ b. stretch_has n stretch && b) test ∙ and-false (stretch_has n stretch))
             ]
           ]
     ]

@@ -1,32 +1,16 @@
 -- How a stretch joins others: at the end of a list, and in order.
 use Rattle.std.proofs.Common.{◌≡◌, ℕ, ◌+◌, ◌-◌, ◌/◌, ◌%◌, ◌<◌, ◌≤◌, Bool, true, false, refl, sym, ap, subst, ◌∙◌, arith, ◌||◌, ◌&&◌, nat_eq, nat_le, nat_lt, max, List, [], ◌∷◌, ◌++◌, length, inl, inr, take, get_or, bit_or}
 use Rattle.std.specs.Int.{bit_at}
+use Rattle.std.proofs.Math.Bool.{and-false, and-true, or-false, or-true}
 use Rattle.std.proofs.lemmas.Bool.{cases_lt, eqb-true, false≢true, le-ltb, lt-ltb, ltb-true}
 use Rattle.std.proofs.lemmas.Bool.Decides.{nat_tests}
 use Rattle.std.proofs.lemmas.List.{get_or_append_left, get_or_default, get_or_push, length_push}
-use Rattle.std.proofs.lemmas.Nat.Bits.{bit_at-lt, bit_at_or}
-use Rattle.rtps_coverage.proofs.Offered.{max_or}
+use Rattle.rtps_coverage.proofs.Offered.{either_bit}
 use Rattle.rtps_evidence.specs.Apart.{AreApart, IsFullFrom, IsJoined, IsJoinedNear, IsWidened, last_of}
 use Rattle.rtps_evidence.specs.Counted.{bits_of, stretch_has, stretches_have}
 use Rattle.rtps_evidence.specs.declared.stretches.Stretch.{Stretch}
 use Rattle.rtps_evidence.proofs.ApartLemmas.{all_before, all_of_long, all_widened, is_within, long_bits, out_below, out_behind, same_blocks, same_length, short_bits, within_blocks}
 use Rattle.rtps_evidence.proofs.StretchLemmas.{has_pushed, or_assoc}
-
-and_true : (a : Bool) → (a && true) ≡ a
-and_true true = refl
-and_true false = refl
-
-and_false : (a : Bool) → (a && false) ≡ false
-and_false true = refl
-and_false false = refl
-
-or_true : (a : Bool) → (a || true) ≡ true
-or_true true = refl
-or_true false = refl
-
-or_false : (a : Bool) → (a || false) ≡ a
-or_false true = refl
-or_false false = refl
 
 -- two tests that pass alike
 alike : (a b : Bool) → (a ≡ true → b ≡ true) → (b ≡ true → a ≡ true) → a ≡ b
@@ -48,7 +32,7 @@ both true b e = (refl, e)
 both false b e = absurd (false≢true e)
 
 right : (a b : Bool) → b ≡ true → (a || b) ≡ true
-right a b e = ap (λ c. a || c) e ∙ or_true a
+right a b e = ap (λ c. a || c) e ∙ or-true a
 
 -- what the test of the last stretch says
 pub beside_all : (length key other end last : ℕ) → (nat_lt 0 length && (nat_eq key other && nat_eq end last)) ≡ true → (0 < length) × (key ≡ other) × (end ≡ last)
@@ -58,9 +42,6 @@ beside_all length key other end last is =
     (ltb-true 0 length some.0, eqb-true key other ends.0, eqb-true end last ends.1)
 
 -- ---- bits that are set in a stretch
-
-pub set_too : (a b k : ℕ) → nat_eq (bit_at (bit_or a b) k) 1 ≡ (nat_eq (bit_at a k) 1 || nat_eq (bit_at b k) 1)
-set_too a b k = ap (λ w. nat_eq w 1) (bit_at_or a b k) ∙ max_or (bit_at a k) (bit_at b k) (bit_at-lt a k) (bit_at-lt b k)
 
 abbrev pub wider : Stretch → ℕ → Stretch
 wider stretch bits = record { key = stretch.key; end = stretch.end; bits = bit_or stretch.bits bits }
@@ -75,7 +56,7 @@ wider_short : (stretch : Stretch) (bits n : ℕ) → stretch.end ≤ stretch.key
 wider_short stretch bits n short from to =
     within_blocks (wider stretch bits) n from to
     ∙ ap (λ w. nat_eq (bit_at w (n % 64)) 1) (short_bits (wider stretch bits) short)
-    ∙ set_too stretch.bits bits (n % 64)
+    ∙ either_bit stretch.bits bits (n % 64)
     ∙ ap (λ w. nat_eq (bit_at w (n % 64)) 1 || nat_eq (bit_at bits (n % 64)) 1) (sym (short_bits stretch short))
     ∙ ap (λ b. b || nat_eq (bit_at bits (n % 64)) 1) (sym (within_blocks stretch n from to))
 
@@ -174,7 +155,7 @@ module _ (old middle : List Stretch) (stretch : Stretch) (are : AreApart old) (f
                 let under : nat_lt (n / 64) reached ≡ true = lt-ltb (n / 64) reached to in
                 either (stretch_has n last) (nat_eq (bit_at (bits_of stretch) (n % 64)) 1) ((stretches_have old n || near n) ≡ true)
                 (λ e. left (stretches_have old n) (near n) (was n e))
-                (λ e. right (stretches_have old n) (near n) (ap (λ b. stretch_has n stretch && b) under ∙ and_true (stretch_has n stretch) ∙ within_blocks stretch n (omega arith) (omega arith) ∙ e))
+                (λ e. right (stretches_have old n) (near n) (ap (λ b. stretch_has n stretch && b) under ∙ and-true (stretch_has n stretch) ∙ within_blocks stretch n (omega arith) (omega arith) ∙ e))
                 (sym (wider_short last (bits_of stretch) n short from to) ∙ has)
           ]
         ]
@@ -258,12 +239,12 @@ module _ (old middle : List Stretch) (stretch : Stretch) (are : AreApart old) (f
 
   -- where the last one ends before the stretch
   middle_kept : reached ≤ stretch.key → (n : ℕ) → stretches_have old n ≡ (stretches_have old n || near n)
-  middle_kept le n = sym (ap (λ b. stretches_have old n || b) (none n) ∙ or_false (stretches_have old n))
+  middle_kept le n = sym (ap (λ b. stretches_have old n || b) (none n) ∙ or-false (stretches_have old n))
     where
       none : (n : ℕ) → near n ≡ false
       none n = elim (cases_lt (n / 64) stretch.key) [
         | inl lt ↦ ap (λ b. b && nat_lt (n / 64) reached) (out_below stretch n lt)
-        | inr ge ↦ ap (λ b. stretch_has n stretch && b) (le-ltb (n / 64) reached (omega arith)) ∙ and_false (stretch_has n stretch)
+        | inr ge ↦ ap (λ b. stretch_has n stretch && b) (le-ltb (n / 64) reached (omega arith)) ∙ and-false (stretch_has n stretch)
       ]
 
   pub near_kept : reached ≤ stretch.key → middle ≡ old → IsJoinedNear old middle stretch
@@ -287,7 +268,7 @@ module _ (old middle : List Stretch) (stretch : Stretch) (are : AreApart old) (f
     rest_has left_over n = elim (cases_lt (n / 64) (max stretch.key reached)) [
       | inl lt ↦ out_below rest n lt ∙ sym (elim (cases_lt (n / 64) stretch.key) [
         | inl early ↦ ap (λ b. b && nat_le reached (n / 64)) (out_below stretch n early)
-        | inr from ↦ let under : nat_le reached (n / 64) ≡ false = grind (arith, nat_tests) in ap (λ b. stretch_has n stretch && b) under ∙ and_false (stretch_has n stretch)
+        | inr from ↦ let under : nat_le reached (n / 64) ≡ false = grind (arith, nat_tests) in ap (λ b. stretch_has n stretch && b) under ∙ and-false (stretch_has n stretch)
       ])
       | inr from ↦ elim (cases_lt (n / 64) stretch.end) [
         | inr ge ↦ out_behind rest n ge ∙ sym (ap (λ b. b && nat_le reached (n / 64)) (out_behind stretch n ge))
@@ -296,7 +277,7 @@ module _ (old middle : List Stretch) (stretch : Stretch) (are : AreApart old) (f
             within_blocks rest n from to
             ∙ ap (λ w. nat_eq (bit_at w (n % 64)) 1) same_bits
             ∙ sym (within_blocks stretch n (omega arith) to)
-            ∙ sym (ap (λ b. stretch_has n stretch && b) over ∙ and_true (stretch_has n stretch))
+            ∙ sym (ap (λ b. stretch_has n stretch && b) over ∙ and-true (stretch_has n stretch))
       ]
     ]
       where
@@ -310,7 +291,7 @@ module _ (old middle : List Stretch) (stretch : Stretch) (are : AreApart old) (f
     none_far le n = elim (cases_lt (n / 64) stretch.end) [
       | inl lt ↦ elim (cases_lt (n / 64) stretch.key) [
         | inl early ↦ sym (ap (λ b. b && nat_le reached (n / 64)) (out_below stretch n early))
-        | inr from ↦ let under : nat_le reached (n / 64) ≡ false = grind (arith, nat_tests) in sym (ap (λ b. stretch_has n stretch && b) under ∙ and_false (stretch_has n stretch))
+        | inr from ↦ let under : nat_le reached (n / 64) ≡ false = grind (arith, nat_tests) in sym (ap (λ b. stretch_has n stretch && b) under ∙ and-false (stretch_has n stretch))
       ]
       | inr ge ↦ sym (ap (λ b. b && nat_le reached (n / 64)) (out_behind stretch n ge))
     ]
@@ -321,7 +302,7 @@ module _ (old middle : List Stretch) (stretch : Stretch) (are : AreApart old) (f
       full = λ behind n from to.
           let old_full = full (omega arith) n from (omega arith) in
           has n ∙ left (stretches_have old n) (near n) old_full;
-      joined = λ n. sym (or_false (stretches_have middle n)) ∙ whole n false (none_far le n);
+      joined = λ n. sym (or-false (stretches_have middle n)) ∙ whole n false (none_far le n);
     }
 
     abbrev more : List Stretch
@@ -365,7 +346,7 @@ pub joined_none : (old : List Stretch) (stretch : Stretch) → AreApart old → 
 joined_none old stretch are full none = record {
   apart = are;
   full = full;
-  joined = λ n. sym (ap (λ b. stretches_have old n || b) (nowhere n) ∙ or_false (stretches_have old n));
+  joined = λ n. sym (ap (λ b. stretches_have old n || b) (nowhere n) ∙ or-false (stretches_have old n));
 }
   where
     nowhere : (n : ℕ) → stretch_has n stretch ≡ false

@@ -3,6 +3,7 @@ use Rattle.std.proofs.Common.{◌≡◌, ℕ, ◌+◌, ◌-◌, ◌*◌, ◌/◌
 use Rattle.std.specs.Int.{bit_at, bit_not}
 use Rattle.std.specs.Int.Count.{ones}
 use Rattle.std.specs.List.Sorted.{IsNonDecreasingBy, IsPartitionPoint}
+use Rattle.std.proofs.Math.Bool.{and-false, and-true, or-false}
 use Rattle.std.proofs.lemmas.Bool.{cases_lt, leb-false, leb-true}
 use Rattle.std.proofs.lemmas.Bool.Decides.{nat_tests}
 use Rattle.std.proofs.lemmas.List.{get_or_append_left, get_or_default, get_or-map, get_or_push, length-map, length_push, length-take-le, map-append, take_more}
@@ -16,14 +17,6 @@ use Rattle.rtps_evidence.specs.declared.ranked.Rank.{Rank}
 use Rattle.rtps_evidence.specs.declared.stretches.Stretch.{Stretch}
 use Rattle.rtps_evidence.proofs.ApartLemmas.{all_of_long, at_place, is_within, none_before, none_up_to, out_behind, out_below, up_to_place, within_blocks}
 use Rattle.rtps_evidence.proofs.CountLemmas.{count_all, count_empty, count_none, count_others, count_part, count_rest, count_same, count_split, count_within}
-
-and_true : (a : Bool) → (a && true) ≡ a
-and_true true = refl
-and_true false = refl
-
-and_false : (a : Bool) → (a && false) ≡ false
-and_false true = refl
-and_false false = refl
 
 -- ---- counts
 
@@ -101,14 +94,14 @@ pub count_all_long : (stretch : Stretch) (lo hi first behind : ℕ) → stretch.
 count_all_long stretch lo hi first behind long small first_is behind_is =
     sym (count_all (λ n. true) first behind (λ n a b. refl))
     ∙ sym (count_long (λ n. true) stretch lo hi first behind long small first_is behind_is)
-    ∙ count_same (λ n. stretch_has n stretch && true) (λ n. stretch_has n stretch) lo hi (λ n a b. and_true (stretch_has n stretch))
+    ∙ count_same (λ n. stretch_has n stretch && true) (λ n. stretch_has n stretch) lo hi (λ n a b. and-true (stretch_has n stretch))
 
 pub count_all_short : (stretch : Stretch) (lo hi bits : ℕ) → stretch.end ≤ stretch.key + 1 → bits < 2 ^ 64
     → ((n : ℕ) → n / 64 ≡ stretch.key → nat_eq (bit_at bits (n % 64)) 1 ≡ (stretch_has n stretch && (nat_le lo n && nat_lt n hi)))
     → ones bits ≡ count_in (λ n. stretch_has n stretch) lo hi
 count_all_short stretch lo hi bits short fits is =
-    sym (count_short (λ n. true) stretch lo hi bits short fits (λ n here. is n here ∙ ap (λ c. c && (nat_le lo n && nat_lt n hi)) (sym (and_true (stretch_has n stretch)))))
-    ∙ count_same (λ n. stretch_has n stretch && true) (λ n. stretch_has n stretch) lo hi (λ n a b. and_true (stretch_has n stretch))
+    sym (count_short (λ n. true) stretch lo hi bits short fits (λ n here. is n here ∙ ap (λ c. c && (nat_le lo n && nat_lt n hi)) (sym (and-true (stretch_has n stretch)))))
+    ∙ count_same (λ n. stretch_has n stretch && true) (λ n. stretch_has n stretch) lo hi (λ n a b. and-true (stretch_has n stretch))
 
 -- the bits of a part that are not of another
 pub other_bits : (a b k : ℕ) → b < 2 ^ 64 → k < 64 → nat_eq (bit_at (bit_and a (bit_not w64 b)) k) 1 ≡ (nat_eq (bit_at a k) 1 && not (nat_eq (bit_at b k) 1))
@@ -132,8 +125,8 @@ count_others_short general stretch lo hi part shared short fits_part fits_shared
     ∙ turned (stretch_has n stretch) (nat_le lo n && nat_lt n hi) (not (general n))))
   where
     turned : (a b c : Bool) → ((a && b) && c) ≡ ((a && c) && b)
-    turned true true c = sym (and_true c)
-    turned true false c = sym (and_false c)
+    turned true true c = sym (and-true c)
+    turned true false c = sym (and-false c)
     turned false b c = refl
 
 -- ---- stretches in order
@@ -152,11 +145,7 @@ module _ (general : ℕ → Bool) (stretches : List Stretch) (i lo hi : ℕ) (d 
       or_same : (c : Bool) → (c || c) ≡ c
       or_same true = refl
       or_same false = refl
-  each true false c = sym (or_false c)
-    where
-      or_false : (c : Bool) → (c || false) ≡ c
-      or_false true = refl
-      or_false false = refl
+  each true false c = sym (or-false c)
   each false b c = refl
 
   apart : (n : ℕ) → besides (besides general before) (besides general one) n ≡ besides general one n
@@ -165,7 +154,7 @@ module _ (general : ℕ → Bool) (stretches : List Stretch) (i lo hi : ℕ) (d 
       by_test : (t : Bool) → one n ≡ t → ((one n && not (general n)) && not (before n && not (general n))) ≡ (one n && not (general n))
       by_test true e =
           let within = is_within (get_or stretches i d) n e in
-          ap (λ b. (one n && not (general n)) && not (b && not (general n))) (none_before stretches i n d are lt within.from) ∙ and_true (one n && not (general n))
+          ap (λ b. (one n && not (general n)) && not (b && not (general n))) (none_before stretches i n d are lt within.from) ∙ and-true (one n && not (general n))
       by_test false e = ap (λ b. (b && not (general n)) && not (before n && not (general n))) e ∙ sym (ap (λ b. b && not (general n)) e)
 
   pub count_next : count_in (besides general (λ n. stretches_have (take i stretches) n || stretch_has n (get_or stretches i d))) lo hi
@@ -257,7 +246,7 @@ below_none general has end ranks place x is at first = count_none (besides gener
 
 -- of those that are not counted besides others
 pub besides_nothing : (has : ℕ → Bool) (lo hi : ℕ) → count_in (besides nothing has) lo hi ≡ count_in has lo hi
-besides_nothing has lo hi = count_same (besides nothing has) has lo hi (λ n a b. and_true (has n))
+besides_nothing has lo hi = count_same (besides nothing has) has lo hi (λ n a b. and-true (has n))
 
 -- the numbers of a block
 pub block_at : (general has : ℕ → Bool) (end : ℕ) (ranks : List Rank) (place key n : ℕ) (d : Rank) → AreRanks general has end ranks → IsPlace (ranked ranks) key place → 0 < place → place ≤ length ranks → n / 64 ≡ key

@@ -2,19 +2,17 @@
 use Rattle.std.proofs.Common.{◌≡◌, ℕ, ◌+◌, ◌-◌, ◌*◌, ◌/◌, ◌%◌, ◌^◌, ◌<◌, Bool, true, false, ◌&&◌, ◌||◌, nat_eq, nat_le, nat_lt, max, min, List, [], ◌∷◌, ◌++◌, ap, ◌∙◌, refl, arith, inl, inr}
 use Rattle.std.specs.Int.{bit_at}
 use Rattle.std.specs.List.{list_any}
+use Rattle.std.proofs.Math.Bool.{and-false, or-false}
 use Rattle.std.proofs.lemmas.Bool.{cases_lt}
 use Rattle.std.proofs.lemmas.Bool.Decides.{nat_tests}
 use Rattle.std.proofs.lemmas.List.Folds.{list_any-append}
+use Rattle.rtps_coverage.specs.Bits.{is_in_block}
 use Rattle.rtps_evidence.specs.Counted.{stretch_has, stretches_have}
 use Rattle.rtps_evidence.specs.declared.stretches.Stretch.{Stretch}
 
 -- a stretch more
 pub has_pushed : (old new : List Stretch) (stretch : Stretch) (n : ℕ) → new ≡ old ++ stretch ∷ [] → stretches_have new n ≡ (stretches_have old n || stretch_has n stretch)
-has_pushed old new stretch n is = ap (list_any (stretch_has n)) is ∙ list_any-append (stretch_has n) old (stretch ∷ []) ∙ ap (λ b. stretches_have old n || b) (or_false (stretch_has n stretch))
-  where
-    or_false : (b : Bool) → (b || false) ≡ b
-    or_false true = refl
-    or_false false = refl
+has_pushed old new stretch n is = ap (list_any (stretch_has n)) is ∙ list_any-append (stretch_has n) old (stretch ∷ []) ∙ ap (λ b. stretches_have old n || b) (or-false (stretch_has n stretch))
 
 pub or_assoc : (a b c : Bool) → ((a || b) || c) ≡ (a || (b || c))
 or_assoc true b c = refl
@@ -23,7 +21,7 @@ or_assoc false b c = refl
 -- ---- the numbers of a range
 
 -- those of a block, by its bits
-pub block_part : (key bits n : ℕ) (within : Bool) → (n / 64 ≡ key → nat_eq (bit_at bits (n % 64)) 1 ≡ within) → (nat_eq (n / 64) key && nat_eq (bit_at bits (n % 64)) 1) ≡ (nat_eq (n / 64) key && within)
+pub block_part : (key bits n : ℕ) (within : Bool) → (n / 64 ≡ key → nat_eq (bit_at bits (n % 64)) 1 ≡ within) → is_in_block key bits n ≡ (nat_eq (n / 64) key && within)
 block_part key bits n within is = elim (cases_lt (n / 64) key) [
   | inl lt ↦ let other : nat_eq (n / 64) key ≡ false = grind (arith, nat_tests) in rw other refl
   | inr ge ↦ elim (cases_lt key (n / 64)) [
@@ -73,12 +71,8 @@ range_parts false lo hi whole first end n whole_is first_is end_is small = elim 
     none false true = refl
     none false false = refl
 
-    and_false : (x : Bool) → (x && false) ≡ false
-    and_false true = refl
-    and_false false = refl
-
     gone : (x b c y d : Bool) → (((x && (b && false)) || (c && false)) || (y && (d && false))) ≡ (b && false)
-    gone x b c y d = rw (and_false b, and_false c, and_false d) (rw (and_false x, and_false y) refl)
+    gone x b c y d = rw (and-false b, and-false c, and-false d) (rw (and-false x, and-false y) refl)
 
     second : (x z : Bool) → ((x || true) || z) ≡ true
     second true z = refl

@@ -1,6 +1,6 @@
 -- Which act has the first word for a number. own: the numbers that are asked for are known before the acts are gone through, so
 -- that these are gone through once. DDSI-RTPS 2.5, 8.3.8.2 "Data", 8.3.8.4 "Gap" and 8.3.8.6 "Heartbeat".
-use Rattle.std.specs.Prelude.{ℕ, ◌≡◌, ◌<◌, ◌≤◌, ◌/◌, ◌%◌, ◌&&◌, Bool, true, if◌then◌else◌, nat_eq, not, length, List, Some, IfSome, unwrap_or}
+use Rattle.std.specs.Prelude.{ℕ, ◌≡◌, ◌≢◌, ◌<◌, ◌≤◌, ◌/◌, ◌%◌, ◌&&◌, Bool, true, if◌then◌else◌, nat_eq, not, length, List, Some, IfSome, unwrap_or}
 use Rattle.std.specs.Int.{bit_at}
 use Rattle.std.specs.BTreeMap.{BTreeMap, get}
 use Rattle.std.specs.List.{position_or_len}
@@ -23,6 +23,13 @@ is_wanted firsts n = nat_eq (bit_at (wanted_of firsts.wanted (n / 64)) (n % 64))
 -- no number of the blocks from the one on and below the other is wanted
 abbrev pub AreNoneWanted : BTreeMap ℕ ℕ → ℕ → ℕ → Type 0
 AreNoneWanted wanted key end = (other : ℕ) → key ≤ other → other < end → wanted_of wanted other ≡ 0
+
+-- the first block from the one on and below the other that has wanted numbers
+pub record IsFirstWanted (wanted : BTreeMap ℕ ℕ) (key end first : ℕ) : Type 0 where
+  pub from : key ≤ first
+  pub below : first < end
+  pub some : wanted_of wanted first ≢ 0
+  pub before : AreNoneWanted wanted key first
 
 -- what is kept of the acts so far: of a number that is wanted, none has it, and of one that is found, the first that has it
 -- stands at the place

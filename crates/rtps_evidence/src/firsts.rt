@@ -1,4 +1,4 @@
-ghost use Rattle.std.specs.Prelude.{ℕ, ◌≡◌, ◌≤◌, ◌<◌, ◌^◌, None};
+ghost use Rattle.std.specs.Prelude.{ℕ, ◌≡◌, ◌≢◌, ◌≤◌, ◌<◌, ◌^◌, None, Some};
 ghost use Rattle.std.specs.BTreeMap.{get};
 ghost use Rattle.std.specs.Ordering.{nat_cmp};
 
@@ -15,17 +15,16 @@ pub(crate) struct Firsts {
     /// The places of the acts that had, by number.
     pub(crate) found: BTreeMap<u64, usize>,
     ghost fit: { (key : ℕ) → 2 ^ 58 ≤ key → get nat_cmp wanted key ≡ None },
+    ghost some: { (key : ℕ) → get nat_cmp wanted key ≢ Some 0 },
 }
 
 impl Firsts {
-    ghost use Rattle.std.specs.Prelude.{◌&&◌, ◌+◌, ◌==◌, [], Bool, if◌then◌else◌, length, IfOk, IfSome, List, MatchOption, OnOk, Some};
-    ghost use Rattle.std.specs.Int.{bit_at};
-    ghost use Rattle.std.specs.Int.RustNames.{bit_or};
+    ghost use Rattle.std.specs.Prelude.{◌==◌, [], Bool, if◌then◌else◌, length, IfSome, List, MatchOption, OnOk};
     ghost use Rattle.std.specs.List.{position_or_len};
     ghost use Rattle.rtps_coverage.specs.Bits.{is_in_block};
     ghost use Rattle.rtps_audit.specs.Placed.{PlacedValue};
     ghost use Rattle.rtps_evidence.specs.Counted.{stretch_has, stretches_have};
-    ghost use Rattle.rtps_evidence.specs.Firsts.{AreFirsts, AreGiven, AreNoneWanted, wanted_of};
+    ghost use Rattle.rtps_evidence.specs.Firsts.{AreFirsts, AreGiven, AreNoneWanted, IsFirstWanted, wanted_of};
 
     /// Nothing is asked for.
     pub(crate) fn new(alloc: Global) -> Self
@@ -92,10 +91,10 @@ impl Firsts {
         self.keep(key, block & !bits)
     }
 
-    /// The first block from `key` on and below `end` that has wanted numbers.
+    /// The key of the first block from `key` on and below `end` that has wanted numbers.
     fn first_block(&self, key: u64, end: u64) -> Option<u64>
         requires { key < end }
-        ensures { MatchOption result (AreNoneWanted self.now.wanted key end) (λ first. (key ≤ first) × (first < end) × AreNoneWanted self.now.wanted key first) }
+        ensures { MatchOption result (AreNoneWanted self.now.wanted key end) (IsFirstWanted self.now.wanted key end) }
     {
         let (first, _) = self.wanted.range(key..end).next()?;
         Some(*first)

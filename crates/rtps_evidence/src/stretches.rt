@@ -1,4 +1,4 @@
-ghost use Rattle.std.specs.Prelude.{ℕ, ◌≡◌, ◌==◌, ◌≤◌, ◌<◌, ◌+◌, ◌/◌, ◌%◌, ◌^◌, ◌&&◌, ◌||◌, nat_eq, nat_le, nat_lt, length, IsTrue, OnOk};
+ghost use Rattle.std.specs.Prelude.{ℕ, ◌≡◌, ◌==◌, ◌≤◌, ◌<◌, ◌+◌, ◌/◌, ◌%◌, ◌^◌, ◌&&◌, ◌||◌, nat_eq, nat_le, nat_lt, length, OnOk};
 ghost use Rattle.std.specs.Int.{bit_at};
 ghost use Rattle.rtps_ids.specs.NumberSet.{is_member};
 ghost use Rattle.rtps_coverage.specs.Bits.{is_bit_from, is_in_block};
@@ -6,7 +6,7 @@ ghost use Rattle.rtps_audit.specs.Speech.{is_in_gap};
 ghost use Rattle.rtps_evidence.specs.Apart.{IsWidened, last_of};
 ghost use Rattle.rtps_evidence.specs.Counted.{stretch_has, stretches_have};
 
-use rtps_coverage::{bits_within, halves};
+use rtps_coverage::{bits_within, in_two_blocks};
 use rtps_ids::laws::bits_up_to_the_count_are_kept;
 use rtps_ids::{Memory, NumberSet};
 use rtps_wire::GapBody;
@@ -21,7 +21,7 @@ pub(crate) struct Stretch {
 }
 
 impl Stretch {
-    ghost use Rattle.std.specs.Prelude.{◌-◌, ◌*◌, min, max, false, true, MatchOption};
+    ghost use Rattle.std.specs.Prelude.{◌-◌, ◌*◌, min, max};
     ghost use Rattle.rtps_evidence.specs.Counted.{bits_of, count_in, stretch_has};
 
     /// Whether it has more than one block.
@@ -142,7 +142,7 @@ pub(crate) fn push_range(stretches: &mut Vec<Stretch>, lo: u64, hi: u64) -> Resu
 fn push_bits(stretches: &mut Vec<Stretch>, lo: u64, bits: u64) -> Result<(), Memory>
     ensures { OnOk result ((n : ℕ) → stretches_have stretches.new.items n ≡ (stretches_have stretches.old.items n || is_bit_from lo bits n)) }
 {
-    let (first, second) = halves(lo, bits);
+    let (first, second) = in_two_blocks(lo, bits);
     push_block(stretches, lo / 64, first)?;
     push_block(stretches, lo / 64 + 1, second)
 }
