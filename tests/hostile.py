@@ -232,10 +232,15 @@ def some_said(rng, readers, most):
 NAMED = [(prefix * 12, entity) for prefix in (b'\xbb', b'\xcc', b'\xaa') for entity in (READER, b'\0\0\2\4')]
 
 
-def announced_readers():
-    """announcements of a writer and of six readers, two in each of three participants"""
+# By whom numbers can be heard: by all, by a participant, by the readers of an entity id, and by each.
+AUDIENCES = [[(None, bytes(4))], [(prefix, bytes(4)) for prefix in sorted({prefix for prefix, _ in NAMED})],
+             [(None, entity) for entity in sorted({entity for _, entity in NAMED})], NAMED]
+
+
+def announced_readers(readers=NAMED):
+    """announcements of a writer and of its readers, which are six, two in each of three participants"""
     known = [make.announced(b'\0\0\3\xc2', A, WRITER, b'')]
-    return known + [make.announced(b'\0\0\4\xc2', prefix, entity, make.RELIABLE) for prefix, entity in NAMED]
+    return known + [make.announced(b'\0\0\4\xc2', prefix, entity, make.RELIABLE) for prefix, entity in readers]
 
 
 def answer_of(reader, base):
@@ -277,16 +282,14 @@ def rows_past_what_is_named(tests):
 
 def numbers_in_turns(tests):
     """rows of numbers that readers are told in turns: by what is for all of them, for participants, for entity ids, and for each"""
-    count, rng, last, every = 12, random.Random(45), 2600, bytes(4)
-    prefixes, entities = sorted({prefix for prefix, _ in NAMED}), sorted({entity for _, entity in NAMED})
-    groups = [[(None, every)], [(prefix, every) for prefix in prefixes], [(None, entity) for entity in entities], NAMED]
+    count, rng, last = 12, random.Random(45), 2600
     for _ in range(count):
-        said = {audience: b'' for group in groups for audience in group}
+        said = {audience: b'' for group in AUDIENCES for audience in group}
         number = 1
         while number <= last:
             end = number + rng.choice((1, 1, 2, 70))
             # Now and then somebody is not told.
-            told = [audience for audience in rng.choice(groups) if rng.random() > 0.004]
+            told = [audience for audience in rng.choice(AUDIENCES) if rng.random() > 0.004]
             for prefix, entity in told:
                 said[prefix, entity] += make.gap(WRITER, number, end, [], 0, entity)
             number = end
@@ -298,13 +301,11 @@ def numbers_in_turns(tests):
 
 def lists_in_turns(tests):
     """lists of 256 numbers that readers are told in turns, by two kinds of audiences, with long rows for all of them between"""
-    count, rng, every = 8, random.Random(46), bytes(4)
-    prefixes, entities = sorted({prefix for prefix, _ in NAMED}), sorted({entity for _, entity in NAMED})
-    groups = [[(None, every)], [(prefix, every) for prefix in prefixes], [(None, entity) for entity in entities], NAMED]
+    count, rng = 8, random.Random(46)
     for place in range(count):
         sent, number = [], 1
         while number < 40000:
-            one, other = rng.sample(groups, 2)
+            one, other = rng.sample(AUDIENCES, 2)
             words = [rng.getrandbits(32) for _ in range(8)]
             for group, bits in ((one, words), (other, [word ^ 0xffffffff for word in words])):
                 for prefix, entity in group:
@@ -321,20 +322,22 @@ def lists_in_turns(tests):
     print(f'lists of 256 numbers that readers hear in turns, up to 40,000: {count} recordings of {len(NAMED)} readers')
 
 
-def numbers_of_one_block(tests):
+def numbers_of_few_blocks(tests):
     """numbers of three blocks that 60 readers ask for, of which acts tell some and not the others"""
-    count, last, rng = 20, 192, random.Random(63)
-    prefixes, entities = [b'\xbb' * 12, b'\xcc' * 12, b'\xaa' * 12], [(0x104 + 256 * i).to_bytes(4, 'big') for i in range(20)]
-    readers = [(prefix, entity) for prefix in prefixes for entity in entities]
-    known = [make.announced(b'\0\0\3\xc2', A, WRITER, b'')] + [make.announced(b'\0\0\4\xc2', prefix, entity, make.RELIABLE) for prefix, entity in readers]
+    count, last, rng = 20, 191, random.Random(63)
+    readers = [(prefix * 12, (0x104 + 256 * i).to_bytes(4, 'big')) for prefix in (b'\xbb', b'\xcc', b'\xaa') for i in range(20)]
     for _ in range(count):
         sent = [some_said(rng, rng.sample(readers, 6), last) for _ in range(rng.randrange(6, 20))]
+        for _ in range(rng.randrange(3)):
+            # Of a row over several blocks many of the numbers are asked for.
+            number = rng.randrange(1, 90)
+            sent.append(make.header(A) + rng.choice([b'', make.to(readers[0][0])]) + make.gap(WRITER, number, number + 100, [], 0))
         for prefix, entity in readers:
             end = rng.randrange(1, last + 1)
             sent.insert(rng.randrange(len(sent) + 1), make.header(A) + make.to(prefix) + make.gap(WRITER, 1, end, [], 0, entity))
             sent.append(answer_of((prefix, entity), rng.choice((end, end + 1, last + 1))))
         sent.append(make.header(A) + make.heartbeat(WRITER, 1, rng.choice((1, last))))
-        tests.agrees('numbers of one block', text_of(known + sent), ('audit', 'why'))
+        tests.agrees('numbers of few blocks', text_of(announced_readers(readers) + sent), ('audit', 'why'))
     print(f'numbers of three blocks that readers ask for: {count} recordings of {len(readers)} readers')
 
 
@@ -456,5 +459,5 @@ def many_datagrams(tests):
 if __name__ == '__main__':
     sys.exit(program.main(__doc__, (cut_by_table, cut_and_changed, audits_of_changed, announced_late, octet_by_octet,
                                     empty_submessages, parameter_lists, endpoints_that_disagree, endpoints_of_one_topic,
-                                    readers_that_are_named, rows_past_what_is_named, numbers_in_turns, lists_in_turns, numbers_of_one_block,
+                                    readers_that_are_named, rows_past_what_is_named, numbers_in_turns, lists_in_turns, numbers_of_few_blocks,
                                     ends_of_blocks, topics_of_every_octet, acknowledgements, gaps_of_many_ranges, many_datagrams)))
