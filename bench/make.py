@@ -15,6 +15,8 @@
                                                         participants and their entity ids are told numbers in turns
     make.py every_number|every_second FILE [MEGABYTES]  of one pair: GAPs of 256 numbers each; of every second one of them
     make.py far_apart|far_apart_random FILE [MEGABYTES] of one pair: GAPs of one number each, 1,000 apart, in order and in none
+    make.py in_turns FILE [MEGABYTES]                   of one pair: GAPs of every second number for all readers, and of the others
+                                                        for the reader's participant
     make.py named_breaks FILE [MEGABYTES]               of a writer whose readers hear most numbers in turns from what is for all and
                                                         for their participant, and some of them by name
     make.py one_block FILE [MEGABYTES]                  of a writer whose 60 readers each wait for another number, and DATA for all of
@@ -159,6 +161,8 @@ def datagrams(kind, octets):
         gaps = [gap(WRITER, number, number + 1, [], 0) for number in numbers]
         packed = (header(A) + b''.join(gaps[i:i + 900]) for i in range(0, len(gaps), 900))
         return (*announcements(1), *packed, *samples([], 1000 * len(gaps)))
+    if kind == 'in_turns':
+        return of_turns(octets)
     if kind == 'named_breaks':
         return of_named_breaks(octets)
     if kind == 'one_block':
@@ -254,6 +258,19 @@ def of_named_crossed(octets):
         yield header(prefix) + to(A) + b''.join(ack_nack(entity, WRITER, 256 * blocks + 1) for entity in entities)
 
 
+def in_turns(words):
+    """GAPs of lists of 256 numbers each for all readers, and of the others for a participant."""
+    for bits, more in ((0xaaaaaaaa, b''), (0x55555555, to(B))):
+        gaps = [gap(WRITER, 1 + 256 * i, 1 + 256 * i, [bits & word for word in eight]) for i, eight in enumerate(words)]
+        for i in range(0, len(gaps), 900):
+            yield header(A) + more + b''.join(gaps[i:i + 900])
+
+
+def of_turns(octets):
+    pieces = octets // 4 // 68
+    return (*announcements(1), *in_turns([[0xffffffff] * 8] * pieces), *samples([], 256 * pieces))
+
+
 def of_named_breaks(octets):
     """GAPs of every second number for all readers and of the others for their participant, and some numbers for each reader by name."""
     count = max(2, octets // 2400)
@@ -267,14 +284,11 @@ def of_named_breaks(octets):
     yield announced(b'\0\0\3\xc2', A, WRITER, b'')
     for reader in readers:
         yield announced(b'\0\0\4\xc2', B, reader, RELIABLE)
-    for bits, more in ((0xaaaaaaaa, b''), (0x55555555, to(B))):
-        words = [[bits] * 8 for _ in range(pieces)]
-        for number in breaks:
-            piece, place = divmod(number - 1, 256)
-            words[piece][place // 32] &= ~(1 << (31 - place % 32))
-        gaps = [gap(WRITER, 1 + 256 * i, 1 + 256 * i, words[i]) for i in range(pieces)]
-        for i in range(0, pieces, 900):
-            yield header(A) + more + b''.join(gaps[i:i + 900])
+    words = [[0xffffffff] * 8 for _ in range(pieces)]
+    for number in breaks:
+        piece, place = divmod(number - 1, 256)
+        words[piece][place // 32] &= ~(1 << (31 - place % 32))
+    yield from in_turns(words)
     for reader in readers:
         yield header(A) + to(B) + b''.join(gap(WRITER, number, number + 1, [], 0, reader) for number in breaks)
     yield header(A) + heartbeat(WRITER, 1, 256 * pieces)
