@@ -1,11 +1,11 @@
-ghost use Rattle.std.specs.Prelude.{◌≡◌, ◌≤◌, ◌<◌, ◌^◌, ◌||◌, ℕ, IfOk};
+ghost use Rattle.std.specs.Prelude.{◌≡◌, ◌≤◌, ◌<◌, ◌^◌, ◌||◌, ℕ, true, IfOk};
 ghost use Rattle.rtps_ids.specs.declared.identity.Guid.{Guid as GuidValue};
 ghost use Rattle.rtps_coverage.specs.BitRanges.{covered_of};
 ghost use Rattle.rtps_coverage.specs.Coverage.{IsPast, IsSameSet};
 ghost use Rattle.rtps_audit.specs.ToldSets.{told_at};
 
 use crate::told_sets::ToldSets;
-use rtps_coverage::BitRanges;
+use rtps_coverage::{BitRanges, LAST, past_together};
 use rtps_ids::{Guid, Memory};
 use std::alloc::Global;
 
@@ -13,6 +13,24 @@ use std::alloc::Global;
 #[derive(Drop)]
 pub(crate) struct SharedRows {
     pub(crate) rows: ToldSets,
+}
+
+/// So many numbers are gone through by both sets together, before each is asked again for a long row of its own.
+const STRIDE: u64 = 8192;
+
+/// The least number from `n` on that is told neither to everyone nor to the audience of a key, as far as some numbers on. They may
+/// be told in turns. It is `n` where the audience was told nothing.
+fn stride(everyone: &BitRanges, sets: &ToldSets, key: Guid, n: u64) -> u64
+    requires positive { 1 ≤ n }
+    requires in_range { n < 2 ^ 63 }
+    ensures onward { n ≤ result }
+    ensures in_range { result < 2 ^ 63 }
+    ensures between { (m : ℕ) → n ≤ m → m < result → (covered_of everyone.now m || told_at sets.now.sets key m) ≡ true }
+{
+    let Some(set) = sets.sets.get(&key) else {
+        return n;
+    };
+    past_together(&[everyone, set], n, n.saturating_add(STRIDE).min(LAST))
 }
 
 /// The least number from `n` on that is told neither to everyone nor to the audience of a key. The sets are the same.
@@ -35,7 +53,7 @@ fn past_both(
         if next == past {
             return Ok(past);
         }
-        past = next;
+        past = stride(everyone, sets, key, next);
     }
 }
 

@@ -1,4 +1,5 @@
-use Rattle.std.proofs.Common.{◌∙◌, arith}
+use Rattle.std.proofs.Common.{◌||◌, ◌∙◌, ap, sym, arith, inl, inr}
+use Rattle.std.proofs.lemmas.Bool.{cases_lt}
 use Rattle.rtps_coverage.specs.BitRanges.{covered_of}
 use Rattle.rtps_audit.specs.ToldSets.{told_at}
 use Rattle.rtps_audit.proofs.SharedLemmas.{both_between, both_stop}
@@ -27,9 +28,14 @@ loop-general-preserved c =
     let first = past_alike a _ _ _ known.everyone c.in_ok-general.ensures.past in
     let second = past_alike b _ _ _ (known.sets c.args.key) c.in_ok-next.ensures.past in
     record {
-      onward = let le = known.onward in let one = first.onward in let two = second.onward in omega arith;
-      in_range = second.in_range;
+      onward = let le = known.onward in let one = first.onward in let two = second.onward in let on = c.stride-past.ensures.onward in omega arith;
+      in_range = c.stride-past.ensures.in_range;
       everyone = λ n. c.past.ensures.same n ∙ known.everyone n;
       sets = λ other m. c.past-in-loop-general.ensures.same other m ∙ known.sets other m;
-      between = both_between a b c.args.n c.loop-general.past c.in_ok-general.general c.in_ok-next.next known.between first second;
+      between = λ m from to. elim (cases_lt m c.in_ok-next.next) [
+        | inl lt ↦ both_between a b c.args.n c.loop-general.past c.in_ok-general.general c.in_ok-next.next known.between first second m from lt
+        | inr ge ↦
+            ap (λ t. t || b m) (sym (c.past.ensures.same m ∙ known.everyone m)) ∙ ap (λ t. covered_of c.past.new.self m || t) (sym (c.past-in-loop-general.ensures.same c.args.key m ∙ known.sets c.args.key m))
+            ∙ c.stride-past.ensures.between m ge to
+      ];
     }
