@@ -66,6 +66,7 @@ def to(prefix):
 
 
 WRITER, READER = b'\0\0\1\3', b'\0\0\1\4'
+ROW = 10000
 RELIABLE = b'\0\x1a\0\x0c\0\0\0\2' + bytes(8)
 BEST_EFFORT = b'\0\x1a\0\x0c\0\0\0\1' + bytes(8)
 VOLATILE, TRANSIENT_LOCAL = b'\0\x1d\0\4\0\0\0\0', b'\0\x1d\0\4\0\0\0\1'
@@ -149,6 +150,8 @@ def datagrams(kind, octets):
         return of_named_last(kind, octets)
     if kind == 'named_crossed':
         return of_named_crossed(octets)
+    if kind == 'rows_crossed':
+        return of_rows_crossed(octets)
     if kind in ('every_number', 'every_second'):
         words = [0xffffffff if kind == 'every_number' else 0xaaaaaaaa] * 8
         gaps = [gap(WRITER, 1 + 256 * i, 1 + 256 * i, words) for i in range(octets // 2 // 68)]
@@ -256,6 +259,24 @@ def of_named_crossed(octets):
     yield header(A) + heartbeat(WRITER, 1, 256 * blocks)
     for prefix in prefixes:
         yield header(prefix) + to(A) + b''.join(ack_nack(entity, WRITER, 256 * blocks + 1) for entity in entities)
+
+
+def of_rows_crossed(octets):
+    """The same participants and readers, GAPs of long rows for each participant, and of the numbers between them for each entity id."""
+    count = max(2, int((octets // 512) ** 0.5))
+    prefixes = [b'\xbb' * 8 + i.to_bytes(4, 'big') for i in range(count)]
+    entities = [(0x104 + 256 * i).to_bytes(4, 'big') for i in range(count)]
+    rows = max(1, octets // 4 // (2 * count * 32))
+    yield announced(b'\0\0\3\xc2', A, WRITER, b'')
+    for prefix in prefixes:
+        yield from (announced(b'\0\0\4\xc2', prefix, entity, RELIABLE) for entity in entities)
+    for prefix in prefixes:
+        yield header(A) + to(prefix) + b''.join(gap(WRITER, 1 + ROW * i, ROW + ROW * i, [], 0) for i in range(rows))
+    for entity in entities:
+        yield header(A) + b''.join(gap(WRITER, ROW * i, ROW * i + 1, [], 0, entity) for i in range(1, rows + 1))
+    yield header(A) + heartbeat(WRITER, 1, ROW * rows)
+    for prefix in prefixes:
+        yield header(prefix) + to(A) + b''.join(ack_nack(entity, WRITER, ROW * rows + 1) for entity in entities)
 
 
 def in_turns(words):

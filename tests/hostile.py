@@ -301,11 +301,12 @@ def numbers_in_turns(tests):
 
 def lists_in_turns(tests):
     """lists of 256 numbers that readers are told in turns, by two kinds of audiences, with long rows for all of them between"""
-    count, rng = 8, random.Random(46)
+    count, rng = 12, random.Random(46)
     for place in range(count):
         sent, number = [], 1
         while number < 40000:
-            one, other = rng.sample(AUDIENCES, 2)
+            # In the last of them all numbers are for everyone and for participants.
+            one, other = rng.sample(AUDIENCES, 2) if place < 8 else AUDIENCES[:2]
             words = [rng.getrandbits(32) for _ in range(8)]
             for group, bits in ((one, words), (other, [word ^ 0xffffffff for word in words])):
                 for prefix, entity in group:
@@ -320,6 +321,29 @@ def lists_in_turns(tests):
         sent += [make.header(A) + make.heartbeat(WRITER, 1, number - 1), *(answer_of(reader, number) for reader in NAMED)]
         tests.agrees('lists in turns', text_of(announced_readers() + sent), ('audit', 'why'))
     print(f'lists of 256 numbers that readers hear in turns, up to 40,000: {count} recordings of {len(NAMED)} readers')
+
+
+def rows_in_turns(tests):
+    """rows that participants hear, and the numbers between them that readers of an entity id hear, by few and by many readers"""
+    count, rng = 8, random.Random(47)
+    for place in range(count):
+        most = (2, 7)[place % 2]
+        prefixes = [b'\xbb' * 11 + bytes([i]) for i in range(most)]
+        entities = [(0x104 + 256 * i).to_bytes(4, 'big') for i in range(most)]
+        readers = [(prefix, entity) for prefix in prefixes for entity in entities]
+        said = {audience: b'' for audience in [*((prefix, bytes(4)) for prefix in prefixes), *((None, entity) for entity in entities)]}
+        number = 1
+        for i in range(240):
+            end = number + rng.choice((1, 2, 66) if i % 2 else (65, 129, 600, 9000))
+            for prefix, entity in said:
+                # Rows are for participants, and what is between them for entity ids; now and then somebody is not told.
+                if (prefix is None) == (i % 2 == 1) and rng.random() > 0.004:
+                    said[prefix, entity] += make.gap(WRITER, number, end, [], 0, entity)
+            number = end
+        sent = [make.header(A) + (make.to(prefix) if prefix else b'') + octets for (prefix, _), octets in said.items()]
+        sent += [make.header(A) + make.heartbeat(WRITER, 1, number - 1), *(answer_of(reader, number) for reader in readers)]
+        tests.agrees('rows in turns', text_of(announced_readers(readers) + sent), ('audit', 'why'))
+    print(f'rows that readers hear in turns with the numbers between them: {count} recordings of 4 and 49 readers')
 
 
 def numbers_of_few_blocks(tests):
@@ -459,5 +483,6 @@ def many_datagrams(tests):
 if __name__ == '__main__':
     sys.exit(program.main(__doc__, (cut_by_table, cut_and_changed, audits_of_changed, announced_late, octet_by_octet,
                                     empty_submessages, parameter_lists, endpoints_that_disagree, endpoints_of_one_topic,
-                                    readers_that_are_named, rows_past_what_is_named, numbers_in_turns, lists_in_turns, numbers_of_few_blocks,
+                                    readers_that_are_named, rows_past_what_is_named, numbers_in_turns, lists_in_turns, rows_in_turns,
+                                    numbers_of_few_blocks,
                                     ends_of_blocks, topics_of_every_octet, acknowledgements, gaps_of_many_ranges, many_datagrams)))

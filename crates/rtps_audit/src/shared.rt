@@ -5,7 +5,7 @@ ghost use Rattle.rtps_coverage.specs.Coverage.{IsPast, IsSameSet};
 ghost use Rattle.rtps_audit.specs.ToldSets.{told_at};
 
 use crate::told_sets::ToldSets;
-use rtps_coverage::{BitRanges, LAST, past_together};
+use rtps_coverage::{BitRanges, past_together};
 use rtps_ids::{Guid, Memory};
 use std::alloc::Global;
 
@@ -15,11 +15,11 @@ pub(crate) struct SharedRows {
     pub(crate) rows: ToldSets,
 }
 
-/// So many numbers are gone through by both sets together, before each is asked again for a long row of its own.
-const STRIDE: u64 = 8192;
+/// So many steps are taken by both sets together, before each is asked again for a long row of its own.
+const STEPS: u64 = 32;
 
-/// The least number from `n` on that is told neither to everyone nor to the audience of a key, as far as some numbers on. They may
-/// be told in turns. It is `n` where the audience was told nothing.
+/// A number from `n` on up to which each was told to everyone or to the audience of a key, as far as some steps go. They may be told
+/// in turns. It is `n` where the audience was told nothing.
 fn stride(everyone: &BitRanges, sets: &ToldSets, key: Guid, n: u64) -> u64
     requires positive { 1 ≤ n }
     requires in_range { n < 2 ^ 63 }
@@ -30,7 +30,7 @@ fn stride(everyone: &BitRanges, sets: &ToldSets, key: Guid, n: u64) -> u64
     let Some(set) = sets.sets.get(&key) else {
         return n;
     };
-    past_together(&[everyone, set], n, n.saturating_add(STRIDE).min(LAST))
+    past_together(&[everyone, set], n, STEPS)
 }
 
 /// The least number from `n` on that is told neither to everyone nor to the audience of a key. The sets are the same.

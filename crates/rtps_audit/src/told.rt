@@ -4,26 +4,26 @@ use crate::audiences::{is_for_all, key_of, of_entity, of_participant};
 use crate::brief::{Brief, add_brief};
 use crate::shared::SharedRows;
 use crate::told_sets::ToldSets;
-use rtps_coverage::{BitRanges, Coverage, LAST, past_together};
+use rtps_coverage::{BitRanges, Coverage, past_together};
 use rtps_ids::{Guid, Memory};
 use rtps_receiver::laws::tests_say_what_relations_say;
 use std::alloc::Global;
 
-/// So many numbers are gone through at first by the sets of a reader's audiences, before what many readers share is asked again.
-const STRIDE: u64 = 1024;
+/// So many steps are taken at first by the sets of a reader's audiences, before what many readers share is asked again.
+const STEPS: u64 = 2;
 
-/// So many numbers are gone through at most before that. A row that many readers share may lie in them, and is not found then.
-const LONGEST: u64 = 8192;
+/// So many steps are taken at most before that. A row that many readers share may lie in them, and is not found then.
+const MOST: u64 = 32;
 
-/// How many numbers are gone through next: twice as many as before, up to the most; as many as at first where what many readers
-/// share went further than those of before.
-fn next_length(length: u64, shared: u64) -> u64
-    ensures { result ≡ (if nat_lt length shared then 1024 else min (length * 2) 8192) }
+/// How many steps are taken next: twice as many as before, up to the most; as many as at first where the numbers that many readers
+/// share were more than those of the steps behind them.
+fn next_steps(steps: u64, shared: u64, gone: u64) -> u64
+    ensures { result ≡ (if nat_lt gone shared then 2 else min (steps * 2) 32) }
 {
-    if length < shared {
-        STRIDE
+    if gone < shared {
+        STEPS
     } else {
-        length.saturating_mul(2).min(LONGEST)
+        steps.saturating_mul(2).min(MOST)
     }
 }
 
@@ -109,9 +109,9 @@ impl Told {
         Ok(own)
     }
 
-    /// The least number from `n` on of which the reader was not told, as far as `length` numbers on. It may have been told of them
-    /// in turns by what is for all its audiences.
-    fn stride(&self, reader: Guid, n: u64, length: u64) -> u64
+    /// A number from `n` on up to which the reader was told of each, as far as `steps` go. It may have been told of them in turns by
+    /// what is for all its audiences.
+    fn stride(&self, reader: Guid, n: u64, steps: u64) -> u64
         requires positive { 1 ≤ n }
         requires in_range { n < 2 ^ 63 }
         ensures onward { n ≤ result }
@@ -125,8 +125,7 @@ impl Told {
             self.directed.set_or(reader, &none),
             self.named.set_or(of_entity(reader), &none),
         ];
-        let limit = n.saturating_add(length).min(LAST);
-        past_together(&sets, n, limit)
+        past_together(&sets, n, steps)
     }
 
     /// The least number from `n` on of which the reader was not told. The sets are the same.
@@ -140,15 +139,15 @@ impl Told {
         ensures past { IfOk result (λ past. IsGathered self.old → IsPast (is_told self.old reader) n past) }
     {
         let mut past = n;
-        let mut length = STRIDE;
+        let mut steps = STEPS;
         loop {
             let next = self.onward(reader, past)?;
             if next == past {
                 return Ok(past);
             }
-            let shared = next - past;
-            past = self.stride(reader, next, length);
-            length = next_length(length, shared);
+            let end = self.stride(reader, next, steps);
+            steps = next_steps(steps, next - past, end - next);
+            past = end;
         }
     }
 }

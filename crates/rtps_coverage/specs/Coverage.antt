@@ -1,6 +1,6 @@
 -- Sets of sequence numbers, as tests of a number. own: the standard counts numbers one by one; a set of
 -- them is what a verdict rests on.
-use Rattle.std.specs.Prelude.{ℕ, Bool, true, false, ◌≡◌, ◌≤◌, ◌<◌, ◌-◌, ◌^◌, ◌&&◌, ◌||◌, ℤ, pos, negsuc, ◌≤ℤ◌, ◌<ℤ◌, int_le, int_lt}
+use Rattle.std.specs.Prelude.{ℕ, Bool, true, false, ◌≡◌, ◌≤◌, ◌<◌, ◌+◌, ◌-◌, ◌^◌, ◌&&◌, ◌||◌, ℤ, pos, negsuc, ◌≤ℤ◌, ◌<ℤ◌, int_le, int_lt}
 
 -- a number from lo on and below hi
 abbrev pub is_within : ℤ → ℤ → ℕ → Bool
@@ -36,9 +36,9 @@ pub record IsPast (set : ℕ → Bool) (n past : ℕ) : Type 0 where
   pub outside : set past ≡ false
   pub between : (m : ℕ) → n ≤ m → m < past → set m ≡ true
 
--- the least number from n on and below a limit that is not in the set, or the limit where there is none
-pub record IsPastUpTo (set : ℕ → Bool) (n limit past : ℕ) : Type 0 where
+-- a number from n on up to which each is in the set: the least that is not, or one that is so many steps or more further on
+pub record IsPastInSteps (set : ℕ → Bool) (n steps past : ℕ) : Type 0 where
   pub onward : n ≤ past
-  pub within : past ≤ limit
-  pub outside : past < limit → set past ≡ false
+  pub in_range : past < 2 ^ 63
+  pub outside : past < n + steps → past < 2 ^ 63 - 1 → set past ≡ false
   pub between : (m : ℕ) → n ≤ m → m < past → set m ≡ true

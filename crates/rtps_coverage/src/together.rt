@@ -2,7 +2,7 @@ ghost use Rattle.std.specs.Prelude.{ℕ, ◌≡◌, ◌≤◌, ◌<◌, ◌+◌,
 ghost use Rattle.std.specs.List.{list_any};
 ghost use Rattle.rtps_coverage.specs.BitRanges.{covered_of, is_in_row};
 ghost use Rattle.rtps_coverage.specs.Blocks.{blocks_have, group_has};
-ghost use Rattle.rtps_coverage.specs.Coverage.{IsPastUpTo};
+ghost use Rattle.rtps_coverage.specs.Coverage.{IsPastInSteps};
 
 use crate::bit_ranges::BitRanges;
 use crate::coverage::LAST;
@@ -95,21 +95,24 @@ fn run_end(sets: &[&BitRanges], n: u64) -> u64
     bits_end(&blocks, n).min(LAST)
 }
 
-/// The least number from `n` on and below `limit` that none of the sets has, or `limit` where there is none. Numbers that
-/// the sets keep as bits, in turns, are passed at once as far as their group of 512 goes.
-pub fn past_together(sets: &[&BitRanges], n: u64, limit: u64) -> u64
+/// A number from `n` on up to which one of the sets at least has each: the least that none has, or one that is `steps` or more
+/// further on. A step passes a row that one of them has, or what they keep as bits, in turns, as far as a group of 512 goes. None
+/// has 2^63 - 1, which is the end.
+pub fn past_together(sets: &[&BitRanges], n: u64, steps: u64) -> u64
     requires positive { 1 ≤ n }
-    requires ordered { n ≤ limit }
-    requires in_range { limit < 2 ^ 63 }
-    ensures { IsPastUpTo (λ m. list_any (λ set. covered_of set.now m) sets.now) n limit result }
+    requires in_range { n < 2 ^ 63 }
+    ensures { IsPastInSteps (λ m. list_any (λ set. covered_of set.now m) sets.now) n steps result }
 {
     let mut past = n;
-    while past < limit {
+    for _ in 0..steps {
+        if past == LAST {
+            return past;
+        }
         let end = run_end(sets, past);
         if end == past {
             return past;
         }
         past = end;
     }
-    limit
+    past
 }
