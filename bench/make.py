@@ -13,6 +13,8 @@
                                                         name; their participant hears every second by name
     make.py named_hole|named_crossed FILE [MEGABYTES]   the same as named_between, where each hears the first by name; where their
                                                         participants and their entity ids are told numbers in turns
+    make.py rows_crossed|payloads_crossed FILE [MEGABYTES]  the same as named_crossed, where participants are told long rows, and
+                                                        entity ids the numbers between; where both are told the same payloads
     make.py every_number|every_second FILE [MEGABYTES]  of one pair: GAPs of 256 numbers each; of every second one of them
     make.py far_apart|far_apart_random FILE [MEGABYTES] of one pair: GAPs of one number each, 1,000 apart, in order and in none
     make.py in_turns FILE [MEGABYTES]                   of one pair: GAPs of every second number for all readers, and of the others
@@ -66,7 +68,6 @@ def to(prefix):
 
 
 WRITER, READER = b'\0\0\1\3', b'\0\0\1\4'
-ROW = 10000
 RELIABLE = b'\0\x1a\0\x0c\0\0\0\2' + bytes(8)
 BEST_EFFORT = b'\0\x1a\0\x0c\0\0\0\1' + bytes(8)
 VOLATILE, TRANSIENT_LOCAL = b'\0\x1d\0\4\0\0\0\0', b'\0\x1d\0\4\0\0\0\1'
@@ -148,10 +149,8 @@ def datagrams(kind, octets):
         return of_named(kind, octets)
     if kind in ('named_last', 'named_between', 'named_hole'):
         return of_named_last(kind, octets)
-    if kind == 'named_crossed':
-        return of_named_crossed(octets)
-    if kind == 'rows_crossed':
-        return of_rows_crossed(octets)
+    if kind in CROSSED:
+        return of_crossed(kind, octets)
     if kind in ('every_number', 'every_second'):
         words = [0xffffffff if kind == 'every_number' else 0xaaaaaaaa] * 8
         gaps = [gap(WRITER, 1 + 256 * i, 1 + 256 * i, words) for i in range(octets // 2 // 68)]
@@ -243,40 +242,34 @@ def of_named_last(kind, octets):
         yield header(B) + to(A) + b''.join(ack_nack(reader, WRITER, last + 1) for reader in readers[i:i + 500])
 
 
-def of_named_crossed(octets):
-    """A writer, participants of which each has readers of the same entity ids, and GAPs of every second number for each of both."""
+# Of recordings whose participants are told some numbers, and their entity ids the others or the same: how many numbers a piece of
+# these is, and the piece of such a place for a participant and for an entity id.
+CROSSED = {
+    'named_crossed': (256, lambda i: gap(WRITER, 1 + 256 * i, 1 + 256 * i, [0xaaaaaaaa] * 8),
+                      lambda i, entity: gap(WRITER, 1 + 256 * i, 1 + 256 * i, [0x55555555] * 8, 256, entity)),
+    'rows_crossed': (10000, lambda i: gap(WRITER, 1 + 10000 * i, 10000 * i + 10000, [], 0),
+                     lambda i, entity: gap(WRITER, 10000 * i + 10000, 10000 * i + 10001, [], 0, entity)),
+    'payloads_crossed': (1, lambda i: data(WRITER, 1 + i, bytes(8)), lambda i, entity: data(WRITER, 1 + i, bytes(8), entity)),
+}
+
+
+def of_crossed(kind, octets):
+    """A writer, participants of which each has readers of the same entity ids, and what each of both is told."""
     count = max(2, int((octets // 512) ** 0.5))
     prefixes = [b'\xbb' * 8 + i.to_bytes(4, 'big') for i in range(count)]
     entities = [(0x104 + 256 * i).to_bytes(4, 'big') for i in range(count)]
-    blocks = max(1, octets // 4 // (2 * count * 64))
+    numbers, for_participant, for_entity = CROSSED[kind]
+    pieces = max(1, octets // 4 // count // len(for_participant(0) + for_entity(0, entities[0])))
     yield announced(b'\0\0\3\xc2', A, WRITER, b'')
     for prefix in prefixes:
         yield from (announced(b'\0\0\4\xc2', prefix, entity, RELIABLE) for entity in entities)
     for prefix in prefixes:
-        yield header(A) + to(prefix) + b''.join(gap(WRITER, 1 + 256 * i, 1 + 256 * i, [0xaaaaaaaa] * 8) for i in range(blocks))
+        yield header(A) + to(prefix) + b''.join(for_participant(i) for i in range(pieces))
     for entity in entities:
-        yield header(A) + b''.join(gap(WRITER, 1 + 256 * i, 1 + 256 * i, [0x55555555] * 8, 256, entity) for i in range(blocks))
-    yield header(A) + heartbeat(WRITER, 1, 256 * blocks)
+        yield header(A) + b''.join(for_entity(i, entity) for i in range(pieces))
+    yield header(A) + heartbeat(WRITER, 1, numbers * pieces)
     for prefix in prefixes:
-        yield header(prefix) + to(A) + b''.join(ack_nack(entity, WRITER, 256 * blocks + 1) for entity in entities)
-
-
-def of_rows_crossed(octets):
-    """The same participants and readers, GAPs of long rows for each participant, and of the numbers between them for each entity id."""
-    count = max(2, int((octets // 512) ** 0.5))
-    prefixes = [b'\xbb' * 8 + i.to_bytes(4, 'big') for i in range(count)]
-    entities = [(0x104 + 256 * i).to_bytes(4, 'big') for i in range(count)]
-    rows = max(1, octets // 4 // (2 * count * 32))
-    yield announced(b'\0\0\3\xc2', A, WRITER, b'')
-    for prefix in prefixes:
-        yield from (announced(b'\0\0\4\xc2', prefix, entity, RELIABLE) for entity in entities)
-    for prefix in prefixes:
-        yield header(A) + to(prefix) + b''.join(gap(WRITER, 1 + ROW * i, ROW + ROW * i, [], 0) for i in range(rows))
-    for entity in entities:
-        yield header(A) + b''.join(gap(WRITER, ROW * i, ROW * i + 1, [], 0, entity) for i in range(1, rows + 1))
-    yield header(A) + heartbeat(WRITER, 1, ROW * rows)
-    for prefix in prefixes:
-        yield header(prefix) + to(A) + b''.join(ack_nack(entity, WRITER, ROW * rows + 1) for entity in entities)
+        yield header(prefix) + to(A) + b''.join(ack_nack(entity, WRITER, numbers * pieces + 1) for entity in entities)
 
 
 def in_turns(words):

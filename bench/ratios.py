@@ -87,7 +87,7 @@ def writing(rewrite, paths, rounds=50000):
 
 
 KINDS = ['packed', 'answers', 'readers', 'writers', 'announced', 'announced_first', 'named', 'named_too', 'named_last', 'named_between',
-         'named_hole', 'named_crossed', 'named_breaks', 'in_turns', 'opened', 'disputed', 'one_block', 'every_number', 'every_second',
+         'named_hole', *make.CROSSED, 'named_breaks', 'in_turns', 'opened', 'disputed', 'one_block', 'every_number', 'every_second',
          'far_apart', 'far_apart_random', *make.OF_ONE_TOPIC, 'hostile', 'one_data', 'pairs']
 
 
