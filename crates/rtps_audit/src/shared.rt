@@ -16,7 +16,7 @@ pub(crate) struct SharedRows {
 }
 
 /// So many steps are taken by both sets together, before each is asked again for a long row of its own.
-const STEPS: u64 = 32;
+const STEPS: u64 = 16;
 
 /// A number from `n` on up to which each was told to everyone or to the audience of a key, as far as some steps go. They may be told
 /// in turns. It is `n` where the audience was told nothing.

@@ -13,12 +13,12 @@ use std::alloc::Global;
 const STEPS: u64 = 2;
 
 /// So many steps are taken at most before that. A row that many readers share may lie in them, and is not found then.
-const MOST: u64 = 32;
+const MOST: u64 = 16;
 
 /// How many steps are taken next: twice as many as before, up to the most; as many as at first where the numbers that many readers
 /// share were more than those of the steps behind them.
 fn next_steps(steps: u64, shared: u64, gone: u64) -> u64
-    ensures { result ≡ (if nat_lt gone shared then 2 else min (steps * 2) 32) }
+    ensures { result ≡ (if nat_lt gone shared then 2 else min (steps * 2) 16) }
 {
     if gone < shared {
         STEPS

@@ -78,7 +78,7 @@ fn row_end(sets: &[&BitRanges], n: u64) -> u64
     end
 }
 
-/// Where the numbers from `n` on end that a row of one of the sets has, or their bits of one group.
+/// Where the numbers from `n` on end that a row of one of the sets has, and then their bits of one group.
 fn run_end(sets: &[&BitRanges], n: u64) -> u64
     requires positive { 1 ≤ n }
     requires in_range { n < 2 ^ 63 - 1 }
@@ -88,16 +88,13 @@ fn run_end(sets: &[&BitRanges], n: u64) -> u64
     ensures stops { result ≡ n → list_any (λ set. covered_of set.now n) sets.now ≡ false }
 {
     let row = row_end(sets, n);
-    if n < row {
-        return row;
-    }
-    let blocks = group_of(sets, n / 512);
-    bits_end(&blocks, n).min(LAST)
+    let blocks = group_of(sets, row / 512);
+    bits_end(&blocks, row).min(LAST)
 }
 
 /// A number from `n` on up to which one of the sets at least has each: the least that none has, or one that is `steps` or more
-/// further on. A step passes a row that one of them has, or what they keep as bits, in turns, as far as a group of 512 goes. None
-/// has 2^63 - 1, which is the end.
+/// further on. A step passes a row that one of them has, and what they keep as bits behind it, in turns, as far as a group of 512
+/// goes. None has 2^63 - 1, which is the end.
 pub fn past_together(sets: &[&BitRanges], n: u64, steps: u64) -> u64
     requires positive { 1 ≤ n }
     requires in_range { n < 2 ^ 63 }

@@ -1,6 +1,7 @@
-use Rattle.std.proofs.Common.{◌≡◌, ◌/◌, ◌-◌, ◌^◌, Bor, sym, ◌∙◌, arith, inl, inr, refl}
+use Rattle.std.proofs.Common.{◌≡◌, ◌/◌, ◌-◌, ◌^◌, ℕ, Bor, ap, sym, ◌∙◌, arith, inl, inr}
+use Rattle.std.proofs.lemmas.Bool.{cases_lt}
 use Rattle.rtps_coverage.specs.BitRanges.{covered_of, is_in_row}
-use Rattle.rtps_coverage.specs.Blocks.{blocks_have}
+use Rattle.rtps_coverage.specs.Blocks.{blocks_have, group_has}
 use Rattle.rtps_coverage.specs.declared.bit_ranges.BitRanges.{BitRanges}
 use Rattle.rtps_coverage.proofs.KeptLemmas.{min_tells}
 use Rattle.rtps_coverage.proofs.TogetherLemmas.{any_on, bit_covered, none_of_both, not_covered}
@@ -8,21 +9,32 @@ use Rattle.rtps_coverage.proofs.together.run_end.Goals as goal
 
 pub returns-clause-members : goal.returns-clause-members
 returns-clause-members c = λ m from to.
-    let n = c.args.n in
+    let row = c.row_end-row.result in
     let least = min_tells c.bits_end.result (2 ^ 63 - 1) c.min.result c.min.ensures in
     let before = least.left in
     let small = least.right in
     let within = c.bits_end.ensures.within in
     let low = c.requires.positive in
-    let same : m / 512 ≡ n / 512 = omega arith in
-    any_on (λ (set : Bor BitRanges). blocks_have set.now.blocks m) (λ (set : Bor BitRanges). covered_of set.now m) c.args.sets.now
-    (λ set is. bit_covered set.now m (omega arith) (omega arith) is) (sym (c.group_of-blocks.ensures m same) ∙ c.bits_end.ensures.members m from (omega arith))
+    let on = c.row_end-row.ensures.onward in
+    elim (cases_lt m row) [
+      | inl lt ↦ c.row_end-row.ensures.members m from lt
+      | inr ge ↦
+          let same : m / 512 ≡ row / 512 = omega arith in
+          any_on (λ (set : Bor BitRanges). blocks_have set.now.blocks m) (λ (set : Bor BitRanges). covered_of set.now m) c.args.sets.now
+          (λ set is. bit_covered set.now m (omega arith) (omega arith) is) (sym (c.group_of-blocks.ensures m same) ∙ c.bits_end.ensures.members m ge (omega arith))
+    ]
 
 pub returns-clause-stops : goal.returns-clause-stops
 returns-clause-stops c = λ same.
     let n = c.args.n in
+    let row = c.row_end-row.result in
     let least = min_tells c.bits_end.result (2 ^ 63 - 1) c.min.result c.min.ensures in
-    let stays : c.bits_end.result ≡ n = elim least.one [ inl e ↦ omega arith | inr e ↦ absurd (let small = c.requires.in_range in omega arith) ] in
+    let on = c.row_end-row.ensures.onward in
+    let further = c.bits_end.ensures.onward in
+    let small = c.requires.in_range in
+    let stays : c.bits_end.result ≡ n = elim least.one [ inl e ↦ omega arith | inr e ↦ absurd (omega arith) ] in
+    let first : row ≡ n = omega arith in
+    let last : c.bits_end.result ≡ row = omega arith in
     none_of_both (λ (set : Bor BitRanges). is_in_row set.now n) (λ (set : Bor BitRanges). blocks_have set.now.blocks n) (λ (set : Bor BitRanges). covered_of set.now n) c.args.sets.now
-    (λ set row bit. not_covered set.now n row bit) (c.row_end-row.ensures.stops (let end = c.if-n-row.false in let on = c.row_end-row.ensures.onward in omega arith))
-    (sym (c.group_of-blocks.ensures n refl) ∙ c.bits_end.ensures.stops stays)
+    (λ set row bit. not_covered set.now n row bit) (c.row_end-row.ensures.stops first)
+    (sym (c.group_of-blocks.ensures n (ap (λ (k : ℕ). k / 512) (sym first))) ∙ (ap (λ (k : ℕ). group_has c.group_of-blocks.result k) (sym first) ∙ c.bits_end.ensures.stops last))
