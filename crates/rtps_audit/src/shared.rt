@@ -2,6 +2,7 @@ ghost use Rattle.std.specs.Prelude.{◌≡◌, ◌≤◌, ◌<◌, ◌^◌, ◌|
 ghost use Rattle.rtps_ids.specs.declared.identity.Guid.{Guid as GuidValue};
 ghost use Rattle.rtps_coverage.specs.BitRanges.{covered_of};
 ghost use Rattle.rtps_coverage.specs.Coverage.{IsPast, IsSameSet};
+ghost use Rattle.rtps_audit.specs.Shared.{AreShared};
 ghost use Rattle.rtps_audit.specs.ToldSets.{told_at};
 
 use crate::told_sets::ToldSets;
@@ -19,7 +20,7 @@ pub(crate) struct SharedRows {
 const STEPS: u64 = 16;
 
 /// A number from `n` on up to which each was told to everyone or to the audience of a key, as far as some steps go. They may be told
-/// in turns. It is `n` where the audience was told nothing.
+/// in turns.
 fn stride(everyone: &BitRanges, sets: &ToldSets, key: Guid, n: u64) -> u64
     requires positive { 1 ≤ n }
     requires in_range { n < 2 ^ 63 }
@@ -33,10 +34,12 @@ fn stride(everyone: &BitRanges, sets: &ToldSets, key: Guid, n: u64) -> u64
     past_together(&[everyone, set], n, STEPS)
 }
 
-/// The least number from `n` on that is told neither to everyone nor to the audience of a key. The sets are the same.
+/// The least number from `n` on that is told neither to everyone nor to the audience of a key. What is kept in rows of the audience
+/// is passed at once. The sets and the rows are the same.
 fn past_both(
     everyone: &mut BitRanges,
     sets: &mut ToldSets,
+    rows: &mut ToldSets,
     key: Guid,
     n: u64,
 ) -> Result<u64, Memory>
@@ -44,7 +47,11 @@ fn past_both(
     requires in_range { n < 2 ^ 63 }
     ensures everyone { IsSameSet (covered_of everyone.old) (covered_of everyone.new) }
     ensures sets { (other : GuidValue) (m : ℕ) → told_at sets.new.sets other m ≡ told_at sets.old.sets other m }
-    ensures past { IfOk result (IsPast (λ m. covered_of everyone.old m || told_at sets.old.sets key m) n) }
+    ensures rows { (other : GuidValue) (m : ℕ) → told_at rows.new.sets other m ≡ told_at rows.old.sets other m }
+    ensures onward { IfOk result (λ past. n ≤ past) }
+    ensures in_range { IfOk result (λ past. past < 2 ^ 63) }
+    ensures past { IfOk result (λ past. AreShared everyone.old sets.old.sets rows.old.sets
+        → IsPast (λ m. covered_of everyone.old m || told_at sets.old.sets key m) n past) }
 {
     let mut past = n;
     loop {
@@ -53,7 +60,8 @@ fn past_both(
         if next == past {
             return Ok(past);
         }
-        past = stride(everyone, sets, key, next);
+        let end = stride(everyone, sets, key, next);
+        past = rows.past(key, end)?;
     }
 }
 
@@ -96,7 +104,7 @@ impl SharedRows {
             → IsPast (λ m. covered_of everyone.old m || told_at sets.old.sets key m) n past) }
     {
         let known = self.rows.past(key, n)?;
-        let past = past_both(everyone, sets, key, known)?;
+        let past = past_both(everyone, sets, &mut self.rows, key, known)?;
         if known < past {
             self.rows.join(key, known, past)?;
         }

@@ -1,5 +1,3 @@
-ghost use Rattle.std.specs.Prelude.{◌≡◌, ◌≤◌, ◌<◌, ◌*◌, ◌^◌, if◌then◌else◌, min, nat_lt};
-
 use crate::audiences::{is_for_all, key_of, of_entity, of_participant};
 use crate::brief::{Brief, add_brief};
 use crate::shared::SharedRows;
@@ -9,23 +7,9 @@ use rtps_ids::{Guid, Memory};
 use rtps_receiver::laws::tests_say_what_relations_say;
 use std::alloc::Global;
 
-/// So many steps are taken at first by the sets of a reader's audiences, before what many readers share is asked again.
-const STEPS: u64 = 2;
-
-/// So many steps are taken at most before that. A row that many readers share may lie in them, and is not found then.
-const MOST: u64 = 16;
-
-/// How many steps are taken next: twice as many as before, up to the most; as many as at first where the numbers that many readers
-/// share were more than those of the steps behind them.
-fn next_steps(steps: u64, shared: u64, gone: u64) -> u64
-    ensures { result ≡ (if nat_lt gone shared then 2 else min (steps * 2) 16) }
-{
-    if gone < shared {
-        STEPS
-    } else {
-        steps.saturating_mul(2).min(MOST)
-    }
-}
+/// So many steps are taken by the sets of a reader's audiences, before what many readers share is asked again. A row that these
+/// share may lie in them, and is not found then. Asking takes about ten times a step.
+const STEPS: u64 = 12;
 
 /// The numbers that a writer told its readers so far, by whom they are for.
 #[derive(Drop)]
@@ -109,9 +93,9 @@ impl Told {
         Ok(own)
     }
 
-    /// A number from `n` on up to which the reader was told of each, as far as `steps` go. It may have been told of them in turns by
-    /// what is for all its audiences.
-    fn stride(&self, reader: Guid, n: u64, steps: u64) -> u64
+    /// A number from `n` on up to which the reader was told of each, as far as some steps go. It may have been told of them in turns
+    /// by what is for any of its audiences.
+    fn stride(&self, reader: Guid, n: u64) -> u64
         requires positive { 1 ≤ n }
         requires in_range { n < 2 ^ 63 }
         ensures onward { n ≤ result }
@@ -125,7 +109,7 @@ impl Told {
             self.directed.set_or(reader, &none),
             self.named.set_or(of_entity(reader), &none),
         ];
-        past_together(&sets, n, steps)
+        past_together(&sets, n, STEPS)
     }
 
     /// The least number from `n` on of which the reader was not told. The sets are the same.
@@ -139,15 +123,12 @@ impl Told {
         ensures past { IfOk result (λ past. IsGathered self.old → IsPast (is_told self.old reader) n past) }
     {
         let mut past = n;
-        let mut steps = STEPS;
         loop {
             let next = self.onward(reader, past)?;
             if next == past {
                 return Ok(past);
             }
-            let end = self.stride(reader, next, steps);
-            steps = next_steps(steps, next - past, end - next);
-            past = end;
+            past = self.stride(reader, next);
         }
     }
 }

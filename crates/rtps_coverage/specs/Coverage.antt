@@ -36,7 +36,8 @@ pub record IsPast (set : ℕ → Bool) (n past : ℕ) : Type 0 where
   pub outside : set past ≡ false
   pub between : (m : ℕ) → n ≤ m → m < past → set m ≡ true
 
--- a number from n on up to which each is in the set: the least that is not, or one that is so many steps or more further on
+-- a number from n on up to which each is in the set: the least that is not, or one that is so many or more further on, or 2^63 - 1,
+-- behind which no set reaches
 pub record IsPastInSteps (set : ℕ → Bool) (n steps past : ℕ) : Type 0 where
   pub onward : n ≤ past
   pub in_range : past < 2 ^ 63

@@ -62,7 +62,8 @@ fn bits_end(blocks: &[u64; 8], n: u64) -> u64
     end
 }
 
-/// Where the longest row of one of the sets ends that has `n`, or `n` where none has it.
+/// Where rows of the sets end of which the first has `n`, and each next one, of a later set, the number behind the one before it.
+/// It is `n` where no row has that.
 fn row_end(sets: &[&BitRanges], n: u64) -> u64
     requires positive { 1 ≤ n }
     requires in_range { n < 2 ^ 63 - 1 }
@@ -73,12 +74,14 @@ fn row_end(sets: &[&BitRanges], n: u64) -> u64
 {
     let mut end = n;
     for set in sets {
-        end = end.max(set.row_end(n));
+        if end < LAST {
+            end = set.row_end(end);
+        }
     }
     end
 }
 
-/// Where the numbers from `n` on end that a row of one of the sets has, and then their bits of one group.
+/// Where the numbers from `n` on end that rows of the sets have, one of each, and then their bits of one group.
 fn run_end(sets: &[&BitRanges], n: u64) -> u64
     requires positive { 1 ≤ n }
     requires in_range { n < 2 ^ 63 - 1 }
@@ -92,9 +95,9 @@ fn run_end(sets: &[&BitRanges], n: u64) -> u64
     bits_end(&blocks, row).min(LAST)
 }
 
-/// A number from `n` on up to which one of the sets at least has each: the least that none has, or one that is `steps` or more
-/// further on. A step passes a row that one of them has, and what they keep as bits behind it, in turns, as far as a group of 512
-/// goes. None has 2^63 - 1, which is the end.
+/// A number from `n` on up to which each is in one of the sets: the least that none has, or one that is `steps` or more further on,
+/// or 2^63 - 1. A step passes a row of each set where one goes on behind the other, and then what the sets keep as bits, in turns, to
+/// the end of that group of 512. What is promised of a step is one number.
 pub fn past_together(sets: &[&BitRanges], n: u64, steps: u64) -> u64
     requires positive { 1 ≤ n }
     requires in_range { n < 2 ^ 63 }
