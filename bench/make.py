@@ -13,14 +13,16 @@
                                                         name; their participant hears every second by name
     make.py named_hole|named_crossed FILE [MEGABYTES]   the same as named_between, where each hears the first by name; where their
                                                         participants and their entity ids are told numbers in turns
-    make.py rows_crossed|payloads_crossed FILE [MEGABYTES]  the same as named_crossed, where participants are told long rows, and
-                                                        entity ids the numbers between; where both are told the same payloads
+    make.py rows_crossed|rows_in_turns|payloads_crossed FILE [MEGABYTES]
+                                                        the same as named_crossed, where participants are told long rows, and
+                                                        entity ids the numbers between; rows of 100 numbers each; payloads
     make.py every_number|every_second FILE [MEGABYTES]  of one pair: GAPs of 256 numbers each; of every second one of them
     make.py far_apart|far_apart_random FILE [MEGABYTES] of one pair: GAPs of one number each, 1,000 apart, in order and in none
     make.py in_turns FILE [MEGABYTES]                   of one pair: GAPs of every second number for all readers, and of the others
                                                         for the reader's participant
-    make.py named_breaks FILE [MEGABYTES]               of a writer whose readers hear most numbers in turns from what is for all and
-                                                        for their participant, and some of them by name
+    make.py named_breaks|entered_earlier FILE [MEGABYTES]   of a writer whose readers hear most numbers in turns from what is for
+                                                        all and for their participant, and some of them by name; the first
+                                                        ones by name, each reader less of them than the one before
     make.py one_block FILE [MEGABYTES]                  of a writer whose 60 readers each wait for another number, and DATA for all of
                                                         them, each of the same number, which is the last
     make.py opened|disputed FILE [MEGABYTES]            of a writer whose readers each acknowledge up to another number; each hear
@@ -167,6 +169,8 @@ def datagrams(kind, octets):
         return of_turns(octets)
     if kind == 'named_breaks':
         return of_named_breaks(octets)
+    if kind == 'entered_earlier':
+        return of_entered_earlier(octets)
     if kind == 'one_block':
         return of_one_block(octets)
     if kind in ('opened', 'disputed'):
@@ -242,13 +246,14 @@ def of_named_last(kind, octets):
         yield header(B) + to(A) + b''.join(ack_nack(reader, WRITER, last + 1) for reader in readers[i:i + 500])
 
 
-# Of recordings whose participants are told some numbers, and their entity ids the others or the same: how many numbers a piece of
-# these is, and the piece of such a place for a participant and for an entity id.
+# By kind: how many numbers a piece is, the piece of each place that participants are told, and the one that entity ids are told.
 CROSSED = {
     'named_crossed': (256, lambda i: gap(WRITER, 1 + 256 * i, 1 + 256 * i, [0xaaaaaaaa] * 8),
                       lambda i, entity: gap(WRITER, 1 + 256 * i, 1 + 256 * i, [0x55555555] * 8, 256, entity)),
     'rows_crossed': (10000, lambda i: gap(WRITER, 1 + 10000 * i, 10000 * i + 10000, [], 0),
                      lambda i, entity: gap(WRITER, 10000 * i + 10000, 10000 * i + 10001, [], 0, entity)),
+    'rows_in_turns': (200, lambda i: gap(WRITER, 1 + 200 * i, 101 + 200 * i, [], 0),
+                      lambda i, entity: gap(WRITER, 101 + 200 * i, 201 + 200 * i, [], 0, entity)),
     'payloads_crossed': (1, lambda i: data(WRITER, 1 + i, bytes(8)), lambda i, entity: data(WRITER, 1 + i, bytes(8), entity)),
 }
 
@@ -286,15 +291,12 @@ def of_turns(octets):
 
 
 def of_named_breaks(octets):
-    """GAPs of every second number for all readers and of the others for their participant, and some numbers for each reader by name."""
-    count = max(2, octets // 2400)
-    readers = [scattered(i) for i in range(1, count + 1)]
+    """GAPs of every second number for all readers and of the others for their participant; each reader hears some numbers by name."""
     pieces = octets // 8 // 68
-    # A number stands just behind where a stride that is twice as long as the one before ends, and then every so many numbers.
-    breaks, length = [1], 1024
-    while breaks[-1] + length + 1 < 256 * pieces:
-        breaks.append(breaks[-1] + length + 1)
-        length = min(2 * length, max(8192, 256 * pieces // 16))
+    # Each of these numbers stands behind twelve groups of 512.
+    breaks = range(6144, 256 * pieces, 6144)
+    count = max(2, octets // 4 // 32 // len(breaks))
+    readers = [scattered(i) for i in range(1, count + 1)]
     yield announced(b'\0\0\3\xc2', A, WRITER, b'')
     for reader in readers:
         yield announced(b'\0\0\4\xc2', B, reader, RELIABLE)
@@ -304,7 +306,25 @@ def of_named_breaks(octets):
         words[piece][place // 32] &= ~(1 << (31 - place % 32))
     yield from in_turns(words)
     for reader in readers:
-        yield header(A) + to(B) + b''.join(gap(WRITER, number, number + 1, [], 0, reader) for number in breaks)
+        for i in range(0, len(breaks), 900):
+            yield header(A) + to(B) + b''.join(gap(WRITER, number, number + 1, [], 0, reader) for number in breaks[i:i + 900])
+    yield header(A) + heartbeat(WRITER, 1, 256 * pieces)
+    for i in range(0, count, 1000):
+        yield header(B) + to(A) + b''.join(ack_nack(reader, WRITER, 256 * pieces + 1) for reader in readers[i:i + 1000])
+
+
+def of_entered_earlier(octets):
+    """The same lists without the first number; each reader hears by name those up to where it enters, 7,000 less than the one before."""
+    pieces = octets // 8 // 68
+    count = min(octets // 1000, 256 * pieces // 7000 - 1)
+    readers = [(0x104 + 256 * i).to_bytes(4, 'big') for i in range(count)]
+    yield announced(b'\0\0\3\xc2', A, WRITER, b'')
+    for reader in readers:
+        yield announced(b'\0\0\4\xc2', B, reader, RELIABLE)
+    yield from in_turns([[0x7fffffff] + [0xffffffff] * 7] + [[0xffffffff] * 8] * (pieces - 1))
+    begun = [gap(WRITER, 1, 7000 * (count - i), [], 0, reader) for i, reader in enumerate(readers)]
+    for i in range(0, count, 900):
+        yield header(A) + to(B) + b''.join(begun[i:i + 900])
     yield header(A) + heartbeat(WRITER, 1, 256 * pieces)
     for i in range(0, count, 1000):
         yield header(B) + to(A) + b''.join(ack_nack(reader, WRITER, 256 * pieces + 1) for reader in readers[i:i + 1000])

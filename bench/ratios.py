@@ -87,8 +87,8 @@ def writing(rewrite, paths, rounds=50000):
 
 
 KINDS = ['packed', 'answers', 'readers', 'writers', 'announced', 'announced_first', 'named', 'named_too', 'named_last', 'named_between',
-         'named_hole', *make.CROSSED, 'named_breaks', 'in_turns', 'opened', 'disputed', 'one_block', 'every_number', 'every_second',
-         'far_apart', 'far_apart_random', *make.OF_ONE_TOPIC, 'hostile', 'one_data', 'pairs']
+         'named_hole', *make.CROSSED, 'named_breaks', 'entered_earlier', 'in_turns', 'opened', 'disputed', 'one_block', 'every_number',
+         'every_second', 'far_apart', 'far_apart_random', *make.OF_ONE_TOPIC, 'hostile', 'one_data', 'pairs']
 
 
 def kinds(program, megabytes, other, view):

@@ -238,7 +238,7 @@ AUDIENCES = [[(None, bytes(4))], [(prefix, bytes(4)) for prefix in sorted({prefi
 
 
 def announced_readers(readers=NAMED):
-    """announcements of a writer and of its readers, which are six, two in each of three participants"""
+    """announcements of a writer and of these readers of its topic"""
     known = [make.announced(b'\0\0\3\xc2', A, WRITER, b'')]
     return known + [make.announced(b'\0\0\4\xc2', prefix, entity, make.RELIABLE) for prefix, entity in readers]
 
@@ -305,7 +305,7 @@ def lists_in_turns(tests):
     for place in range(count):
         sent, number = [], 1
         while number < 40000:
-            # In the last of them all numbers are for everyone and for participants.
+            # In the last four all numbers are for everyone and for participants.
             one, other = rng.sample(AUDIENCES, 2) if place < 8 else AUDIENCES[:2]
             words = [rng.getrandbits(32) for _ in range(8)]
             for group, bits in ((one, words), (other, [word ^ 0xffffffff for word in words])):
@@ -324,26 +324,50 @@ def lists_in_turns(tests):
 
 
 def rows_in_turns(tests):
-    """rows that participants hear, and the numbers between them that readers of an entity id hear, by few and by many readers"""
-    count, rng = 8, random.Random(47)
+    """rows that participants hear, and rows or numbers between them that readers of an entity id hear, by few and by many readers"""
+    count, rng = 12, random.Random(47)
     for place in range(count):
         most = (2, 7)[place % 2]
         prefixes = [b'\xbb' * 11 + bytes([i]) for i in range(most)]
         entities = [(0x104 + 256 * i).to_bytes(4, 'big') for i in range(most)]
         readers = [(prefix, entity) for prefix in prefixes for entity in entities]
         said = {audience: b'' for audience in [*((prefix, bytes(4)) for prefix in prefixes), *((None, entity) for entity in entities)]}
+        lengths = ((65, 129, 600, 9000), (1, 2, 66)) if place < 8 else ((200, 65, 70), (65, 64, 66))
         number = 1
         for i in range(240):
-            end = number + rng.choice((1, 2, 66) if i % 2 else (65, 129, 600, 9000))
+            end = number + rng.choice(lengths[i % 2])
             for prefix, entity in said:
-                # Rows are for participants, and what is between them for entity ids; now and then somebody is not told.
+                # Now and then somebody is not told.
                 if (prefix is None) == (i % 2 == 1) and rng.random() > 0.004:
                     said[prefix, entity] += make.gap(WRITER, number, end, [], 0, entity)
             number = end
         sent = [make.header(A) + (make.to(prefix) if prefix else b'') + octets for (prefix, _), octets in said.items()]
         sent += [make.header(A) + make.heartbeat(WRITER, 1, number - 1), *(answer_of(reader, number) for reader in readers)]
         tests.agrees('rows in turns', text_of(announced_readers(readers) + sent), ('audit', 'why'))
-    print(f'rows that readers hear in turns with the numbers between them: {count} recordings of 4 and 49 readers')
+    print(f'rows that readers hear in turns with what is between them: {count} recordings of 4 and 49 readers')
+
+
+def rows_entered_earlier(tests):
+    """lists that all readers and their participant hear in turns, which each reader enters at a lesser number than the one before"""
+    count, rng, last = 4, random.Random(48), 12000
+    readers = [(b'\xbb' * 12, (0x104 + 256 * i).to_bytes(4, 'big')) for i in range(16)]
+    for place in range(count):
+        # Of the first number each is told by name alone, and in half of the recordings nobody is told of another one.
+        holes = [1, rng.randrange(2, last)] if place % 2 else [1]
+        sent = []
+        for bits, to in ((0xaaaaaaaa, b''), (0x55555555, make.to(readers[0][0]))):
+            for number in range(1, last, 256):
+                words = [bits] * 8
+                for hole in holes:
+                    if number <= hole < number + 256:
+                        words[(hole - number) // 32] &= ~(1 << (31 - (hole - number) % 32))
+                sent.append(make.header(A) + to + make.gap(WRITER, number, number, words))
+        # Each reader is told by name of the numbers up to where it enters.
+        begun = [make.header(A) + make.to(prefix) + make.gap(WRITER, 1, last - 700 * i, [], 0, entity) for i, (prefix, entity) in enumerate(readers)]
+        end = 256 * ((last + 254) // 256) + 1
+        sent += [*begun, make.header(A) + make.heartbeat(WRITER, 1, end - 1), *(answer_of(reader, end) for reader in readers)]
+        tests.agrees('rows entered earlier', text_of(announced_readers(readers) + sent), ('audit', 'why'))
+    print(f'lists in turns that each reader enters earlier: {count} recordings of {len(readers)} readers')
 
 
 def numbers_of_few_blocks(tests):
@@ -484,5 +508,5 @@ if __name__ == '__main__':
     sys.exit(program.main(__doc__, (cut_by_table, cut_and_changed, audits_of_changed, announced_late, octet_by_octet,
                                     empty_submessages, parameter_lists, endpoints_that_disagree, endpoints_of_one_topic,
                                     readers_that_are_named, rows_past_what_is_named, numbers_in_turns, lists_in_turns, rows_in_turns,
-                                    numbers_of_few_blocks,
-                                    ends_of_blocks, topics_of_every_octet, acknowledgements, gaps_of_many_ranges, many_datagrams)))
+                                    rows_entered_earlier, numbers_of_few_blocks, ends_of_blocks, topics_of_every_octet,
+                                    acknowledgements, gaps_of_many_ranges, many_datagrams)))
