@@ -349,8 +349,8 @@ def rows_in_turns(tests):
 
 def rows_entered_earlier(tests):
     """lists that all readers and their participant hear in turns, which each reader enters at a lesser number than the one before"""
-    count, rng, last = 4, random.Random(48), 12000
-    readers = [(b'\xbb' * 12, (0x104 + 256 * i).to_bytes(4, 'big')) for i in range(16)]
+    count, rng, last = 4, random.Random(48), 52000
+    readers = [(b'\xbb' * 12, (0x104 + 256 * i).to_bytes(4, 'big')) for i in range(5)]
     for place in range(count):
         # Of the first number each is told by name alone, and in half of the recordings nobody is told of another one.
         holes = [1, rng.randrange(2, last)] if place % 2 else [1]
@@ -362,8 +362,11 @@ def rows_entered_earlier(tests):
                     if number <= hole < number + 256:
                         words[(hole - number) // 32] &= ~(1 << (31 - (hole - number) % 32))
                 sent.append(make.header(A) + to + make.gap(WRITER, number, number, words))
-        # Each reader is told by name of the numbers up to where it enters.
-        begun = [make.header(A) + make.to(prefix) + make.gap(WRITER, 1, last - 700 * i, [], 0, entity) for i, (prefix, entity) in enumerate(readers)]
+        # Each reader is told by name of the numbers up to where it enters, further ahead than one goes before it asks what others share.
+        begun, enters = [], last
+        for prefix, entity in readers:
+            begun.append(make.header(A) + make.to(prefix) + make.gap(WRITER, 1, enters, [], 0, entity))
+            enters -= rng.randrange(7000, 12000)
         end = 256 * ((last + 254) // 256) + 1
         sent += [*begun, make.header(A) + make.heartbeat(WRITER, 1, end - 1), *(answer_of(reader, end) for reader in readers)]
         tests.agrees('rows entered earlier', text_of(announced_readers(readers) + sent), ('audit', 'why'))
