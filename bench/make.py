@@ -13,9 +13,10 @@
                                                         name; their participant hears every second by name
     make.py named_hole|named_crossed FILE [MEGABYTES]   the same as named_between, where each hears the first by name; where their
                                                         participants and their entity ids are told numbers in turns
-    make.py rows_crossed|rows_in_turns|payloads_crossed FILE [MEGABYTES]
+    make.py rows_crossed|rows_in_turns|payloads_crossed|none_crossed FILE [MEGABYTES]
                                                         the same as named_crossed, where participants are told long rows, and
-                                                        entity ids the numbers between; rows of 100 numbers each; payloads
+                                                        entity ids the numbers between; rows of 100 numbers each; payloads; where
+                                                        all readers are told all numbers
     make.py every_number|every_second FILE [MEGABYTES]  of one pair: GAPs of 256 numbers each; of every second one of them
     make.py far_apart|far_apart_random FILE [MEGABYTES] of one pair: GAPs of one number each, 1,000 apart, in order and in none
     make.py in_turns FILE [MEGABYTES]                   of one pair: GAPs of every second number for all readers, and of the others
@@ -255,6 +256,8 @@ CROSSED = {
     'rows_in_turns': (200, lambda i: gap(WRITER, 1 + 200 * i, 101 + 200 * i, [], 0),
                       lambda i, entity: gap(WRITER, 101 + 200 * i, 201 + 200 * i, [], 0, entity)),
     'payloads_crossed': (1, lambda i: data(WRITER, 1 + i, bytes(8)), lambda i, entity: data(WRITER, 1 + i, bytes(8), entity)),
+    'none_crossed': (256, lambda i: to(bytes(12)) * (i == 0) + gap(WRITER, 1 + 256 * i, 1 + 256 * i, [0xffffffff] * 8),
+                     lambda i, entity: gap(WRITER, 1 + 256 * i, 1 + 256 * i, [0xffffffff] * 8)),
 }
 
 

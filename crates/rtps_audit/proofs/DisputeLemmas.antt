@@ -1,5 +1,5 @@
 -- Lists of payloads that have different ones for a number.
-use Rattle.std.proofs.Common.{Bor, ℕ, ◌≡◌, ◌≤◌, ◌<◌, ◌+◌, ◌⊎◌, Bool, true, false, cond, ltb, List, [], ◌∷◌, ◌++◌, append-nil, filter, length, get_or, map, take, min, Option, Some, None, refl, sym, ◌∙◌, ap, subst, inl, inr, arith}
+use Rattle.std.proofs.Common.{Bor, ℕ, ◌≡◌, ◌≤◌, ◌<◌, ◌+◌, ◌-◌, ◌⊎◌, Bool, true, false, cond, ltb, List, [], ◌∷◌, ◌++◌, append-nil, filter, length, get_or, map, take, min, Option, Some, None, refl, sym, ◌∙◌, ap, subst, inl, inr, arith}
 use Rattle.std.specs.Prelude.{◌≢◌, IfSome, MatchOption, is_some, not}
 use Rattle.std.specs.Option.{ForSome, option_copied}
 use Rattle.std.specs.List.Sorted.{IsNonDecreasingBy, IsPartitionPoint}
@@ -13,7 +13,7 @@ use Rattle.rtps_wire.specs.Values.{PayloadValue, payload_value}
 use Rattle.rtps_discovery.specs.GuidOrder.{guid_cmp}
 use Rattle.rtps_audit.specs.DisputeWords.{AreInRange, IsInRange, Differ, IsClash, IsDispute, IsReached, IsSettled, joined, lesser}
 use Rattle.rtps_audit.specs.Disputes.{number_in, said_to}
-use Rattle.rtps_audit.specs.KeptPayloads.{IsKept, KeepsTwo, number_of}
+use Rattle.rtps_audit.specs.KeptPayloads.{IsKept, IsPlace, KeepsTwo, number_of}
 use Rattle.rtps_audit.specs.RunVerdict.{IsLeast}
 use Rattle.rtps_audit.specs.declared.disputes.Addressed.{Addressed}
 use Rattle.rtps_audit.specs.declared.payloads.KeptPayload.{KeptPayload}
@@ -42,14 +42,13 @@ lesser_holds P (Some d) (Some e) a b = elim (cases_lt e d) [
 
 -- ---- the first payload of a number
 
-pub first_is : (xs : List KeptPayload) (n place : ℕ) → place ≤ length xs → IsNonDecreasingBy number_of xs
-    → IsPartitionPoint (λ (entry : KeptPayload). ltb entry.number n ≡ true) (λ (entry : KeptPayload). ltb entry.number n ≡ false) xs place
+pub first_is : (xs : List KeptPayload) (n place : ℕ) → place ≤ length xs → IsNonDecreasingBy number_of xs → IsPlace xs n place
     → (y : PayloadValue) → IsKept xs n y → (place < length xs) × ((d : KeptPayload) → number_of (get_or xs place d) ≡ n)
 first_is xs n place within sorted found y kept = (
   omega (arith, behind, kept.among.1),
   λ d.
       let lt : place < length xs = omega (arith, behind, kept.among.1) in
-      let low = ltb-false _ _ (found.1 place d (omega arith) lt) in
+      let low = found.1 place d (omega arith) lt in
       let high = sorted place k d behind kept.among.1 in
       let is : number_of (get_or xs k d) ≡ n = ap number_of (get_or_default xs k d kept.entry kept.among.1) ∙ num in
       omega (arith, low, high, is),
@@ -63,9 +62,30 @@ first_is xs n place within sorted found y kept = (
 
     behind : place ≤ k
     behind = elim (cases_lt k place) [
-      | inl lt ↦ let small = ltb-true _ _ (found.0 k kept.entry (omega arith) lt) in absurd (omega (arith, small, num))
+      | inl lt ↦ let small = found.0 k kept.entry (omega arith) lt in absurd (omega (arith, small, num))
       | inr le ↦ le
     ]
+
+-- the payloads that a test finds to be of lesser numbers are before the place
+pub tested_place : (xs : List KeptPayload) (n place : ℕ) → IsPartitionPoint (λ (entry : KeptPayload). ltb entry.number n ≡ true) (λ (entry : KeptPayload). ltb entry.number n ≡ false) xs place
+    → IsPlace xs n place
+tested_place xs n place found = (λ k d from to. ltb-true _ _ (found.0 k d from to), λ k d from to. ltb-false _ _ (found.1 k d from to))
+
+-- a place is found by the payload before it and the one behind it
+pub place_between : (xs : List KeptPayload) (n place : ℕ) (d : KeptPayload) → IsNonDecreasingBy number_of xs
+    → (0 < place → number_of (get_or xs (place - 1) d) < n) → (place < length xs → n ≤ number_of (get_or xs place d)) → place ≤ length xs → IsPlace xs n place
+place_between xs n place d sorted before here within = (
+  λ k e from to.
+      let last = before (omega arith) in
+      let up = sorted k (place - 1) d (omega arith) (omega arith) in
+      let is : number_of (get_or xs k e) ≡ number_of (get_or xs k d) = ap number_of (get_or_default xs k e d (omega arith)) in
+      omega (arith, is, up, last),
+  λ k e from to.
+      let first = here (omega arith) in
+      let up = sorted place k d from to in
+      let is : number_of (get_or xs k e) ≡ number_of (get_or xs k d) = ap number_of (get_or_default xs k e d to) in
+      omega (arith, is, up, first),
+)
 
 pub kept_at : (xs : List KeptPayload) (place : ℕ) (d : KeptPayload) → place < length xs → IsKept xs (number_of (get_or xs place d)) (payload_value (get_or xs place d).payload)
 kept_at xs place d lt = record { entry = get_or xs place d; among = (place, lt, get_or_default xs place (get_or xs place d) d lt); number = refl; value = refl }

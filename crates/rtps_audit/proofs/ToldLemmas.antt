@@ -4,6 +4,7 @@ use Rattle.std.specs.Prelude.{if◌then◌else◌, is_some, unwrap_or}
 use Rattle.std.specs.BTreeMap.{BTreeMap, Updates, get}
 use Rattle.std.specs.Option.{is_none}
 use Rattle.std.specs.Ordering.{is_eq}
+use Rattle.std.proofs.Math.Bool.{or-false}
 use Rattle.std.proofs.lemmas.Bool.{cases_lt}
 use Rattle.std.proofs.lemmas.Bool.Decides.{nat_tests}
 use Rattle.std.proofs.lemmas.Cmp.{eq_by_cmp_equiv}
@@ -299,13 +300,7 @@ onward_more set n past next le before step m from to = elim (cases_lt m past) [
 pub onward_alike : (set other : ℕ → Bool) (n past : ℕ) → ((m : ℕ) → other m ≡ set m) → IsOnward other n past → IsOnward set n past
 onward_alike set other n past same is = record { onward = is.onward; in_range = is.in_range; stops = λ e. sym (same n) ∙ is.stops e; between = λ m from to. sym (same m) ∙ is.between m from to }
 
--- a number that one of four sets has, where three of them are as others are
-pub told_by_one : (e p₁ p o₁ o x₁ x : Bool) → p₁ ≡ p → o₁ ≡ o → x₁ ≡ x → (e || (p₁ || (o₁ || (x₁ || false)))) ≡ true → (e || (p || (o || x))) ≡ true
-told_by_one e p₁ p o₁ o x₁ x a b c told = four e p o x (ap (λ t. e || (t || (o || (x || false)))) (sym a) ∙ ap (λ t. e || (p₁ || (t || (x || false)))) (sym b) ∙ ap (λ t. e || (p₁ || (o₁ || (t || false)))) (sym c) ∙ told)
-  where
-    four : (e p o x : Bool) → (e || (p || (o || (x || false)))) ≡ true → (e || (p || (o || x))) ≡ true
-    four true p o x h = refl
-    four false true o x h = refl
-    four false false true x h = refl
-    four false false false true h = refl
-    four false false false false h = h
+-- whether one of four sets has a number, where three of them are as others are
+pub told_by_any : (e p₁ p o₁ o x₁ x : Bool) → p₁ ≡ p → o₁ ≡ o → x₁ ≡ x → (e || (p₁ || (o₁ || (x₁ || false)))) ≡ (e || (p || (o || x)))
+told_by_any e p₁ p o₁ o x₁ x a b c =
+    ap (λ t. e || (t || (o₁ || (x₁ || false)))) a ∙ ap (λ t. e || (p || (t || (x₁ || false)))) b ∙ ap (λ t. e || (p || (o || t))) (or-false x₁ ∙ c)

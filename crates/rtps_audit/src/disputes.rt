@@ -1,4 +1,4 @@
-ghost use Rattle.std.specs.Prelude.{◌≡◌, ◌<◌, ◌≤◌, ◌^◌, ◌++◌, ◌∷◌, [], ℕ, ◌≢◌, ◌↔◌, false, true, map, IfOk, IfSome, IsTrue, List, MatchOption, OnOk, Some};
+ghost use Rattle.std.specs.Prelude.{◌≡◌, ◌<◌, ◌≤◌, ◌^◌, ◌++◌, ◌∷◌, [], ℕ, ◌≢◌, ◌↔◌, false, true, length, map, IfOk, IfSome, IsTrue, List, MatchOption, OnOk, Some};
 ghost use Rattle.std.specs.BTreeMap.{get};
 ghost use Rattle.std.specs.Option.{ForSome};
 ghost use Rattle.std.specs.List.Sorted.{IsNonDecreasingBy, IsPermutation};
@@ -11,7 +11,7 @@ ghost use Rattle.rtps_audit.specs.Delivery.{IsAsked, Word};
 ghost use Rattle.rtps_audit.specs.DisputeWords.{AreInRange, Differ, IsClash, IsDispute, IsInRange, IsSettled, Tells, dispute_at, lesser};
 ghost use Rattle.rtps_audit.specs.Groups.{values_at};
 ghost use Rattle.rtps_audit.specs.Hearing.{HearsTwo};
-ghost use Rattle.rtps_audit.specs.KeptPayloads.{IsKept, KeepsTwo, number_of};
+ghost use Rattle.rtps_audit.specs.KeptPayloads.{IsKept, IsPlace, KeepsTwo, number_of};
 ghost use Rattle.rtps_audit.specs.Placed.{PlacedValue};
 ghost use Rattle.rtps_audit.specs.RunVerdict.{IsLeast};
 ghost use Rattle.rtps_audit.specs.Speech.{word_of};
@@ -74,13 +74,40 @@ fn lesser(one: Option<u64>, other: Option<u64>) -> Option<u64>
     }
 }
 
-/// Whether the first payload of this number is another one.
-fn differs(payloads: &[KeptPayload<'_>], kept: KeptPayload<'_>) -> bool
-    ensures found { result ≡ true → (y : PayloadValue) × IsKept payloads.now kept.entry.number y × (payload_value kept.entry.payload ≢ y) }
-    ensures none { result ≡ false → IsNonDecreasingBy number_of payloads.now → (y : PayloadValue) → IsKept payloads.now kept.entry.number y → payload_value kept.entry.payload ≢ y → KeepsTwo payloads.now kept.entry.number }
+/// Whether the payloads of numbers below this one end at a place, if they are in the order of numbers.
+fn is_place(payloads: &[KeptPayload<'_>], place: usize, number: u64) -> bool
+    ensures within { IsTrue result → place ≤ length payloads.now }
+    ensures place { IsTrue result → IsNonDecreasingBy number_of payloads.now → IsPlace payloads.now number place }
 {
-    let place = payloads.partition_point(|entry| entry.number < kept.number);
-    if place >= payloads.len() {
+    place <= payloads.len()
+        && (place == 0 || payloads[place - 1].number < number)
+        && (place == payloads.len() || number <= payloads[place].number)
+}
+
+/// Where the payloads of numbers below this one end. Of lists that have much the same numbers that is the place where those of the
+/// number before ended, or the next one, which are looked at first.
+fn place_near(payloads: &[KeptPayload<'_>], near: usize, number: u64) -> usize
+    ensures within { result ≤ length payloads.now }
+    ensures place { IsNonDecreasingBy number_of payloads.now → IsPlace payloads.now number result }
+{
+    if is_place(payloads, near, number) {
+        return near;
+    }
+    let next = near.saturating_add(1);
+    if is_place(payloads, next, number) {
+        return next;
+    }
+    payloads.partition_point(|entry| entry.number < number)
+}
+
+/// Whether the first payload of this number, which is at the place where those of lesser numbers end, is another one.
+fn differs(payloads: &[KeptPayload<'_>], place: usize, kept: KeptPayload<'_>) -> bool
+    requires { place ≤ length payloads.now }
+    ensures found { result ≡ true → (y : PayloadValue) × IsKept payloads.now kept.entry.number y × (payload_value kept.entry.payload ≢ y) }
+    ensures none { result ≡ false → IsNonDecreasingBy number_of payloads.now → IsPlace payloads.now kept.entry.number place
+        → (y : PayloadValue) → IsKept payloads.now kept.entry.number y → payload_value kept.entry.payload ≢ y → KeepsTwo payloads.now kept.entry.number }
+{
+    if place == payloads.len() {
         return false;
     }
     let first = payloads[place];
@@ -92,9 +119,11 @@ fn clash_within(short: &[KeptPayload<'_>], long: &[KeptPayload<'_>]) -> Option<u
     ensures held { IfSome result (Differ short.now long.now) }
     ensures least { IsNonDecreasingBy number_of short.now → IsNonDecreasingBy number_of long.now → IsClash short.now long.now result }
 {
+    let mut there = 0;
     for place in 0..short.len() {
         let here = short[place];
-        if differs(long, here) {
+        there = place_near(long, there, here.number);
+        if differs(long, there, here) {
             return Some(here.number);
         }
     }

@@ -3,6 +3,7 @@ ghost use Rattle.rtps_ids.specs.declared.identity.Guid.{Guid as GuidValue};
 ghost use Rattle.rtps_coverage.specs.BitRanges.{covered_of};
 ghost use Rattle.rtps_coverage.specs.Coverage.{IsPast, IsSameSet};
 ghost use Rattle.rtps_audit.specs.Shared.{AreShared};
+ghost use Rattle.rtps_audit.specs.Told.{IsOnward};
 ghost use Rattle.rtps_audit.specs.ToldSets.{told_at};
 
 use crate::told_sets::ToldSets;
@@ -24,14 +25,12 @@ const STEPS: u64 = 16;
 fn stride(everyone: &BitRanges, sets: &ToldSets, key: Guid, n: u64) -> u64
     requires positive { 1 ≤ n }
     requires in_range { n < 2 ^ 63 }
-    ensures onward { n ≤ result }
-    ensures in_range { result < 2 ^ 63 }
-    ensures between { (m : ℕ) → n ≤ m → m < result → (covered_of everyone.now m || told_at sets.now.sets key m) ≡ true }
+    ensures { IsOnward (λ m. covered_of everyone.now m || told_at sets.now.sets key m) n result }
 {
-    let Some(set) = sets.sets.get(&key) else {
-        return n;
-    };
-    past_together(&[everyone, set], n, STEPS)
+    match sets.sets.get(&key) {
+        Some(set) => past_together(&[everyone, set], n, STEPS),
+        None => past_together(&[everyone], n, STEPS),
+    }
 }
 
 /// The least number from `n` on that is told neither to everyone nor to the audience of a key. What is kept in rows of the audience

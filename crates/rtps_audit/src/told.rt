@@ -7,9 +7,19 @@ use rtps_ids::{Guid, Memory};
 use rtps_receiver::laws::tests_say_what_relations_say;
 use std::alloc::Global;
 
-/// So many steps are taken by the sets of a reader's audiences, before what many readers share is asked again. A row that these
-/// share may lie in them, and is not found then. Asking takes about ten times a step.
-const STEPS: u64 = 12;
+/// At least so many steps are taken by the sets of a reader's audiences, before what many readers share is asked again. A row that
+/// these share may lie in them, and is not found then. Asking takes about ten times a step.
+const FEWEST: u64 = 4;
+
+/// And at most so many.
+const MOST: u64 = 1 << 16;
+
+/// Where a reader was told of each number up to, and how many steps were taken to there.
+#[derive(Clone, Copy)]
+struct Stride {
+    end: u64,
+    steps: u64,
+}
 
 /// The numbers that a writer told its readers so far, by whom they are for.
 #[derive(Drop)]
@@ -94,13 +104,13 @@ impl Told {
     }
 
     /// A number from `n` on up to which the reader was told of each, as far as some steps go. It may have been told of them in turns
-    /// by what is for any of its audiences.
-    fn stride(&self, reader: Guid, n: u64) -> u64
-        requires positive { 1 ≤ n }
+    /// by what is for any of its audiences. There are twice as many steps as the last time, where what readers share was asked from
+    /// `asked` on, and that came to `n`, no further than a step does; or else the fewest.
+    fn stride(&self, reader: Guid, asked: u64, n: u64, steps: u64) -> Stride
+        requires positive { 1 ≤ asked }
+        requires onward { asked ≤ n }
         requires in_range { n < 2 ^ 63 }
-        ensures onward { n ≤ result }
-        ensures in_range { result < 2 ^ 63 }
-        ensures between { (m : ℕ) → n ≤ m → m < result → is_told self.now reader m ≡ true }
+        ensures { IsOnward (is_told self.now reader) n result.end }
     {
         let none = BitRanges::empty(self.alloc);
         let sets = [
@@ -109,7 +119,15 @@ impl Told {
             self.directed.set_or(reader, &none),
             self.named.set_or(of_entity(reader), &none),
         ];
-        past_together(&sets, n, STEPS)
+        let steps = if past_together(&sets, asked, 1) < n {
+            FEWEST
+        } else {
+            steps.saturating_mul(2).clamp(FEWEST, MOST)
+        };
+        Stride {
+            end: past_together(&sets, n, steps),
+            steps,
+        }
     }
 
     /// The least number from `n` on of which the reader was not told. The sets are the same.
@@ -123,12 +141,15 @@ impl Told {
         ensures past { IfOk result (λ past. IsGathered self.old → IsPast (is_told self.old reader) n past) }
     {
         let mut past = n;
+        let mut steps = 0;
         loop {
             let next = self.onward(reader, past)?;
             if next == past {
                 return Ok(past);
             }
-            past = self.stride(reader, next);
+            let stride = self.stride(reader, past, next, steps);
+            past = stride.end;
+            steps = stride.steps;
         }
     }
 }

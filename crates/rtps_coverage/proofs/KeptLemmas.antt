@@ -158,11 +158,72 @@ kept_once kept key other span that e f same = same_Some span that (sym e ∙ ap 
 -- a range that is kept and has a number
 pub range_here : (kept : BTreeMap ℕ Span) (n key : ℕ) (span : Span) → IsApart kept → HasRange kept key span → span.lo ≤ n → n < span.hi → IsRangeWith kept n span
 range_here kept n key span h e from to = record {
+  key = key;
+  kept_here = e;
   from = from;
   to = to;
-  bounded = h.bounded key span e;
-  members = λ m a b. some_has m key span kept.entries e (is_in m span a b);
+  has = some_has n key span kept.entries e (is_in n span from to);
 }
+
+-- ---- where a range ends
+
+-- what is told of each range with a lower key, of this one, and of each with a higher one, is told of all
+by_key : (kept : BTreeMap ℕ Span) (key n : ℕ) → IsOrdered nat_cmp kept
+    → ((other : ℕ) (that : Span) → HasRange kept other that → other < key → that.hi ≤ n)
+    → ((that : Span) → HasRange kept key that → that.hi ≤ n)
+    → ((other : ℕ) (that : Span) → HasRange kept other that → key < other → n < that.lo)
+    → kept_has kept n ≡ false
+by_key kept key n ordered before here after =
+    none_has kept n ordered (λ other that e. elim (cases_lt other key) [
+      | inl lt ↦ not_past n that (before other that e lt)
+      | inr ge ↦ elim (cases_lt key other) [
+        | inl lt ↦ not_below n that (after other that e lt)
+        | inr le ↦ not_past n that (here that (subst (λ k. HasRange kept k that) (omega arith) e))
+      ]
+    ])
+
+-- no kept range has the number at the end of one
+pub end_outside : (kept : BTreeMap ℕ Span) (key : ℕ) (span : Span) → IsApart kept → HasRange kept key span → kept_has kept span.hi ≡ false
+end_outside kept key span h e =
+    let low = h.from key span e in
+    let high = h.to key span e in
+    by_key kept key span.hi h.ordered
+    (λ other that f lt. let a = h.apart other key that span f e lt in omega arith)
+    (λ that f. subst (λ (s : Span). s.hi ≤ span.hi) (kept_once kept key key span that e f refl) (le_refl span.hi))
+    (λ other that f lt. h.apart key other span that e f lt)
+
+-- nor the number at the end of the recent one
+pub recent_outside : (kept : BTreeMap ℕ Span) (recent : Recent) → IsApart kept → IsRecent kept recent → kept_has kept recent.span.hi ≡ false
+recent_outside kept recent h is =
+    let low = is.from in
+    let high = is.to in
+    by_key kept recent.key recent.span.hi h.ordered
+    (λ other that f lt. let a = is.before other that f lt in omega arith)
+    (λ that f. is.upper that f)
+    (λ other that f lt. is.after other that f lt)
+
+-- and the recent one has not the number at the end of another
+pub not_recent : (kept : BTreeMap ℕ Span) (recent : Option Recent) (n : ℕ) (span : Span) → IsApart kept → ForSome recent (IsRecent kept)
+    → recent_has recent n ≡ false → IsRangeWith kept n span → recent_has recent span.hi ≡ false
+not_recent kept None n span h is out with = refl
+not_recent kept (Some recent) n span h is out with =
+    let here = is recent refl in
+    let low = h.from with.key span with.kept_here in
+    let high = h.to with.key span with.kept_here in
+    let from = with.from in
+    let to = with.to in
+    elim (cases_lt with.key recent.key) [
+      | inl lt ↦ let a = here.before with.key span with.kept_here lt in not_below span.hi recent.span a
+      | inr ge ↦ elim (cases_lt recent.key with.key) [
+        | inl lt ↦ let a = here.after with.key span with.kept_here lt in not_past span.hi recent.span (omega arith)
+        | inr le ↦
+            let same : with.key ≡ recent.key = omega arith in
+            let e : HasRange kept recent.key span = subst (λ k. HasRange kept k span) same with.kept_here in
+            let a = here.lower span e in
+            let b = here.upper span e in
+            absurd (false≢true (sym out ∙ is_in n recent.span (omega arith) (omega arith)))
+      ]
+    ]
 
 -- ---- the ranges before a number and past it
 
@@ -224,10 +285,10 @@ clear_has kept lo hi n ordered clear from to =
 
 -- ---- the range of the least numbers
 
-or_false : (a b : Bool) → a ≡ false → b ≡ false → (a || b) ≡ false
+pub or_false : (a b : Bool) → a ≡ false → b ≡ false → (a || b) ≡ false
 or_false a b e f = rw (e, f) refl
 
-or_left : (a b : Bool) → a ≡ true → (a || b) ≡ true
+pub or_left : (a b : Bool) → a ≡ true → (a || b) ≡ true
 or_left a b e = rw e refl
 
 or_right : (a b : Bool) → b ≡ true → (a || b) ≡ true

@@ -1,13 +1,16 @@
 -- Several sets at once.
-use Rattle.std.proofs.Common.{ℕ, Bool, true, false, ◌≡◌, ◌≤◌, ◌<◌, ◌+◌, ◌-◌, ◌/◌, ◌%◌, ◌^◌, ◌||◌, ◌&&◌, List, [], ◌∷◌, length, get_or, get_or-set_same, get_or-set_other, set, take, bit_or, nat_eq, nat_le, nat_lt, refl, ◌∙◌, sym, ap, inl, inr, arith}
+use Rattle.std.proofs.Common.{ℕ, Bool, true, false, ◌≡◌, ◌≤◌, ◌<◌, ◌+◌, ◌-◌, ◌/◌, ◌%◌, ◌^◌, ◌||◌, ◌&&◌, List, [], ◌∷◌, length, get_or, get_or-set_same, get_or-set_other, set, take, bit_or, nat_eq, nat_le, nat_lt, refl, ◌∙◌, sym, ap, subst, Bor, zero, suc, inl, inr, arith}
 use Rattle.std.specs.Prelude.{slice_index}
 use Rattle.std.specs.Int.{bit_at}
 use Rattle.std.specs.List.{list_any}
-use Rattle.std.proofs.lemmas.Bool.{cases_eq}
+use Rattle.std.proofs.lemmas.Bool.{cases_eq, cases_lt}
 use Rattle.std.proofs.lemmas.Bool.Decides.{nat_tests}
-use Rattle.std.proofs.lemmas.List.Folds.{list_any_more}
+use Rattle.std.proofs.lemmas.List.Folds.{Any-from_list_any, list_any_more, list_any-from_Any}
+use Rattle.std.proofs.Math.Nat.{le_trans}
 use Rattle.rtps_coverage.specs.Blocks.{block_at, blocks_have, group_at, group_has}
-use Rattle.rtps_coverage.specs.BitRanges.{covered_of, is_in_row}
+use Rattle.rtps_coverage.specs.BitRanges.{covered_of, covered_in_range as set_in_range, is_in_row}
+use Rattle.rtps_coverage.specs.MergedRanges.{covered_of as ranges_have, covered_in_range}
+use Rattle.rtps_coverage.specs.Together.{ArePieces, IsPiece, IsRow, any_has, any_row_has}
 use Rattle.rtps_coverage.specs.declared.bit_ranges.BitRanges.{BitRanges}
 use Rattle.rtps_coverage.specs.declared.blocks.Blocks.{Blocks}
 use Rattle.rtps_coverage.proofs.BlockLemmas.{either_bit}
@@ -98,3 +101,88 @@ not_covered set n row bit = none (nat_le 1 n) (nat_lt n set.passed) (nat_lt n (2
     none true false false d e i j = refl
     none true false true true e i j = cc
     none true false true false e i j = i
+
+-- ---- pieces
+
+-- a number of a row is in the set
+pub row_covered : (set : BitRanges) (m : ℕ) → 1 ≤ m → is_in_row set m ≡ true → covered_of set m ≡ true
+row_covered set m positive here =
+    let from : nat_le 1 m ≡ true = grind (arith, nat_tests) in
+    all (nat_le 1 m) (nat_lt m set.passed) (nat_lt m (2 ^ 63 - 1)) (blocks_have set.blocks m) (ranges_have set.ranges m) from here
+    (λ e. let small = (covered_in_range set.ranges m e).1 in grind (arith, nat_tests))
+  where
+    all : (a b c d e : Bool) → a ≡ true → (b || e) ≡ true → (e ≡ true → c ≡ true) → (a && (b || (c && (d || e)))) ≡ true
+    all a true c d e i j k = rw i refl
+    all a false c d e i j k = rw (i, k j, j) (last d)
+      where
+        last : (d : Bool) → (d || true) ≡ true
+        last true = refl
+        last false = refl
+
+-- a row of one of the sets that goes on from n goes on from each number of it
+row_on : (sets : List (Bor BitRanges)) (start n end : ℕ) → start ≤ n → IsRow sets start end → IsRow sets n end
+row_on sets start n end le row = (row.0, row.1, row.2, row.3, λ m from to. row.4 m (omega arith) to)
+
+-- so does a piece
+pub piece_on : (sets : List (Bor BitRanges)) (start n end : ℕ) → start ≤ n → n < end → IsPiece sets start end → IsPiece sets n end
+piece_on sets start n end le lt (inl row) = inl (row_on sets start n end le row)
+piece_on sets start n end le lt (inr group) =
+    let within = group.within in
+    inr (record { within = omega arith; bits = λ m from to. group.bits m (omega arith) to })
+
+-- each number of a piece is in one of the sets
+piece_has : (sets : List (Bor BitRanges)) (start end m : ℕ) → end < 2 ^ 63 → 1 ≤ m → start ≤ m → m < end → IsPiece sets start end → any_has sets m ≡ true
+piece_has sets start end m small positive from to (inl row) =
+    list_any-from_Any (λ (set : Bor BitRanges). covered_of set.now m) sets (row.0, row.1, row.2, row.3, row_covered row.1.now m positive (row.4 m from to))
+piece_has sets start end m small positive from to (inr group) =
+    any_on (λ (set : Bor BitRanges). blocks_have set.now.blocks m) (λ (set : Bor BitRanges). covered_of set.now m) sets
+    (λ set is. bit_covered set.now m positive (omega arith) is) (group.bits m from to)
+
+-- and so each of several
+pub pieces_have : (sets : List (Bor BitRanges)) (n count end m : ℕ) → end < 2 ^ 63 → 1 ≤ n → n ≤ m → m < end → ArePieces sets n count end → any_has sets m ≡ true
+unfolding ArePieces
+pieces_have sets n zero end m small positive from to pieces = absurd (omega arith)
+pieces_have sets n (suc count) end m small positive from to (start, le, before, piece) =
+    elim (cases_lt m start) [
+      | inl lt ↦ pieces_have sets n count start m (omega arith) positive from lt before
+      | inr ge ↦ piece_has sets start end m small (omega arith) ge to piece
+    ]
+
+-- a number past which no piece goes from where the pieces before it can end is past one piece more
+pub one_piece_more : (sets : List (Bor BitRanges)) (n count past next : ℕ) → past ≤ next
+    → ((end : ℕ) → end < 2 ^ 63 → ArePieces sets n count end → end ≤ past)
+    → ((end : ℕ) → end < 2 ^ 63 → IsPiece sets past end → end ≤ next)
+    → (more end : ℕ) → more ≡ count + 1 → end < 2 ^ 63 → ArePieces sets n more end → end ≤ next
+unfolding ArePieces
+one_piece_more sets n count past next on so_far further zero end is small pieces = absurd (omega arith)
+one_piece_more sets n count past next on so_far further (suc before) end is small (start, le, pieces, piece) =
+    let same : before ≡ count = omega arith in
+    let first : start ≤ past = so_far start (omega arith) (subst (λ k. ArePieces sets n k start) same pieces) in
+    elim (cases_lt past end) [
+      | inl lt ↦ further end small (piece_on sets start past end first lt piece)
+      | inr ge ↦ le_trans ge on
+    ]
+
+-- a number that a row of one of the sets has is a part of that row
+pub one_row : (sets : List (Bor BitRanges)) (n : ℕ) → any_row_has sets n ≡ true → IsRow sets n (n + 1)
+one_row sets n is =
+    let found = Any-from_list_any (λ (set : Bor BitRanges). is_in_row set.now n) sets is in
+    (found.0, found.1, found.2, found.3, λ m from to. ap (is_in_row found.1.now) (omega arith) ∙ found.4)
+
+-- what is not true is false
+pub if_not : (b : Bool) → (b ≡ true → ⊥) → b ≡ false
+if_not true not = absurd (not refl)
+if_not false not = refl
+
+-- no piece goes nowhere
+pub none_before : (sets : List (Bor BitRanges)) (n end : ℕ) → ArePieces sets n zero end → end ≤ n
+unfolding ArePieces
+none_before sets n end le = le
+
+-- no set has 2^63 - 1
+pub none_at_last : (sets : List (Bor BitRanges)) (n : ℕ) → n ≡ 2 ^ 63 - 1 → any_has sets n ≡ false
+none_at_last sets n is =
+    if_not (any_has sets n) (λ has.
+    let found = Any-from_list_any (λ (set : Bor BitRanges). covered_of set.now n) sets has in
+    let small = (set_in_range found.1.now n found.4).1 in
+    absurd (omega arith))

@@ -1,6 +1,6 @@
 -- Sets of sequence numbers, as tests of a number. own: the standard counts numbers one by one; a set of
 -- them is what a verdict rests on.
-use Rattle.std.specs.Prelude.{ℕ, Bool, true, false, ◌≡◌, ◌≤◌, ◌<◌, ◌+◌, ◌-◌, ◌^◌, ◌&&◌, ◌||◌, ℤ, pos, negsuc, ◌≤ℤ◌, ◌<ℤ◌, int_le, int_lt}
+use Rattle.std.specs.Prelude.{ℕ, Bool, true, false, ◌≡◌, ◌≤◌, ◌<◌, ◌-◌, ◌^◌, ◌&&◌, ◌||◌, ℤ, pos, negsuc, ◌≤ℤ◌, ◌<ℤ◌, int_le, int_lt}
 
 -- a number from lo on and below hi
 abbrev pub is_within : ℤ → ℤ → ℕ → Bool
@@ -34,12 +34,4 @@ pub record IsPast (set : ℕ → Bool) (n past : ℕ) : Type 0 where
   pub onward : n ≤ past
   pub in_range : past < 2 ^ 63
   pub outside : set past ≡ false
-  pub between : (m : ℕ) → n ≤ m → m < past → set m ≡ true
-
--- a number from n on up to which each is in the set: the least that is not, or one that is so many or more further on, or 2^63 - 1,
--- behind which no set reaches
-pub record IsPastInSteps (set : ℕ → Bool) (n steps past : ℕ) : Type 0 where
-  pub onward : n ≤ past
-  pub in_range : past < 2 ^ 63
-  pub outside : past < n + steps → past < 2 ^ 63 - 1 → set past ≡ false
   pub between : (m : ℕ) → n ≤ m → m < past → set m ≡ true

@@ -62,12 +62,13 @@ pub record IsClear (kept : BTreeMap ℕ Span) (lo hi : ℕ) : Type 0 where
 abbrev pub BeginsPast : BTreeMap ℕ Span → ℕ → ℕ → Type 0
 BeginsPast kept key number = (other : ℕ) (span : Span) → HasRange kept other span → key < other → number < span.lo
 
--- a range that has a number, and numbers of the map's ranges alone
+-- a range of the map that has a number
 pub record IsRangeWith (kept : BTreeMap ℕ Span) (n : ℕ) (span : Span) : Type 0 where
+  pub key : ℕ
+  pub kept_here : HasRange kept key span
   pub from : span.lo ≤ n
   pub to : n < span.hi
-  pub bounded : span.hi < 2 ^ 63
-  pub members : (m : ℕ) → span.lo ≤ m → m < span.hi → kept_has kept m ≡ true
+  pub has : kept_has kept n ≡ true
 
 -- whether a recent range, if there is one, has a number
 abbrev pub recent_has : Option Recent → ℕ → Bool

@@ -7,4 +7,5 @@ pub mod Blocks
 pub mod Beyond
 pub mod BitRanges
 pub mod Bits
+pub mod Together
 pub mod Laws

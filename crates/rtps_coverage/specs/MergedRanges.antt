@@ -42,12 +42,6 @@ pub record Touches (set : ℕ → Bool) (lo hi : ℤ) : Type 0 where
   pub from : lo ≤ℤ pos (number + 1)
   pub to : pos number ≤ℤ hi
 
--- a set has the numbers from n on and below hi
-pub record HasUpTo (set : ℕ → Bool) (n hi : ℕ) : Type 0 where
-  pub some : n < hi
-  pub bounded : hi < 2 ^ 63
-  pub members : (m : ℕ) → n ≤ m → m < hi → set m ≡ true
-
 -- ---- these numbers lie from 1 to 2^63 - 2
 
 if_some : (o : Option Span) (P : Span → Type 0) → ((span : Span) → o ≡ Some span → P span) → IfSome o P

@@ -107,14 +107,10 @@ impl BitRanges {
         self.blocks.group(group)
     }
 
-    /// Where the numbers from `n` on end that lie below the front or in one long range.
+    /// The least number from `n` on that neither lies below the front nor in a long range.
     pub(crate) fn row_end(&self, n: u64) -> u64
-        requires positive { 1 ≤ n }
-        requires in_range { n < 2 ^ 63 - 1 }
-        ensures onward { n ≤ result }
-        ensures in_range { result < 2 ^ 63 }
-        ensures members { (m : ℕ) → n ≤ m → m < result → covered_of self.now m ≡ true }
-        ensures stops { result ≡ n → is_in_row self.now n ≡ false }
+        requires { n < 2 ^ 63 }
+        ensures { IsPast (is_in_row self.now) n result }
     {
         if n < self.passed {
             return self.passed;

@@ -286,11 +286,12 @@ fn join(
 }
 
 impl MergedRanges {
-    ghost use Rattle.rtps_coverage.specs.MergedRanges.{count_of, covered_of, HasUpTo};
+    ghost use Rattle.rtps_coverage.specs.Coverage.{IsPast};
+    ghost use Rattle.rtps_coverage.specs.MergedRanges.{count_of, covered_of};
 
     /// Where the range ends that has a number.
     pub(crate) fn end_of(&self, n: u64) -> Option<u64>
-        ensures { MatchOption result (covered_of self.now n ≡ false) (HasUpTo (covered_of self.now) n) }
+        ensures { MatchOption result (covered_of self.now n ≡ false) (λ end. (n < end) × IsPast (covered_of self.now) n end) }
     {
         if let Some(recent) = self.recent {
             if recent.span.lo <= n && n < recent.span.hi {

@@ -1,8 +1,6 @@
 ghost use Rattle.std.specs.Prelude.{ℕ, ◌≡◌, ◌≤◌, ◌<◌, ◌+◌, ◌-◌, ◌*◌, ◌/◌, ◌^◌, ◌||◌, true, false, IsTrue};
-ghost use Rattle.std.specs.List.{list_any};
-ghost use Rattle.rtps_coverage.specs.BitRanges.{covered_of, is_in_row};
-ghost use Rattle.rtps_coverage.specs.Blocks.{blocks_have, group_has};
-ghost use Rattle.rtps_coverage.specs.Coverage.{IsPastInSteps};
+ghost use Rattle.rtps_coverage.specs.Blocks.{group_has};
+ghost use Rattle.rtps_coverage.specs.Together.{AreAll, IsPastInSteps, IsPiece, IsRow, any_bit_has, any_has, any_row_has};
 
 use crate::bit_ranges::BitRanges;
 use crate::coverage::LAST;
@@ -18,7 +16,7 @@ fn join(blocks: &mut [u64; 8], more: &[u64; 8])
 
 /// The numbers of a group that some of the sets keep as bits.
 fn group_of(sets: &[&BitRanges], group: u64) -> [u64; 8]
-    ensures { (n : ℕ) → n / 512 ≡ group → group_has result n ≡ list_any (λ set. blocks_have set.now.blocks n) sets.now }
+    ensures { (n : ℕ) → n / 512 ≡ group → group_has result n ≡ any_bit_has sets.now n }
 {
     let mut blocks = [0; 8];
     for set in sets {
@@ -43,8 +41,8 @@ fn bits_end(blocks: &[u64; 8], n: u64) -> u64
     requires { n < 2 ^ 63 }
     ensures onward { n ≤ result }
     ensures within { result ≤ 512 * (n / 512) + 512 }
-    ensures members { (m : ℕ) → n ≤ m → m < result → group_has blocks.now m ≡ true }
-    ensures stops { result ≡ n → group_has blocks.now n ≡ false }
+    ensures members { AreAll (group_has blocks.now) n result }
+    ensures stops { result < 512 * (n / 512) + 512 → group_has blocks.now result ≡ false }
 {
     let behind = 512 * (n / 512) + 512;
     if is_full(blocks) {
@@ -63,20 +61,17 @@ fn bits_end(blocks: &[u64; 8], n: u64) -> u64
 }
 
 /// Where rows of the sets end of which the first has `n`, and each next one, of a later set, the number behind the one before it.
-/// It is `n` where no row has that.
+/// It is `n` where no row has that, and where one has it, no less than the end of that.
 fn row_end(sets: &[&BitRanges], n: u64) -> u64
-    requires positive { 1 ≤ n }
-    requires in_range { n < 2 ^ 63 - 1 }
+    requires { n < 2 ^ 63 }
     ensures onward { n ≤ result }
     ensures in_range { result < 2 ^ 63 }
-    ensures members { (m : ℕ) → n ≤ m → m < result → list_any (λ set. covered_of set.now m) sets.now ≡ true }
-    ensures stops { result ≡ n → list_any (λ set. is_in_row set.now n) sets.now ≡ false }
+    ensures members { AreAll (any_row_has sets.now) n result }
+    ensures far { (end : ℕ) → IsRow sets.now n end → end ≤ result }
 {
     let mut end = n;
     for set in sets {
-        if end < LAST {
-            end = set.row_end(end);
-        }
+        end = set.row_end(end);
     }
     end
 }
@@ -84,30 +79,28 @@ fn row_end(sets: &[&BitRanges], n: u64) -> u64
 /// Where the numbers from `n` on end that rows of the sets have, one of each, and then their bits of one group.
 fn run_end(sets: &[&BitRanges], n: u64) -> u64
     requires positive { 1 ≤ n }
-    requires in_range { n < 2 ^ 63 - 1 }
+    requires in_range { n < 2 ^ 63 }
     ensures onward { n ≤ result }
     ensures in_range { result < 2 ^ 63 }
-    ensures members { (m : ℕ) → n ≤ m → m < result → list_any (λ set. covered_of set.now m) sets.now ≡ true }
-    ensures stops { result ≡ n → list_any (λ set. covered_of set.now n) sets.now ≡ false }
+    ensures members { AreAll (any_has sets.now) n result }
+    ensures far { (end : ℕ) → end < 2 ^ 63 → IsPiece sets.now n end → end ≤ result }
+    ensures stops { result ≡ n → any_has sets.now n ≡ false }
 {
     let row = row_end(sets, n);
     let blocks = group_of(sets, row / 512);
     bits_end(&blocks, row).min(LAST)
 }
 
-/// A number from `n` on up to which each is in one of the sets: the least that none has, or one that is `steps` or more further on,
-/// or 2^63 - 1. A step passes a row of each set where one goes on behind the other, and then what the sets keep as bits, in turns, to
-/// the end of that group of 512. What is promised of a step is one number.
+/// A number from `n` on up to which each is in one of the sets: the least that none has, or one that is at least as far as `steps`
+/// rows and groups go one behind the other; no set has 2^63 - 1. A step passes a row of each set where one goes on behind the other, and
+/// then what the sets keep as bits, in turns, to the end of that group of 512.
 pub fn past_together(sets: &[&BitRanges], n: u64, steps: u64) -> u64
     requires positive { 1 ≤ n }
     requires in_range { n < 2 ^ 63 }
-    ensures { IsPastInSteps (λ m. list_any (λ set. covered_of set.now m) sets.now) n steps result }
+    ensures { IsPastInSteps sets.now n steps result }
 {
     let mut past = n;
     for _ in 0..steps {
-        if past == LAST {
-            return past;
-        }
         let end = run_end(sets, past);
         if end == past {
             return past;

@@ -16,7 +16,8 @@ returns-then-differs-clause-least c = λ sorted other.
 
 pub loop-place-preserved : goal.loop-place-preserved
 loop-place-preserved c = λ other.
-    alike_more c.args.short.now c.args.long.now c.loop-place.place (record { number = 0; payload = Absent }) (omega (arith, c.loop-place-test.true)) (c.loop-place.invariant other) (c.differs.ensures.none c.if-differs.false other)
+    let same = c.differs.ensures.none c.if-differs.false other (c.place_near-there.ensures.place other) in
+    alike_more c.args.short.now c.args.long.now c.loop-place.place (record { number = 0; payload = Absent }) (omega (arith, c.loop-place-test.true)) (c.loop-place.invariant other) same
 
 pub returns-clause-least : goal.returns-clause-least
 returns-clause-least c = λ sorted other.

@@ -1,13 +1,12 @@
-use Rattle.std.proofs.Common.{◌%◌, ◌∙◌, get_or, ap, refl, sym, arith, inl, inr}
+use Rattle.std.proofs.Common.{◌%◌, ◌∙◌, get_or, refl, arith, inl, inr}
 use Rattle.std.proofs.lemmas.Bool.{cases_lt}
-use Rattle.rtps_coverage.specs.Blocks.{group_has}
 use Rattle.rtps_coverage.proofs.BlockLemmas.{run_from}
 use Rattle.rtps_coverage.proofs.together.bits_end.Goals as goal
 
 pub returns-then-ones-eq0-clause-stops : goal.returns-then-ones-eq0-clause-stops
-returns-then-ones-eq0-clause-stops c = λ same.
+returns-then-ones-eq0-clause-stops c = λ before.
     let run = run_from (λ key. get_or c.args.blocks.now (key % 8) 0) c.loop-end.end _ c.trailing_ones-ones.result refl (c.fits-blocks _) c.trailing_ones-ones.ensures in
-    ap (group_has c.args.blocks.now) (sym same) ∙ run.stops c.if-ones-eq0.true
+    run.stops c.if-ones-eq0.true
 
 pub loop-end-preserved : goal.loop-end-preserved
 loop-end-preserved c =

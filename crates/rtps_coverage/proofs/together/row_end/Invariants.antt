@@ -1,6 +1,7 @@
-use Rattle.std.proofs.Common.{ℕ, ◌≡◌, ◌≤◌, ◌<◌, ◌^◌, take, true, false}
-use Rattle.std.specs.List.{list_any}
-use Rattle.rtps_coverage.specs.BitRanges.{covered_of, is_in_row}
+use Rattle.std.proofs.Common.{ℕ, Bor, ◌≡◌, ◌≤◌, ◌<◌, ◌^◌, slice_index_or, take}
+use Rattle.rtps_coverage.specs.BitRanges.{is_in_row}
+use Rattle.rtps_coverage.specs.Together.{AreAll, any_row_has}
+use Rattle.rtps_coverage.specs.declared.bit_ranges.BitRanges.{BitRanges}
 use Rattle.rtps_coverage.proofs.together.row_end.Given as goal
 
 -- what the contract says, of the sets so far
@@ -8,6 +9,6 @@ abbrev pub invariant-loop-set : goal.invariant-loop-set
 invariant-loop-set l = record {
   onward : l.n ≤ l.end;
   in_range : l.end < 2 ^ 63;
-  members : (m : ℕ) → l.n ≤ m → m < l.end → list_any (λ set. covered_of set.now m) (take l.set-index l.sets) ≡ true;
-  stops : l.end ≡ l.n → list_any (λ set. is_in_row set.now l.n) (take l.set-index l.sets) ≡ false;
+  members : AreAll (any_row_has (take l.set-index l.sets)) l.n l.end;
+  far : (k : ℕ) (set : Bor BitRanges) → k < l.set-index → slice_index_or l.sets k set ≡ set → (end : ℕ) → AreAll (is_in_row set.now) l.n end → end ≤ l.end;
 }
