@@ -134,15 +134,6 @@ pub if_some : (P Q : ℕ → Type 0) (o : Option ℕ) → ((n : ℕ) → P n →
 if_some P Q None turn h = tt
 if_some P Q (Some n) turn h = turn n h
 
-pub clash_swap : (one other : List KeptPayload) (clash : Option ℕ) → IsClash one other clash → IsClash other one clash
-clash_swap one other clash is = record {
-  holds = if_some (Differ one other) (Differ other one) clash (differ_swap one other) is.holds;
-  complete = λ n both. elim (is.complete n (differ_swap other one n both)) [
-    | inl h ↦ inl h
-    | inr h ↦ inr (elim h [ inl a ↦ inr a | inr b ↦ inl b ])
-  ];
-}
-
 -- ---- disputes
 
 pub least_holds : (P : ℕ → Type 0) (o : Option ℕ) → MatchOption o ((n : ℕ) → ¬ P n) (IsLeast P) → IfSome o P

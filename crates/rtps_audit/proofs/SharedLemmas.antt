@@ -39,18 +39,6 @@ both_stop a b past general next first second same =
     let no_b : b past ≡ false = ap b (sym same) ∙ second.outside in
     rw no_a no_b
 
--- by what is kept, and then by both sets
-pub shared_past : (kept a b : ℕ → Bool) (n known past : ℕ) → 1 ≤ n → ((m : ℕ) → 1 ≤ m → m < 2 ^ 63 - 1 → kept m ≡ true → (a m || b m) ≡ true) → IsPast kept n known → IsPast (λ m. a m || b m) known past → IsPast (λ m. a m || b m) n past
-shared_past kept a b n known past low told first second = record {
-  onward = let one = first.onward in let two = second.onward in omega arith;
-  in_range = second.in_range;
-  outside = second.outside;
-  between = λ m from to. elim (cases_lt m known) [
-    | inl before ↦ let small = first.in_range in told m (omega arith) (omega arith) (first.between m from before)
-    | inr ge ↦ second.between m ge to
-  ];
-}
-
 -- ---- what is kept
 
 -- by sets that have at least as much

@@ -18,14 +18,12 @@ use Rattle.rtps_discovery.specs.GuidOrder.{guid_cmp}
 use Rattle.rtps_receiver.specs.Speech.{IsHeardBy, is_heard_by, is_spoken_by, reader_named, unknown_entity}
 use Rattle.rtps_receiver.specs.Values.{ActValue}
 use Rattle.rtps_audit.specs.Audiences.{kept_under, of_entity, of_participant}
-use Rattle.rtps_audit.specs.Brief.{brief_value, said_body}
+use Rattle.rtps_audit.specs.Brief.{brief_value}
 use Rattle.rtps_audit.specs.Everyone.{is_for_everyone, nobody}
 use Rattle.rtps_audit.specs.Speech.{word_for, word_of}
 use Rattle.rtps_audit.specs.Told.{IsOnward}
 use Rattle.rtps_audit.specs.ToldSets.{in_set, told_at}
 use Rattle.rtps_audit.specs.declared.brief.Brief.{Brief}
-use Rattle.rtps_audit.specs.declared.brief.Said.{Said}
-use Rattle.rtps_audit.specs.declared.brief.Said.TheVariants as said
 use Rattle.rtps_audit.proofs.AudienceLemmas.{TestsHearing, reader_of_said}
 use Rattle.rtps_audit.proofs.BriefLemmas.{brief_spoken}
 use Rattle.rtps_audit.proofs.GroupLemmas.{entry_written, equal_of, found_alike}
@@ -79,14 +77,6 @@ same_test true true f g = refl
 same_test true false f g = sym (f refl)
 same_test false true f g = g refl
 same_test false false f g = refl
-
-word_of_said : (reader one other : EntityId) (what : Said) (n : ℕ) → word_of (said_body reader one what) n ≡ word_of (said_body reader other what) n
-word_of_said reader one other (said.Data number payload) n = refl
-word_of_said reader one other (said.Heartbeat first last) n = refl
-word_of_said reader one other (said.Gap start list) n = refl
-
-pub same_word : (reader one : EntityId) (writer : Guid) (brief : Brief) (n : ℕ) → reader ≡ brief.audience.reader → is_some (word_of (said_body reader one brief.said) n) ≡ is_some (word_of (brief_value writer brief).act.body n)
-same_word reader one writer brief n same = ap is_some (ap (λ r. word_of (said_body r one brief.said) n) same ∙ word_of_said brief.audience.reader one writer.entity brief.said n)
 
 pub word_if_heard : (writer reader : Guid) (brief : Brief) (n : ℕ)
     → is_some (word_for writer reader (brief_value writer brief).act n) ≡ (is_heard_by (brief_value writer brief).act reader && is_some (word_of (brief_value writer brief).act.body n))
@@ -249,43 +239,6 @@ module _ (writer reader : Guid) (brief : Brief) (tests : TestsHearing) where
           ∙ ap (λ (k : Guid). is_eq (guid_cmp (of_entity reader) k)) (sym under)
 
 -- ---- how far on
-
-pub onward_of : (a b c d : ℕ → Bool) (n general participant own entity : ℕ) → IsPast a n general → IsPast b general participant → IsPast c participant own → IsPast d own entity
-    → IsOnward (λ m. a m || (b m || (c m || d m))) n entity
-onward_of a b c d n general participant own entity first second third fourth = record {
-  onward = let one = first.onward in let two = second.onward in let three = third.onward in let four = fourth.onward in omega arith;
-  in_range = fourth.in_range;
-  stops = stops;
-  between = between;
-}
-  where
-    stops : entity ≡ n → (a n || (b n || (c n || d n))) ≡ false
-    stops same =
-        let one = first.onward in let two = second.onward in let three = third.onward in let four = fourth.onward in
-        let g : general ≡ n = omega arith in
-        let p : participant ≡ n = omega arith in
-        let o : own ≡ n = omega arith in
-        let no_a : a n ≡ false = ap a (sym g) ∙ first.outside in
-        let no_b : b n ≡ false = ap b (sym p) ∙ second.outside in
-        let no_c : c n ≡ false = ap c (sym o) ∙ third.outside in
-        let no_d : d n ≡ false = ap d (sym same) ∙ fourth.outside in
-        rw no_a (rw no_b (rw no_c no_d))
-
-    between : (m : ℕ) → n ≤ m → m < entity → (a m || (b m || (c m || d m))) ≡ true
-    between m from to = elim (cases_lt m general) [
-      | inl lt ↦ let is = first.between m from lt in rw is refl
-      | inr ge ↦ elim (cases_lt m participant) [
-        | inl lt ↦ let is = second.between m ge lt in second_of (a m) _ (rw is refl)
-        | inr past ↦ elim (cases_lt m own) [
-          | inl lt ↦ let is = third.between m past lt in second_of (a m) _ (second_of (b m) _ (rw is refl))
-          | inr far ↦ second_of (a m) _ (second_of (b m) _ (second_of (c m) _ (fourth.between m far to)))
-        ]
-      ]
-    ]
-      where
-        second_of : (x y : Bool) → y ≡ true → (x || y) ≡ true
-        second_of true y is = refl
-        second_of false y is = is
 
 pub past_alike : (set other : ℕ → Bool) (n past : ℕ) → ((m : ℕ) → other m ≡ set m) → IsPast other n past → IsPast set n past
 past_alike set other n past same is = record { onward = is.onward; in_range = is.in_range; outside = sym (same past) ∙ is.outside; between = λ m from to. sym (same m) ∙ is.between m from to }

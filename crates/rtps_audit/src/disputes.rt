@@ -84,7 +84,7 @@ fn is_place(payloads: &[KeptPayload<'_>], place: usize, number: u64) -> bool
         && (place == payloads.len() || number <= payloads[place].number)
 }
 
-/// Where the payloads of numbers below this one end. Of lists that have much the same numbers that is the place where those of the
+/// Where the payloads of numbers below this one end, if they are in the order of numbers. Of lists that have much the same numbers that is the place where those of the
 /// number before ended, or the next one, which are looked at first.
 fn place_near(payloads: &[KeptPayload<'_>], near: usize, number: u64) -> usize
     ensures within { result ≤ length payloads.now }

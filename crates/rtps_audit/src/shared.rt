@@ -1,4 +1,4 @@
-ghost use Rattle.std.specs.Prelude.{◌≡◌, ◌≤◌, ◌<◌, ◌^◌, ◌||◌, ℕ, true, IfOk};
+ghost use Rattle.std.specs.Prelude.{◌≡◌, ◌≤◌, ◌<◌, ◌^◌, ◌||◌, ℕ, IfOk};
 ghost use Rattle.rtps_ids.specs.declared.identity.Guid.{Guid as GuidValue};
 ghost use Rattle.rtps_coverage.specs.BitRanges.{covered_of};
 ghost use Rattle.rtps_coverage.specs.Coverage.{IsPast, IsSameSet};

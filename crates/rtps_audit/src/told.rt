@@ -7,14 +7,14 @@ use rtps_ids::{Guid, Memory};
 use rtps_receiver::laws::tests_say_what_relations_say;
 use std::alloc::Global;
 
-/// At least so many steps are taken by the sets of a reader's audiences, before what many readers share is asked again. A row that
-/// these share may lie in them, and is not found then. Asking takes about ten times a step.
-const FEWEST: u64 = 4;
+/// The fewest steps that are taken by the sets of a reader's audiences, before what many readers share is asked again. Asking takes
+/// about as long as ten.
+const FEWEST: u64 = 8;
 
-/// And at most so many.
-const MOST: u64 = 1 << 16;
+/// The most that are taken. A row that many readers share may lie within them, and is not found there.
+const MOST: u64 = 64;
 
-/// Where a reader was told of each number up to, and how many steps were taken to there.
+/// Up to where a reader was told of each number, and how many steps were allowed to come there.
 #[derive(Clone, Copy)]
 struct Stride {
     end: u64,
@@ -38,7 +38,7 @@ pub(crate) struct Told {
 }
 
 impl Told {
-    ghost use Rattle.std.specs.Prelude.{◌≡◌, ◌≤◌, ◌<◌, ◌^◌, ℕ, false, true, is_some, IfOk, OnOk};
+    ghost use Rattle.std.specs.Prelude.{◌≡◌, ◌≤◌, ◌<◌, ◌^◌, ℕ, false, is_some, IfOk, OnOk};
     ghost use Rattle.rtps_ids.specs.declared.identity.Guid.{Guid as GuidValue};
     ghost use Rattle.rtps_coverage.specs.Coverage.{IsPast, TellsMore};
     ghost use Rattle.rtps_audit.specs.Brief.{brief_value};
@@ -104,8 +104,9 @@ impl Told {
     }
 
     /// A number from `n` on up to which the reader was told of each, as far as some steps go. It may have been told of them in turns
-    /// by what is for any of its audiences. There are twice as many steps as the last time, where what readers share was asked from
-    /// `asked` on, and that came to `n`, no further than a step does; or else the fewest.
+    /// by what is for any of its audiences. What readers share was asked from `asked` on, and came to `n`. Where the fewest steps do
+    /// not come as far, the fewest are taken from there; else twice as many as the last time, which is 0 at first, and no more than
+    /// the most.
     fn stride(&self, reader: Guid, asked: u64, n: u64, steps: u64) -> Stride
         requires positive { 1 ≤ asked }
         requires onward { asked ≤ n }
@@ -119,13 +120,14 @@ impl Told {
             self.directed.set_or(reader, &none),
             self.named.set_or(of_entity(reader), &none),
         ];
-        let steps = if past_together(&sets, asked, 1) < n {
+        let reached = past_together(&sets, asked, FEWEST);
+        let steps = if reached < n {
             FEWEST
         } else {
             steps.saturating_mul(2).clamp(FEWEST, MOST)
         };
         Stride {
-            end: past_together(&sets, n, steps),
+            end: past_together(&sets, reached.max(n), steps),
             steps,
         }
     }

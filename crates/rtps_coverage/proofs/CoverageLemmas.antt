@@ -1,16 +1,12 @@
 -- Signed numbers against sets of numbers.
 use Rattle.std.proofs.Common.{ℕ, Bool, true, false, ◌≡◌, ◌≤◌, ◌&&◌, nat_le, nat_lt, ℤ, pos, negsuc, ◌<ℤ◌, refl, subst, arith}
+use Rattle.std.proofs.lemmas.Bool.{false_from_ne_true}
 use Rattle.std.proofs.lemmas.Int.{ints}
 use Rattle.rtps_coverage.specs.Coverage.{has, is_within}
 
--- what is not true is false
-not_true : (b : Bool) → (b ≡ true → ⊥) → b ≡ false
-not_true true h = absurd (h refl)
-not_true false h = refl
-
 -- a set of positive numbers has no number below 1
 pub has-below_one : (set : ℕ → Bool) → ((n : ℕ) → set n ≡ true → 1 ≤ n) → (n : ℤ) → n <ℤ pos 1 → has set n ≡ false
-has-below_one set positive (pos n) lt = not_true (set n) (λ e. let h = positive n e in omega (arith, ints))
+has-below_one set positive (pos n) lt = false_from_ne_true (set n) (λ e. let h = positive n e in omega (arith, ints))
 has-below_one set positive (negsuc n) lt = refl
 
 -- a number and its signed form

@@ -11,7 +11,7 @@ use Rattle.std.specs.Cmp.{nat_cmp_is, eq_by_cmp_equiv}
 use Rattle.std.proofs.lemmas.Cmp.{nat_cmp_total}
 use Rattle.std.specs.Prelude.{is_some}
 use Rattle.std.specs.Option.{ForSome}
-use Rattle.std.proofs.lemmas.Bool.{cases_lt, false≢true}
+use Rattle.std.proofs.lemmas.Bool.{cases_lt, false≢true, or_from, or_left, or_right}
 use Rattle.std.proofs.lemmas.List.{nil_from_length}
 use Rattle.std.proofs.lemmas.Bool.Decides.{nat_tests}
 use Rattle.std.proofs.lemmas.Option.{none-some, same_Some}
@@ -58,13 +58,9 @@ pub some_has : (n key : ℕ) (span : Span) (es : List (ℕ × Span)) → lookup 
 some_has n key span [] e h = absurd (none-some span e)
 some_has n key span (x ∷ xs) e h = step (λ k. some_has n key span xs k h) (is_at (nat_cmp key) x.0) e
   where
-    or_true : (a b : Bool) → b ≡ true → (a || b) ≡ true
-    or_true true b e = refl
-    or_true false b e = e
-
     step : (lookup (is_at (nat_cmp key)) xs ≡ Some span → list_any (has_number n) (values_of xs) ≡ true) → (b : Bool) → cond b (Some x.1) (lookup (is_at (nat_cmp key)) xs) ≡ Some span → (has_number n x.1 || list_any (has_number n) (values_of xs)) ≡ true
     step rest true k = ap (λ (s : Span). has_number n s || list_any (has_number n) (values_of xs)) (same_Some x.1 span k) ∙ ap (λ b. b || list_any (has_number n) (values_of xs)) h
-    step rest false k = or_true (has_number n x.1) _ (rest k)
+    step rest false k = or_right (has_number n x.1) _ (rest k)
 
 -- ---- the numbers after a removal and after an insertion
 
@@ -167,7 +163,7 @@ range_here kept n key span h e from to = record {
 
 -- ---- where a range ends
 
--- what is told of each range with a lower key, of this one, and of each with a higher one, is told of all
+-- no range has a number where those of lower keys, and this one, end by it, and those of higher keys begin past it
 by_key : (kept : BTreeMap ℕ Span) (key n : ℕ) → IsOrdered nat_cmp kept
     → ((other : ℕ) (that : Span) → HasRange kept other that → other < key → that.hi ≤ n)
     → ((that : Span) → HasRange kept key that → that.hi ≤ n)
@@ -285,16 +281,6 @@ clear_has kept lo hi n ordered clear from to =
 
 -- ---- the range of the least numbers
 
-pub or_false : (a b : Bool) → a ≡ false → b ≡ false → (a || b) ≡ false
-or_false a b e f = rw (e, f) refl
-
-pub or_left : (a b : Bool) → a ≡ true → (a || b) ≡ true
-or_left a b e = rw e refl
-
-or_right : (a b : Bool) → b ≡ true → (a || b) ≡ true
-or_right true b e = refl
-or_right false b e = e
-
 pub or_same : (a b : Bool) → (b ≡ true → a ≡ true) → a ≡ (a || b)
 or_same true b f = refl
 or_same false true f = f refl
@@ -307,7 +293,7 @@ some_there (Some span) there = (span, refl)
 -- no range is kept
 pub first_none : (kept : BTreeMap ℕ Span) (recent : Option Recent) → IsOrdered nat_cmp kept → btree_map_len kept ≡ 0 → ForSome recent (IsRecent kept)
     → (n : ℕ) → (kept_has kept n || recent_has recent n) ≡ false
-first_none kept recent ordered none apart n = or_false (kept_has kept n) (recent_has recent n) (none_has kept n ordered (λ key span e. absurd (never key span e))) (no_recent recent apart)
+first_none kept recent ordered none apart n = or_from (kept_has kept n) (recent_has recent n) (none_has kept n ordered (λ key span e. absurd (never key span e))) (no_recent recent apart)
   where
     empty : kept.entries ≡ []
     empty = nil_from_length kept.entries none
@@ -338,11 +324,11 @@ first_recent kept recent last ordered e is least = subst (λ r. IsFirstRange (λ
       positive = is.positive;
       some = some;
       members = λ n from to. or_right (kept_has kept n) _ (is_in n last.span from to);
-      before = λ n lt. or_false _ _ (none_has kept n ordered (λ other that k. elim (cases_lt last.key other) [
+      before = λ n lt. or_from _ _ (none_has kept n ordered (λ other that k. elim (cases_lt last.key other) [
         | inl past ↦ let a = is.after other that k past in let b = some in not_below n that (omega arith)
         | inr le ↦ let a = is.lower that (at other that k le) in not_below n that (omega arith)
       ])) (not_below n last.span lt);
-      past = or_false _ _ (none_has kept last.span.hi ordered (λ other that k. elim (cases_lt last.key other) [
+      past = or_from _ _ (none_has kept last.span.hi ordered (λ other that k. elim (cases_lt last.key other) [
         | inl past ↦ not_below last.span.hi that (is.after other that k past)
         | inr le ↦ not_past last.span.hi that (is.upper that (at other that k le))
       ])) (not_past last.span.hi last.span (le_refl last.span.hi));
@@ -356,8 +342,8 @@ first_kept kept recent key span h e least other = record {
   positive = h.positive key span e;
   some = omega (arith, low, high);
   members = λ n from to. or_left _ (recent_has recent n) (some_has n key span kept.entries e (is_in n span from to));
-  before = λ n lt. or_false _ _ (none_has kept n h.ordered (λ at that k. let a = first_least kept key at span that h e k (least at that k) in not_below n that (omega arith))) (later recent other n (omega (arith, low, high)));
-  past = or_false _ _ (none_has kept span.hi h.ordered (λ at that k. elim (cases_lt key at) [
+  before = λ n lt. or_from _ _ (none_has kept n h.ordered (λ at that k. let a = first_least kept key at span that h e k (least at that k) in not_below n that (omega arith))) (later recent other n (omega (arith, low, high)));
+  past = or_from _ _ (none_has kept span.hi h.ordered (λ at that k. elim (cases_lt key at) [
     | inl lt ↦ not_below span.hi that (h.apart key at span that e k lt)
     | inr le ↦
         let a = least at that k in

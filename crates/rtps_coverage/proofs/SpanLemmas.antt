@@ -3,6 +3,7 @@ use Rattle.std.proofs.Common.{ℕ, Bool, true, false, cond, ◌≡◌, ◌≤◌
 use Rattle.std.specs.Prelude.{is_some}
 use Rattle.std.specs.List.{list_any, find, filter}
 use Rattle.std.proofs.lemmas.List.Elements.{All-head, All-tail, All-cons}
+use Rattle.std.proofs.lemmas.Bool.{or_right}
 use Rattle.std.proofs.lemmas.Bool.Decides.{nat_tests}
 use Rattle.rtps_coverage.specs.declared.span.Span.{Span}
 use Rattle.rtps_coverage.specs.Spans.{has_number, IsBounded, Reaches}
@@ -63,10 +64,6 @@ in_span n lo hi h = (grind (arith, nat_tests), grind (arith, nat_tests))
 first_has : (m lo hi : ℕ) (b : Bool) → lo ≤ m → m < hi → ((nat_le lo m && nat_lt m hi) || b) ≡ true
 first_has m lo hi b h k = grind (arith, nat_tests)
 
-or_true : (a b : Bool) → b ≡ true → (a || b) ≡ true
-or_true true b e = refl
-or_true false b e = e
-
 found_at : (n : ℕ) (x span : Span) (xs : List Span) (b : Bool) → has_number n x ≡ b → IsBounded x → cond b (Some x) (find (has_number n) xs) ≡ Some span
     → (find (has_number n) xs ≡ Some span → IsFound n xs span) → IsFound n (x ∷ xs) span
 found_at n x span xs true has bounded e rest =
@@ -82,7 +79,7 @@ found_at n x span xs false has bounded e rest =
       from = found.from;
       to = found.to;
       bounded = found.bounded;
-      among = λ m h k. or_true (has_number m x) _ (found.among m h k);
+      among = λ m h k. or_right (has_number m x) _ (found.among m h k);
     }
 
 -- what the search finds

@@ -3,14 +3,14 @@ use Rattle.std.proofs.Common.{ℕ, Bool, true, false, ◌≡◌, ◌≤◌, ◌<
 use Rattle.std.specs.Prelude.{slice_index}
 use Rattle.std.specs.Int.{bit_at}
 use Rattle.std.specs.List.{list_any}
-use Rattle.std.proofs.lemmas.Bool.{cases_eq, cases_lt}
+use Rattle.std.proofs.lemmas.Bool.{cases_eq, cases_lt, false_from_ne_true, or_parts, or_right}
 use Rattle.std.proofs.lemmas.Bool.Decides.{nat_tests}
 use Rattle.std.proofs.lemmas.List.Folds.{Any-from_list_any, list_any_more, list_any-from_Any}
-use Rattle.std.proofs.Math.Nat.{le_trans}
+use Rattle.std.proofs.Math.Nat.{le_refl, le_trans}
 use Rattle.rtps_coverage.specs.Blocks.{block_at, blocks_have, group_at, group_has}
 use Rattle.rtps_coverage.specs.BitRanges.{covered_of, covered_in_range as set_in_range, is_in_row}
 use Rattle.rtps_coverage.specs.MergedRanges.{covered_of as ranges_have, covered_in_range}
-use Rattle.rtps_coverage.specs.Together.{ArePieces, IsPiece, IsRow, any_has, any_row_has}
+use Rattle.rtps_coverage.specs.Together.{ArePieces, AreSteps, IsPiece, IsRow, any_has, any_row_has}
 use Rattle.rtps_coverage.specs.declared.bit_ranges.BitRanges.{BitRanges}
 use Rattle.rtps_coverage.specs.declared.blocks.Blocks.{Blocks}
 use Rattle.rtps_coverage.proofs.BlockLemmas.{either_bit}
@@ -59,25 +59,17 @@ pub any_on : {X : Type 0} (p q : X → Bool) (xs : List X) → ((x : X) → p x 
 any_on p q [] on any = any
 any_on p q (x ∷ xs) on any = by_test (p x) refl any (any_on p q xs on)
   where
-    second : (a : Bool) {b : Bool} → b ≡ true → (a || b) ≡ true
-    second true e = refl
-    second false e = e
-
     by_test : (b : Bool) → p x ≡ b → (b || list_any p xs) ≡ true → (list_any p xs ≡ true → list_any q xs ≡ true) → (q x || list_any q xs) ≡ true
     by_test true is some rest = rw (on x is) refl
-    by_test false is some rest = second (q x) (rest some)
+    by_test false is some rest = or_right (q x) (list_any q xs) (rest some)
 
 -- none passes a test where none passes either of two
 pub none_of_both : {X : Type 0} (p q r : X → Bool) (xs : List X) → ((x : X) → p x ≡ false → q x ≡ false → r x ≡ false) → list_any p xs ≡ false → list_any q xs ≡ false → list_any r xs ≡ false
 none_of_both p q r [] on one other = refl
 none_of_both p q r (x ∷ xs) on one other =
-    let a = halves (p x) (list_any p xs) one in
-    let b = halves (q x) (list_any q xs) other in
+    let a = or_parts (p x) (list_any p xs) one in
+    let b = or_parts (q x) (list_any q xs) other in
     rw (on x a.0 b.0) (none_of_both p q r xs on a.1 b.1)
-  where
-    halves : (a b : Bool) → (a || b) ≡ false → (a ≡ false) × (b ≡ false)
-    halves false b e = (refl, e)
-    halves true b e = cc
 
 -- a number of the blocks is in the set
 pub bit_covered : (set : BitRanges) (m : ℕ) → 1 ≤ m → m < 2 ^ 63 - 1 → blocks_have set.blocks m ≡ true → covered_of set m ≡ true
@@ -85,11 +77,7 @@ bit_covered set m positive small here =
     all _ _ _ _ _ (grind (arith, nat_tests)) (grind (arith, nat_tests)) here
   where
     all : (a b c d e : Bool) → a ≡ true → c ≡ true → d ≡ true → (a && (b || (c && (d || e)))) ≡ true
-    all a b c d e i j k = rw (i, j, k) (last b)
-      where
-        last : (b : Bool) → (b || true) ≡ true
-        last true = refl
-        last false = refl
+    all a b c d e i j k = rw (i, j, k) (or_right b true refl)
 
 -- a number that is neither in a row nor in the blocks is not in the set
 pub not_covered : (set : BitRanges) (n : ℕ) → is_in_row set n ≡ false → blocks_have set.blocks n ≡ false → covered_of set n ≡ false
@@ -113,18 +101,14 @@ row_covered set m positive here =
   where
     all : (a b c d e : Bool) → a ≡ true → (b || e) ≡ true → (e ≡ true → c ≡ true) → (a && (b || (c && (d || e)))) ≡ true
     all a true c d e i j k = rw i refl
-    all a false c d e i j k = rw (i, k j, j) (last d)
-      where
-        last : (d : Bool) → (d || true) ≡ true
-        last true = refl
-        last false = refl
+    all a false c d e i j k = rw (i, k j, j) (or_right d true refl)
 
 -- a row of one of the sets that goes on from n goes on from each number of it
 row_on : (sets : List (Bor BitRanges)) (start n end : ℕ) → start ≤ n → IsRow sets start end → IsRow sets n end
 row_on sets start n end le row = (row.0, row.1, row.2, row.3, λ m from to. row.4 m (omega arith) to)
 
 -- so does a piece
-pub piece_on : (sets : List (Bor BitRanges)) (start n end : ℕ) → start ≤ n → n < end → IsPiece sets start end → IsPiece sets n end
+piece_on : (sets : List (Bor BitRanges)) (start n end : ℕ) → start ≤ n → n < end → IsPiece sets start end → IsPiece sets n end
 piece_on sets start n end le lt (inl row) = inl (row_on sets start n end le row)
 piece_on sets start n end le lt (inr group) =
     let within = group.within in
@@ -169,20 +153,56 @@ one_row sets n is =
     let found = Any-from_list_any (λ (set : Bor BitRanges). is_in_row set.now n) sets is in
     (found.0, found.1, found.2, found.3, λ m from to. ap (is_in_row found.1.now) (omega arith) ∙ found.4)
 
--- what is not true is false
-pub if_not : (b : Bool) → (b ≡ true → ⊥) → b ≡ false
-if_not true not = absurd (not refl)
-if_not false not = refl
-
--- no piece goes nowhere
-pub none_before : (sets : List (Bor BitRanges)) (n end : ℕ) → ArePieces sets n zero end → end ≤ n
+-- without pieces the end is where they begin, and so it is without steps
+pub no_pieces : (sets : List (Bor BitRanges)) (n : ℕ) → ArePieces sets n zero n
 unfolding ArePieces
-none_before sets n end le = le
+no_pieces sets n = refl
+
+pub no_pieces_end : (sets : List (Bor BitRanges)) (n end : ℕ) → ArePieces sets n zero end → end ≡ n
+unfolding ArePieces
+no_pieces_end sets n end is = is
+
+pub no_steps : (sets : List (Bor BitRanges)) (n : ℕ) → AreSteps sets n zero n
+unfolding AreSteps
+no_steps sets n = refl
+
+-- a piece behind others
+pub more_pieces : (sets : List (Bor BitRanges)) (n count more start end : ℕ) → more ≡ count + 1 → start ≤ end → ArePieces sets n count start → IsPiece sets start end → ArePieces sets n more end
+unfolding ArePieces
+more_pieces sets n count zero start end is le pieces piece = absurd (omega arith)
+more_pieces sets n count (suc before) start end is le pieces piece =
+    let same : count ≡ before = omega arith in
+    (start, le, subst (λ k. ArePieces sets n k start) same pieces, piece)
+
+-- a step behind others
+pub more_steps : (sets : List (Bor BitRanges)) (n count more start end : ℕ) → more ≡ count + 1 → AreSteps sets n count start → ArePieces sets start (length sets + 1) end → AreSteps sets n more end
+unfolding AreSteps
+more_steps sets n count zero start end is steps pieces = absurd (omega arith)
+more_steps sets n count (suc before) start end is steps pieces =
+    let same : count ≡ before = omega arith in
+    (start, subst (λ k. AreSteps sets n k start) same steps, pieces)
+
+-- pieces may have no number, and so may steps
+empty_pieces : (sets : List (Bor BitRanges)) (count n : ℕ) → ArePieces sets n count n
+unfolding ArePieces
+empty_pieces sets zero n = refl
+empty_pieces sets (suc count) n = (n, le_refl n, empty_pieces sets count n, inr (record { within = omega arith; bits = λ m from to. absurd (omega arith) }))
+
+pub fewer_steps : (sets : List (Bor BitRanges)) (n count more end : ℕ) → count ≤ more → AreSteps sets n count end → AreSteps sets n more end
+unfolding AreSteps
+fewer_steps sets n count zero end le steps = let none : count ≡ zero = omega arith in subst (λ k. AreSteps sets n k end) none steps
+fewer_steps sets n count (suc before) end le steps =
+    elim (cases_lt before count) [
+      | inl lt ↦
+          let same : count ≡ suc before = omega arith in
+          subst (λ k. AreSteps sets n k end) same steps
+      | inr ge ↦ (end, fewer_steps sets n count before end ge steps, empty_pieces sets (length sets + 1) end)
+    ]
 
 -- no set has 2^63 - 1
 pub none_at_last : (sets : List (Bor BitRanges)) (n : ℕ) → n ≡ 2 ^ 63 - 1 → any_has sets n ≡ false
 none_at_last sets n is =
-    if_not (any_has sets n) (λ has.
+    false_from_ne_true (any_has sets n) (λ has.
     let found = Any-from_list_any (λ (set : Bor BitRanges). covered_of set.now n) sets has in
     let small = (set_in_range found.1.now n found.4).1 in
     absurd (omega arith))

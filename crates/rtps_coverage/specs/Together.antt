@@ -1,7 +1,7 @@
--- What is passed of several sets at once, in steps. own: what many sets have in turns is gone through by whole rows and whole
--- groups, so that the work does not grow with each number.
+-- What is passed of several sets at once, in steps. own: what several sets have in turns is gone through by whole rows and whole
+-- groups of numbers, and no further than was asked for.
 use Rattle.std.specs.Borrow.{Bor}
-use Rattle.std.specs.Prelude.{ℕ, zero, suc, Bool, true, false, ◌≡◌, ◌≤◌, ◌<◌, ◌+◌, ◌*◌, ◌/◌, ◌^◌, ◌⊎◌, List}
+use Rattle.std.specs.Prelude.{ℕ, zero, suc, Bool, true, false, ◌≡◌, ◌≤◌, ◌<◌, ◌+◌, ◌*◌, ◌/◌, ◌^◌, ◌⊎◌, length, List}
 use Rattle.std.specs.List.{Any, list_any}
 use Rattle.rtps_coverage.specs.BitRanges.{covered_of, is_in_row}
 use Rattle.rtps_coverage.specs.Blocks.{blocks_have}
@@ -36,16 +36,22 @@ pub record IsInGroup (sets : List (Bor BitRanges)) (n end : ℕ) : Type 0 where
 abbrev pub IsPiece : List (Bor BitRanges) → ℕ → ℕ → Type 0
 IsPiece sets n end = IsRow sets n end ⊎ IsInGroup sets n end
 
--- so many pieces, of which each begins where the one before it ends, or none, go from n to end
+-- so many pieces, each of which begins where the one before it ends and may have no number, go from n to end
 unfoldable pub ArePieces : List (Bor BitRanges) → ℕ → ℕ → ℕ → Type 0
-ArePieces sets n zero end = end ≤ n
+ArePieces sets n zero end = end ≡ n
 ArePieces sets n (suc count) end = (start : ℕ) × (start ≤ end) × ArePieces sets n count start × IsPiece sets start end
 
--- A number from n on up to which each is in one of the sets. It is at least as far as so many pieces go, however they are cut; and it
--- is in none of the sets, or so many or more further on.
+-- so many steps go from n to end, of which each has a piece for each set and one more
+unfoldable pub AreSteps : List (Bor BitRanges) → ℕ → ℕ → ℕ → Type 0
+AreSteps sets n zero end = end ≡ n
+AreSteps sets n (suc count) end = (start : ℕ) × AreSteps sets n count start × ArePieces sets start (length sets + 1) end
+
+-- A number from n on up to which each is in one of the sets, as far as so many steps go. It is at least as far as so many pieces go,
+-- however they are cut, where they end below 2^63; and so it is in none of the sets, or so many or more further on.
 pub record IsPastInSteps (sets : List (Bor BitRanges)) (n steps past : ℕ) : Type 0 where
   pub onward : n ≤ past
   pub in_range : past < 2 ^ 63
   pub between : AreAll (any_has sets) n past
   pub far : (end : ℕ) → end < 2 ^ 63 → ArePieces sets n steps end → end ≤ past
+  pub bounded : AreSteps sets n steps past
   pub outside : past < n + steps → any_has sets past ≡ false

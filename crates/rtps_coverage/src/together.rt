@@ -1,6 +1,6 @@
-ghost use Rattle.std.specs.Prelude.{ℕ, ◌≡◌, ◌≤◌, ◌<◌, ◌+◌, ◌-◌, ◌*◌, ◌/◌, ◌^◌, ◌||◌, true, false, IsTrue};
+ghost use Rattle.std.specs.Prelude.{ℕ, length, ◌≡◌, ◌≤◌, ◌<◌, ◌+◌, ◌-◌, ◌*◌, ◌/◌, ◌^◌, ◌||◌, true, false, IsTrue};
 ghost use Rattle.rtps_coverage.specs.Blocks.{group_has};
-ghost use Rattle.rtps_coverage.specs.Together.{AreAll, IsPastInSteps, IsPiece, IsRow, any_bit_has, any_has, any_row_has};
+ghost use Rattle.rtps_coverage.specs.Together.{AreAll, ArePieces, IsPastInSteps, IsPiece, IsRow, any_bit_has, any_has, any_row_has};
 
 use crate::bit_ranges::BitRanges;
 use crate::coverage::LAST;
@@ -68,6 +68,7 @@ fn row_end(sets: &[&BitRanges], n: u64) -> u64
     ensures in_range { result < 2 ^ 63 }
     ensures members { AreAll (any_row_has sets.now) n result }
     ensures far { (end : ℕ) → IsRow sets.now n end → end ≤ result }
+    ensures bounded { ArePieces sets.now n (length sets.now) result }
 {
     let mut end = n;
     for set in sets {
@@ -84,6 +85,7 @@ fn run_end(sets: &[&BitRanges], n: u64) -> u64
     ensures in_range { result < 2 ^ 63 }
     ensures members { AreAll (any_has sets.now) n result }
     ensures far { (end : ℕ) → end < 2 ^ 63 → IsPiece sets.now n end → end ≤ result }
+    ensures bounded { ArePieces sets.now n (length sets.now + 1) result }
     ensures stops { result ≡ n → any_has sets.now n ≡ false }
 {
     let row = row_end(sets, n);

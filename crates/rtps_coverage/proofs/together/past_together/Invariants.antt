@@ -1,5 +1,5 @@
 use Rattle.std.proofs.Common.{ℕ, ◌≤◌, ◌<◌, ◌+◌, ◌^◌}
-use Rattle.rtps_coverage.specs.Together.{AreAll, ArePieces, any_has}
+use Rattle.rtps_coverage.specs.Together.{AreAll, ArePieces, AreSteps, any_has}
 use Rattle.rtps_coverage.proofs.together.past_together.Given as goal
 
 -- what the contract says, of the steps so far: each passes one number at least
@@ -9,4 +9,5 @@ invariant-loop l = record {
   in_range : l.past < 2 ^ 63;
   between : AreAll (any_has l.sets) l.n l.past;
   far : (end : ℕ) → end < 2 ^ 63 → ArePieces l.sets l.n l.counter end → end ≤ l.past;
+  bounded : AreSteps l.sets l.n l.counter l.past;
 }

@@ -1,5 +1,6 @@
-use Rattle.std.proofs.Common.{ℕ, ◌≡◌, ◌≤◌, ◌∙◌, ap, false, min, sym, arith}
+use Rattle.std.proofs.Common.{ℕ, ◌≡◌, ◌≤◌, ◌∙◌, ap, false, inl, inr, min, sym, arith}
 use Rattle.std.proofs.Math.Nat.{le-max_left}
+use Rattle.std.proofs.lemmas.Bool.{cases_lt}
 use Rattle.rtps_ids.specs.declared.identity.Guid.{Guid}
 use Rattle.rtps_coverage.specs.BitRanges.{covered_of}
 use Rattle.rtps_audit.specs.Audiences.{of_entity, of_participant}
@@ -7,7 +8,7 @@ use Rattle.rtps_audit.specs.Told.{is_told}
 use Rattle.rtps_audit.specs.ToldSets.{told_at}
 use Rattle.rtps_audit.proofs.ToldLemmas.{told_by_any}
 use Rattle.rtps_audit.proofs.told.Told.stride.Goals as goal
-use Rattle.rtps_audit.proofs.told.Told.stride.Goals.{then-past_together-n, else-past_together-n}
+use Rattle.rtps_audit.proofs.told.Told.stride.Goals.{then-reached-n, else-reached-n}
 
 pub returns : goal.returns
 returns c =
@@ -19,14 +20,21 @@ returns c =
     (c.set_or.ensures m none ∙ ap (λ (k : Guid). told_at told.directed.sets k m) c.of_participant.ensures)
     (c.set_or-2.ensures m none)
     (c.set_or-3.ensures m none ∙ ap (λ (k : Guid). told_at told.named.sets k m) c.of_entity.ensures) in
-    let some : 1 ≤ c.if-past_together-n.steps = elim c.if-past_together-n.branch [
-      | then-past_together-n w ↦ omega (arith, w.steps-is)
-      | else-past_together-n w ↦ omega (arith, w.steps-is, w.clamp-steps.ensures, le-max_left 4 (min w.saturating_mul.result 65536))
+    let some : 1 ≤ c.if-reached-n.steps = elim c.if-reached-n.branch [
+      | then-reached-n w ↦ omega (arith, w.steps-is)
+      | else-reached-n w ↦ omega (arith, w.steps-is, w.clamp-steps.ensures, le-max_left 8 (min w.saturating_mul.result 64))
     ] in
-    let past = c.past_together-2.ensures in
+    let first = c.past_together-reached.ensures in
+    let past = c.past_together.ensures in
+    let least = c.max.ensures in
+    let before = c.requires.onward in
+    let on = past.onward in
     record {
-      onward = past.onward;
+      onward = omega arith;
       in_range = past.in_range;
-      stops = λ same. ap (is_told told reader) (sym same) ∙ sym (alike c.past_together-2.result) ∙ past.outside (omega arith);
-      between = λ m from to. sym (alike m) ∙ past.between m from to;
+      stops = λ same. ap (is_told told reader) (sym same) ∙ sym (alike c.past_together.result) ∙ past.outside (omega arith);
+      between = λ m from to. sym (alike m) ∙ elim (cases_lt m c.max.result) [
+        | inl lt ↦ first.between m (omega arith) (omega arith)
+        | inr ge ↦ past.between m ge to
+      ];
     }

@@ -1,24 +1,17 @@
-use Rattle.std.proofs.Common.{ℕ, Bool, true, false, ◌≡◌, ◌<◌, ◌-◌, ◌^◌, ◌&&◌, ◌||◌, nat_lt, refl, sym, ◌∙◌, arith}
-use Rattle.std.proofs.lemmas.Bool.{false≢true}
+use Rattle.std.proofs.Common.{ℕ, Bool, true, false, ◌≡◌, ◌<◌, ◌-◌, ◌^◌, ◌||◌, nat_lt, refl, sym, ◌∙◌, arith}
+use Rattle.std.proofs.lemmas.Bool.{false_from_ne_true, false≢true, or_right}
 use Rattle.std.proofs.lemmas.Bool.Decides.{nat_tests}
 use Rattle.rtps_coverage.specs.MergedRanges.{covered_of as ranges_have, covered_in_range}
 use Rattle.rtps_coverage.specs.declared.bit_ranges.BitRanges.{BitRanges}
 use Rattle.rtps_coverage.proofs.bit_ranges.BitRanges.row_end.Goals as goal
 
-both : (a b c : Bool) → a ≡ true → c ≡ true → (a && (b || c)) ≡ true
-both a true c e f = rw e refl
-both a false c e f = rw (e, f) refl
-
 -- no range has the front
 none_has_front : (set : BitRanges) → ranges_have set.ranges set.passed ≡ false
-none_has_front set = by_test (ranges_have set.ranges set.passed) refl
-  where
-    by_test : (b : Bool) → ranges_have set.ranges set.passed ≡ b → b ≡ false
-    by_test false e = refl
-    by_test true e =
-        let small = (covered_in_range set.ranges set.passed e).1 in
-        let before : nat_lt set.passed (2 ^ 63 - 1) ≡ true = grind (arith, nat_tests) in
-        absurd (false≢true (sym set.outside ∙ both _ _ _ before e))
+none_has_front set =
+    false_from_ne_true (ranges_have set.ranges set.passed) (λ e.
+    let small = (covered_in_range set.ranges set.passed e).1 in
+    let before : nat_lt set.passed (2 ^ 63 - 1) ≡ true = grind (arith, nat_tests) in
+    false≢true (sym set.outside ∙ rw before (or_right _ _ e)))
 
 below : (n passed : ℕ) → n < passed → (b : Bool) → (nat_lt n passed || b) ≡ true
 below n passed lt b = let e : nat_lt n passed ≡ true = grind (arith, nat_tests) in rw e refl

@@ -1,12 +1,9 @@
-use Rattle.std.proofs.Common.{Bool, true, false, ◌≡◌, ◌||◌, ◌∙◌, refl, ap, arith}
+use Rattle.std.proofs.Common.{false, ◌≡◌, ◌||◌, ◌∙◌, ap, arith}
+use Rattle.std.proofs.lemmas.Bool.{or_from, or_left, or_right}
 use Rattle.rtps_coverage.specs.KeptSpans.{kept_has, recent_has}
-use Rattle.rtps_coverage.proofs.KeptLemmas.{end_outside, is_in, not_below, not_past, not_recent, or_false, or_left, recent_outside, some_has}
+use Rattle.rtps_coverage.proofs.KeptLemmas.{end_outside, is_in, not_below, not_past, not_recent, recent_outside, some_has}
 use Rattle.rtps_coverage.proofs.merged_ranges.MergedRanges.end_of.Goals as goal
 use Rattle.rtps_coverage.proofs.merged_ranges.MergedRanges.end_of.Goals.{in-Some+else-recent-n, else-recent-n-via-then-recent-n+else-n-recent, else-recent-n-via-else-recent-n, in_default}
-
-or_true : (a b : Bool) → b ≡ true → (a || b) ≡ true
-or_true true b e = refl
-or_true false b e = e
 
 pub returns-then-n-recent : goal.returns-then-n-recent
 returns-then-n-recent c =
@@ -21,10 +18,10 @@ returns-then-n-recent c =
         onward = omega arith;
         in_range = is.bounded;
         outside = ap (λ r. kept_has set.kept span.hi || recent_has r span.hi) c.in-Some.is
-            ∙ or_false (kept_has set.kept span.hi) _ (recent_outside set.kept recent set.apart is) (not_past span.hi span (omega arith));
+            ∙ or_from (kept_has set.kept span.hi) _ (recent_outside set.kept recent set.apart is) (not_past span.hi span (omega arith));
         between = λ m from to.
             ap (λ r. kept_has set.kept m || recent_has r m) c.in-Some.is
-            ∙ or_true (kept_has set.kept m) _ (is_in m span (omega arith) to);
+            ∙ or_right (kept_has set.kept m) _ (is_in m span (omega arith) to);
       },
     )
 
@@ -49,7 +46,7 @@ returns c =
       record {
         onward = omega arith;
         in_range = set.apart.bounded with.key span with.kept_here;
-        outside = or_false (kept_has set.kept span.hi) _ (end_outside set.kept with.key span set.apart with.kept_here)
+        outside = or_from (kept_has set.kept span.hi) _ (end_outside set.kept with.key span set.apart with.kept_here)
             (not_recent set.kept set.recent n span set.apart set.recent_apart out with);
         between = λ m a b. or_left (kept_has set.kept m) _ (some_has m with.key span set.kept.entries with.kept_here (is_in m span (omega arith) b));
       },
