@@ -293,11 +293,21 @@ def of_turns(octets):
     return (*announcements(1), *in_turns([[0xffffffff] * 8] * pieces), *samples([], 256 * pieces))
 
 
+def stride_ends(behind):
+    """The numbers below `behind` where strides of a reader end that hears each of them by name alone: 8 groups of 512 are gone through,
+    and then 8 more, and twice as many each time, up to 32."""
+    ends, group, steps = [1], 0, 8
+    while True:
+        group, steps = group + 8 + steps, min(2 * steps, 32)
+        if 512 * group >= behind:
+            return ends
+        ends.append(512 * group)
+
+
 def of_named_breaks(octets):
     """GAPs of every second number for all readers and of the others for their participant; each reader hears some numbers by name."""
     pieces = octets // 8 // 68
-    # Each of these numbers stands behind twelve groups of 512.
-    breaks = range(6144, 256 * pieces, 6144)
+    breaks = stride_ends(256 * pieces)
     count = max(2, octets // 4 // 32 // len(breaks))
     readers = [scattered(i) for i in range(1, count + 1)]
     yield announced(b'\0\0\3\xc2', A, WRITER, b'')

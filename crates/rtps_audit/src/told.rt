@@ -12,7 +12,7 @@ use std::alloc::Global;
 const FEWEST: u64 = 8;
 
 /// The most that are taken. A row that many readers share may lie within them, and is not found there.
-const MOST: u64 = 64;
+const MOST: u64 = 32;
 
 /// Up to where a reader was told of each number, and how many steps were allowed to come there.
 #[derive(Clone, Copy)]

@@ -22,7 +22,7 @@ returns c =
     (c.set_or-3.ensures m none ∙ ap (λ (k : Guid). told_at told.named.sets k m) c.of_entity.ensures) in
     let some : 1 ≤ c.if-reached-n.steps = elim c.if-reached-n.branch [
       | then-reached-n w ↦ omega (arith, w.steps-is)
-      | else-reached-n w ↦ omega (arith, w.steps-is, w.clamp-steps.ensures, le-max_left 8 (min w.saturating_mul.result 64))
+      | else-reached-n w ↦ omega (arith, w.steps-is, w.clamp-steps.ensures, le-max_left 8 (min w.saturating_mul.result 32))
     ] in
     let first = c.past_together-reached.ensures in
     let past = c.past_together.ensures in
