@@ -23,9 +23,6 @@ reader_of_said reader writer (said.Data number payload) = refl
 reader_of_said reader writer (said.Heartbeat first last) = refl
 reader_of_said reader writer (said.Gap start list) = refl
 
-pub key_of_brief : (writer : Guid) (brief : Brief) → kept_under (brief_value writer brief).act ≡ record { prefix = unwrap_or brief.audience.dest nobody.prefix; entity = brief.audience.reader }
-key_of_brief writer brief = ap (λ named. let key : Guid = record { prefix = unwrap_or brief.audience.dest nobody.prefix; entity = unwrap_or named unknown_entity } in key) (reader_of_said brief.audience.reader writer.entity brief.said)
-
 pub not_true : (b : Bool) → not b ≡ true → b ≡ false
 not_true true e = cc
 not_true false e = refl

@@ -57,53 +57,6 @@ brief_spoken writer brief = and_both _ _ (itself writer.prefix.0) (by_said brief
     by_said (said.Heartbeat first last) = itself writer.entity.0
     by_said (said.Gap start list) = itself writer.entity.0
 
--- so the reader hears its words, if it hears it
-pub brief_heard : (writer reader : Guid) (brief : Brief) (body : ActBodyValue) (n : ℕ) → is_heard_by (brief_value writer brief).act reader ≡ true → body ≡ said_body brief.audience.reader writer.entity brief.said
-    → word_for writer reader (brief_value writer brief).act n ≡ word_of body n
-brief_heard writer reader brief body n heard is =
-    ap (λ b. if b then word_of (brief_value writer brief).act.body n else None) (and_both _ _ (brief_spoken writer brief) heard) ∙ ap (λ b. word_of b n) (sym is)
-
-pub brief_unheard : (writer reader : Guid) (brief : Brief) (n : ℕ) → is_heard_by (brief_value writer brief).act reader ≡ false → word_for writer reader (brief_value writer brief).act n ≡ None
-brief_unheard writer reader brief n unheard =
-    ap (λ b. if is_spoken_by (brief_value writer brief).act writer && b then word_of (brief_value writer brief).act.body n else None) unheard
-    ∙ ap (λ b. if b && false then word_of (brief_value writer brief).act.body n else None) (brief_spoken writer brief)
-
-pub brief_announced : (writer : Guid) (brief : Brief) → announced_for writer (brief_value writer brief).act ≡ announced_of_body (said_body brief.audience.reader writer.entity brief.said)
-brief_announced writer brief = ap (λ b. if b then announced_of_body (brief_value writer brief).act.body else None) (brief_spoken writer brief)
-
-pub brief_reader : (writer : Guid) (brief : Brief) → reader_named (brief_value writer brief).act.body ≡ Some brief.audience.reader
-brief_reader writer brief = by_said brief.said
-  where
-    by_said : (s : Said) → reader_named (said_body brief.audience.reader writer.entity s) ≡ Some brief.audience.reader
-    by_said (said.Data number payload) = refl
-    by_said (said.Heartbeat first last) = refl
-    by_said (said.Gap start list) = refl
-
-pub brief_is_heard : (writer reader : Guid) (brief : Brief)
-    → is_heard_by (brief_value writer brief).act reader ≡ ((is_for_all brief.audience.dest || is_for brief.audience.dest reader.prefix) && (is_entity brief.audience.reader unknown_entity || is_entity brief.audience.reader reader.entity))
-brief_is_heard writer reader brief = ap (λ named. (is_for_all brief.audience.dest || is_for brief.audience.dest reader.prefix) && (names named unknown_entity || names named reader.entity)) (brief_reader writer brief)
-
--- ---- the words that are kept of it
-
-pub keeps_same : {from : ℕ} (old new : List KeptPayload) (one other : ℕ → Option Word) → ((n : ℕ) → other n ≡ one n) → KeepsMore from old new one → KeepsMore from old new other
-keeps_same old new one other same keeps n payload asked = (
-  λ kept. elim ((keeps n payload asked).0 kept) [ inl before ↦ inl before | inr says ↦ inr (same n ∙ says) ],
-  λ either. (keeps n payload asked).1 (elim either [ inl before ↦ inl before | inr says ↦ inr (sym (same n) ∙ says) ]),
-)
-
-pub keeps_nothing : {from : ℕ} (old : List KeptPayload) (word : ℕ → Option Word) → ((n : ℕ) → word n ≡ None) → KeepsMore from old old word
-keeps_nothing old word none n payload asked = (
-  λ kept. inl kept,
-  λ either. elim either [ inl kept ↦ kept | inr says ↦ absurd (let never = sym (none n) ∙ says in cc) ],
-)
-
-pub tells_nothing : (old : ℕ → Bool) (word : ℕ → Option Word) → ((n : ℕ) → word n ≡ None) → TellsMore old old (λ n. is_some (word n))
-tells_nothing old word none n positive small = sym (ap (λ o. old n || is_some o) (none n) ∙ nothing_more (old n))
-  where
-    nothing_more : (b : Bool) → (b || false) ≡ b
-    nothing_more true = refl
-    nothing_more false = refl
-
 -- ---- what is said by acts of a datagram
 
 -- one act more
@@ -111,29 +64,6 @@ pub said_more : (datagram : ℕ) (acts : List Act) (i : ℕ) (act : Act) → i <
     → filter (λ at. is_speech at.act) (placed_at datagram (map act_value (take (i + 1) acts)))
     ≡ filter (λ at. is_speech at.act) (placed_at datagram (map act_value (take i acts))) ++ cond (is_speech (act_value act)) (record { datagram = datagram; act = act_value act } ∷ []) []
 said_more datagram acts i act lt at = ap (filter (λ (at : PlacedValue). is_speech at.act)) (placed_more datagram acts i act lt at) ∙ filter-append (λ (at : PlacedValue). is_speech at.act) (placed_at datagram (map act_value (take i acts))) _
-
-pub one_said : (writer : Guid) (datagram : ℕ) (acts : List Act) (i : ℕ) (act : Act) (old new : List Brief) (before : List PlacedValue) (brief : Brief) → i < length acts → act ≡ get_or acts i act → new ≡ old ++ brief ∷ []
-    → is_speech (act_value act) ≡ true → brief_value writer brief ≡ bare writer (record { datagram = datagram; act = act_value act })
-    → map (brief_value writer) old ≡ before ++ map (bare writer) (filter (λ at. is_speech at.act) (placed_at datagram (map act_value (take i acts))))
-    → map (brief_value writer) new ≡ before ++ map (bare writer) (filter (λ at. is_speech at.act) (placed_at datagram (map act_value (take (i + 1) acts))))
-one_said writer datagram acts i act old new before brief lt at grown speaks value known =
-    let first : PlacedValue = record { datagram = datagram; act = act_value act } in
-    let so_far = filter (λ (at : PlacedValue). is_speech at.act) (placed_at datagram (map act_value (take i acts))) in
-    let said = said_more datagram acts i act lt at ∙ ap (λ b. so_far ++ cond b (first ∷ []) []) speaks in
-    ap (map (brief_value writer)) grown ∙ map-append (brief_value writer) old (brief ∷ [])
-    ∙ ap (λ l. l ++ brief_value writer brief ∷ []) known
-    ∙ ap (λ v. (before ++ map (bare writer) so_far) ++ v ∷ []) value
-    ∙ append_assoc before (map (bare writer) so_far) (bare writer first ∷ [])
-    ∙ ap (λ l. before ++ l) (sym (map-append (bare writer) so_far (first ∷ [])) ∙ sym (ap (map (bare writer)) said))
-
-pub none_said_more : (writer : Guid) (datagram : ℕ) (acts : List Act) (i : ℕ) (act : Act) (old before : List PlacedValue) → i < length acts → act ≡ get_or acts i act → is_speech (act_value act) ≡ false
-    → old ≡ before ++ map (bare writer) (filter (λ at. is_speech at.act) (placed_at datagram (map act_value (take i acts))))
-    → old ≡ before ++ map (bare writer) (filter (λ at. is_speech at.act) (placed_at datagram (map act_value (take (i + 1) acts))))
-none_said_more writer datagram acts i act old before lt at silent known =
-    let first : PlacedValue = record { datagram = datagram; act = act_value act } in
-    let so_far = filter (λ (at : PlacedValue). is_speech at.act) (placed_at datagram (map act_value (take i acts))) in
-    let said = said_more datagram acts i act lt at ∙ ap (λ b. so_far ++ cond b (first ∷ []) []) silent ∙ Rattle.std.proofs.Common.append-nil so_far in
-    known ∙ ap (λ l. before ++ map (bare writer) l) (sym said)
 
 -- acts none of which is of a writer
 pub none_said : (datagram : ℕ) (acts : List Act) → list_all (λ act. not (is_speech (act_value act))) acts ≡ true → filter (λ at. is_speech at.act) (placed_at datagram (map act_value acts)) ≡ []

@@ -118,9 +118,6 @@ pub last_announced_from_more : (from : ℕ) (speech : Speech) (d : Datagram) →
 last_announced_from_more from [] d = omega arith
 last_announced_from_more from (x ∷ xs) d = let rest = last_announced_from_more from xs d in omega arith
 
-pub last_announced_more : (speech : Speech) (d : Datagram) → last_announced (speech ++ d ∷ []) ≡ max (last_announced speech) (greatest d.announced)
-last_announced_more speech d = last_announced_from_more 1 speech d
-
 -- it is from - 1 or the greatest number that is announced
 pub last_announced_max : (from : ℕ) (speech : Speech) → last_announced_from from speech ≡ max (from - 1) (last_announced speech)
 last_announced_max from [] = omega arith

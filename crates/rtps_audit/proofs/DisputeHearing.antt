@@ -10,7 +10,7 @@ use Rattle.rtps_receiver.specs.Speech.{IsHeardBy, is_heard_by, is_spoken_by, rea
 use Rattle.rtps_receiver.specs.Values.{ActValue}
 use Rattle.rtps_audit.specs.Delivery.{IsAsked, Word}
 use Rattle.rtps_audit.specs.Delivery.Word.{Told}
-use Rattle.rtps_audit.specs.DisputeWords.{AreListsOf, Differ, IsClash, IsDispute, IsReached, IsSaidTo, lesser}
+use Rattle.rtps_audit.specs.DisputeWords.{AreListsOf, Differ, IsClash, IsDispute, IsNotBelow, IsSaidTo, lesser}
 use Rattle.rtps_audit.specs.Everyone.{nobody}
 use Rattle.rtps_audit.specs.Hearing.{HearsTwo, IsHeard}
 use Rattle.rtps_audit.specs.KeptPayloads.{IsKept, KeepsTwo, number_of}
@@ -121,69 +121,69 @@ module _ (from : ℕ) (writer reader : Guid) (placed : List PlacedValue) (tests 
         (of_dispute own o own_heard of_own) (of_dispute id i id_heard of_id) (of_clash all own ao all_heard own_heard of_ao) (of_clash all id ai all_heard id_heard of_ai) (of_clash own id oi own_heard id_heard of_oi)
 
     -- each of the seven is reached by the answer
-    by_g : (n : ℕ) → IsReached g n → IsReached answer n
+    by_g : (n : ℕ) → IsNotBelow g n → IsNotBelow answer n
     by_g n h = reached_left _ (lesser (lesser ao ai) oi) n (reached_left _ (lesser o i) n (reached_left g a n h))
 
-    by_a : (n : ℕ) → IsReached a n → IsReached answer n
+    by_a : (n : ℕ) → IsNotBelow a n → IsNotBelow answer n
     by_a n h = reached_left _ (lesser (lesser ao ai) oi) n (reached_left _ (lesser o i) n (reached_right g a n h))
 
-    by_o : (n : ℕ) → IsReached o n → IsReached answer n
+    by_o : (n : ℕ) → IsNotBelow o n → IsNotBelow answer n
     by_o n h = reached_left _ (lesser (lesser ao ai) oi) n (reached_right (lesser g a) _ n (reached_left o i n h))
 
-    by_i : (n : ℕ) → IsReached i n → IsReached answer n
+    by_i : (n : ℕ) → IsNotBelow i n → IsNotBelow answer n
     by_i n h = reached_left _ (lesser (lesser ao ai) oi) n (reached_right (lesser g a) _ n (reached_right o i n h))
 
-    by_ao : (n : ℕ) → IsReached ao n → IsReached answer n
+    by_ao : (n : ℕ) → IsNotBelow ao n → IsNotBelow answer n
     by_ao n h = reached_right (lesser (lesser g a) (lesser o i)) _ n (reached_left _ oi n (reached_left ao ai n h))
 
-    by_ai : (n : ℕ) → IsReached ai n → IsReached answer n
+    by_ai : (n : ℕ) → IsNotBelow ai n → IsNotBelow answer n
     by_ai n h = reached_right (lesser (lesser g a) (lesser o i)) _ n (reached_left _ oi n (reached_right ao ai n h))
 
-    by_oi : (n : ℕ) → IsReached oi n → IsReached answer n
+    by_oi : (n : ℕ) → IsNotBelow oi n → IsNotBelow answer n
     by_oi n h = reached_right (lesser (lesser g a) (lesser o i)) _ n (reached_right (lesser ao ai) oi n h)
 
     -- so is each number with two payloads
-    gg : (n : ℕ) → KeepsTwo general n → IsReached answer n
+    gg : (n : ℕ) → KeepsTwo general n → IsNotBelow answer n
     gg n two = by_g n (least_reached (KeepsTwo general) g of_general n two)
 
-    with_general : (list : List KeptPayload) (d : Option ℕ) → IsDispute general list d → ((n : ℕ) → IsReached d n → IsReached answer n) → (n : ℕ) → Differ list general n → IsReached answer n
+    with_general : (list : List KeptPayload) (d : Option ℕ) → IsDispute general list d → ((n : ℕ) → IsNotBelow d n → IsNotBelow answer n) → (n : ℕ) → Differ list general n → IsNotBelow answer n
     with_general list d is by n both = elim (is.shared n both) [ inl h ↦ by n h | inr two ↦ gg n two ]
 
-    across : (one other : List KeptPayload) (d : Option ℕ) → IsClash one other d → ((n : ℕ) → IsReached d n → IsReached answer n) → ((n : ℕ) → KeepsTwo one n → IsReached answer n) → ((n : ℕ) → KeepsTwo other n → IsReached answer n)
-        → (n : ℕ) → Differ one other n → IsReached answer n
+    across : (one other : List KeptPayload) (d : Option ℕ) → IsClash one other d → ((n : ℕ) → IsNotBelow d n → IsNotBelow answer n) → ((n : ℕ) → KeepsTwo one n → IsNotBelow answer n) → ((n : ℕ) → KeepsTwo other n → IsNotBelow answer n)
+        → (n : ℕ) → Differ one other n → IsNotBelow answer n
     across one other d is by first second n both = elim (is.complete n both) [
       | inl h ↦ by n h
       | inr h ↦ elim h [ inl two ↦ first n two | inr two ↦ second n two ]
     ]
 
-    aa : (n : ℕ) → KeepsTwo all n → IsReached answer n
+    aa : (n : ℕ) → KeepsTwo all n → IsNotBelow answer n
     aa n two = by_a n (of_all.own n two)
 
-    oo : (n : ℕ) → KeepsTwo own n → IsReached answer n
+    oo : (n : ℕ) → KeepsTwo own n → IsNotBelow answer n
     oo n two = by_o n (of_own.own n two)
 
-    ii : (n : ℕ) → KeepsTwo id n → IsReached answer n
+    ii : (n : ℕ) → KeepsTwo id n → IsNotBelow answer n
     ii n two = by_i n (of_id.own n two)
 
-    ag : (n : ℕ) → Differ all general n → IsReached answer n
+    ag : (n : ℕ) → Differ all general n → IsNotBelow answer n
     ag = with_general all a of_all by_a
 
-    og : (n : ℕ) → Differ own general n → IsReached answer n
+    og : (n : ℕ) → Differ own general n → IsNotBelow answer n
     og = with_general own o of_own by_o
 
-    ig : (n : ℕ) → Differ id general n → IsReached answer n
+    ig : (n : ℕ) → Differ id general n → IsNotBelow answer n
     ig = with_general id i of_id by_i
 
-    all_own : (n : ℕ) → Differ all own n → IsReached answer n
+    all_own : (n : ℕ) → Differ all own n → IsNotBelow answer n
     all_own = across all own ao of_ao by_ao aa oo
 
-    all_id : (n : ℕ) → Differ all id n → IsReached answer n
+    all_id : (n : ℕ) → Differ all id n → IsNotBelow answer n
     all_id = across all id ai of_ai by_ai aa ii
 
-    own_id : (n : ℕ) → Differ own id n → IsReached answer n
+    own_id : (n : ℕ) → Differ own id n → IsNotBelow answer n
     own_id = across own id oi of_oi by_oi oo ii
 
-    reached : (n : ℕ) (x y : PayloadValue) → x ≢ y → IsInOne n x → IsInOne n y → IsReached answer n
+    reached : (n : ℕ) (x y : PayloadValue) → x ≢ y → IsInOne n x → IsInOne n y → IsNotBelow answer n
     reached n x y ne (inl p) (inl q) = gg n (x, y, p, q, ne)
     reached n x y ne (inl p) (inr (inl q)) = ag n (differ_swap general all n (x, y, p, q, ne))
     reached n x y ne (inl p) (inr (inr (inl q))) = og n (differ_swap general own n (x, y, p, q, ne))
@@ -201,12 +201,12 @@ module _ (from : ℕ) (writer reader : Guid) (placed : List PlacedValue) (tests 
     reached n x y ne (inr (inr (inr p))) (inr (inr (inl q))) = own_id n (differ_swap id own n (x, y, p, q, ne))
     reached n x y ne (inr (inr (inr p))) (inr (inr (inr q))) = ii n (x, y, p, q, ne)
 
-    two_reached : (n : ℕ) → Two n → IsReached answer n
+    two_reached : (n : ℕ) → Two n → IsNotBelow answer n
     two_reached n (asked, (x, y, p, q, ne)) = reached n x y ne (heard_kept n x asked p) (heard_kept n y asked q)
 
     pub least_heard : (result : Option ℕ) → result ≡ lesser (lesser (lesser g a) (lesser o i)) (lesser (lesser ao ai) oi) → MatchOption result ((n : ℕ) → ¬ HearsTwo from writer reader placed n) (IsLeast (HearsTwo from writer reader placed))
-    least_heard None is = λ n two. subst (λ r. IsReached r n) (sym is) (two_reached n two)
-    least_heard (Some d) is = record { holds = subst (λ r. IfSome r Two) (sym is) answer_heard; least = λ m two. subst (λ r. IsReached r m) (sym is) (two_reached m two) }
+    least_heard None is = λ n two. subst (λ r. IsNotBelow r n) (sym is) (two_reached n two)
+    least_heard (Some d) is = record { holds = subst (λ r. IfSome r Two) (sym is) answer_heard; least = λ m two. subst (λ r. IsNotBelow r m) (sym is) (two_reached m two) }
 
 pub clash_at : (one other first second : List KeptPayload) (clash : Option ℕ) → one ≡ first → other ≡ second → (IsNonDecreasingBy number_of one → IsNonDecreasingBy number_of other → IsClash one other clash)
     → IsNonDecreasingBy number_of first → IsNonDecreasingBy number_of second → IsClash first second clash

@@ -11,7 +11,7 @@ use Rattle.std.proofs.lemmas.List.Kept.{IsNonDecreasingBy-filter}
 use Rattle.rtps_ids.specs.declared.identity.Guid.{Guid}
 use Rattle.rtps_wire.specs.Values.{PayloadValue, payload_value}
 use Rattle.rtps_discovery.specs.GuidOrder.{guid_cmp}
-use Rattle.rtps_audit.specs.DisputeWords.{AreInRange, IsInRange, Differ, IsClash, IsDispute, IsReached, IsSettled, joined, lesser}
+use Rattle.rtps_audit.specs.DisputeWords.{AreInRange, IsInRange, Differ, IsClash, IsDispute, IsNotBelow, IsDisputeFound, joined, lesser}
 use Rattle.rtps_audit.specs.Disputes.{number_in, said_to}
 use Rattle.rtps_audit.specs.KeptPayloads.{IsKept, IsPlace, KeepsTwo, number_of}
 use Rattle.rtps_audit.specs.RunVerdict.{IsLeast}
@@ -22,12 +22,12 @@ use Rattle.rtps_audit.proofs.PlacedLemmas.{exact_guids}
 
 -- ---- the lesser of two numbers
 
-pub reached_left : (one other : Option ℕ) (n : ℕ) → IsReached one n → IsReached (lesser one other) n
+pub reached_left : (one other : Option ℕ) (n : ℕ) → IsNotBelow one n → IsNotBelow (lesser one other) n
 reached_left None other n h = absurd h
 reached_left (Some d) None n h = h
 reached_left (Some d) (Some e) n h = omega arith
 
-pub reached_right : (one other : Option ℕ) (n : ℕ) → IsReached other n → IsReached (lesser one other) n
+pub reached_right : (one other : Option ℕ) (n : ℕ) → IsNotBelow other n → IsNotBelow (lesser one other) n
 reached_right None other n h = h
 reached_right (Some d) None n h = absurd h
 reached_right (Some d) (Some e) n h = omega arith
@@ -140,7 +140,7 @@ pub least_holds : (P : ℕ → Type 0) (o : Option ℕ) → MatchOption o ((n : 
 least_holds P None h = tt
 least_holds P (Some n) h = h.holds
 
-pub least_reached : (P : ℕ → Type 0) (o : Option ℕ) → MatchOption o ((n : ℕ) → ¬ P n) (IsLeast P) → (n : ℕ) → P n → IsReached o n
+pub least_reached : (P : ℕ → Type 0) (o : Option ℕ) → MatchOption o ((n : ℕ) → ¬ P n) (IsLeast P) → (n : ℕ) → P n → IsNotBelow o n
 least_reached P None h n holds = h n holds
 least_reached P (Some d) h n holds = h.least n holds
 
@@ -154,7 +154,7 @@ dispute_is general list own shared least clash = record {
   ];
 }
   where
-    by_own : (n : ℕ) → KeepsTwo list n → IsReached (lesser own shared) n
+    by_own : (n : ℕ) → KeepsTwo list n → IsNotBelow (lesser own shared) n
     by_own n two = reached_left own shared n (least_reached (KeepsTwo list) own least n two)
 
 nothing_kept : (list : List KeptPayload) (n : ℕ) (x : PayloadValue) → list ≡ [] → IsKept list n x → ⊥
@@ -167,7 +167,7 @@ no_dispute general list none = record {
   shared = λ n both. absurd (nothing_kept list n both.0 none both.2);
 }
 
-pub settled : (general list past : List KeptPayload) (found : Option (Option ℕ)) → list ≡ past → IsSettled general list past found → IsDispute general list (joined found)
+pub settled : (general list past : List KeptPayload) (found : Option (Option ℕ)) → list ≡ past → IsDisputeFound general list past found → IsDispute general list (joined found)
 settled general list past None same none = no_dispute general list (same ∙ none)
 settled general list past (Some dispute) same is = is
 
@@ -204,32 +204,32 @@ said_sorted guid entries sorted = sorted_kept _ (IsNonDecreasingBy-filter number
 -- it was settled before
 pub settled_kept : (general : List KeptPayload) (lists : Guid → List KeptPayload) (past more : Guid → List KeptPayload) (found : Guid → Option (Option ℕ)) (key : Guid) (kept : KeptPayload) (dispute : Option ℕ)
     → ((guid : Guid) → more guid ≡ past guid ++ cond (is_eq (guid_cmp guid key)) (kept ∷ []) []) → found key ≡ Some dispute
-    → ((guid : Guid) → IsSettled general (lists guid) (past guid) (found guid)) → (guid : Guid) → IsSettled general (lists guid) (more guid) (found guid)
+    → ((guid : Guid) → IsDisputeFound general (lists guid) (past guid) (found guid)) → (guid : Guid) → IsDisputeFound general (lists guid) (more guid) (found guid)
 settled_kept general lists past more found key kept dispute grows there known guid = by_found (found guid) refl (known guid)
   where
     by_test : (b : Bool) → is_eq (guid_cmp guid key) ≡ b → found guid ≡ None → past guid ++ cond b (kept ∷ []) [] ≡ past guid
     by_test true alike e = absurd (let never : Some dispute ≡ None = sym there ∙ ap found (sym (exact_guids guid key (equal_of _ alike))) ∙ e in cc)
     by_test false differ e = append-nil _
 
-    by_found : (o : Option (Option ℕ)) → found guid ≡ o → IsSettled general (lists guid) (past guid) o → IsSettled general (lists guid) (more guid) o
+    by_found : (o : Option (Option ℕ)) → found guid ≡ o → IsDisputeFound general (lists guid) (past guid) o → IsDisputeFound general (lists guid) (more guid) o
     by_found None e none = grows guid ∙ by_test (is_eq (guid_cmp guid key)) refl e ∙ none
     by_found (Some d) e is = is
 
 -- it is settled now
 pub settled_written : (general : List KeptPayload) (lists : Guid → List KeptPayload) (past more : Guid → List KeptPayload) (old new : Guid → Option (Option ℕ)) (key : Guid) (kept : KeptPayload) (dispute : Option ℕ)
     → ((guid : Guid) → more guid ≡ past guid ++ cond (is_eq (guid_cmp guid key)) (kept ∷ []) []) → ((guid : Guid) → new guid ≡ cond (is_eq (guid_cmp guid key)) (Some dispute) (old guid))
-    → IsDispute general (lists key) dispute → ((guid : Guid) → IsSettled general (lists guid) (past guid) (old guid)) → (guid : Guid) → IsSettled general (lists guid) (more guid) (new guid)
+    → IsDispute general (lists key) dispute → ((guid : Guid) → IsDisputeFound general (lists guid) (past guid) (old guid)) → (guid : Guid) → IsDisputeFound general (lists guid) (more guid) (new guid)
 settled_written general lists past more old new key kept dispute grows written is known guid = by_test (is_eq (guid_cmp guid key)) refl
   where
-    by_test : (b : Bool) → is_eq (guid_cmp guid key) ≡ b → IsSettled general (lists guid) (more guid) (new guid)
+    by_test : (b : Bool) → is_eq (guid_cmp guid key) ≡ b → IsDisputeFound general (lists guid) (more guid) (new guid)
     by_test true alike =
         let same : guid ≡ key = exact_guids guid key (equal_of _ alike) in
         let now : new guid ≡ Some dispute = written guid ∙ ap (λ b. cond b (Some dispute) (old guid)) alike in
-        subst (IsSettled general (lists guid) (more guid)) (sym now) (subst (λ g. IsDispute general (lists g) dispute) (sym same) is)
+        subst (IsDisputeFound general (lists guid) (more guid)) (sym now) (subst (λ g. IsDispute general (lists g) dispute) (sym same) is)
     by_test false differ =
         let now : new guid ≡ old guid = written guid ∙ ap (λ b. cond b (Some dispute) (old guid)) differ in
         let still : more guid ≡ past guid = grows guid ∙ ap (λ b. past guid ++ cond b (kept ∷ []) []) differ ∙ append-nil _ in
-        subst (IsSettled general (lists guid) (more guid)) (sym now) (subst (λ l. IsSettled general (lists guid) l (old guid)) (sym still) (known guid))
+        subst (IsDisputeFound general (lists guid) (more guid)) (sym now) (subst (λ l. IsDisputeFound general (lists guid) l (old guid)) (sym still) (known guid))
 
 pub alike_more : (short long : List KeptPayload) (place : ℕ) (e : KeptPayload) → place < length short → AreAlike short long place
     → ((y : PayloadValue) → IsKept long (number_of (get_or short place e)) y → payload_value (get_or short place e).payload ≢ y → KeepsTwo long (number_of (get_or short place e)))

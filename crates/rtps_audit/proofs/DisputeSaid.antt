@@ -15,7 +15,7 @@ use Rattle.rtps_receiver.specs.Speech.{reader_named, unknown_entity}
 use Rattle.rtps_receiver.specs.Values.{ActBodyValue}
 use Rattle.rtps_audit.specs.Delivery.{IsAsked, Word}
 use Rattle.rtps_audit.specs.Delivery.Word.{Told}
-use Rattle.rtps_audit.specs.DisputeWords.{AreInRange, IsInRange, AreListsOf, IsAskedAndSaid, IsSaidTo, Tells}
+use Rattle.rtps_audit.specs.DisputeWords.{AreInRange, IsInRange, AreListsOf, IsAskedAndSaid, IsSaidTo, TellsPayload}
 use Rattle.rtps_audit.specs.Disputes.{IsPassed, said_to}
 use Rattle.rtps_audit.specs.Everyone.{nobody}
 use Rattle.rtps_audit.specs.KeptPayloads.{IsKept}
@@ -105,7 +105,7 @@ told_or : PayloadValue → Option Word → PayloadValue
 told_or d (Some (Told x)) = x
 told_or d _ = d
 
-of_told : (body : ActBodyValue) (kept : KeptPayload) (n : ℕ) (x : PayloadValue) → Tells body kept → word_of body n ≡ Some (Told x) → IsOf kept n x
+of_told : (body : ActBodyValue) (kept : KeptPayload) (n : ℕ) (x : PayloadValue) → TellsPayload body kept → word_of body n ≡ Some (Told x) → IsOf kept n x
 unfolding told_or
 of_told body kept n x tells says = by_test (n == kept.number) refl (sym (tells n) ∙ says)
   where
@@ -113,7 +113,7 @@ of_told body kept n x tells says = by_test (n == kept.number) refl (sym (tells n
     by_test true e f = (sym (eqb-true n kept.number e), ap (told_or x) f)
     by_test false e f = cc
 
-told_of : (body : ActBodyValue) (kept : KeptPayload) (n : ℕ) (x : PayloadValue) → Tells body kept → IsOf kept n x → word_of body n ≡ Some (Told x)
+told_of : (body : ActBodyValue) (kept : KeptPayload) (n : ℕ) (x : PayloadValue) → TellsPayload body kept → IsOf kept n x → word_of body n ≡ Some (Told x)
 told_of body kept n x tells (number, value) =
     tells n ∙ ap (λ b. told_if b (payload_value kept.payload)) (eq-eqb n kept.number (sym number)) ∙ ap (λ y. let made : Option Word = Some (Told y) in made) value
 
@@ -175,7 +175,7 @@ lists_silent from general directed named placed at silent =
     lists_more from general general directed directed named named placed at (λ n x k. k) (λ g n x k. k) (λ g n x k. k) (λ n x k. inl k) (λ p e n x k. inl k) (λ e n x k. inl k) (λ g n x k. inl k)
     (λ n x asked now. absurd (silent n x asked now.2)) (λ p e n x asked now. absurd (silent n x asked now.2)) (λ e n x asked now. absurd (silent n x asked now.2))
 
-pub below_from : (from : ℕ) (body : ActBodyValue) (kept : KeptPayload) → Tells body kept → kept.number < from → (n : ℕ) (x : PayloadValue) → IsAsked from n → word_of body n ≡ Some (Told x) → ⊥
+pub below_from : (from : ℕ) (body : ActBodyValue) (kept : KeptPayload) → TellsPayload body kept → kept.number < from → (n : ℕ) (x : PayloadValue) → IsAsked from n → word_of body n ≡ Some (Told x) → ⊥
 below_from from body kept tells below n x asked says = let is = (of_told body kept n x tells says).0 in let least = asked.1 in omega (arith, is, least)
 
 asked_of : (from : ℕ) (kept : KeptPayload) (n : ℕ) (x : PayloadValue) → IsAsked from kept.number → kept.number < 2 ^ 63 → IsOf kept n x → IsAsked from n × (n < 2 ^ 63)
@@ -183,7 +183,7 @@ asked_of from kept n x asked small is = subst (λ m. IsAsked from m × (m < 2 ^ 
 
 -- it is for everyone
 pub lists_general : (from : ℕ) (general : List KeptPayload) (directed named : Guid → List KeptPayload) (placed : List PlacedValue) (at : PlacedValue) (kept : KeptPayload)
-    → at.act.dest ≡ None → reader_named at.act.body ≡ Some unknown_entity → Tells at.act.body kept → IsAsked from kept.number → kept.number < 2 ^ 63
+    → at.act.dest ≡ None → reader_named at.act.body ≡ Some unknown_entity → TellsPayload at.act.body kept → IsAsked from kept.number → kept.number < 2 ^ 63
     → AreListsOf from general directed named placed → AreListsOf from (general ++ kept ∷ []) directed named (placed ++ at ∷ [])
 lists_general from general directed named placed at kept dest reader tells asked small =
     lists_more from general (general ++ kept ∷ []) directed directed named named placed at (kept_left general kept) (λ g n x k. k) (λ g n x k. k)
@@ -209,7 +209,7 @@ entry_of guid kept = record { guid = guid; kept = kept }
 
 -- it is for a participant, or one of its readers
 pub lists_directed : (from : ℕ) (general : List KeptPayload) (entries : List Addressed) (named : Guid → List KeptPayload) (placed : List PlacedValue) (at : PlacedValue) (kept : KeptPayload) (prefix : GuidPrefix) (entity : EntityId)
-    → at.act.dest ≡ Some prefix → reader_named at.act.body ≡ Some entity → Tells at.act.body kept → IsAsked from kept.number → kept.number < 2 ^ 63
+    → at.act.dest ≡ Some prefix → reader_named at.act.body ≡ Some entity → TellsPayload at.act.body kept → IsAsked from kept.number → kept.number < 2 ^ 63
     → AreListsOf from general (λ g. said_to g entries) named placed → AreListsOf from general (λ g. said_to g (entries ++ record { guid = record { prefix = prefix; entity = entity }; kept = kept } ∷ [])) named (placed ++ at ∷ [])
 lists_directed from general entries named placed at kept prefix entity dest reader tells asked small =
     let entry = entry_of (guid_of prefix entity) kept in
@@ -231,7 +231,7 @@ lists_directed from general entries named placed at kept prefix entity dest read
 
 -- it is for a reader in any participant
 pub lists_named : (from : ℕ) (general : List KeptPayload) (directed : Guid → List KeptPayload) (entries : List Addressed) (placed : List PlacedValue) (at : PlacedValue) (kept : KeptPayload) (entity : EntityId)
-    → at.act.dest ≡ None → reader_named at.act.body ≡ Some entity → (entity ≡ unknown_entity → ⊥) → Tells at.act.body kept → IsAsked from kept.number → kept.number < 2 ^ 63
+    → at.act.dest ≡ None → reader_named at.act.body ≡ Some entity → (entity ≡ unknown_entity → ⊥) → TellsPayload at.act.body kept → IsAsked from kept.number → kept.number < 2 ^ 63
     → AreListsOf from general directed (λ g. said_to g entries) placed → AreListsOf from general directed (λ g. said_to g (entries ++ record { guid = record { prefix = nobody.prefix; entity = entity }; kept = kept } ∷ [])) (placed ++ at ∷ [])
 lists_named from general directed entries placed at kept entity dest reader own tells asked small =
     let entry = entry_of (guid_of nobody.prefix entity) kept in

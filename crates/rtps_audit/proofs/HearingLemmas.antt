@@ -389,18 +389,6 @@ hears_too hearing writer one other placed alike known = record {
     by_cases None never = λ n two. never n (two_too writer other one placed n back two)
     by_cases (Some n) least = record { holds = two_too writer one other placed n alike least.holds; least = λ m two. least.least m (two_too writer other one placed m back two) }
 
--- and so of what is said in the code
-pub alike_values : (writer : Guid) (briefs : List Brief) (one other : Guid) → All (λ (brief : Brief). is_heard_by (brief_value writer brief).act one ≡ is_heard_by (brief_value writer brief).act other) briefs
-    → All (λ at. is_heard_by at.act one ≡ is_heard_by at.act other) (map (brief_value writer) briefs)
-alike_values writer briefs one other alike = All-map (λ (at : PlacedValue). is_heard_by at.act one ≡ is_heard_by at.act other) (brief_value writer) briefs alike
-
--- tests that are not told apart
-pub same_tests : (a b : Bool) → not (beq a b) ≡ false → a ≡ b
-same_tests true true e = refl
-same_tests true false e = cc
-same_tests false true e = cc
-same_tests false false e = refl
-
 -- what is for all readers is heard by all
 pub for_all_alike : (act : ActValue) (reader : Guid) → is_some act.dest ≡ false → is_heard_by act nobody ≡ true → is_heard_by act reader ≡ is_heard_by act nobody
 for_all_alike act reader for_all heard = by_dest act.dest for_all refl ∙ sym heard

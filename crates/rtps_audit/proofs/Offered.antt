@@ -3,7 +3,7 @@
 pub use Rattle.rtps_audit.proofs.AudienceLemmas.{TestsHearing}
 pub use Rattle.rtps_audit.proofs.GroupLemmas.{entry_written, equal_of, found_alike, lent_items}
 pub use Rattle.rtps_audit.proofs.PlacedLemmas.{exact_guids, guids_total}
-pub use Rattle.rtps_audit.proofs.SetWords.{all_in_words, is_in_words, none_in_words, row_and_list, word_more}
+pub use Rattle.rtps_audit.proofs.SetWords.{is_in_words, word_more}
 pub use Rattle.rtps_audit.proofs.ToldLemmas.{heard_directed}
 pub use Rattle.rtps_audit.proofs.WordLemmas.{or_cases}
 use Rattle.std.proofs.Common.{◌≡◌, ℕ, ◌+◌, ◌-◌, ◌<◌, ◌∙◌, Bool, true, false, ◌&&◌, max, filter, List, Option, Some, sym, refl, subst, arith, ◌≤◌, zero, suc}

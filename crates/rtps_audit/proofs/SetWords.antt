@@ -57,12 +57,6 @@ turned_bits (suc k) n a j lt = elim (cases_lt j k) [
 abbrev pub is_in_words : NumberSetValue → ℕ → ℕ → Bool
 is_in_words set i n = is_member set n && nat_lt n (set.base + 32 * i)
 
-pub none_in_words : (set : NumberSetValue) (n : ℕ) (a : Bool) → a ≡ (a || is_in_words set 0 n)
-none_in_words set n a = grind (arith, nat_tests)
-
-pub all_in_words : (set : NumberSetValue) (i n : ℕ) → set.count ≤ 32 * i → is_member set n ≡ is_in_words set i n
-all_in_words set i n enough = grind (arith, nat_tests)
-
 -- what a word's bits say of a number
 abbrev IsClearPast : NumberSetValue → Type 0
 IsClearPast set = (k : ℕ) → k < 256 → (k < set.count → ⊥) → bit_of set.words k ≡ 0
@@ -123,13 +117,3 @@ word_more set i n clear few fits =
     without_member : (a : Bool) → (a && false) ≡ ((a && false) || false)
     without_member true = refl
     without_member false = refl
-
--- a row and the whole list of a GAP
-pub row_and_list : (gap : GapBody) (at n : ℕ) → is_in_gap gap n ≡ (is_in_gap_below gap at n || is_member gap.list n)
-row_and_list gap at n = both _ (is_member gap.list n) (nat_lt n at)
-  where
-    both : (a b c : Bool) → (a || b) ≡ ((a || (b && c)) || b)
-    both true b c = refl
-    both false true true = refl
-    both false true false = refl
-    both false false c = refl

@@ -36,21 +36,6 @@ get_before [] x y i e = cc
 get_before (z ∷ xs) x y zero e = e
 get_before (z ∷ xs) x y (suc i) e = get_before xs x y i e
 
--- what stands in a list with one more stood there before, or is that one
-pub before_or_last : {X : Type 0} (xs : List X) (x y : X) (i : ℕ) → slice_get (xs ++ x ∷ []) i ≡ Some y → (slice_get xs i ≡ Some y) ⊎ (y ≡ x)
-before_or_last [] x y zero e = inr (let h = e in cc)
-before_or_last [] x y (suc i) e = cc
-before_or_last (z ∷ xs) x y zero e = inl e
-before_or_last (z ∷ xs) x y (suc i) e = before_or_last xs x y i e
-
--- shelves on which nothing stands have no place for a GUID
-pub none_in_empty : (maps : List Shelf) → ((i : ℕ) (shelf : Shelf) → slice_get maps i ≡ Some shelf → (guid : Guid) → place_at shelf guid ≡ None) → (guid : Guid) → place_in maps guid ≡ None
-none_in_empty maps empty guid = by_map (slice_get maps (shelf_of guid (length maps))) refl
-  where
-    by_map : (found : Option Shelf) → slice_get maps (shelf_of guid (length maps)) ≡ found → place_on found guid ≡ None
-    by_map None e = refl
-    by_map (Some shelf) e = empty (shelf_of guid (length maps)) shelf e guid
-
 -- a place more on its shelf
 pub shelf_written : (maps : List Shelf) (guid : Guid) (shelf : ℕ) (old new : Shelf) (place : Option ℕ) → shelf ≡ shelf_of guid (length maps) → shelf < length maps → slice_get maps shelf ≡ Some old
     → ((other : Guid) → place_at new other ≡ cond (is_eq (guid_cmp other guid)) place (place_at old other))

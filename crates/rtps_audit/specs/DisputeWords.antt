@@ -26,9 +26,9 @@ abbrev pub AreInRange : List KeptPayload → Type 0
 AreInRange list = (n : ℕ) (x : PayloadValue) → IsKept list n x → IsInRange n
 
 -- there is a number, and n is not below it
-abbrev pub IsReached : Option ℕ → ℕ → Type 0
-IsReached (Some d) n = d ≤ n
-IsReached None n = ⊥
+abbrev pub IsNotBelow : Option ℕ → ℕ → Type 0
+IsNotBelow (Some d) n = d ≤ n
+IsNotBelow None n = ⊥
 
 -- the lesser of two numbers, of which there may be none
 abbrev pub lesser : Option ℕ → Option ℕ → Option ℕ
@@ -43,18 +43,18 @@ Differ one other n = (x : PayloadValue) × (y : PayloadValue) × IsKept one n x 
 -- the lists have different payloads for this number, and for no lesser one but where a list alone has two for it
 pub record IsClash (one other : List KeptPayload) (clash : Option ℕ) : Type 0 where
   pub holds : IfSome clash (Differ one other)
-  pub complete : (n : ℕ) → Differ one other n → IsReached clash n ⊎ (KeepsTwo one n ⊎ KeepsTwo other n)
+  pub complete : (n : ℕ) → Differ one other n → IsNotBelow clash n ⊎ (KeepsTwo one n ⊎ KeepsTwo other n)
 
 -- the list has two payloads for this number, alone or with what is for everyone, and for no lesser one but where that
 -- alone has two for it
 pub record IsDispute (general list : List KeptPayload) (dispute : Option ℕ) : Type 0 where
   pub holds : IfSome dispute (λ n. KeepsTwo list n ⊎ Differ list general n)
-  pub own : (n : ℕ) → KeepsTwo list n → IsReached dispute n
-  pub shared : (n : ℕ) → Differ list general n → IsReached dispute n ⊎ KeepsTwo general n
+  pub own : (n : ℕ) → KeepsTwo list n → IsNotBelow dispute n
+  pub shared : (n : ℕ) → Differ list general n → IsNotBelow dispute n ⊎ KeepsTwo general n
 
 -- the body is a DATA that tells this payload, and nothing else
-abbrev pub Tells : ActBodyValue → KeptPayload → Type 0
-Tells body kept = (n : ℕ) → word_of body n ≡ (if n == kept.number then Some (Told (payload_value kept.payload)) else None)
+abbrev pub TellsPayload : ActBodyValue → KeptPayload → Type 0
+TellsPayload body kept = (n : ℕ) → word_of body n ≡ (if n == kept.number then Some (Told (payload_value kept.payload)) else None)
 
 -- the number that is found in a map, if one is
 abbrev pub joined : Option (Option ℕ) → Option ℕ
@@ -66,9 +66,9 @@ abbrev pub dispute_at : BTreeMap Guid (Option ℕ) → Guid → Option ℕ
 dispute_at map guid = joined (get guid_cmp map guid)
 
 -- the number that a map has for a list is in dispute; where it has none, nothing so far is of the list
-abbrev pub IsSettled : List KeptPayload → List KeptPayload → List KeptPayload → Option (Option ℕ) → Type 0
-IsSettled general list past None = past ≡ []
-IsSettled general list past (Some dispute) = IsDispute general list dispute
+abbrev pub IsDisputeFound : List KeptPayload → List KeptPayload → List KeptPayload → Option (Option ℕ) → Type 0
+IsDisputeFound general list past None = past ≡ []
+IsDisputeFound general list past (Some dispute) = IsDispute general list dispute
 
 -- an act for this destination and this reader tells the payload for n
 pub record IsSaidTo (to : Option GuidPrefix) (named : EntityId) (placed : List PlacedValue) (n : ℕ) (payload : PayloadValue) : Type 0 where

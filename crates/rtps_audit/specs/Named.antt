@@ -14,11 +14,11 @@ use Rattle.rtps_audit.specs.Placed.{PlacedValue}
 use Rattle.rtps_audit.specs.RunVerdict.{IsLeast}
 use Rattle.rtps_audit.specs.declared.answers.Answer.{Answer}
 use Rattle.rtps_audit.specs.declared.claims.Untold.{Untold}
-use Rattle.rtps_audit.specs.declared.named.Named.{Named}
+use Rattle.rtps_audit.specs.declared.named.NamedReaders.{NamedReaders}
 use Rattle.rtps_audit.specs.declared.verdict.Verdict.{Verdict}
 
 -- the fronts of readers before their answers, the payloads and the last number are of what this writer says
-pub record IsNamedOf (from : ℕ) (named : Named) (writer : Guid) (placed : List PlacedValue) : Type 0 where
+pub record IsNamedOf (from : ℕ) (named : NamedReaders) (writer : Guid) (placed : List PlacedValue) : Type 0 where
   pub asking : named.from ≡ from
   pub fronts : (reader : Guid) → All (IsFrontAt from writer reader placed) (values_at guid_cmp named.fronts.found.map reader)
   pub disputes : AreDisputesOf from named.disputes writer placed

@@ -25,7 +25,7 @@ said_of spoken writer = seen_of (λ list. list.items) (λ noted. noted) spoken.w
 abbrev pub answered_of : AllAnswers → Pair → List Answer
 answered_of answers pair = seen_of (λ kept. answers_to kept pair.writer) (λ noted. noted_of noted pair.writer) answers.readers pair.reader
 
--- the new ones have the acts of the old ones, and then these, and so what is said by them, and the answers
+-- the new ones have the acts of the old ones, and then these
 abbrev pub AddsActs : ByGuid (Vec Placed) → ByGuid (Vec Placed) → List PlacedValue → Type 0
 AddsActs old new placed = (origin : Guid) → map placed_value (list_at new origin) ≡ map placed_value (list_at old origin) ++ filter (is_from origin) placed
 
@@ -37,7 +37,7 @@ AddsSaid old new placed = (writer : Guid) → map (brief_value writer) (said_of 
 abbrev pub AddsAnswers : AllAnswers → AllAnswers → List PlacedValue → Type 0
 AddsAnswers old new placed = (pair : Pair) → answered_of new pair ≡ answered_of old pair ++ answers_among pair placed
 
--- all that is kept stands where its GUID has its place, and nothing apart from it where all acts are kept
+-- all that is kept stands where its GUID has its place
 pub record IsInPlace (origins : Origins) : Type 0 where
   pub acts : StandInPlace origins.acts
   pub said : AreApart origins.spoken.writers
@@ -56,11 +56,11 @@ pub record AreOf (origins : Origins) (placed : List PlacedValue) : Type 0 where
   pub said : (writer : Guid) → map (brief_value writer) (said_of origins.spoken writer) ≡ spoken_from writer placed
   pub answers : (pair : Pair) → answered_of origins.answers pair ≡ answers_among pair placed
 
--- what a writer says stands in its list, and what a pair says where each of the two has its place
+-- all that a writer says stands in its list
 abbrev pub IsListed : Origins → Guid → Type 0
 IsListed origins writer = said_of origins.spoken writer ≡ list_at origins.spoken.writers.values writer
 
--- all that a pair said stands with its writer and its reader
+-- all that a pair says stands with its writer and its reader
 pub record IsAtHand (origins : Origins) (pair : Pair) : Type 0 where
   pub said : IsListed origins pair.writer
   pub answers : answered_of origins.answers pair ≡ answers_in origins.answers.readers.values pair

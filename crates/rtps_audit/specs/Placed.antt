@@ -34,7 +34,7 @@ placed_behind before (datagram ∷ datagrams) = placed_at (before + 1) (acts_of 
 abbrev pub placed_in : List (List ℕ) → List PlacedValue
 placed_in recording = placed_behind 0 recording
 
--- whether an act is from this GUID
+-- two GUIDs are the same
 abbrev pub is_guid : Guid → Guid → Bool
 is_guid one other = is_prefix one.prefix other.prefix && is_entity one.entity other.entity
 

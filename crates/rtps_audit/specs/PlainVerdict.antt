@@ -39,7 +39,3 @@ IsPlainVerdictFrom from speech (Open number) = IsFounded from speech × ((n : �
 IsPlainVerdictFrom from speech (Complete last) =
     (last ≡ pos (last_announced_from from speech)) × IsFounded from speech × ((n : ℕ) → ¬ SpeaksTwo from speech n)
     × ((n : ℕ) → IsAsked from n → n ≤ last_announced_from from speech → IsClaimed from speech n)
-
--- what it says of all numbers
-abbrev pub IsPlainVerdict : Speech → Verdict → Type 0
-IsPlainVerdict speech verdict = IsPlainVerdictFrom 1 speech verdict

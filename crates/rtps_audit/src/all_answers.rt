@@ -70,7 +70,7 @@ impl AllAnswers {
     }
 
     /// The same, where the answers of the readers of these pairs stand by reader.
-    pub(crate) fn settled(self, pairs: &[Pair]) -> Result<Self, Memory>
+    pub(crate) fn at_hand(self, pairs: &[Pair]) -> Result<Self, Memory>
         requires { AreApart self.readers }
         ensures answered { IfOk result (λ answers. (pair : PairValue) → answered_of answers pair ≡ answered_of self pair) }
         ensures listed { IfOk result (λ answers. All (λ pair. is_some (value_at answers.readers.values pair.reader) ≡ true) pairs.now) }

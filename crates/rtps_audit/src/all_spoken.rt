@@ -70,7 +70,7 @@ impl<'a> AllSpoken<'a> {
     }
 
     /// The same, where what the writers of these pairs say stands in their lists.
-    pub(crate) fn settled(self, pairs: &[Pair]) -> Result<Self, Memory>
+    pub(crate) fn at_hand(self, pairs: &[Pair]) -> Result<Self, Memory>
         requires { AreApart self.writers }
         ensures said { IfOk result (λ spoken. (writer : GuidValue) → said_of spoken writer ≡ said_of self.entry writer) }
         ensures listed { IfOk result (λ spoken. All (λ pair. is_some (value_at spoken.writers.values pair.writer) ≡ true) pairs.now) }

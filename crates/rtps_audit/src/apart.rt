@@ -11,7 +11,7 @@ pub(crate) struct Apart<V, N> {
 }
 
 impl<V: Drop, N: Drop> Apart<V, N> {
-    ghost use Rattle.std.specs.Prelude.{◌≡◌, [], ℕ, None, Some, cond, slice_get, unwrap_or, true, false, IfOk, MatchOption, OnOk};
+    ghost use Rattle.std.specs.Prelude.{◌≡◌, [], ℕ, None, Some, cond, slice_get, unwrap_or, true, false, IfOk, OnOk};
     ghost use Rattle.std.specs.Ordering.{is_eq};
     ghost use Rattle.rtps_ids.specs.declared.identity.Guid.{Guid as GuidValue};
     ghost use Rattle.rtps_discovery.specs.GuidOrder.{guid_cmp};

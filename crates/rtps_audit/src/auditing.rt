@@ -102,7 +102,7 @@ pub fn audit_watched<P: Watch>(
 {
     let index = Index::build_brief(alloc, recording)?;
     let pairs = index.directory.pairs()?;
-    let index = index.settled(&pairs)?;
+    let index = index.at_hand(&pairs)?;
     let report = index.reported(&pairs, from, watch)?;
     Ok(report)
 }

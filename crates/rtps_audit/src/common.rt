@@ -1,10 +1,9 @@
-ghost use Rattle.std.specs.Prelude.{◌≡◌, ◌↔◌, ℕ, All, IfOk, IfSome, IsTrue, List, OnOk};
+ghost use Rattle.std.specs.Prelude.{◌≡◌, ℕ, IfOk, IfSome, IsTrue, List, OnOk};
 ghost use Rattle.std.specs.List.{list_all};
 ghost use Rattle.rtps_ids.specs.declared.identity.Guid.{Guid as GuidValue};
 ghost use Rattle.rtps_receiver.specs.Values.{act_value};
-ghost use Rattle.rtps_audit.specs.Audiences.{AreAudiencesOf, HearAlike};
+ghost use Rattle.rtps_audit.specs.Audiences.{HearAlike};
 ghost use Rattle.rtps_audit.specs.Brief.{brief_value, spoken_from};
-ghost use Rattle.rtps_audit.specs.Hearing.{Hears};
 ghost use Rattle.rtps_audit.specs.Index.{IsBriefOf};
 ghost use Rattle.rtps_audit.specs.Origins.{IsListed};
 ghost use Rattle.rtps_audit.specs.Placed.{placed_in};
@@ -14,7 +13,7 @@ use crate::audiences::{Audiences, NOBODY, is_for_all};
 use crate::brief::Brief;
 use crate::hearing::Hearing;
 use crate::index::Index;
-use crate::named::Named;
+use crate::named::NamedReaders;
 use crate::placed::Placed;
 use crate::verdict::Verdict;
 use rtps_discovery::Pair;
@@ -34,7 +33,7 @@ pub(crate) struct Common<'a> {
     /// By whom what it says is heard, once it was asked for; it is not, where that is all readers.
     pub(crate) audiences: Option<Audiences>,
     /// What tells the verdicts of the readers that it names, once it was asked for.
-    pub(crate) named: Option<Named<'a>>,
+    pub(crate) named: Option<NamedReaders<'a>>,
 }
 
 /// Whether an act is for every reader.
@@ -171,7 +170,7 @@ impl<'a> Common<'a> {
             return Ok(());
         };
         let last = hearing.last;
-        let named = Named::of(index, self.writer, self.from, last, pairs)?;
+        let named = NamedReaders::of(index, self.writer, self.from, last, pairs)?;
         self.named = Some(named);
         Ok(())
     }

@@ -1,4 +1,4 @@
-ghost use Rattle.std.specs.Prelude.{ℕ, ◌≡◌, ◌+◌, ◌<◌, ◌^◌, map, count_by, if◌then◌else◌};
+ghost use Rattle.std.specs.Prelude.{◌≡◌, ◌+◌, ◌<◌, map, count_by, if◌then◌else◌};
 ghost use Rattle.rtps_receiver.specs.Values.{act_value};
 ghost use Rattle.rtps_audit.specs.Report.{is_undirected as is_undirected_lem};
 
@@ -27,6 +27,7 @@ pub(crate) fn undirected_among(acts: &[Act<'_>]) -> u64
     undirected
 }
 
+/// 1 where the test holds, and else 0.
 pub(crate) fn one_if(test: bool) -> u64
     ensures { result ≡ (if test then 1 else 0) }
 {

@@ -8,7 +8,7 @@ ghost use Rattle.rtps_receiver.specs.Speech.{reader_named, unknown_entity};
 ghost use Rattle.rtps_wire.specs.Values.{PayloadValue, payload_value};
 ghost use Rattle.rtps_audit.specs.Brief.{brief_value};
 ghost use Rattle.rtps_audit.specs.Delivery.{IsAsked, Word};
-ghost use Rattle.rtps_audit.specs.DisputeWords.{AreInRange, Differ, IsClash, IsDispute, IsInRange, IsSettled, Tells, dispute_at, lesser};
+ghost use Rattle.rtps_audit.specs.DisputeWords.{AreInRange, Differ, IsClash, IsDispute, IsInRange, IsDisputeFound, TellsPayload, dispute_at, lesser};
 ghost use Rattle.rtps_audit.specs.Groups.{values_at};
 ghost use Rattle.rtps_audit.specs.Hearing.{HearsTwo};
 ghost use Rattle.rtps_audit.specs.KeptPayloads.{IsKept, IsPlace, KeepsTwo, number_of};
@@ -16,7 +16,7 @@ ghost use Rattle.rtps_audit.specs.Placed.{PlacedValue};
 ghost use Rattle.rtps_audit.specs.RunVerdict.{IsLeast};
 ghost use Rattle.rtps_audit.specs.Speech.{word_of};
 
-use crate::audiences::NOBODY;
+use crate::audiences::{NOBODY, of_entity, of_participant};
 use crate::brief::{Brief, Said};
 use crate::groups::Groups;
 use crate::payloads::{KeptPayload, is_same_payload, least_conflict, put_in_order};
@@ -84,8 +84,8 @@ fn is_place(payloads: &[KeptPayload<'_>], place: usize, number: u64) -> bool
         && (place == payloads.len() || number <= payloads[place].number)
 }
 
-/// Where the payloads of numbers below this one end, if they are in the order of numbers. Of lists that have much the same numbers that is the place where those of the
-/// number before ended, or the next one, which are looked at first.
+/// Where the payloads of numbers below this one end, if they are in the order of numbers. Of lists that have much the same
+/// numbers that is the place where those of the number before ended, or the next one, which are looked at first.
 fn place_near(payloads: &[KeptPayload<'_>], near: usize, number: u64) -> usize
     ensures within { result ≤ length payloads.now }
     ensures place { IsNonDecreasingBy number_of payloads.now → IsPlace payloads.now number result }
@@ -178,7 +178,7 @@ impl<'a> Part<'a> {
     ) -> Result<BTreeMap<Guid, Option<u64>>, Memory>
         requires general { IsNonDecreasingBy number_of general.now }
         requires sorted { (guid : GuidValue) → IsNonDecreasingBy number_of (values_at guid_cmp groups.now.map guid) }
-        ensures { IfOk result (λ disputes. (guid : GuidValue) → IsSettled general.now (values_at guid_cmp groups.now.map guid) (said_to guid entries.now) (get guid_cmp disputes guid)) }
+        ensures { IfOk result (λ disputes. (guid : GuidValue) → IsDisputeFound general.now (values_at guid_cmp groups.now.map guid) (said_to guid entries.now) (get guid_cmp disputes guid)) }
     {
         let mut disputes = BTreeMap::new(alloc);
         for entry in entries {
@@ -239,7 +239,7 @@ fn is_every(entity: EntityId) -> bool
 fn payload_of<'a>(brief: &Brief<'a>) -> Option<KeptPayload<'a>>
     ensures { MatchOption result
         ((writer : GuidValue) (n : ℕ) (x : PayloadValue) → word_of (brief_value writer brief.now).act.body n ≢ Some (Word.Told x))
-        (λ kept. (1 ≤ kept.number) × (kept.number < 2 ^ 63) × ((writer : GuidValue) → Tells (brief_value writer brief.now).act.body kept)) }
+        (λ kept. (1 ≤ kept.number) × (kept.number < 2 ^ 63) × ((writer : GuidValue) → TellsPayload (brief_value writer brief.now).act.body kept)) }
 {
     match brief.said {
         Said::Data { number, payload } => Some(KeptPayload {
@@ -256,7 +256,7 @@ impl<'a> Collected<'a> {
     /// Keeps a payload by whom it is for. After `Memory` the lists are of no use.
     fn put(&mut self, audience: Audience, kept: KeptPayload<'a>) -> Result<(), Memory>
         ensures { OnOk result ((from : ℕ) (placed : List PlacedValue) (at : PlacedValue) → at.act.dest ≡ audience.dest → reader_named at.act.body ≡ Some audience.reader
-            → Tells at.act.body kept.entry → IsAsked from kept.entry.number → kept.entry.number < 2 ^ 63
+            → TellsPayload at.act.body kept.entry → IsAsked from kept.entry.number → kept.entry.number < 2 ^ 63
             → AreCollectedOf from self.old placed → AreCollectedOf from self.new (placed ++ at ∷ [])) }
     {
         match audience.dest {
@@ -344,14 +344,8 @@ impl<'a> Disputes<'a> {
         ensures in_range { IfSome result IsInRange }
     {
         tests_say_what_relations_say();
-        let participant = Guid {
-            prefix: reader.prefix,
-            entity: NOBODY.entity,
-        };
-        let entity = Guid {
-            prefix: NOBODY.prefix,
-            entity: reader.entity,
-        };
+        let participant = of_participant(reader);
+        let entity = of_entity(reader);
         let all = self.directed.list(participant);
         let own = self.directed.list(reader);
         let id = self.named.list(entity);

@@ -47,8 +47,8 @@ impl<'a> Index<'a> {
         Ok(index)
     }
 
-    /// The index of a recording for judging its pairs, which keeps no acts but what is said by them. Of a pair that is not
-    /// settled nothing is found.
+    /// The index of a recording for judging its pairs, which keeps no acts but what is said by them. What it
+    /// finds of a pair is promised once that is at hand.
     pub(crate) fn build_brief(alloc: Global, recording: &[&'a [u8]]) -> Result<Index<'a>, Memory>
         ensures brief { IfOk result (IsBriefOf (map (λ datagram. datagram.now) recording.now)) }
         ensures keeps_acts { IfOk result (λ index. index.origins.keeps_acts ≡ false) }
@@ -94,8 +94,8 @@ impl<'a> Index<'a> {
         })
     }
 
-    /// The same, where what these pairs say is found.
-    pub(crate) fn settled(self, pairs: &[Pair]) -> Result<Self, Memory>
+    /// The same, where what these pairs say is at hand.
+    pub(crate) fn at_hand(self, pairs: &[Pair]) -> Result<Self, Memory>
         requires placed { IsInPlace self.origins }
         requires brief { self.origins.keeps_acts ≡ false }
         ensures same { IfOk result (λ index. (recording : List (List ℕ)) → IsBriefOf recording self.entry → IsBriefOf recording index) }
@@ -109,7 +109,7 @@ impl<'a> Index<'a> {
             alloc,
         } = self;
         Ok(Index {
-            origins: origins.settled(pairs)?,
+            origins: origins.at_hand(pairs)?,
             directory,
             counts,
             alloc,

@@ -1,10 +1,8 @@
-ghost use Rattle.std.specs.Prelude.{ℕ, ◌≡◌, ◌+◌, ◌<◌, ◌≤◌, ◌^◌, ◌∷◌, ◌++◌, [], is_some, map, unwrap_or, IfOk, IfSome, List, OnOk};
-ghost use Rattle.rtps_receiver.specs.Values.{ActValue, act_body_value, act_value};
-ghost use Rattle.rtps_coverage.specs.Coverage.{TellsMore};
+ghost use Rattle.std.specs.Prelude.{ℕ, ◌≡◌, ◌+◌, ◌<◌, ◌^◌, ◌∷◌, ◌++◌, [], map, IfOk, List, OnOk};
+ghost use Rattle.rtps_receiver.specs.Values.{ActValue, act_value};
 ghost use Rattle.rtps_audit.specs.Delivery.{Datagram, Speech};
 ghost use Rattle.rtps_audit.specs.RunVerdict.{IsVerdictFrom};
-ghost use Rattle.rtps_audit.specs.KeptPayloads.{KeepsMore};
-ghost use Rattle.rtps_audit.specs.Speech.{announced_for, announced_of_body, base_for, base_of_body, said_by, word_for};
+ghost use Rattle.rtps_audit.specs.Speech.{said_by};
 
 use crate::claims::Claims;
 use crate::said::{base_in, note_heard, number_in};

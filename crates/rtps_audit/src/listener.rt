@@ -20,7 +20,6 @@ pub(crate) struct Listener<'a, C> {
 }
 
 impl<'a, C: Coverage> Listener<'a, C> {
-    ghost use Rattle.std.specs.Prelude.{IfSome, length, slice_index_or};
     ghost use Rattle.rtps_coverage.specs.Coverage.{IsFront};
     ghost use Rattle.rtps_audit.specs.Hearing.{Hears, IsListening, Marks};
     ghost use Rattle.rtps_audit.specs.Brief.{brief_value};

@@ -16,7 +16,7 @@ use rtps_ids::{Guid, Memory, SeqNum};
 
 /// What tells the verdicts of the readers that a writer names.
 #[derive(Drop)]
-pub(crate) struct Named<'a> {
+pub(crate) struct NamedReaders<'a> {
     /// The first number that is asked for.
     pub(crate) from: SeqNum,
     pub(crate) fronts: Fronts,
@@ -62,7 +62,7 @@ fn claims_by(from: SeqNum, answers: &[Answer], fronts: &[FrontBefore]) -> Option
     Some(claims)
 }
 
-impl<'a> Named<'a> {
+impl<'a> NamedReaders<'a> {
     ghost use Rattle.std.specs.Prelude.{◌≡◌, ◌-◌, ◌<◌, ◌≤◌, ◌^◌, max, ℕ, All, IfOk, IfSome, List};
     ghost use Rattle.rtps_ids.specs.declared.identity.Guid.{Guid as GuidValue};
     ghost use Rattle.rtps_audit.specs.Brief.{spoken_from};
@@ -80,13 +80,13 @@ impl<'a> Named<'a> {
         from: SeqNum,
         last: u64,
         pairs: &[Pair],
-    ) -> Result<Named<'a>, Memory>
+    ) -> Result<NamedReaders<'a>, Memory>
         requires { last < 2 ^ 63 }
         ensures { IfOk result (λ named. (recording : List (List ℕ)) → IsBriefOf recording index.now → IsListed index.now.origins writer
             → let spoken = spoken_from writer (placed_in recording) in
             last ≡ max (from - 1) (last_among writer spoken) → IsNamedOf from named writer spoken) }
     {
-        Ok(Named {
+        Ok(NamedReaders {
             from,
             fronts: Fronts::of(index, writer, from, pairs)?,
             disputes: Disputes::of(index.alloc, index.briefs_of(writer), from)?,

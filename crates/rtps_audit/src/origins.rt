@@ -1,4 +1,4 @@
-ghost use Rattle.std.specs.Prelude.{◌≡◌, ◌≤◌, ◌++◌, [], false, true, cond, filter, length, map, All, IfOk, List, OnOk};
+ghost use Rattle.std.specs.Prelude.{◌≡◌, ◌≤◌, ◌++◌, [], false, true, cond, length, map, All, IfOk, List, OnOk};
 ghost use Rattle.std.specs.List.{AllWithin};
 ghost use Rattle.std.specs.Ordering.{is_eq};
 ghost use Rattle.rtps_ids.specs.declared.identity.Guid.{Guid as GuidValue};
@@ -126,7 +126,7 @@ impl<'a> Origins<'a> {
     }
 
     /// The same, where what these pairs say is at hand.
-    pub(crate) fn settled(self, pairs: &[Pair]) -> Result<Self, Memory>
+    pub(crate) fn at_hand(self, pairs: &[Pair]) -> Result<Self, Memory>
         requires { IsInPlace self }
         ensures same { IfOk result (λ origins. (placed : List PlacedValue) → self.entry.keeps_acts ≡ false → AreOf self.entry placed → AreOf origins placed) }
         ensures at_hand { IfOk result (λ origins. All (IsAtHand origins) pairs.now) }
@@ -141,8 +141,8 @@ impl<'a> Origins<'a> {
         Ok(Origins {
             keeps_acts,
             acts,
-            spoken: spoken.settled(pairs)?,
-            answers: answers.settled(pairs)?,
+            spoken: spoken.at_hand(pairs)?,
+            answers: answers.at_hand(pairs)?,
             alloc,
         })
     }

@@ -16,7 +16,7 @@ use rtps_receiver::ActBody;
 use rtps_wire::{GapBody, Payload};
 use std::alloc::Global;
 
-/// A set of more ranges than this is joined word by word.
+/// A set of more ranges than this, each counted once in each word that it lies in, is joined word by word.
 const SCATTERED: u32 = 8;
 
 /// The words so far for the numbers that are asked for: which of them have one, and each payload.

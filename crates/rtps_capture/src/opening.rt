@@ -1,5 +1,4 @@
-ghost use Rattle.std.specs.Prelude.{◌≡◌, ◌≤◌, length};
-ghost use Rattle.rtps_ids.specs.Octets.{number_of};
+ghost use Rattle.std.specs.Prelude.{◌≡◌};
 ghost use Rattle.rtps_capture.specs.Opening.{is_magic as is_magic_lem, link_numbered as link_numbered_lem, link_of as link_of_lem, link_type_in as link_type_in_lem, order_of, unread_link_type_of};
 ghost use Rattle.rtps_capture.specs.declared.layout.file.TheConstants.{SIZE};
 

@@ -1,5 +1,5 @@
 -- The set that a front and the ranges beyond it stand for. own: the plain form of a set of numbers, beside
--- which the other is tested.
+-- which the others are tested.
 use Rattle.std.specs.Prelude.{ℕ, Bool, true, false, ◌≡◌, ◌≤◌, ◌<◌, ◌-◌, ◌^◌, ◌&&◌, ◌||◌, nat_le, nat_lt, List, [], ◌∷◌, All, refl}
 use Rattle.std.specs.List.{list_any}
 use Rattle.std.proofs.Math.Nat.{le_of_suc-le-suc, le_trans, lt_of_lt_of_le}

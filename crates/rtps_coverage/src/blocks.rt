@@ -2,7 +2,6 @@ ghost use Rattle.std.specs.Prelude.{ℕ, ◌≡◌, ◌≢◌, ◌≤◌, ◌<�
 ghost use Rattle.std.specs.Int.RustNames.{bit_or};
 ghost use Rattle.rtps_coverage.specs.Bits.{is_bit_from, is_in_block};
 ghost use Rattle.std.specs.BTreeMap as tree;
-ghost use Rattle.std.specs.Ordering.{nat_cmp};
 
 use crate::bits::{bits_within, in_two_blocks};
 use rtps_ids::Memory;

@@ -1,4 +1,4 @@
-ghost use Rattle.std.specs.Prelude.{ℕ, Bool, true, false, ◌≡◌, ◌≤◌, ◌<◌, ◌+◌, ◌-◌, ◌^◌, ◌≤ℤ◌, pos, ◌||◌, OnOk, OnErr};
+ghost use Rattle.std.specs.Prelude.{ℕ, Bool, true, false, ◌≡◌, ◌≤◌, ◌<◌, ◌+◌, ◌-◌, ◌^◌, ◌≤ℤ◌, pos, OnOk, OnErr};
 ghost use Rattle.rtps_coverage.specs.Bits.{JoinsBits};
 ghost use Rattle.rtps_coverage.specs.Coverage.{JoinsRange, IsSameSet, has, IsFront};
 
@@ -26,7 +26,7 @@ pub trait Coverage: Sized + Drop {
         ensures err { OnErr result (IsSameSet (covered self.old) (covered self.new)) };
 
     /// Joins the number `lo` + i for each bit i that is set, the lowest being bit 0. After `Memory`, which is answered only
-    /// where a growth was refused, some of them may be joined.
+    /// where a growth was refused, some of them may be joined, and nothing is promised of the set.
     fn add_bits(&mut self, lo: u64, bits: u64) -> Result<(), Memory>
         requires positive { 1 ≤ lo }
         requires bounded { lo + 64 < 2 ^ 63 }
@@ -36,7 +36,7 @@ pub trait Coverage: Sized + Drop {
     fn front(&self) -> i64
         ensures { IsFront (covered self.now) result };
 
-    /// Whether the set has the number; of numbers below 1 it has none.
+    /// Whether the set has the number; of numbers below 1 it has none. A verdict never asks it: tests compare sets by it.
     fn covers(&self, n: i64) -> bool
         ensures { result ≡ has (covered self.now) n };
 

@@ -318,7 +318,7 @@ impl MergedRanges {
 
 impl Coverage for MergedRanges {
     ghost use Rattle.std.specs.Prelude.{ℕ, ℤ, ◌≡◌, ◌≤◌, ◌+◌, ◌||◌, ◌≤ℤ◌, pos, true, false, IsOk, OnOk, OnErr};
-    ghost use Rattle.rtps_coverage.specs.Coverage.{JoinsRange, IsSameSet, IsFront};
+    ghost use Rattle.rtps_coverage.specs.Coverage.{JoinsRange, IsSameSet};
     ghost use Rattle.rtps_coverage.specs.MergedRanges.{covered_of, covered_in_range, count_of, Touches};
 
     ghost covered = { covered_of };

@@ -1,4 +1,4 @@
-ghost use Rattle.std.specs.Prelude.{ℕ, ◌≡◌, ◌≤◌, ◌<◌, ◌^◌, false, true, nat_lt, All};
+ghost use Rattle.std.specs.Prelude.{◌≡◌, ◌≤◌, ◌<◌, ◌^◌, false, nat_lt, All};
 ghost use Rattle.std.specs.List.{filter, find, list_any};
 ghost use Rattle.rtps_coverage.specs.Spans.{has_number, Reaches, IsBounded};
 
@@ -53,7 +53,7 @@ fn keep_past(spans: &mut Vec<Span>, front: u64)
 }
 
 impl Coverage for PlainRanges {
-    ghost use Rattle.std.specs.Prelude.{ℕ, ℤ, ◌≡◌, ◌||◌, ◌≤ℤ◌, pos, IsOk, OnOk, OnErr};
+    ghost use Rattle.std.specs.Prelude.{ℤ, ◌≡◌, ◌||◌, ◌≤ℤ◌, pos, IsOk, OnOk, OnErr};
     ghost use Rattle.rtps_coverage.specs.Coverage.{JoinsRange, IsSameSet, IsFront};
     ghost use Rattle.rtps_coverage.specs.PlainRanges.{covered_of, covered_in_range};
 

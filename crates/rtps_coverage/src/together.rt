@@ -93,9 +93,10 @@ fn run_end(sets: &[&BitRanges], n: u64) -> u64
     bits_end(&blocks, row).min(LAST)
 }
 
-/// A number from `n` on up to which each is in one of the sets: the least that none has, or one that is at least as far as `steps`
-/// rows and groups go one behind the other; no set has 2^63 - 1. A step passes a row of each set where one goes on behind the other, and
-/// then what the sets keep as bits, in turns, to the end of that group of 512.
+/// A number from `n` on up to which each is in one of the sets: the least that none has, or one that is at least as far as
+/// `steps` rows and groups go one behind the other, and no further than `steps` times a row of each set and a group go; no set
+/// has 2^63 - 1. A step passes a row of each set where one goes on behind the other, and then what the sets keep as bits, in
+/// turns, to the end of that group of 512.
 pub fn past_together(sets: &[&BitRanges], n: u64, steps: u64) -> u64
     requires positive { 1 ≤ n }
     requires in_range { n < 2 ^ 63 }

@@ -85,7 +85,7 @@ kind_in order of_kind default (Some value) = option_and_then of_kind (u32_of ord
 abbrev pub kind_field : {X : Type 0} → ℕ → (ℕ → Option X) → X → Fields → Option X
 kind_field pid of_kind default fields = kind_in fields.order of_kind default (field pid fields)
 
--- what the parameters tell that are read
+-- the GUID of the participant that is announced
 abbrev pub participant_guid : Fields → Option Guid
 participant_guid = guid_field PARTICIPANT_GUID
 

@@ -1,7 +1,7 @@
 -- The map of a list of acts. own: announcements of one GUID that disagree cannot all be true, and the order in which a
 -- recording has them says nothing, so such a GUID stands as unsettled, and the map is the same in whatever order the
 -- acts come.
-use Rattle.std.specs.Prelude.{◌≡◌, ◌≢◌, ◌↔◌, List, Contains, Option, Some, None}
+use Rattle.std.specs.Prelude.{ℕ, ◌≡◌, ◌≢◌, ◌<◌, ◌++◌, ◌↔◌, length, take, List, Contains, Option, Some, None}
 use Rattle.std.specs.List.Sorted.{IsStrictlySortedBy}
 use Rattle.std.specs.List.{filter, filter_map}
 use Rattle.std.specs.Map.{keys_of, lookup}
@@ -61,6 +61,10 @@ pub record AreEntries (announced : List EndpointValue) (entries : Entries) : Typ
 pub record IsMapOf (acts : List ActValue) (map : DirectoryValue) : Type 0 where
   pub participants : AreParticipants (participants_among acts) map.participants
   pub endpoints : AreEntries (endpoints_among acts) map.endpoints
+
+-- of these acts, the first ones and not all were noted behind those before
+abbrev pub HasNotedSome : List ActValue → DirectoryValue → DirectoryValue → Type 0
+HasNotedSome acts old new = (k : ℕ) × (k < length acts) × ((before : List ActValue) → IsMapOf before old → IsMapOf (before ++ take k acts) new)
 
 -- the endpoints whose announcements agree, in the order of their GUIDs
 abbrev pub settled_in : Entries → List EndpointValue

@@ -33,7 +33,7 @@ pub record Matches (writer reader : EndpointValue) : Type 0 where
   pub reliable_enough : reliability_rank reader.reliability ≤ reliability_rank writer.reliability
   pub durable_enough : durability_rank reader.durability ≤ durability_rank writer.durability
 
--- the same as a test
+-- the side of a writer
 abbrev pub is_writer : Side → Bool
 is_writer Writer = true
 is_writer Reader = false

@@ -93,7 +93,7 @@ abbrev pub endpoint_in : Option (Result Announced NoticeFault) → Option Endpoi
 endpoint_in (Some (Ok (Endpoint endpoint))) = Some endpoint
 endpoint_in _ = None
 
--- the announcements among acts
+-- the participants that these acts announce, in order
 unfoldable pub participants_among : List ActValue → List Guid
 participants_among acts = filter_map (λ act. participant_in (announcement_of act)) acts
 

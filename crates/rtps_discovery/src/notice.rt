@@ -23,7 +23,7 @@ pub enum Noted {
 
 /// Whom an announcement is of.
 #[derive(Clone, Copy)]
-pub enum Subject {
+pub(crate) enum Subject {
     Participant,
     Endpoint(Side),
 }

@@ -1,7 +1,7 @@
-ghost use Rattle.std.specs.Prelude.{◌≡◌, ◌++◌, if◌then◌else◌, map, IfOk, OnOk, List};
+ghost use Rattle.std.specs.Prelude.{◌≡◌, ◌++◌, if◌then◌else◌, map, IfOk, OnOk, OnErr, List};
 ghost use Rattle.rtps_receiver.specs.Acts.{data_among};
 ghost use Rattle.rtps_receiver.specs.Values.{ActValue, act_value};
-ghost use Rattle.rtps_discovery.specs.Directory.{IsMapOf};
+ghost use Rattle.rtps_discovery.specs.Directory.{HasNotedSome, IsMapOf};
 ghost use Rattle.rtps_discovery.specs.Notice.{faults_in, is_fault};
 
 use crate::directory_map::Directory;
@@ -11,7 +11,7 @@ use rtps_receiver::Act;
 
 impl<'a> Directory<'a> {
     /// Notes acts in their order, as [`Directory::note`] does, and says how many are announcements with a fault. Only DATA
-    /// are announcements, so the DATA among acts are enough. After `Memory` the directory has kept some of them.
+    /// are announcements, so the DATA among acts are enough. After `Memory` the directory has noted those before one of them.
     pub fn note_all(&mut self, acts: &[Act<'a>]) -> Result<u64, Memory>
         ensures map { OnOk result ((before : List ActValue)
             → IsMapOf before self.old → IsMapOf (before ++ map act_value acts.now) self.new) }
@@ -22,6 +22,7 @@ impl<'a> Directory<'a> {
             → IsMapOf before self.old → IsMapOf (before ++ all) self.new) }
         ensures data_faults { (all : List ActValue) → map act_value acts.now ≡ data_among all
             → IfOk result (λ faults. faults ≡ faults_in all) }
+        ensures err { OnErr result (HasNotedSome (map act_value acts.now) self.old self.new) }
     {
         let faults = self.note_each(acts)?;
         Ok(faults)
@@ -32,6 +33,7 @@ impl<'a> Directory<'a> {
         ensures map { OnOk result ((before : List ActValue)
             → IsMapOf before self.old → IsMapOf (before ++ map act_value acts.now) self.new) }
         ensures faults { IfOk result (λ faults. faults ≡ faults_in (map act_value acts.now)) }
+        ensures err { OnErr result (HasNotedSome (map act_value acts.now) self.old self.new) }
     {
         let mut faults = 0u64;
         for act in acts {

@@ -68,7 +68,8 @@ impl fmt::Display for GuidPrefix {
     }
 }
 
-/// Which entity of its participant a GUID names (DDSI-RTPS 2.5, 8.2.4.1). It prints 8 lower-case hexadecimal digits.
+/// Which entity of its participant a GUID names (DDSI-RTPS 2.5, 8.2.4.1 "Identifying RTPS entities: The GUID"). It prints 8
+/// lower-case hexadecimal digits.
 #[derive(Clone, Copy, Debug)]
 pub struct EntityId(pub [u8; 4]);
 
@@ -123,8 +124,8 @@ impl fmt::Display for EntityId {
     }
 }
 
-/// The identity of an entity: prefixes are compared first, and then entity ids (DDSI-RTPS 2.5, 8.2.4.1). It prints
-/// the digits of the prefix, a dot and the digits of the entity id.
+/// The identity of an entity: prefixes are compared first, and then entity ids (DDSI-RTPS 2.5, 8.2.4.1 "Identifying RTPS
+/// entities: The GUID"). It prints the digits of the prefix, a dot and the digits of the entity id.
 #[derive(Clone, Copy, Debug)]
 pub struct Guid {
     pub prefix: GuidPrefix,
@@ -208,7 +209,8 @@ pub struct Version {
     pub minor: u8,
 }
 
-/// A time as a message carries it: seconds, and fractions of 2^-32 seconds (DDSI-RTPS 2.5, 9.3.2 "Mapping of the Types that Appear Within Submessages or Built-in Topic Data").
+/// A time as a message carries it: seconds, and fractions of 2^-32 seconds (DDSI-RTPS 2.5, 9.3.2 "Mapping of the Types that
+/// Appear Within Submessages or Built-in Topic Data").
 #[derive(Clone, Copy, PartialEq, Eq, Debug)]
 pub struct Stamp {
     pub seconds: u32,

@@ -1,4 +1,4 @@
-ghost use Rattle.std.specs.Prelude.{◌≡◌, ◌<◌, ◌≤◌, ◌^◌, ◌/◌, length, ◌↔◌, ◌<ℤ◌, ℤ, pos, true, false, None, Some, All, IsTrue, IsSome, IfSome, MatchOption, MatchResult, slice_index};
+ghost use Rattle.std.specs.Prelude.{◌≡◌, ◌<◌, ◌≤◌, ◌^◌, ◌/◌, length, ◌↔◌, ◌<ℤ◌, ℤ, pos, true, false, None, Some, All, IsTrue, IfSome, MatchOption, MatchResult, slice_index};
 ghost use Rattle.rtps_ids.specs.NumberSet.{IsKeptSet, IsMember, cleared_words, bit_of, is_bad as is_bad_lem, octets_of_count, set_fault, spelled_set, spelled_word, cleared as cleared_lem};
 ghost use Rattle.rtps_ids.specs.Ranges.{IsRangeFrom, HasNoneFrom};
 ghost use Rattle.rtps_ids.specs.declared.layout.set.TheConstants.{WORD_BITS};

@@ -1,4 +1,4 @@
-ghost use Rattle.std.specs.Prelude.{◌≡◌, ◌≤◌, ◌<◌, ◌+◌, ◌++◌, List, map, take, length, Some, None, Err, OnOk, OnErr, MatchResult, vec_capacity, vec_len};
+ghost use Rattle.std.specs.Prelude.{◌≡◌, ◌≤◌, ◌<◌, ◌+◌, ◌++◌, map, take, length, Some, None, Err, OnOk, OnErr, MatchResult, vec_capacity, vec_len};
 ghost use Rattle.rtps_params.specs.Item.{pair_of};
 ghost use Rattle.rtps_params.specs.Writing.{list_fault, parameter_fault, parameter_octets, written_list};
 ghost use Rattle.rtps_params.specs.declared.layout.parameter.TheConstants.{LONGEST_VALUE as longest_value};

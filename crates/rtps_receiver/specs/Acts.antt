@@ -109,7 +109,7 @@ acts_of reading = acts_with reading.header reading.items
 abbrev pub acts_in : List (List ℕ) → List ActValue
 acts_in recording = flat_map (λ datagram. acts_of (reading_of datagram)) recording
 
--- the DATA among acts
+-- the act is a DATA
 abbrev pub is_data : ActBodyValue → Bool
 is_data (DataAct value) = true
 is_data _ = false

@@ -77,7 +77,7 @@ answered_at _ _ = None
 abbrev pub writer_answered : ActValue → Option Guid
 writer_answered act = answered_at act.dest act.body
 
--- The same three as tests. That each test says what its relation says is a law.
+-- Two GUID prefixes are the same. That each test from here on says what its relation says is a law.
 abbrev pub is_prefix : GuidPrefix → GuidPrefix → Bool
 is_prefix one other = bytes_eq one.0 other.0
 

@@ -35,7 +35,6 @@ impl Audience {
 impl<'a> Act<'a> {
     ghost use Rattle.std.specs.Prelude.{◌↔◌, ◌≡◌, IsTrue, Some};
     ghost use Rattle.rtps_ids.specs.declared.identity.Guid.{Guid as GuidValue};
-    ghost use Rattle.std.specs.Option.{option_map};
     ghost use Rattle.rtps_receiver.specs.Speech.{IsAnswer, IsHeardBy, IsSpokenBy, is_answer, is_heard_by, is_spoken_by, origin_of, reader_named, writer_answered, writer_named};
     ghost use Rattle.rtps_receiver.specs.Values.{act_value};
 

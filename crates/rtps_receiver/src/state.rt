@@ -20,7 +20,6 @@ pub struct State {
 impl State {
     ghost use Rattle.std.specs.Prelude.{◌≡◌, [], ◌∷◌, MatchOption, None, Some};
     ghost use Rattle.rtps_receiver.specs.Acts.{IsActIn, act_body, state_at_start, state_behind};
-    ghost use Rattle.rtps_receiver.specs.Values.{act_value};
     ghost use Rattle.rtps_wire.specs.Values.{item_value};
 
     /// The state at the start of a message.

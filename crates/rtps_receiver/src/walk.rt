@@ -137,6 +137,7 @@ fn push_data<'a>(acts: &mut Vec<Act<'a>>, start: State, items: Items<'a>) -> Res
     }
 }
 
+/// 1 where the test holds, and else 0.
 #[inline(always)]
 fn one_if(test: bool) -> u64
     ensures { result ≡ (if test then 1 else 0) }

@@ -20,7 +20,7 @@ use Rattle.rtps_wire.specs.Heartbeat.{first_number, heartbeat_fault, heartbeat_o
 use Rattle.rtps_wire.specs.Info.{info_dst_fault, info_dst_of, info_src_fault, info_src_of, info_ts_fault, info_ts_of}
 use Rattle.rtps_wire.specs.Message.{body_fault, body_length, body_octets, body_of, fault_at, flags_of, id_of, item_at, next_rest, octets_to_next_header, order_of, source_value}
 use Rattle.rtps_wire.specs.Reading.{Outcome, items_among, outcomes, outcomes_with, outcomes_within, reading_of, reading_with}
-use Rattle.rtps_wire.specs.Values.{BodyValue, ItemValue}
+use Rattle.rtps_wire.specs.Values.{BodyValue}
 use Rattle.rtps_wire.specs.Values.BodyValue.{Data, Heartbeat, AckNack, Gap, InfoTs, InfoDst, Skipped}
 use Rattle.rtps_wire.specs.declared.fault.WireFault.{WireFault}
 use Rattle.rtps_wire.specs.declared.fault.WireFault.TheVariants.{CutHeader, Overrun}

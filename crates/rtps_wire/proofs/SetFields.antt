@@ -1,13 +1,13 @@
 -- What the answer of `NumberSet::read` says of a set as a field of a body.
-use Rattle.std.proofs.Common.{◌≡◌, ◌≤◌, List, ℕ, false, Some, None, length, drop, arith, refl, ap, ◌∙◌}
+use Rattle.std.proofs.Common.{◌≡◌, ◌≤◌, List, ℕ, false, Some, None, length, drop, arith, ap, ◌∙◌}
 use Rattle.std.specs.Prelude.{◌+◌, pos, int_le}
 use Rattle.std.specs.Int.RustNames.{unsigned_abs}
 use Rattle.std.proofs.lemmas.Bool.Decides.{nat_tests}
 use Rattle.std.proofs.lemmas.List.{length-drop}
 use Rattle.rtps_ids.specs.NumberSet.{NumberSetValue, is_bad, octets_of_count, set_fault, spelled_base, spelled_count, spelled_set}
-use Rattle.rtps_ids.proofs.Offered.{bad_set_found, cut_words_found, good_set_found, no_bits_at_zero, positive_base}
+use Rattle.rtps_ids.proofs.Offered.{cut_words_found, good_set_found, no_bits_at_zero, positive_base}
 use Rattle.rtps_ids.specs.declared.order.Order.{Order}
-use Rattle.rtps_ids.specs.declared.set_fault.SetFault.TheVariants.{BadSet, CutWords}
+use Rattle.rtps_ids.specs.declared.set_fault.SetFault.TheVariants.{CutWords}
 use Rattle.rtps_wire.specs.declared.fault.WireFault.{WireFault}
 use Rattle.rtps_wire.specs.declared.fault.WireFault.TheVariants as wire
 use Rattle.rtps_wire.specs.Gap.{list_fault}
@@ -18,9 +18,6 @@ pub has_set : (order : Order) (octets : List ℕ) (found : NumberSetValue × ℕ
 has_set order octets found good set used =
     let facts = good_set_found order octets good in
     record { good = facts.0; whole = facts.1; set = set; used = used ∙ ap (λ (s : NumberSetValue). octets_of_count s.count) set }
-
-pub lacks_bad : (order : Order) (octets : List ℕ) → set_fault order octets ≡ Some BadSet → LacksSet order octets wire.BadSet
-lacks_bad order octets fault = rw (bad_set_found order octets fault) refl
 
 pub lacks_cut : (order : Order) (octets : List ℕ) → 12 ≤ length octets → set_fault order octets ≡ Some CutWords → LacksSet order octets wire.ShortBody
 lacks_cut order octets enough fault = let facts = cut_words_found order octets fault enough in grind (arith, nat_tests)

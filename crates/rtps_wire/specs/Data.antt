@@ -14,7 +14,7 @@ use Rattle.rtps_wire.specs.declared.fault.WireFault.{WireFault}
 use Rattle.rtps_wire.specs.declared.fault.WireFault.TheVariants.{ShortBody, BadFlags, BadOffset, BadNumber, BadInlineQos}
 use Rattle.rtps_wire.specs.declared.layout.data.TheConstants.{D, K, NUMBER, OCTETS_TO_QOS, Q, QOS_FROM, READER, SIZE, WRITER}
 
--- flags Q (inline QoS), D (data) and K (key); N has no effect
+-- Inline QoS stands in front of the payload. Flag N has no effect.
 abbrev pub has_qos : ℕ → Bool
 has_qos flags = bit_and flags Q == Q
 
@@ -26,7 +26,7 @@ has_data flags = bit_and flags D == D
 abbrev pub has_key : ℕ → Bool
 has_key flags = bit_and flags K == K
 
--- extraFlags (ignored), octetsToInlineQos, readerId, writerId, writerSN
+-- how many octets lie between octetsToInlineQos, which stands behind extraFlags, and the inline QoS
 abbrev pub octets_to_inline_qos : Order → List ℕ → ℕ
 octets_to_inline_qos order body = number_of order 2 (drop OCTETS_TO_QOS body)
 

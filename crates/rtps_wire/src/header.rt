@@ -1,4 +1,4 @@
-ghost use Rattle.std.specs.Prelude.{◌≡◌, ◌≤◌, length, IfOk};
+ghost use Rattle.std.specs.Prelude.{◌≤◌, length, IfOk};
 ghost use Rattle.rtps_wire.specs.Fault.{ReadsOrFaults};
 ghost use Rattle.rtps_wire.specs.Header.{header_fault, header_of};
 ghost use Rattle.rtps_wire.specs.declared.layout.header.TheConstants.{SIZE};

@@ -1,4 +1,4 @@
-ghost use Rattle.std.specs.Prelude.{◌≡◌, ◌≤◌, ◌+◌, drop, false, length, true, IfOk, IfSome, MatchBool, MatchOption, MatchResult, None, Some};
+ghost use Rattle.std.specs.Prelude.{◌≡◌, ◌≤◌, ◌+◌, drop, false, length, true, IfOk, MatchBool, MatchOption, MatchResult, None, Some};
 ghost use Rattle.std.specs.Iterator.{YieldsFirstBy, item_count};
 ghost use Rattle.rtps_wire.specs.Dataless.{dataless_next, is_dataless_at, is_dataless_with};
 ghost use Rattle.rtps_wire.specs.Fault.{ReadsOrFaults};

@@ -17,8 +17,9 @@ use rtps_ids::Memory;
 
 /// Appends a message: the header, and the items in order, wherever they were read. `Items` over what was appended gives
 /// the header and the items back, each at its place, and no refusal (DDSI-RTPS 2.5, 8.3.3 "The Overall Structure of an
-/// RTPS Message", 9.4.4 and 9.4.5). Flags that have no field here, and parts that readers ignore, are written as 0,
-/// octetsToInlineQos as 16, and octetsToNextHeader as the length of the body.
+/// RTPS Message", 9.4.4 "Mapping of the RTPS Header" and 9.4.5 "Mapping of the RTPS Submessages"). Flags that have no field
+/// here, and parts that readers ignore, are written as 0, octetsToInlineQos as 16, and octetsToNextHeader as the length of
+/// the body.
 ///
 /// The error is the first reason against the header and then against the items, first to last: `NotWritable`, then
 /// `TooLong`, then `Unaligned` of each. Where nothing is against them, it is `Memory`. Each leaves `out` as it was.

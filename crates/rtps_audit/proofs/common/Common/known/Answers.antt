@@ -10,7 +10,7 @@ use Rattle.rtps_audit.specs.RunVerdict.{IsVerdictFrom}
 use Rattle.rtps_audit.specs.Speech.{speech_of}
 use Rattle.rtps_audit.specs.declared.answers.Answer.{Answer}
 use Rattle.rtps_audit.specs.declared.hearing.Hearing.{Hearing}
-use Rattle.rtps_audit.specs.declared.named.Named.{Named}
+use Rattle.rtps_audit.specs.declared.named.NamedReaders.{NamedReaders}
 use Rattle.rtps_audit.specs.declared.verdict.Verdict.{Verdict}
 use Rattle.rtps_audit.proofs.HearingLemmas.{hears_too}
 use Rattle.rtps_audit.proofs.IndexSpeech.{answers_counted}
@@ -39,7 +39,7 @@ returns c = λ recording is hand known same.
     let now = c.args.self.now in
     let spoken = spoken_from pair.writer (placed_in recording) in
     let answers = c.answered-answers.ensures recording is hand in
-    let kept = subst (λ n. IfSome n (λ (named : Named). IsNamedOf now.from named now.writer (spoken_from now.writer (placed_in recording)))) c.in-Some-named.is known.named in
+    let kept = subst (λ n. IfSome n (λ (named : NamedReaders). IsNamedOf now.from named now.writer (spoken_from now.writer (placed_in recording)))) c.in-Some-named.is known.named in
     let named = subst (λ (w : Guid). IsNamedOf now.from c.in-Some-named.named w (spoken_from w (placed_in recording))) same kept in
     let counted = subst (All (λ (answer : Answer). 1 ≤ answer.datagram)) (sym answers) (answers_counted pair recording) in
     if_so c.verdict-2.result (λ verdict given. verdict_given now.from pair recording _ verdict (let positive = c.in-Some-named.named.positive in let asking = named.asking in omega arith) (given now.from pair.writer spoken named counted) answers) c.verdict-2.ensures

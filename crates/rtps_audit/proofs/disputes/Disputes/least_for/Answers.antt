@@ -1,4 +1,4 @@
-use Rattle.std.proofs.Common.{rules, subst, sym}
+use Rattle.std.proofs.Common.{ap, rules, subst, sym, ◌∙◌}
 use Rattle.rtps_discovery.specs.GuidOrder.{guid_cmp}
 use Rattle.rtps_audit.specs.DisputeWords.{dispute_at}
 use Rattle.rtps_audit.specs.Everyone.{nobody}
@@ -18,12 +18,14 @@ returns-clause-conflict c = λ from writer placed known.
     let id = guid_of nobody.prefix reader.entity in
     let directed = values_at guid_cmp disputes.directed.payloads.map in
     let named = values_at guid_cmp disputes.named.payloads.map in
+    let said_all = c.list-all.ensures.value ∙ ap directed c.of_participant-participant.ensures in
+    let said_id = c.list-id.ensures.value ∙ ap named c.of_entity-entity.ensures in
     least_heard from writer reader placed c.tests_say_what_relations_say.ensures.heard known.spoken known.kept directed named known.lists
     disputes.dispute (dispute_at disputes.directed.disputes all) (dispute_at disputes.directed.disputes reader) (dispute_at disputes.named.disputes id) c.clash.result c.clash-2.result c.clash-3.result
     known.general (known.directed.disputes all) (known.directed.disputes reader) (known.named.disputes id)
-    (clash_at _ _ (directed all) (directed reader) _ c.list-all.ensures.value c.list-own.ensures.value c.clash.ensures.least (known.directed.sorted all) (known.directed.sorted reader))
-    (clash_at _ _ (directed all) (named id) _ c.list-all.ensures.value c.list-id.ensures.value c.clash-2.ensures.least (known.directed.sorted all) (known.named.sorted id))
-    (clash_at _ _ (directed reader) (named id) _ c.list-own.ensures.value c.list-id.ensures.value c.clash-3.ensures.least (known.directed.sorted reader) (known.named.sorted id))
+    (clash_at _ _ (directed all) (directed reader) _ said_all c.list-own.ensures.value c.clash.ensures.least (known.directed.sorted all) (known.directed.sorted reader))
+    (clash_at _ _ (directed all) (named id) _ said_all said_id c.clash-2.ensures.least (known.directed.sorted all) (known.named.sorted id))
+    (clash_at _ _ (directed reader) (named id) _ c.list-own.ensures.value said_id c.clash-3.ensures.least (known.directed.sorted reader) (known.named.sorted id))
     c.lesser-4.result (search rules)
 
 pub returns-clause-in_range : goal.returns-clause-in_range

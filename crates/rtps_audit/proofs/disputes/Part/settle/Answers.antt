@@ -1,7 +1,7 @@
 use Rattle.std.proofs.Common.{◌+◌, subst, sym, take}
 use Rattle.std.specs.BTreeMap.{get}
 use Rattle.rtps_discovery.specs.GuidOrder.{guid_cmp}
-use Rattle.rtps_audit.specs.DisputeWords.{IsDispute, IsSettled}
+use Rattle.rtps_audit.specs.DisputeWords.{IsDispute, IsDisputeFound}
 use Rattle.rtps_audit.specs.Disputes.{said_to}
 use Rattle.rtps_audit.specs.Groups.{values_at}
 use Rattle.rtps_audit.proofs.DisputeLemmas.{found_some, said_more, settled_kept, settled_written}
@@ -18,7 +18,7 @@ loop-entry-preserved c =
     let lists = values_at guid_cmp c.args.groups.now.map in
     elim c.if-is_none.branch [
       | then-is_none+in_ok-insert w ↦ λ guid.
-          subst (λ m. IsSettled general (lists guid) (said_to guid (take (k + 1) entries)) (get guid_cmp m guid)) (sym w.disputes-is)
+          subst (λ m. IsDisputeFound general (lists guid) (said_to guid (take (k + 1) entries)) (get guid_cmp m guid)) (sym w.disputes-is)
           (settled_written general lists (λ g. said_to g (take k entries)) (λ g. said_to g (take (k + 1) entries)) (get guid_cmp c.loop-entry.disputes) (get guid_cmp w.insert.new.self) _ _ w.dispute_of-dispute.result
           (λ g. said_more g entries k _ c.loop-entry-test.true)
           (λ g. entry_written guids_total c.loop-entry.disputes w.insert.new.self _ g w.dispute_of-dispute.result w.in_ok-insert.ensures.updates)
@@ -26,7 +26,7 @@ loop-entry-preserved c =
           c.loop-entry.invariant guid)
       | else-is_none w ↦ λ guid.
           let there = found_some _ _ c.is_none.result c.is_none.ensures w.if-is_none.false (sym c.get.ensures.value) in
-          subst (λ m. IsSettled general (lists guid) (said_to guid (take (k + 1) entries)) (get guid_cmp m guid)) (sym w.disputes-is)
+          subst (λ m. IsDisputeFound general (lists guid) (said_to guid (take (k + 1) entries)) (get guid_cmp m guid)) (sym w.disputes-is)
           (settled_kept general lists (λ g. said_to g (take k entries)) (λ g. said_to g (take (k + 1) entries)) (get guid_cmp c.loop-entry.disputes) _ _ there.0
           (λ g. said_more g entries k _ c.loop-entry-test.true) there.1 c.loop-entry.invariant guid)
     ]

@@ -1,8 +1,9 @@
-use Rattle.std.proofs.Common.{◌++◌, ◌∷◌, [], ◌∙◌, ap, append_assoc, arith, map, refl, subst, sym, take}
-use Rattle.std.proofs.lemmas.List.{append-nil, take_all}
+use Rattle.std.proofs.Common.{◌++◌, ◌∷◌, [], ◌∙◌, ◌<◌, Err, Ok, Result, ap, append_assoc, arith, map, refl, subst, sym, take}
+use Rattle.std.specs.Prelude.{OnErr}
+use Rattle.std.proofs.lemmas.List.{append-nil, length-map, take-map, take_all}
 use Rattle.rtps_receiver.specs.Values.{act_value}
 use Rattle.rtps_receiver.specs.declared.act.Act.{Act}
-use Rattle.rtps_discovery.specs.Directory.{IsMapOf}
+use Rattle.rtps_discovery.specs.Directory.{DirectoryValue, HasNotedSome, IsMapOf}
 use Rattle.rtps_discovery.specs.Notice.{announcement_of, answer_of, faults_in}
 use Rattle.rtps_discovery.proofs.Faults.{acts_more, faults_of, faults_more, one_fault}
 use Rattle.rtps_discovery.proofs.directory_map.Directory.note_each.Goals as goal
@@ -26,3 +27,20 @@ loop-act-preserved c =
 
 pub returns-clause-map : goal.returns-clause-map
 returns-clause-map c = λ before is. subst (λ l. IsMapOf (before ++ map act_value l) c.loop-act.self) (take_all _ _ (omega arith)) (c.loop-act.invariant.map before is)
+
+on_err : {T E P : Type 0} (r : Result T E) → P → OnErr r P
+on_err (Ok x) p = tt
+on_err (Err e) p = p
+
+pub returns-in_err-noted-clause-err : goal.returns-in_err-noted-clause-err
+returns-in_err-noted-clause-err c =
+    let acts = c.args.acts.now in
+    let i = c.loop-act.act-index in
+    let same = c.in_err-noted.ensures.err in
+    let some : HasNotedSome (map act_value acts) c.args.self.now c.note.new.self = (
+      i,
+      subst (λ n. i < n) (sym (length-map acts act_value)) c.loop-act-test.true,
+      λ before is. subst (λ (d : DirectoryValue). IsMapOf (before ++ take i (map act_value acts)) d) (sym same)
+          (subst (λ l. IsMapOf (before ++ l) c.loop-act.self) (sym (take-map act_value i acts)) (c.loop-act.invariant.map before is)),
+    ) in
+    on_err c.from_residual.result some

@@ -6,7 +6,7 @@ use Rattle.rtps_audit.specs.Fronts.{IsFrontAt}
 use Rattle.rtps_audit.specs.Groups.{values_at}
 use Rattle.rtps_audit.specs.Hearing.{last_among}
 use Rattle.rtps_audit.specs.declared.fronts.FrontBefore.{FrontBefore}
-use Rattle.rtps_audit.proofs.named.Named.verdict.Goals as goal
+use Rattle.rtps_audit.proofs.named.NamedReaders.verdict.Goals as goal
 
 pub returns : goal.returns
 returns c = λ from writer placed known counted.

@@ -1,6 +1,6 @@
 use Rattle.std.proofs.Common.{refl, subst}
 use Rattle.rtps_audit.specs.Disputes.{AreDisputesOf}
-use Rattle.rtps_audit.proofs.named.Named.of.Goals as goal
+use Rattle.rtps_audit.proofs.named.NamedReaders.of.Goals as goal
 
 pub returns : goal.returns
 returns c = λ recording is listed last.
