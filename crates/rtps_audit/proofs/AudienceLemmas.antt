@@ -8,11 +8,10 @@ use Rattle.rtps_ids.specs.declared.identity.GuidPrefix.{GuidPrefix}
 use Rattle.rtps_receiver.specs.Speech.{IsHeardBy, is_heard_by, reader_named, unknown_entity}
 use Rattle.rtps_receiver.specs.Values.{ActValue}
 use Rattle.rtps_audit.specs.Audiences.{AreKept, HearAlike, kept_under, of_entity, of_participant}
-use Rattle.rtps_audit.specs.Brief.{brief_value, said_body}
+use Rattle.rtps_audit.specs.Brief.{said_body}
 use Rattle.rtps_audit.specs.Everyone.{is_for_everyone, nobody}
 use Rattle.rtps_audit.specs.Placed.{PlacedValue}
 use Rattle.rtps_audit.specs.Speech.{may_tell}
-use Rattle.rtps_audit.specs.declared.brief.Brief.{Brief}
 use Rattle.rtps_audit.specs.declared.brief.Said.{Said}
 use Rattle.rtps_audit.specs.declared.brief.Said.TheVariants as said
 use Rattle.rtps_audit.proofs.HearingLemmas.{everyone_alike}

@@ -1,6 +1,6 @@
 -- What a writer says by an act, kept briefly, is what the act says.
 use Rattle.std.proofs.Common.{◌≡◌, ℕ, ℤ, zero, suc, ◌+◌, ◌-◌, ◌<◌, ◌≤◌, Bool, true, false, cond, not, ◌&&◌, List, [], ◌∷◌, ◌++◌, length, get_or, take, max, map, filter, Option, Some, None, ◌⊎◌, inl, inr, refl, sym, ap, ◌∙◌, subst, append_assoc, arith}
-use Rattle.std.specs.Prelude.{Contains, MatchOption, if◌then◌else◌, is_some, ◌||◌}
+use Rattle.std.specs.Prelude.{Contains, MatchOption, if◌then◌else◌, ◌||◌}
 use Rattle.std.specs.List.{All, cons_option, filter_map, list_all}
 use Rattle.std.specs.Ordering.{is_eq}
 use Rattle.std.specs.Str.{bytes_eq}
@@ -14,13 +14,11 @@ use Rattle.rtps_receiver.specs.Speech.{entity_from, is_ack_nack, is_entity, is_f
 use Rattle.rtps_receiver.specs.Values.{ActBodyValue, ActValue, act_value}
 use Rattle.rtps_receiver.specs.Values.ActBodyValue.{Data, Heartbeat, AckNack, Gap}
 use Rattle.rtps_receiver.specs.declared.act.Act.{Act}
-use Rattle.rtps_coverage.specs.Coverage.{TellsMore}
 use Rattle.rtps_discovery.specs.GuidOrder.{guid_cmp}
 use Rattle.rtps_audit.specs.Brief.{bare, bare_act, bare_body, brief_value, is_speech, said_body, spoken_from}
 use Rattle.rtps_audit.specs.Delivery.{Word, greatest}
 use Rattle.rtps_audit.specs.Answered.{IsToldAll, IsUntoldAmong}
 use Rattle.rtps_audit.specs.Hearing.{Hears, HearsTwo, IsFrontBy, IsHeard, IsToldBy, last_among}
-use Rattle.rtps_audit.specs.KeptPayloads.{KeepsMore}
 use Rattle.rtps_audit.specs.Placed.{PlacedValue, is_from, is_guid, placed_at}
 use Rattle.rtps_audit.specs.RunVerdict.{IsLeast}
 use Rattle.rtps_audit.specs.Speech.{announced_for, announced_of_body, word_for, word_of}
@@ -30,7 +28,6 @@ use Rattle.rtps_audit.specs.declared.brief.Said.{Said}
 use Rattle.rtps_audit.specs.declared.brief.Said.TheVariants as said
 use Rattle.rtps_audit.specs.declared.claims.Untold.{Untold}
 use Rattle.rtps_audit.specs.declared.hearing.Hearing.{Hearing}
-use Rattle.rtps_audit.specs.declared.payloads.KeptPayload.{KeptPayload}
 use Rattle.rtps_audit.proofs.IndexSpeech.{contains_mapped, if_some, mapped_contains, spoken_is_from}
 use Rattle.rtps_audit.proofs.PlacedActs.{contains_cases, contains_none, kept_if_passed, kept_is_there}
 use Rattle.rtps_audit.proofs.PlacedLemmas.{both, bytes_eq-sym, is_eq-guid_cmp, placed_more}

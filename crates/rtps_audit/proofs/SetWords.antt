@@ -8,8 +8,6 @@ use Rattle.std.proofs.lemmas.Bool.Decides.{nat_tests}
 use Rattle.std.proofs.lemmas.Nat.Bits.{bit_at_above, bit_at_cat_high, bit_at_cat_low}
 use Rattle.rtps_ids.specs.NumberSet.{NumberSetValue, bit_of, is_member}
 use Rattle.rtps_coverage.specs.Bits.{is_bit_from}
-use Rattle.rtps_audit.specs.Speech.{is_in_gap, is_in_gap_below}
-use Rattle.rtps_wire.specs.declared.body.GapBody.{GapBody}
 
 -- ---- a word with its bits the other way round
 
