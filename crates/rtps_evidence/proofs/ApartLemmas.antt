@@ -10,7 +10,6 @@ use Rattle.std.proofs.lemmas.List.{get_or_default, get_or-drop, get_or-set_other
 use Rattle.std.proofs.lemmas.Grind.{get_or-set_at}
 use Rattle.std.proofs.lemmas.List.Folds.{list_any-append, list_any_more}
 use Rattle.std.proofs.lemmas.Nat.Bits.{bit_at-lt, bit_at_and, bit_at_ones}
-use Rattle.rtps_coverage.specs.Bits.{is_in_block}
 use Rattle.rtps_evidence.specs.Apart.{AreApart, IsPlace, IsWidened, last_of}
 use Rattle.rtps_evidence.specs.Counted.{bits_of, stretch_has, stretches_have}
 use Rattle.rtps_evidence.specs.declared.stretches.Stretch.{Stretch}
@@ -56,15 +55,6 @@ has_all key end n =
     by_test : (b : Bool) → (if b then 2 ^ 64 - 1 else 2 ^ 64 - 1) ≡ 2 ^ 64 - 1
     by_test true = refl
     by_test false = refl
-
--- one of one block has the numbers of its bits
-pub has_block : (key bits n : ℕ) → stretch_has n (record { key = key; end = key + 1; bits = bits }) ≡ is_in_block key bits n
-has_block key bits n =
-    let short : bits_of (record { key = key; end = key + 1; bits = bits }) ≡ bits = short_bits (record { key = key; end = key + 1; bits = bits }) (omega arith) in
-    ap (λ w. (nat_le key (n / 64) && nat_lt (n / 64) (key + 1)) && nat_eq (bit_at w (n % 64)) 1) short ∙ ap (λ b. b && nat_eq (bit_at bits (n % 64)) 1) (here (n / 64))
-  where
-    here : (k : ℕ) → (nat_le key k && nat_lt k (key + 1)) ≡ nat_eq k key
-    here k = grind (arith, nat_tests)
 
 -- the bits of two words
 pub both_bits : (a b k : ℕ) → nat_eq (bit_at (bit_and a b) k) 1 ≡ (nat_eq (bit_at a k) 1 && nat_eq (bit_at b k) 1)

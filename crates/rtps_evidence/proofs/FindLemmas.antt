@@ -3,8 +3,8 @@ use Rattle.std.proofs.lemmas.Bool.Decides.{nat_tests}
 use Rattle.std.proofs.Common.{◌≡◌, ◌==◌, ◌&&◌, ◌⊎◌, inl, inr, nat_lt, ℕ, ◌+◌, ◌<◌, ◌≤◌, Bool, true, false, ◌||◌, cond, List, [], ◌∷◌, ◌++◌, length, map, filter, take, drop, get_or, max, Some, None, refl, sym, ap, ◌∙◌, arith}
 use Rattle.std.specs.List.{find, list_any}
 use Rattle.std.specs.Option.{option_or}
-use Rattle.std.proofs.lemmas.List.{map-append, take_all, take_more, take-append-drop}
-use Rattle.std.proofs.lemmas.List.Folds.{find-append, list_any-append}
+use Rattle.std.proofs.lemmas.List.{map-append, take_more, take-append-drop}
+use Rattle.std.proofs.lemmas.List.Folds.{find-append}
 use Rattle.rtps_audit.specs.Delivery.{greatest}
 
 find_past : {X : Type 0} (test : X → Bool) (x : X) (keeps : Bool) (xs : List X) → (test x ≡ true → keeps ≡ true) → find test (cond keeps (x ∷ xs) xs) ≡ cond (test x) (Some x) (find test xs)
@@ -50,21 +50,6 @@ found_here v test xs i d lt none is =
     ∙ find-append test (map v (take (i + 1) xs)) (map v (drop (i + 1) xs))
     ∙ ap (λ o. option_or o (find test (map v (drop (i + 1) xs)))) (find_more v test xs i d lt none ∙ ap (λ b. cond b (Some (v (get_or xs i d))) None) is)
 
-pub none_at_all : {X Y : Type 0} (v : X → Y) (test : Y → Bool) (xs : List X) (i : ℕ) → length xs ≤ i → find test (map v (take i xs)) ≡ None → find test (map v xs) ≡ None
-none_at_all v test xs i le none = ap (λ l. find test (map v l)) (sym (take_all i xs le)) ∙ none
-
--- whether one passes, with one element more
-pub any_more : {X Y : Type 0} (v : X → Y) (test : Y → Bool) (xs : List X) (i : ℕ) (d : X) → i < length xs → list_any test (map v (take (i + 1) xs)) ≡ (list_any test (map v (take i xs)) || test (v (get_or xs i d)))
-any_more v test xs i d lt =
-    ap (λ l. list_any test (map v l)) (take_more xs i d lt)
-    ∙ ap (list_any test) (map-append v (take i xs) (get_or xs i d ∷ []))
-    ∙ list_any-append test (map v (take i xs)) (v (get_or xs i d) ∷ [])
-    ∙ ap (λ b. list_any test (map v (take i xs)) || b) (or_false (test (v (get_or xs i d))))
-  where
-    or_false : (b : Bool) → (b || false) ≡ b
-    or_false true = refl
-    or_false false = refl
-
 -- ---- the element at hand
 
 pub none_past : {X Y : Type 0} (v : X → Y) (test : Y → Bool) (xs : List X) (i : ℕ) (x : X) → i < length xs → x ≡ get_or xs i x → find test (map v (take i xs)) ≡ None → test (v x) ≡ false → find test (map v (take (i + 1) xs)) ≡ None
@@ -72,9 +57,6 @@ none_past v test xs i x lt at none not = none_yet v test xs i x lt none (ap (λ 
 
 pub found_item : {X Y : Type 0} (v : X → Y) (test : Y → Bool) (xs : List X) (i : ℕ) (x : X) → i < length xs → x ≡ get_or xs i x → find test (map v (take i xs)) ≡ None → test (v x) ≡ true → find test (map v xs) ≡ Some (v x)
 found_item v test xs i x lt at none is = found_here v test xs i x lt none (ap (λ y. test (v y)) (sym at) ∙ is) ∙ ap (λ y. Some (v y)) (sym at)
-
-pub any_past : {X Y : Type 0} (v : X → Y) (test : Y → Bool) (xs : List X) (i : ℕ) (x : X) → i < length xs → x ≡ get_or xs i x → list_any test (map v (take (i + 1) xs)) ≡ (list_any test (map v (take i xs)) || test (v x))
-any_past v test xs i x lt at = any_more v test xs i x lt ∙ ap (λ y. list_any test (map v (take i xs)) || test (v y)) (sym at)
 
 -- ---- the greatest of what is made of each
 
@@ -103,9 +85,6 @@ greatest_of_each number xs i d lt =
   where
     one : (n : ℕ) → max (greatest (map number (take i xs))) (max n 0) ≡ max (greatest (map number (take i xs))) n
     one n = omega arith
-
-pub greatest_all : {X Y : Type 0} (v : X → Y) (number : Y → ℕ) (xs : List X) (i : ℕ) → length xs ≤ i → greatest (map number (map v xs)) ≡ greatest (map number (map v (take i xs)))
-greatest_all v number xs i le = ap (λ l. greatest (map number (map v l))) (sym (take_all i xs le))
 
 -- ---- tests of two numbers
 

@@ -101,27 +101,3 @@ none_given firsts place = record { wanted = λ n. stays (is_wanted firsts n); fo
 -- an act that has nothing
 pub firsts_past : (firsts : Firsts) (has : ℕ → PlacedValue → Bool) (placed : List PlacedValue) (at : PlacedValue) → ((n : ℕ) → has n at ≡ false) → AreFirsts firsts has placed → AreFirsts firsts has (placed ++ at ∷ [])
 firsts_past firsts has placed at none known = firsts_on firsts firsts has (λ n. false) placed at none (none_given firsts (length placed)) known
-
--- ---- the numbers of stretches
-
--- those of some and then those of others
-pub given_more : (old mid new : Firsts) (one other both : ℕ → Bool) (place : ℕ) → ((n : ℕ) → both n ≡ (one n || other n)) → AreGiven one place old mid → AreGiven other place mid new → AreGiven both place old new
-given_more old mid new one other both place joins first second = record {
-  wanted = λ n. second.wanted n ∙ ap (λ b. b && not (other n)) (first.wanted n) ∙ left (is_wanted old n) (one n) (other n) ∙ ap (λ b. is_wanted old n && not b) (sym (joins n));
-  found = λ n.
-      second.found n
-      ∙ ap (λ b. if b && other n then Some place else get nat_cmp mid.found n) (first.wanted n)
-      ∙ ap (λ o. if (is_wanted old n && not (one n)) && other n then Some place else o) (first.found n)
-      ∙ had (is_wanted old n) (one n) (other n) (get nat_cmp old.found n)
-      ∙ ap (λ b. if is_wanted old n && b then Some place else get nat_cmp old.found n) (sym (joins n));
-}
-  where
-    left : (a b c : Bool) → ((a && not b) && not c) ≡ (a && not (b || c))
-    left a b c = grind (arith, nat_tests)
-
-    had : (a b c : Bool) (o : Option ℕ) → (if (a && not b) && c then Some place else (if a && b then Some place else o)) ≡ (if a && (b || c) then Some place else o)
-    had true true true o = refl
-    had true true false o = refl
-    had true false true o = refl
-    had true false false o = refl
-    had false b c o = refl

@@ -2,7 +2,7 @@
 use Rattle.std.proofs.Common.{◌≡◌, ℕ, ◌+◌, ◌-◌, ◌/◌, ◌%◌, ◌<◌, ◌≤◌, Bool, true, false, refl, sym, ap, subst, ◌∙◌, arith, ◌||◌, ◌&&◌, nat_eq, nat_le, nat_lt, max, List, [], ◌∷◌, ◌++◌, length, inl, inr, take, get_or, bit_or}
 use Rattle.std.specs.Int.{bit_at}
 use Rattle.std.proofs.Math.Bool.{and-false, and-true, or-false, or-true}
-use Rattle.std.proofs.lemmas.Bool.{cases_lt, eqb-true, false≢true, le-ltb, lt-ltb, ltb-true}
+use Rattle.std.proofs.lemmas.Bool.{cases_lt, eqb-true, false≢true, lt-ltb, ltb-true}
 use Rattle.std.proofs.lemmas.Bool.Decides.{nat_tests}
 use Rattle.std.proofs.lemmas.List.{get_or_append_left, get_or_default, get_or_push, length_push}
 use Rattle.rtps_coverage.proofs.Offered.{either_bit}
@@ -236,19 +236,6 @@ module _ (old middle : List Stretch) (stretch : Stretch) (are : AreApart old) (f
 
     pub near_widened : IsJoinedNear old middle stretch
     near_widened = record { apart = middle_apart; ends = middle_end; joined = middle_widened }
-
-  -- where the last one ends before the stretch
-  middle_kept : reached ≤ stretch.key → (n : ℕ) → stretches_have old n ≡ (stretches_have old n || near n)
-  middle_kept le n = sym (ap (λ b. stretches_have old n || b) (none n) ∙ or-false (stretches_have old n))
-    where
-      none : (n : ℕ) → near n ≡ false
-      none n = elim (cases_lt (n / 64) stretch.key) [
-        | inl lt ↦ ap (λ b. b && nat_lt (n / 64) reached) (out_below stretch n lt)
-        | inr ge ↦ ap (λ b. stretch_has n stretch && b) (le-ltb (n / 64) reached (omega arith)) ∙ and-false (stretch_has n stretch)
-      ]
-
-  pub near_kept : reached ≤ stretch.key → middle ≡ old → IsJoinedNear old middle stretch
-  near_kept le is = subst (λ l. IsJoinedNear old l stretch) (sym is) (record { apart = are; ends = refl; joined = middle_kept le })
 
   -- the rest of the stretch, in the blocks behind the others
   module _ (near_is : IsJoinedNear old middle stretch) where

@@ -3,18 +3,10 @@ use Rattle.std.proofs.Common.{◌≡◌, ℕ, ℤ, pos, Option, ap, ◌∙◌}
 use Rattle.rtps_ids.specs.declared.identity.Guid.{Guid}
 use Rattle.rtps_wire.specs.Values.{PayloadValue}
 use Rattle.rtps_audit.specs.Placed.{PlacedValue}
-use Rattle.rtps_evidence.specs.Acting.{SentValue, announcement_at, kind_of, payload_for, place_of, sent_at, teller_at}
+use Rattle.rtps_evidence.specs.Acting.{SentValue, announcement_at, kind_of, payload_for, place_of, sent_at}
 use Rattle.rtps_evidence.specs.declared.announcing.Announcement.{Announcement}
 use Rattle.rtps_evidence.specs.declared.places.Kind.{Kind}
 use Rattle.rtps_evidence.specs.declared.places.Place.{Place}
-use Rattle.rtps_evidence.specs.declared.telling.Teller.{Teller}
-
-teller : Kind → Place → Teller
-teller kind place = record { kind = kind; place = place }
-
-pub teller_made : (kind : Kind) (place : Place) (placed : PlacedValue) → kind ≡ kind_of placed.act.body → place ≡ place_of placed → (let made : Teller = record { kind = kind; place = place } in made) ≡ teller_at placed
-unfolding teller
-teller_made kind place placed a b = ap (λ k. teller k place) a ∙ ap (teller (kind_of placed.act.body)) b
 
 announcement : ℤ → Kind → Place → Announcement
 announcement number kind place = record { number = number; kind = kind; place = place }

@@ -1,22 +1,22 @@
 -- What the acts of one GUID say is what all acts say, of what it alone can say.
-use Rattle.std.proofs.Common.{◌≡◌, ◌∙◌, ◌+◌, ◌-◌, ◌≤◌, ◌==◌, ◌&&◌, ℕ, Bool, true, false, nat_lt, max, map, filter, List, [], ◌∷◌, Option, Some, None, refl, ap, arith, not}
+use Rattle.std.proofs.Common.{◌≡◌, ◌∙◌, ◌+◌, ◌-◌, ◌≤◌, ◌==◌, ◌&&◌, ℕ, Bool, true, false, max, map, filter, List, [], ◌∷◌, Option, Some, None, refl, ap, arith, not}
 use Rattle.std.specs.Prelude.{if◌then◌else◌, is_some, unwrap_or}
 use Rattle.std.specs.List.{cons_option, filter_map, find}
 use Rattle.std.specs.Option.{option_map}
 use Rattle.std.proofs.lemmas.Bool.Decides.{nat_tests}
 use Rattle.rtps_ids.specs.declared.identity.Guid.{Guid}
 use Rattle.rtps_wire.specs.Values.{PayloadValue}
-use Rattle.rtps_receiver.specs.Speech.{is_answer, is_heard_by, is_spoken_by}
+use Rattle.rtps_receiver.specs.Speech.{is_heard_by, is_spoken_by}
 use Rattle.rtps_audit.specs.Delivery.{Word, greatest, is_asked, last_announced_from}
 use Rattle.rtps_audit.specs.Hearing.{last_among}
 use Rattle.rtps_audit.specs.Placed.{PlacedValue, is_from, placed_in}
-use Rattle.rtps_audit.specs.Speech.{announced_for, announced_of_body, base_of_body, speech_of, word_for, word_of}
+use Rattle.rtps_audit.specs.Speech.{announced_for, announced_of_body, speech_of, word_for, word_of}
 use Rattle.rtps_audit.specs.declared.verdict.Verdict.{Verdict}
 use Rattle.rtps_audit.specs.declared.verdict.Verdict.TheVariants.{Unfounded, Conflict, Open, Complete}
-use Rattle.rtps_audit.proofs.Offered.{answerer_is_origin, last_is_last, speaker_is_origin}
-use Rattle.rtps_evidence.specs.Acting.{announcement_at, announcement_of, base_said, claim_at, claim_of, differs, first_sending, first_sent, number_said, other_sending, other_sent, payload_at, payload_for, payload_in, sends, sent_at, teller_at, teller_of, tells}
+use Rattle.rtps_audit.proofs.Offered.{last_is_last, speaker_is_origin}
+use Rattle.rtps_evidence.specs.Acting.{announcement_at, announcement_of, differs, first_sending, first_sent, number_said, other_sending, other_sent, payload_at, payload_for, payload_in, sends, sent_at, teller_at, teller_of, tells}
 use Rattle.rtps_evidence.specs.Counted.{AreAmounts, is_sent, is_told}
-use Rattle.rtps_evidence.specs.Evidence.{claim_by, first_by, other_by, teller_by}
+use Rattle.rtps_evidence.specs.Evidence.{first_by, other_by, teller_by}
 use Rattle.rtps_evidence.specs.declared.counting.Amounts.{Amounts}
 use Rattle.rtps_evidence.proofs.CountLemmas.{count_same}
 use Rattle.rtps_evidence.proofs.FindLemmas.{any_filter, find_filter}
@@ -55,16 +55,10 @@ differs_from writer reader n payload placed e = sends_from writer reader n place
 number_from : (writer : Guid) (n : ℕ) (placed : PlacedValue) → 1 ≤ n → number_said writer placed ≡ n → is_from writer placed ≡ true
 number_from writer n placed low e = speaker_is_origin writer placed (positive_if (is_spoken_by placed.act writer) (announced_of_body placed.act.body) n e low)
 
-base_from : (writer reader : Guid) (placed : PlacedValue) → 1 ≤ base_said writer reader placed → is_from reader placed ≡ true
-base_from writer reader placed low = answerer_is_origin reader writer placed (positive_if (is_answer placed.act reader writer) (base_of_body placed.act.body) _ refl low)
-
 -- ---- so the first is the same
 
 equal_numbers : (a b : ℕ) → (a == b) ≡ true → a ≡ b
 equal_numbers a b e = grind (arith, nat_tests)
-
-less_number : (a b n base : ℕ) → ((a == b) && nat_lt n base) ≡ true → 1 ≤ base
-less_number a b n base e = grind (arith, nat_tests)
 
 pub teller_same : (writer reader : Guid) (n : ℕ) (acts : List PlacedValue) → teller_of writer reader n (filter (is_from writer) acts) ≡ teller_of writer reader n acts
 teller_same writer reader n acts = ap (option_map teller_at) (find_filter (tells writer reader n) (is_from writer) (tells_from writer reader n) acts)
@@ -78,10 +72,6 @@ announcement_same from writer number acts = by_order (is_asked from number) refl
         let reached : 1 ≤ number = grind (arith, nat_tests) in
         ap (option_map (announcement_at number)) (find_filter (λ placed. number_said writer placed == number) (is_from writer) (λ placed is. number_from writer number placed reached (equal_numbers _ _ is)) acts)
     by_order false e = refl
-
-pub claim_same : (writer reader : Guid) (datagram n : ℕ) (acts : List PlacedValue) → claim_of writer reader datagram n (filter (is_from reader) acts) ≡ claim_of writer reader datagram n acts
-claim_same writer reader datagram n acts =
-    ap (option_map (claim_at writer reader)) (find_filter (λ placed. (placed.datagram == datagram) && nat_lt n (base_said writer reader placed)) (is_from reader) (λ placed is. base_from writer reader placed (less_number placed.datagram datagram n (base_said writer reader placed) is)) acts)
 
 pub first_same : (writer reader : Guid) (n : ℕ) (acts : List PlacedValue) → first_sent writer reader n (filter (is_from writer) acts) ≡ first_sent writer reader n acts
 first_same writer reader n acts = ap (option_map (sent_at writer reader n)) (find_filter (sends writer reader n) (is_from writer) (sends_from writer reader n) acts)
@@ -129,12 +119,6 @@ teller_by_same (Unfounded datagram number) writer reader acts = teller_same writ
 teller_by_same (Conflict number) writer reader acts = refl
 teller_by_same (Open number) writer reader acts = teller_same writer reader _ acts
 teller_by_same (Complete last) writer reader acts = refl
-
-pub claim_by_same : (verdict : Verdict) (writer reader : Guid) (acts : List PlacedValue) → claim_by verdict writer reader (filter (is_from reader) acts) ≡ claim_by verdict writer reader acts
-claim_by_same (Unfounded datagram number) writer reader acts = claim_same writer reader datagram _ acts
-claim_by_same (Conflict number) writer reader acts = refl
-claim_by_same (Open number) writer reader acts = refl
-claim_by_same (Complete last) writer reader acts = refl
 
 pub first_by_same : (verdict : Verdict) (writer reader : Guid) (acts : List PlacedValue) → first_by verdict writer reader (filter (is_from writer) acts) ≡ first_by verdict writer reader acts
 first_by_same (Unfounded datagram number) writer reader acts = refl

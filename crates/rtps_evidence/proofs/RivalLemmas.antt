@@ -82,10 +82,6 @@ equal_booleans true false e = cc
 equal_booleans false true e = cc
 equal_booleans false false e = refl
 
-same_boolean : (a : Bool) → is_eq (bool_cmp a a) ≡ true
-same_boolean true = refl
-same_boolean false = refl
-
 same_number : (n : ℕ) → is_eq (nat_cmp n n) ≡ true
 same_number n = (eq_by_cmp_equiv nat_cmp_total).refl n
 
@@ -195,14 +191,6 @@ module _ (writer : Guid) (at : PlacedValue) where
       by_test : (b : Bool) → is_in_slot writer other at ≡ b → b ≡ false
       by_test true e = absurd (false≢true (sym apart ∙ other_slot key other of e))
       by_test false e = refl
-
-  -- what the writer does not speak is in none, nor is what has no payload
-  pub silent : (other : Slot) → is_spoken_by at.act writer ≡ false → is_in_slot writer other at ≡ false
-  silent other e = ap (λ s. is_of_part other at.act && (s && is_some (payload_said other.number at))) e ∙ none (is_of_part other at.act)
-    where
-      none : (b : Bool) → (b && false) ≡ false
-      none true = refl
-      none false = refl
 
   pub without : (other : Slot) → slot_of at.act ≡ None → is_in_slot writer other at ≡ false
   unfolding at_slot
@@ -404,18 +392,6 @@ one_empty old new key two updates first other known = λ slot.
     by_test : (slot : Slot) (b : Bool) → IfSome (cond b (Some two) (get slot_cmp old slot)) (λ (t : TwoPlaces). (t.first ≡ None) × (t.other ≡ None))
     by_test slot true = (first, other)
     by_test slot false = known slot
-
--- none of them has a place before there is an act
-pub empty_slots : (writer : Guid) (acts : List PlacedValue) (slots : BTreeMap Slot TwoPlaces) → AreEmpty slots → AreSlotsOf writer acts [] slots
-empty_slots writer acts slots known = λ slot. by_found slot (get slot_cmp slots slot) (known slot)
-  where
-    none_of : (slot : Slot) (o : Option PayloadValue) → None ≡ other_place writer slot o []
-    none_of slot None = refl
-    none_of slot (Some payload) = refl
-
-    by_found : (slot : Slot) (found : Option TwoPlaces) → IfSome found (λ (t : TwoPlaces). (t.first ≡ None) × (t.other ≡ None)) → IfSome found (AreTwoOf writer slot acts [])
-    by_found slot None h = h
-    by_found slot (Some two) h = record { first = h.0; other = h.1 ∙ none_of slot (payload_there slot.number acts two.first) }
 
 module _ (writer : Guid) (acts past : List PlacedValue) (at : PlacedValue) where
   one_slot : (slots : BTreeMap Slot TwoPlaces) (slot : Slot) → is_in_slot writer slot at ≡ false → IfSome (get slot_cmp slots slot) (AreTwoOf writer slot acts past) → IfSome (get slot_cmp slots slot) (AreTwoOf writer slot acts (past ++ at ∷ []))

@@ -1,11 +1,11 @@
 -- What is kept under each key of the acts so far, where one value is written or one act comes more.
-use Rattle.std.proofs.Common.{◌≡◌, ℕ, Bool, true, false, cond, not, ◌&&◌, ◌||◌, List, [], ◌∷◌, ◌++◌, length, get_or, map, take, ◌+◌, ◌<◌, ◌≤◌, slice_get, find, option_map, arith, min, inl, inr, Option, Some, None, refl, sym, ap, ◌∙◌, subst}
-use Rattle.std.specs.Prelude.{IfSome, is_some, unwrap_or}
+use Rattle.std.proofs.Common.{◌≡◌, ℕ, Bool, true, false, cond, not, ◌&&◌, ◌||◌, List, [], ◌∷◌, ◌++◌, length, get_or, map, ◌<◌, ◌≤◌, slice_get, find, option_map, arith, min, inl, inr, Option, Some, None, refl, sym, ap, ◌∙◌, subst}
+use Rattle.std.specs.Prelude.{IfSome, is_some}
 use Rattle.std.specs.BTreeMap.{BTreeMap, Updates, get}
 use Rattle.std.specs.Option.{is_none}
 use Rattle.std.specs.Ordering.{is_eq}
 use Rattle.std.specs.List.{position_or_len}
-use Rattle.std.proofs.lemmas.List.{get_or_default, length-map, length-take-le, map-append, take_more}
+use Rattle.std.proofs.lemmas.List.{get_or_default, length-map}
 use Rattle.std.proofs.lemmas.List.Folds.{find_at}
 use Rattle.std.proofs.lemmas.Option.{slice_get-map, slice_get_cases, slice_get_past}
 use Rattle.rtps_ids.specs.declared.identity.Guid.{Guid}
@@ -25,11 +25,6 @@ use Rattle.rtps_evidence.proofs.GivenLemmas.{given_as}
 -- ---- a value that is written
 
 module _ {V : Type 0} where
-  -- what an entry lends
-  pub lent_value : (P : V → Type 0) (found value : Option V) (empty lent : V) → P empty → IfSome found P → value ≡ found → lent ≡ unwrap_or value empty → P lent
-  lent_value P found None empty lent none known same is = subst P (sym is) none
-  lent_value P found (Some held) empty lent none known same is = subst P (sym is) (subst (λ o. IfSome o P) (sym same) known)
-
   -- what a map has at another key is what it has at an equal one
   pub alike_at : (kept : BTreeMap Guid V) (key other : Guid) → is_eq (guid_cmp other key) ≡ true → get guid_cmp kept other ≡ get guid_cmp kept key
   alike_at kept key other e = found_alike guids_total other key (equal_of (guid_cmp other key) e) kept.entries
@@ -81,15 +76,6 @@ module _ (parts : Guid → ActValue → Bool) (writer : Guid) (placed : List Pla
         (λ e. firsts_on before after (has_under other) words placed at (λ n. ap (λ b. b && has_word writer n at) (same_part other ∙ e) ∙ same_words n) given
         (subst (λ o. IfSome o (λ firsts. AreFirsts firsts (has_under other) placed)) (alike_at old here other e ∙ found) (known other)))
         (λ e. past_one other (get guid_cmp old other) e (known other))
-
--- ---- the acts so far
-
--- one more of them
-pub taken_more : {X Y : Type 0} (v : X → Y) (xs : List X) (i : ℕ) (d : X) → i < length xs → map v (take (i + 1) xs) ≡ map v (take i xs) ++ v (get_or xs i d) ∷ []
-taken_more v xs i d lt = ap (map v) (take_more xs i d lt) ∙ map-append v (take i xs) (get_or xs i d ∷ [])
-
-pub taken_length : {X Y : Type 0} (v : X → Y) (xs : List X) (i : ℕ) → i ≤ length xs → i ≡ length (map v (take i xs))
-taken_length v xs i le = sym (length-map (take i xs) v ∙ length-take-le i xs le)
 
 -- ---- the one that is found
 

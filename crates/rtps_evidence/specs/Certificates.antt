@@ -38,20 +38,22 @@ abbrev pub HasOnePayload : ℕ → Pair → List (List ℕ) → Type 0
 HasOnePayload from pair recording =
     (n : ℕ) (one other : PlacedValue) (x y : PayloadValue) → IsAsked from n → SendsAt pair recording n x one → SendsAt pair recording n y other → x ≡ y
 
--- unfounded: a claim of n stands at its place, and no act of an earlier datagram has a word for n; so there is no run
+-- unfounded: n is asked for, a claim of it stands at its place, and no act of an earlier datagram has a word for it; so there is
+-- no run
 abbrev pub UnfoundedIsShown : Type 0
 UnfoundedIsShown =
     (from : ℕ) (pair : Pair) (recording : List (List ℕ)) (n : ℕ) (at : PlacedValue) → IsAsked from n → ClaimsAt pair recording n at → IsUntoldBefore pair recording n at.datagram
     → ¬ HasRun from (speech_of pair.writer pair.reader recording)
 
--- open: n is announced, and no answer's base is above n; so where a run exists, some run ends without a word for n
+-- open: n is asked for, it or a greater number is announced, and no answer's base is above n; so where a run exists, some run
+-- ends without a word for n
 abbrev pub OpenIsShown : Type 0
 OpenIsShown =
     (from : ℕ) (pair : Pair) (recording : List (List ℕ)) (n : ℕ) (at : PlacedValue) → IsAsked from n → AnnouncesAt pair recording n at → IsUnclaimedBy pair recording n
     → HasRun from (speech_of pair.writer pair.reader recording) → EndsWithout from (speech_of pair.writer pair.reader recording) n
 
--- conflict: two places give these payloads for n; so where a run exists, some run ends with both. Where they differ, that is
--- a conflict
+-- conflict: n is asked for, and two places give these payloads for it; so where a run exists, some run ends with both. Where
+-- they differ, that is a conflict
 abbrev pub ConflictIsShown : Type 0
 ConflictIsShown =
     (from : ℕ) (pair : Pair) (recording : List (List ℕ)) (n : ℕ) (one other : PlacedValue) (x y : PayloadValue) → IsAsked from n → SendsAt pair recording n x one → SendsAt pair recording n y other

@@ -3,7 +3,7 @@ use rtps_audit::{Row, Verdict};
 use rtps_ids::{Guid, Memory};
 use std::alloc::Global;
 
-/// A number for which a reader's evidence wants to know who told it.
+/// A number for which a reader's evidence wants to know who told it, or which payloads it has.
 #[derive(Clone, Copy, Debug)]
 pub(crate) struct Asked {
     pub(crate) reader: Guid,

@@ -7,18 +7,19 @@ ghost use Rattle.rtps_evidence.specs.Explained.{HasOneExplanation};
 use rtps_audit::laws::one_report;
 use rtps_discovery::laws::one_map;
 
-/// Where a claim of a number stands at its place, and no act of an earlier datagram has a word for that number, there is no
-/// run.
+/// Where a claim of a number that is asked for stands at its place, and no act of an earlier datagram has a word for that
+/// number, there is no run.
 pub fn unfounded_is_shown()
     ensures { UnfoundedIsShown }
 {}
 
-/// Where a number is announced, and no answer's base is above it, some run ends without a word for it, if there is a run.
+/// Where a number that is asked for is announced, it or a greater one, and no answer's base is above it, some run ends without
+/// a word for it, if there is a run.
 pub fn open_is_shown()
     ensures { OpenIsShown }
 {}
 
-/// Where two places give two payloads for a number, some run ends with both, if there is a run.
+/// Where two places give two payloads for a number that is asked for, some run ends with both, if there is a run.
 pub fn conflict_is_shown()
     ensures { ConflictIsShown }
 {}

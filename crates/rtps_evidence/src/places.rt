@@ -6,7 +6,7 @@ ghost use Rattle.rtps_evidence.specs.Acting.{kind_of as kind_of_lem, place_of as
 use rtps_audit::Placed;
 use rtps_receiver::ActBody;
 
-/// Where a submessage stands in a recording.
+/// The place of a submessage in a recording: its datagram, and where it stands in that.
 #[derive(Clone, Copy, PartialEq, Eq, PartialOrd, Ord, Debug)]
 pub struct Place {
     /// Its datagram, counted from 1.
@@ -15,7 +15,7 @@ pub struct Place {
     pub at: usize,
 }
 
-/// Which submessage it is.
+/// Which submessage an act is.
 #[derive(Clone, Copy, PartialEq, Eq, Debug)]
 pub enum Kind {
     Data,

@@ -1,8 +1,5 @@
-ghost use Rattle.std.specs.Prelude.{ℕ, ◌≡◌, ◌||◌, is_some, OnOk};
-ghost use Rattle.rtps_receiver.specs.Values.{act_body_value};
+ghost use Rattle.std.specs.Prelude.{ℕ, ◌≡◌, ◌||◌, OnOk};
 ghost use Rattle.rtps_audit.specs.Placed.{placed_value};
-ghost use Rattle.rtps_audit.specs.Speech.{word_of};
-ghost use Rattle.rtps_evidence.specs.Acting.{payload_in};
 ghost use Rattle.rtps_evidence.specs.Counted.{stretches_have};
 ghost use Rattle.rtps_evidence.specs.Questions.{asks};
 

@@ -1,9 +1,9 @@
-ghost use Rattle.std.specs.Prelude.{◌≡◌, map, Some, None, MatchOption};
+ghost use Rattle.std.specs.Prelude.{◌≡◌, map};
 ghost use Rattle.std.specs.List.{find};
 ghost use Rattle.std.specs.Option.{option_map};
 ghost use Rattle.rtps_wire.specs.Values.{payload_value};
 ghost use Rattle.rtps_audit.specs.Placed.{placed_value};
-ghost use Rattle.rtps_evidence.specs.Acting.{differs, first_sent as first_sent_lem, is_same as is_same_lem, other_sent as other_sent_lem, payload_for as payload_for_lem, sends, sent_at, sent_value};
+ghost use Rattle.rtps_evidence.specs.Acting.{differs, first_sent as first_sent_lem, is_same as is_same_lem, other_sent as other_sent_lem, payload_for as payload_for_lem, sent_at, sent_value};
 
 use crate::places::{Place, place_of};
 use rtps_audit::Placed;

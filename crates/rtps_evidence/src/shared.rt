@@ -13,7 +13,7 @@ pub(crate) struct Both<'a> {
 }
 
 impl Both<'_> {
-    ghost use Rattle.std.specs.Prelude.{ℕ, Bool, ◌≡◌, ◌==◌, ◌≤◌, ◌-◌, ◌/◌, ◌%◌, ◌&&◌, ◌||◌, not};
+    ghost use Rattle.std.specs.Prelude.{ℕ, Bool, ◌≡◌, ◌==◌, ◌≤◌, ◌/◌, ◌%◌, ◌||◌};
     ghost use Rattle.std.specs.Int.{bit_at};
     ghost use Rattle.rtps_evidence.specs.Apart.{AreApart};
     ghost use Rattle.rtps_evidence.specs.Counted.{count_in, stretch_has, stretches_have};
