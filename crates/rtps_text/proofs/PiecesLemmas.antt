@@ -1,7 +1,7 @@
 -- Facts on pieces of a row of octets.
 use Rattle.std.proofs.Common.{◌≡◌, ℕ, ◌+◌, ◌-◌, ◌≤◌, List, [], ◌∷◌, ◌++◌, length, drop, refl, sym, ap₂, ◌∙◌, arith}
-use Rattle.std.proofs.lemmas.List.{take-append-le, drop-append-le, length-drop, length-append, length-map, map-append, take_all, drop_at}
-use Rattle.std.proofs.lemmas.List.Elements.{All-head, All-tail, All-push, All-weaker}
+use Rattle.std.proofs.lemmas.List.{take-append-le, drop-append-le, length-drop, length-map, map-append, take_all, drop_at}
+use Rattle.std.proofs.lemmas.List.Elements.{All-head, All-tail}
 use Rattle.rtps_text.specs.Places.{ArePlaces, StandsWithin, end_of, piece, pieces, start_of}
 use Rattle.rtps_text.specs.declared.places.Place.{Place}
 
@@ -34,16 +34,3 @@ pub pieces-push : (xs ys : List ℕ) (places : List Place) (place : Place) → A
 pieces-push xs ys places place within from to =
     map-append (piece (xs ++ ys)) places (place ∷ [])
     ∙ ap₂ (λ (front : List (List ℕ)) (last : List ℕ). front ++ last ∷ []) (pieces-append xs ys places within) (piece-last xs ys place from to)
-
-pub ArePlaces-push : (xs ys : List ℕ) (places : List Place) (place : Place) → ArePlaces xs places → start_of place ≡ length xs → end_of place ≡ length xs + length ys
-    → ArePlaces (xs ++ ys) (places ++ place ∷ [])
-ArePlaces-push xs ys places place within from to =
-    let size = length-append xs ys in
-    All-push (StandsWithin (length (xs ++ ys))) places place
-    (All-weaker (StandsWithin (length xs)) (StandsWithin (length (xs ++ ys))) (λ place stands. (stands.0, omega (arith, size, stands.1))) places within)
-    (omega (arith, size), omega (arith, size))
-
-pub ArePlaces-append : (xs ys : List ℕ) (places : List Place) → ArePlaces xs places → ArePlaces (xs ++ ys) places
-ArePlaces-append xs ys places within =
-    let size = length-append xs ys in
-    All-weaker (StandsWithin (length xs)) (StandsWithin (length (xs ++ ys))) (λ place stands. (stands.0, omega (arith, size, stands.1))) places within

@@ -1,24 +1,12 @@
 -- Facts on what `show` prints.
-use Rattle.std.proofs.Common.{◌≡◌, ℕ, ◌+◌, List, [], ◌∷◌, ◌++◌, None, Some, Ok, refl, ap, append_assoc, ◌∙◌}
+use Rattle.std.proofs.Common.{◌≡◌, ℕ, ◌+◌, List, [], ◌∷◌, ◌++◌, Ok, refl, ap, append_assoc, ◌∙◌}
 use Rattle.rtps_receiver.proofs.Offered.{gathered-one}
-use Rattle.rtps_receiver.specs.Acts.{gathered, state_at_start, state_behind}
+use Rattle.rtps_receiver.specs.Acts.{gathered, state_behind}
 use Rattle.rtps_receiver.specs.declared.state.State.{State}
-use Rattle.rtps_wire.specs.Message.{Reading}
-use Rattle.rtps_wire.specs.Reading.{Outcome, items_among, read_as, reading_of, refusal_among, refused_with}
+use Rattle.rtps_wire.specs.Reading.{Outcome, items_among, reading_of, refusal_among}
 use Rattle.rtps_wire.specs.Values.{ItemValue}
 use Rattle.rtps_wire.specs.Values.BodyValue.{Skipped}
-use Rattle.rtps_wire.specs.declared.fault.Refusal.{Refusal}
-use Rattle.rtps_wire.specs.declared.header.Header.{Header}
-use Rattle.rtps_text.specs.ShowText.{body_line, datagram_line, ending_text, item_line, outcomes_text, reading_text, refusal_line, skipped_line, text_from}
-
--- the lines of a datagram whose header is read, and of one whose header is refused
-pub reading_text-opened : (number : ℕ) (reading : Reading) (header : Header) (state : State) (read : List Outcome) → reading ≡ read_as header read → state ≡ state_at_start header
-    → reading_text number reading ≡ datagram_line number (Some header) ++ outcomes_text state read
-reading_text-opened number reading header state read is state_is = rw (state_is, is) refl
-
-pub reading_text-refused : (number : ℕ) (reading : Reading) (refusal : Refusal) → reading ≡ refused_with refusal.fault → refusal.at ≡ 0
-    → reading_text number reading ≡ datagram_line number None ++ refusal_line refusal
-reading_text-refused number reading refusal refused place = rw (refused, place) refl
+use Rattle.rtps_text.specs.ShowText.{body_line, ending_text, item_line, outcomes_text, reading_text, skipped_line, text_from}
 
 -- the lines of a datagram, and those of the later ones
 pub text_from-cons : (number : ℕ) (datagram : List ℕ) (datagrams : List (List ℕ))

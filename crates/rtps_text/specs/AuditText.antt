@@ -50,7 +50,7 @@ report_counts_line counts ignored = line_of (codes "datagrams" ∷ decimal count
 abbrev pub report_text : List Row → Counts → Option ℕ → List ℕ
 report_text rows counts ignored = pairs_line (length rows) ++ (flat_map row_line rows ++ report_counts_line counts ignored)
 
--- the reader got all
+-- whether the verdict is that the reader got all
 abbrev pub is_complete : Verdict → Bool
 is_complete (Complete last) = true
 is_complete (Open number) = false

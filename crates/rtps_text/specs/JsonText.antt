@@ -30,7 +30,7 @@ use Rattle.rtps_text.specs.declared.ending.Ending.{Ending}
 abbrev pub Member : Type 0
 Member = List ℕ × Json
 
--- the object of these members, in their order
+-- these members, in their order
 abbrev pub members_of : List Member → Members
 members_of [] = no_members
 members_of ((name, value) ∷ members) = member name value (members_of members)
@@ -39,7 +39,7 @@ members_of ((name, value) ∷ members) = member name value (members_of members)
 abbrev pub object_of : List Member → Json
 object_of members = object (members_of members)
 
--- the array of these values, in their order
+-- these values as the items of an array, in their order
 abbrev pub items_of : List Json → Items
 items_of [] = no_items
 items_of (value ∷ values) = item value (items_of values)
@@ -48,11 +48,11 @@ items_of (value ∷ values) = item value (items_of values)
 abbrev pub array_of : List Json → Json
 array_of values = array (items_of values)
 
--- numbers, which are integers
+-- a number that is not below 0
 abbrev pub count_json : ℕ → Json
 count_json n = number (decimal n)
 
--- a number, which may be below 0
+-- a number that may be below 0
 abbrev pub number_json : ℤ → Json
 number_json n = number (signed_decimal n)
 
@@ -60,39 +60,39 @@ number_json n = number (signed_decimal n)
 abbrev pub place_members : Place → List Member
 place_members place = (codes "datagram", count_json place.datagram) ∷ (codes "at", count_json place.at) ∷ []
 
--- the last number that the writer announced, and the submessage that did so first
+-- the last number that the writer announced, and the submessage that did so first; null where there is none
 abbrev pub announcement_json : Option Announcement → Json
 announcement_json None = null
 announcement_json (Some announcement) =
     object_of ((codes "number", number_json announcement.number) ∷ (codes "by", string (kind_text announcement.kind)) ∷ place_members announcement.place)
 
--- an answer
+-- an answer of the reader, or null where there is none
 abbrev pub claim_json : Option Claim → Json
 claim_json None = null
 claim_json (Some claim) = object_of ((codes "below", number_json claim.below) ∷ place_members claim.place)
 
--- the submessage that told a number first
+-- the submessage that told a number first, or null where none did
 abbrev pub teller_json : Option Teller → Json
 teller_json None = null
 teller_json (Some teller) = object_of ((codes "by", string (kind_text teller.kind)) ∷ place_members teller.place)
 
--- what a payload is, and how many octets it has
+-- the name of a kind of payload, and so many octets
 abbrev pub carried_members : List ℕ → ℕ → List Member
 carried_members kind octets = (codes "payload", string kind) ∷ (codes "octets", count_json octets) ∷ []
 
--- the kind of a payload and how many octets it has
+-- the kind of a payload and how many octets it has; nothing where there is no payload
 abbrev pub payload_members : Option PayloadValue → List Member
 payload_members None = []
 payload_members (Some Absent) = carried_members (codes "absent") 0
 payload_members (Some (Whole octets)) = carried_members (codes "whole") (length octets)
 payload_members (Some (Key octets)) = carried_members (codes "key") (length octets)
 
--- what was sent for a number
+-- what was sent for a number, or null where nothing was
 abbrev pub sent_json : Option SentValue → Json
 sent_json None = null
 sent_json (Some sent) = object_of (payload_members sent.payload ++ place_members sent.place)
 
--- a pair, and the topic and the type of both
+-- the name of a topic or a type: a string of what `list` writes between the quotes
 abbrev pub name_json : List ℕ → Json
 name_json name = string (flat_map octet_text name)
 
@@ -109,7 +109,7 @@ verdict_members (Conflict n) = (codes "verdict", string (codes "conflict")) ∷ 
 verdict_members (Unfounded datagram n) =
     (codes "verdict", string (codes "unfounded")) ∷ (codes "number", number_json n) ∷ (codes "datagram", count_json datagram) ∷ []
 
--- what is said of each pair
+-- what is said of each pair, whatever its verdict is
 abbrev pub evidence_members : EvidenceValue → List Member
 evidence_members evidence = (codes "announced", announcement_json evidence.announcement) ∷ (codes "acknowledged", claim_json evidence.acknowledgement)
     ∷ (codes "payloads", count_json evidence.payloads) ∷ (codes "gone", count_json evidence.gone) ∷ (codes "untold", count_json evidence.untold) ∷ []
@@ -126,7 +126,7 @@ abbrev pub row_json : ExplanationValue → Json
 row_json row =
     object_of (pair_members row ++ (verdict_members row.evidence.verdict ++ (evidence_members row.evidence ++ shown_members row.evidence.verdict row.evidence)))
 
--- what was counted, and how many frames of a capture gave no datagram; a text has none
+-- how many frames of a capture gave no datagram; a text has none
 abbrev pub ignored_members : Option ℕ → List Member
 ignored_members None = []
 ignored_members (Some ignored) = (codes "ignored", count_json ignored) ∷ []
@@ -136,19 +136,19 @@ abbrev pub counts_members : Counts → List Member
 counts_members counts = (codes "datagrams", count_json counts.datagrams) ∷ (codes "refused", count_json counts.refused) ∷ (codes "skipped", count_json counts.skipped)
     ∷ (codes "fragments", count_json counts.fragments) ∷ (codes "undirected", count_json counts.undirected) ∷ (codes "unsettled", count_json counts.unsettled) ∷ []
 
--- the value of these rows and counts
+-- the rows, under their name
 abbrev pub pairs_member : List ExplanationValue → Member
 pairs_member rows = (codes "pairs", array_of (map row_json rows))
 
--- the whole report
+-- the whole report: the object of these rows and counts
 abbrev pub report_json : List ExplanationValue → Counts → Option ℕ → Json
 report_json rows counts ignored = object_of (pairs_member rows ∷ (counts_members counts ++ ignored_members ignored))
 
--- the tokens of members, in their order
+-- the tokens of a member: its name, and those of its value
 abbrev pub tokens_of_member : Member → List Token
 tokens_of_member (name, value) = key name ∷ json_tokens value
 
--- the tokens of these members
+-- the tokens of these members, in their order
 abbrev pub tokens_of : List Member → List Token
 tokens_of members = flat_map tokens_of_member members
 

@@ -26,12 +26,11 @@ use Rattle.rtps_text.specs.declared.ending.Ending.TheVariants.{Clean}
 abbrev pub guid_text : Guid → List ℕ
 guid_text guid = encode_lower guid.prefix.0 ++ 46 ∷ encode_lower guid.entity.0
 
--- an octet of a name: plain ASCII but for the quote (34) and the backslash (92) stands for itself, any other is `\x` and
--- two digits
+-- whether an octet of a name stands for itself: plain ASCII does, but for the quote (34) and the backslash (92)
 abbrev pub stands_for_itself : ℕ → Bool
 stands_for_itself octet = (nat_le 32 octet && nat_le octet 126) && (not (octet == 34) && not (octet == 92))
 
--- an octet of a name: as it is, or escaped
+-- an octet of a name: as it is, or `\x` and two digits
 unfoldable pub octet_text : ℕ → List ℕ
 octet_text octet = if stands_for_itself octet then octet ∷ [] else codes "\\x" ++ encode_lower (octet ∷ [])
 
@@ -56,7 +55,7 @@ durability_text TransientLocal = codes "transient-local"
 durability_text Transient = codes "transient"
 durability_text Persistent = codes "persistent"
 
--- whether both of a match are reliable
+-- the word for whether both of a match are reliable
 unfoldable pub match_text : Bool → List ℕ
 match_text true = codes "reliable"
 match_text false = codes "best-effort"
@@ -75,7 +74,7 @@ endpoint_line endpoint = line_of (side_text endpoint.side ∷ guid_text endpoint
 abbrev pub match_line : Match → List ℕ
 match_line found = line_of (codes "pair" ∷ guid_text found.pair.writer ∷ guid_text found.pair.reader ∷ match_text found.reliable ∷ [])
 
--- how many participants, settled endpoints, GUIDs whose announcements disagree, and acts with a fault
+-- the last line: how many participants, settled endpoints, GUIDs whose announcements disagree, and acts with a fault
 abbrev pub counts_line : ℕ → ℕ → ℕ → ℕ → List ℕ
 counts_line participants endpoints unsettled faults = line_of (codes "participants" ∷ decimal participants ∷ codes "endpoints" ∷ decimal endpoints
     ∷ codes "unsettled" ∷ decimal unsettled ∷ codes "faults" ∷ decimal faults ∷ [])

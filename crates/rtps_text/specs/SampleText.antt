@@ -14,6 +14,6 @@ sample_datagrams =
     codes "5254505302050000aaaaaaaaaaaaaaaaaaaaaaaa1504001c000000100000000000000103000000000000000300000000000000030700001c00000000000001030000000000000001000000000000000300000001" ∷
     codes "5254505302050000bbbbbbbbbbbbbbbbbbbbbbbb0e00000caaaaaaaaaaaaaaaaaaaaaaaa06000018000001040000010300000000000000040000000000000001" ∷ []
 
--- a line each
+-- the text: a line for each of these datagrams
 unfoldable pub sample : List ℕ
 sample = flat_map (λ datagram. datagram ++ 10 ∷ []) sample_datagrams

@@ -61,7 +61,7 @@ unfoldable pub qos_octets : Option ListValue → ℕ
 qos_octets None = 0
 qos_octets (Some list) = length list.octets
 
--- the longs that hold the bits, of 8 digits each, or a dash where there is none
+-- a word of a set as 8 digits
 abbrev pub long_digits : ℕ → List ℕ
 long_digits long = encode_lower (to_be_bytes w32 long)
 
@@ -69,7 +69,7 @@ long_digits long = encode_lower (to_be_bytes w32 long)
 abbrev pub first_longs : NumberSetValue → ℕ → List ℕ
 first_longs set n = map (λ i. slice_index set.words i) (range_with_len 0 n)
 
--- the bits of a set, as the words that hold them
+-- the bits of a set: the words that hold them, or a dash where it has none
 abbrev pub bitmap_text : NumberSetValue → List ℕ
 bitmap_text set = if set.count == 0 then codes "-" else flat_map long_digits (first_longs set ((set.count + 31) / 32))
 
@@ -88,8 +88,8 @@ unfoldable pub state_text : State → List ℕ
 state_text state =
     codes "from " ++ (encode_lower state.source.prefix.0 ++ (codes " to " ++ (destination_text state.dest ++ (codes " time " ++ time_text state.stamp))))
 
--- the lines of the submessages, by what they say: the name, the place of the first octet, the order of the octets of
--- numbers, and the fields
+-- the line of a DATA: its name, the place of its first octet, the order of the octets of its numbers, its fields, and the state
+-- at its place
 abbrev pub data_line : State → ℕ → Order → DataValue → List ℕ
 data_line state at order value = line_of (codes "data" ∷ decimal at ∷ order_text order
     ∷ codes "reader" ∷ encode_lower value.reader.0 ∷ codes "writer" ∷ encode_lower value.writer.0 ∷ codes "number" ∷ decimal value.number
@@ -166,7 +166,7 @@ ending_text (Some refusal) = refusal_line refusal
 abbrev pub outcomes_text : State → List Outcome → List ℕ
 outcomes_text state outcomes = gathered item_line state [] (items_among outcomes) ++ ending_text (refusal_among outcomes)
 
--- the lines of items behind a header
+-- the lines of items behind a header; none where there is no header
 abbrev pub items_text : Option Header → List ItemValue → List ℕ
 items_text None items = []
 items_text (Some header) items = gathered item_line (state_at_start header) [] items

@@ -48,13 +48,13 @@ pair_line row = line_of (codes "pair" ∷ guid_text row.pair.writer ∷ guid_tex
 abbrev pub names_line : List ℕ → List ℕ → List ℕ
 names_line topic type_name = inner_line (codes "topic" ∷ name_text topic ∷ codes "type" ∷ name_text type_name ∷ [])
 
--- the last number that the writer announced, and the submessage that did so first
+-- the line of the last number that the writer announced, and of the submessage that did so first
 abbrev pub announced_line : Option Announcement → List ℕ
 announced_line None = inner_line (codes "announced nothing" ∷ [])
 announced_line (Some announcement) =
     inner_line (codes "announced" ∷ signed_decimal announcement.number ∷ codes "by" ∷ kind_text announcement.kind ∷ place_text announcement.place ∷ [])
 
--- the greatest base of the reader's answers, and the answer that had it first
+-- the line of the greatest base of the reader's answers, and of the answer that had it first
 abbrev pub acknowledged_line : Option Claim → List ℕ
 acknowledged_line None = inner_line (codes "acknowledged nothing" ∷ [])
 acknowledged_line (Some claim) = inner_line (codes "acknowledged below" ∷ signed_decimal claim.below ∷ place_text claim.place ∷ [])
@@ -63,18 +63,18 @@ acknowledged_line (Some claim) = inner_line (codes "acknowledged below" ∷ sign
 abbrev pub amounts_line : ℕ → ℕ → ℕ → List ℕ
 amounts_line payloads gone untold = inner_line (codes "payloads" ∷ decimal payloads ∷ codes "gone" ∷ decimal gone ∷ codes "untold" ∷ decimal untold ∷ [])
 
--- the submessage that told a number first
+-- the line of a number and of the submessage that told it first, if one did
 abbrev pub told_line : ℤ → Option Teller → List ℕ
 told_line number None = inner_line (codes "number" ∷ signed_decimal number ∷ codes "told nowhere" ∷ [])
 told_line number (Some teller) =
     inner_line (codes "number" ∷ signed_decimal number ∷ codes "told by" ∷ kind_text teller.kind ∷ place_text teller.place ∷ [])
 
--- the answer that claimed a number too early
+-- the line of the answer that claimed a number too early, if there is one
 abbrev pub claimed_line : Option Claim → List ℕ
 claimed_line None = []
 claimed_line (Some claim) = inner_line (codes "claimed below" ∷ signed_decimal claim.below ∷ place_text claim.place ∷ [])
 
--- what was sent for a number
+-- a payload, if there is one
 abbrev pub carried_text : Option PayloadValue → List ℕ
 carried_text None = []
 carried_text (Some payload) = payload_text payload
@@ -85,7 +85,7 @@ sent_line number None = []
 sent_line number (Some sent) =
     inner_line (codes "number" ∷ signed_decimal number ∷ codes "payload" ∷ carried_text sent.payload ∷ place_text sent.place ∷ [])
 
--- what the verdict rests on
+-- the lines of what the verdict rests on
 abbrev pub shown_by : Verdict → EvidenceValue → List ℕ
 shown_by (Complete last) evidence = []
 shown_by (Open number) evidence = told_line number evidence.teller
@@ -106,7 +106,7 @@ explanation_text row =
 abbrev pub explained_text : List ExplanationValue → Counts → Option ℕ → List ℕ
 explained_text rows counts ignored = pairs_line (length rows) ++ (flat_map explanation_text rows ++ report_counts_line counts ignored)
 
--- as that of the report
+-- the run ends clean where each verdict is complete, as after `audit`
 abbrev pub ending_of_rows : List ExplanationValue → Ending
 ending_of_rows rows = if list_all (λ row. is_complete row.evidence.verdict) rows then Clean else Unclean
 

@@ -13,8 +13,8 @@ const SIZES: u64 = 1 << 16;
 /// How many places there are where a datagram may begin.
 const STARTS: usize = 1 << 48;
 
-/// Where a datagram stands in octets: from the place of its first octet on, up to the place behind its last. It takes 8
-/// octets: 48 bits say where the datagram begins, and 16 how many octets it has.
+/// The place of a datagram in the octets that are kept of a recording: from that of its first octet on, up to the one behind
+/// its last. It takes 8 octets: 48 bits say where the datagram begins, and 16 how many octets it has.
 #[derive(Clone, Copy, PartialEq, Eq, Debug)]
 pub struct Place {
     // The place of the first octet times 2^16, and how many octets there are.
@@ -82,8 +82,9 @@ pub fn push_octets(octets: &mut Vec<u8>, more: &[u8]) -> Result<(), AllocError>
     octets.extend_from_slice(more)
 }
 
-/// Makes room for so many items more, and besides for an eighth of those that are there, `ROOM_MIN` at least: so the room
-/// of a recording is never much more than what it needs, and is seldom asked for. Nothing changes after an `Err`.
+/// Makes room for so many items more where there is none yet, and besides for an eighth of those that are there, 65,536 at
+/// least: so the room of a recording is never much more than what it needs, and is seldom asked for. The items stay as they are, after an
+/// `Err` too.
 pub fn make_room<T>(items: &mut Vec<T>, more: usize) -> Result<(), AllocError>
     ensures items { items.new.items ≡ items.old.items }
     ensures room { OnOk result (vec_len items.new + more ≤ vec_capacity items.new) }

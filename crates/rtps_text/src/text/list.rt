@@ -16,6 +16,7 @@ use rtps_receiver::Walk;
 use std::alloc::{AllocError, Global};
 
 /// What `list` prints of a recording, and that it ends [`Ending::Clean`].
+/// `Memory` is answered where the text, or what is kept for it, cannot grow.
 pub fn list_text(alloc: Global, recording: &Recording) -> Result<(String, Ending), Memory>
     ensures { IfOk result (λ listed. IsListed recording.now (string_bytes listed.0) listed.1) }
 {

@@ -1,4 +1,4 @@
-ghost use Rattle.std.specs.Prelude.{◌≡◌, [], ◌∷◌, ◌++◌, ◌+◌, IfOk, None, OnOk, Some};
+ghost use Rattle.std.specs.Prelude.{◌≡◌, [], ◌∷◌, ◌++◌, IfOk, None, OnOk, Some};
 ghost use Rattle.std.specs.String.{string_bytes};
 ghost use Rattle.rtps_receiver.specs.Acts.{state_behind};
 ghost use Rattle.rtps_wire.specs.Reading.{outcomes_left, reading_of};
@@ -17,6 +17,7 @@ use std::alloc::{AllocError, Global};
 use std::fmt;
 
 /// What `show` prints of a recording, and that it ends [`Ending::Clean`].
+/// `Memory` is answered where the text, or what is kept for it, cannot grow.
 pub fn show_text(alloc: Global, recording: &Recording) -> Result<(String, Ending), Memory>
     ensures { IfOk result (λ shown. IsShown recording.now (string_bytes shown.0) shown.1) }
 {

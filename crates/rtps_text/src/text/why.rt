@@ -21,6 +21,7 @@ use rtps_ids::{Memory, SeqNum};
 use std::alloc::{AllocError, Global};
 
 /// What `why` prints of a recording by the numbers from `from` on, and how it ends: as `audit` does. It tells how far it is.
+/// `Memory` is answered where the text, or what is kept for it, cannot grow.
 pub fn why_text<P: Watch>(
     alloc: Global,
     recording: &Recording,
