@@ -70,14 +70,6 @@ take_both kept got k held buf within some =
     subst (λ (n : ℕ). take (n + got) (put_mid kept k held buf) ≡ take kept held ++ take got buf) size
     (take-append-add (take kept held) (buf ++ post_of kept k held) got ∙ ap (λ (piece : List ℕ). take kept held ++ piece) rest)
 
--- what is kept stays in front
-pub take_kept : (kept got k : ℕ) (held buf : List ℕ) → kept ≤ length held → got ≤ length buf
-    → take kept (take (kept + got) (put_mid kept k held buf)) ≡ take kept held
-take_kept kept got k held buf within some =
-    ap (take kept) (take_both kept got k held buf within some)
-    ∙ take-append-le kept (take kept held) (take got buf) (omega (arith, length-take-le kept held within))
-    ∙ take-take kept kept held (omega arith)
-
 -- what is kept stays in front of a piece
 pub take_front : (kept k : ℕ) (held buf : List ℕ) → kept ≤ length held → take kept (put_mid kept k held buf) ≡ take kept held
 take_front kept k held buf within =

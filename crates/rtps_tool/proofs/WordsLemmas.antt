@@ -7,10 +7,6 @@ use Rattle.clap.specs.declared.error.kind.ErrorKind.{ErrorKind}
 use Rattle.clap.specs.declared.error.kind.ErrorKind.TheVariants.{InvalidValue, UnknownArgument, InvalidSubcommand, NoEquals, ValueValidation, TooManyValues, TooFewValues, WrongNumberOfValues, ArgumentConflict, MissingRequiredArgument, MissingSubcommand, DisplayHelp, DisplayHelpOnMissingArgumentOrSubcommand, DisplayVersion, Io, Format, OutOfMemory}
 use Rattle.rtps_tool.specs.Words.{IsOneOf, word_fault_by, word_fault_of}
 
--- a name with its rows
-abbrev pub named_rows : {A X Y : Type 0} → (A → X) → (A → Y) → A → X × Y
-named_rows name rows a = (name a, rows a)
-
 -- a view of a value or its default
 pub unwrap_or-view : {A X : Type 0} (view : A → X) (found : Option A) (default : A) → view (unwrap_or found default) ≡ unwrap_or (option_map view found) (view default)
 unwrap_or-view view None default = refl

@@ -8,7 +8,7 @@ use Rattle.rtps_tool.specs.declared.faults.RecFault.TheVariants.{BadHex, TooLong
 use Rattle.rtps_tool.specs.declared.faults.RunFault.{RunFault}
 use Rattle.rtps_tool.specs.declared.faults.RunFault.TheVariants.{Recording, Input, Output, Memory as RunMemory}
 
--- why a file is no recording
+-- why a file is no recording; `too many datagrams` stands for too many octets of the input too
 unfoldable pub rec_fault_text : RecFault → List ℕ
 rec_fault_text (BadHex line) = codes "line " ++ (decimal line ++ codes ": bad hex")
 rec_fault_text (TooLong line) = codes "line " ++ (decimal line ++ codes ": too long")

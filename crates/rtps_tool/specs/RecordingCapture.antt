@@ -35,7 +35,8 @@ abbrev pub unless_cut : Option ℕ → RecordingValue → Result RecordingValue 
 unless_cut None recording = Ok recording
 unless_cut (Some frame) recording = Err (CutCapture frame)
 
--- The recording of these frames, of so many datagrams at most. A frame that is cut is the last one, so datagrams that are too many stand before it.
+-- The recording of these frames, of so many datagrams at most. A frame that is cut is the last one, so datagrams that are too
+-- many stand before it.
 unfoldable pub recording_of_frames : (most : ℕ) → List ℕ → List Frame → Result RecordingValue RecFault
 recording_of_frames most file frames =
     if nat_lt most (length (datagrams_among file frames)) then Err TooMany

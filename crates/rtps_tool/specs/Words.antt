@@ -170,9 +170,10 @@ flag_of_words words = option_and_then (λ found. one_of (codes "json") found.1) 
 abbrev pub faults_of_words : List Text → Kinds
 faults_of_words words = fault_of program (codes "rtps-audit" ∷ words)
 
--- Without a subcommand, and without its FILE, words are refused, and so is a FILE of `sample`, and a number or a limit that
--- is none from 1 to 2^63 - 1, or of a subcommand that asks for none, and a flag `--json` that is not of `audit`; `--help` and
--- `--version` are answered.
+-- Examples of command lines, and what is wrong with each, behind the program's name. Taken are lines with nothing wrong.
+-- Refused are one without a subcommand, and some without the FILE, with a FILE of `sample`, with a number that is none from 1 to
+-- 2^63 - 1, or with an option that the subcommand does not have; `--help` and `--version` are answered. Of two lines: whether
+-- JSON is asked for.
 pub record WordsAreWanted : Type 0 where
   pub no_subcommand : faults_of_words [] ≡ MissingSubcommand ∷ []
   pub no_file_to_show : faults_of_words (codes "show" ∷ []) ≡ MissingRequiredArgument ∷ []

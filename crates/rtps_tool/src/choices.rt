@@ -43,7 +43,7 @@ impl Choice {
 
 /// Runs what the words chose: [`crate::run_show_within`], [`crate::run_list_within`], [`crate::run_audit_within`],
 /// [`crate::run_json_within`] or [`crate::run_why_within`] on an input, or [`crate::run_sample`], which leaves the input as
-/// it is. It tells how far an audit is.
+/// it is. It tells how far an audit is. An `Err` is that of the run, and leaves what the run leaves.
 pub fn run_choice<R: Read, W: Write, P: Watch>(
     alloc: Global,
     choice: &Choice,

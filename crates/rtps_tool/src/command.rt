@@ -1,4 +1,4 @@
-ghost use Rattle.std.specs.Prelude.{◌≡◌, ◌⊎◌, true, false, codes, Some, IfOk, IfErr, OnOk, List, [], MatchOption, map, unwrap_or};
+ghost use Rattle.std.specs.Prelude.{◌≡◌, ◌⊎◌, true, false, codes, Some, IfOk, IfErr, OnOk, [], MatchOption, map, unwrap_or};
 ghost use Rattle.std.specs.String.{string_bytes};
 ghost use Rattle.clap.specs.Words.{app_of, fault_of, first_of, found_of, new_app, one_of, rows_of, rule_of, subcommand_of, subcommand_rows_of, takes};
 ghost use Rattle.clap.specs.declared.builder.command.Command.TheViews.{out-Command};
@@ -353,7 +353,8 @@ fn choice_of(alloc: Global, matches: &ArgMatches) -> Result<Option<Choice>, Allo
     Ok(None)
 }
 
-/// Reads the words of the command line, of which the first is the program's name.
+/// Reads the words of the command line, of which the first is the program's name. An `Err` says why they ask for nothing that
+/// can be run: they are refused, they ask for help or for the version, or there was no memory to read them.
 pub fn read_words<'a>(alloc: Global, words: &'a [&'a str]) -> Result<Choice, WordFault>
     // The subcommand, the FILE, the number, the flag and the limits are those of the matches that `clap` defines for the words.
     ensures chosen { IfOk result (IsChoice (subcommand_of program_app (map (λ word. word.now) words.now))) }

@@ -14,6 +14,7 @@ pub enum RecFault {
     /// A datagram line has more than 131,070 digits.
     TooLong { line: u64 },
     /// There are more datagrams, or more octets of the input, than the limits allow ([`crate::Limits`]).
+    /// Its one text, `too many datagrams`, stands for both.
     TooMany,
     /// There was no memory for the recording, or no place for a datagram ([`rtps_text::Place`]): one that begins at 2^48
     /// octets or behind has none.
@@ -24,6 +25,7 @@ pub enum RecFault {
     CutCapture { frame: u64 },
 }
 
+/// The text of [`RecFault::TooMany`] is `too many datagrams` for too many octets too.
 impl fmt::Display for RecFault {
     ghost output = { λ fault. Some (rec_fault_text fault) };
 
@@ -69,7 +71,7 @@ pub enum RunFault {
     Input,
     /// A write failed or took no octet: the first `written` octets of the text were written before.
     Output { written: u64 },
-    /// There was no memory for the input, the recording or the text.
+    /// There was no memory for the input, the recording or the text, or no place for a datagram ([`RecFault::Memory`]).
     Memory,
 }
 

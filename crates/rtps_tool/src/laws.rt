@@ -11,9 +11,9 @@ ghost use Rattle.rtps_tool.specs.Words.{WordsAreWanted};
 
 use rtps_text::laws::one_text;
 
-/// Which words are refused, as `clap` defines it of this command line: those without a subcommand, and a subcommand
-/// without its FILE, and an option `--from`, `--max-datagrams` or `--max-octets` whose value is no number from 1 to
-/// 9223372036854775807; `--help` and `--version` are answered, and a subcommand with its FILE is taken; `sample` has none.
+/// Examples of command lines, and what `clap` finds wrong with each: with some nothing, so they are taken. Refused are one
+/// without a subcommand, and some without the FILE, with a number that is none from 1 to 9223372036854775807, or with a FILE
+/// or an option that the subcommand does not have; `--help` and `--version` are answered. Nothing is said of other lines.
 pub fn words_are_wanted()
     ensures { WordsAreWanted }
 {}

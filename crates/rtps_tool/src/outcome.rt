@@ -21,8 +21,8 @@ pub fn status(outcome: &Result<Ending, RunFault>) -> u8
     }
 }
 
-/// Writes the line that tells of a fault: `rtps-audit: `, the fault's text and LF. False where a write failed, which may
-/// have left a part of it.
+/// Writes the line that tells of a fault: `rtps-audit: `, the fault's text and LF. Where it answers true, the line was written.
+/// Where it answers false, nothing is promised: a writer may fail at any call, and what was written then is open.
 pub fn write_fault<W: Write>(fault: &RunFault, output: &mut W) -> bool
     ensures { result ≡ true → Appends (W.contents output.old) (W.contents output.new) (fault_line fault.now) }
 {

@@ -37,7 +37,7 @@ pub(crate) enum Subcommand {
 /// [`run_show_within`] at the usual limits.
 ///
 /// The whole input is read and the whole text made before anything is written. An `Err` says what was written: nothing,
-/// but for [`RunFault::Output`].
+/// but for [`RunFault::Output`]. How much was read is open after [`RunFault::Input`] and [`RunFault::Memory`].
 pub fn run_show<R: Read, W: Write>(
     alloc: Global,
     input: &mut R,

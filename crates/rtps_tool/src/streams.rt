@@ -1,4 +1,4 @@
-ghost use Rattle.std.specs.Prelude.{◌≡◌, ◌≢◌, [], ◌+◌, ◌++◌, ◌≤◌, ◌<◌, ℕ, List, Option, None, length, take, drop, vec_len, MatchResult, IfErr, IfOk, OnOk};
+ghost use Rattle.std.specs.Prelude.{◌≡◌, ◌≢◌, [], ◌+◌, ◌≤◌, ◌<◌, ℕ, List, Option, None, length, take, drop, vec_len, MatchResult, IfErr, IfOk, OnOk};
 ghost use Rattle.std.specs.Io.KnownBytes.{Appends, Consumes, IsAtEnd};
 ghost use Rattle.rtps_capture.specs.Opening.{order_of};
 ghost use Rattle.rtps_tool.specs.CaptureFront.{HasReadFront};
@@ -29,7 +29,8 @@ const FORM: usize = 4;
 /// Reads the recording that is all the input, in either form, within limits. The input is read to its end, or past the
 /// most octets that it may have.
 ///
-/// An `Err` is the first fault of the input, or [`RunFault::Input`] where a read failed, or [`RunFault::Memory`].
+/// An `Err` is the first fault of the input, or [`RunFault::Input`] where a read failed, or [`RunFault::Memory`]. How much was
+/// read is open after the last two.
 pub fn read_input<R: Read>(
     alloc: Global,
     limits: Limits,

@@ -1,8 +1,8 @@
-ghost use Rattle.std.specs.Prelude.{◌≡◌, ◌==◌, ◌+◌, ◌^◌, ◌<◌, ◌≤◌, ◌∷◌, ◌++◌, [], length, take, ℕ, List, None, Ok, MatchResult};
+ghost use Rattle.std.specs.Prelude.{◌≡◌, ◌≤◌, ◌∷◌, ◌++◌, [], length, take, ℕ, List, None, Ok, MatchResult};
 ghost use Rattle.std.specs.List.{position};
 ghost use Rattle.std.specs.Str.Lines.{strip_carriage_return};
 ghost use Rattle.rtps_tool.specs.Outcomes.{IsFaultOf};
-ghost use Rattle.rtps_tool.specs.Lines.{lines_of, is_line_feed};
+ghost use Rattle.rtps_tool.specs.Lines.{is_line_feed};
 ghost use Rattle.rtps_tool.specs.RecordingText.{is_datagram_line as is_datagram_line_lem, recording_of_lines, recording_of_text};
 
 use crate::faults::RecFault;
