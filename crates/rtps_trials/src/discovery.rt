@@ -83,61 +83,78 @@ fn act(writer: [u8; 4], payload: Payload<'_>) -> Act<'_> {
     }
 }
 
+/// Payloads, as their parts, and what is refused in each.
+const REFUSED: [(&[&[u8]], NoticeFault); 19] = [
+    (&[b"\x00\x02\x00"], NoticeFault::CutRepresentation),
+    (&[b"\x00\x00\x00"], NoticeFault::CutRepresentation),
+    (&[b"\x00\x00\x00\x00", END], NoticeFault::Representation),
+    (&[b"\x01\x02\x00\x00", END], NoticeFault::Representation),
+    (&[b"\x00\x04\x00\x00"], NoticeFault::Representation),
+    (&[BIG], NoticeFault::List),
+    (&[BIG, TOPIC, b"\x00\x07\x00\x0c\x00"], NoticeFault::List),
+    (&[BIG, END], NoticeFault::NoGuid),
+    (&[BIG, PARTICIPANT_A, TOPIC, TYPE, END], NoticeFault::NoGuid),
+    (
+        &[BIG, b"\x00\x5a\x00\x0f123456789012345", TOPIC, TYPE, END],
+        NoticeFault::NoGuid,
+    ),
+    (&[BIG, WRITER_A, END], NoticeFault::NoTopic),
+    (&[BIG, WRITER_A, NO_TEXT, END], NoticeFault::NoType),
+    (
+        &[BIG, WRITER_A, NO_TEXT, TYPE, RELIABILITY_3, END],
+        NoticeFault::BadText,
+    ),
+    (
+        &[BIG, WRITER_A, TOPIC, NO_TEXT_TYPE, END],
+        NoticeFault::BadText,
+    ),
+    (
+        &[BIG, WRITER_A, TOPIC, TYPE, RELIABILITY_3, DURABILITY_4, END],
+        NoticeFault::BadReliability,
+    ),
+    (
+        &[BIG, WRITER_A, TOPIC, TYPE, RELIABILITY_0, END],
+        NoticeFault::BadReliability,
+    ),
+    (
+        &[BIG, WRITER_A, TOPIC, TYPE, CUT_RELIABILITY, END],
+        NoticeFault::BadReliability,
+    ),
+    (
+        &[BIG, WRITER_A, TOPIC, TYPE, RELIABLE, DURABILITY_4, END],
+        NoticeFault::BadDurability,
+    ),
+    (
+        &[BIG, WRITER_A, TOPIC, TYPE, CUT_DURABILITY, END],
+        NoticeFault::BadDurability,
+    ),
+];
+
 #[test]
 fn endpoint_faults_in_order(rt: HostRuntime) -> Result<(), Fail> {
-    let rows: [(&[&[u8]], NoticeFault); 19] = [
-        (&[b"\x00\x02\x00"], NoticeFault::CutRepresentation),
-        (&[b"\x00\x00\x00"], NoticeFault::CutRepresentation),
-        (&[b"\x00\x00\x00\x00", END], NoticeFault::Representation),
-        (&[b"\x01\x02\x00\x00", END], NoticeFault::Representation),
-        (&[b"\x00\x04\x00\x00"], NoticeFault::Representation),
-        (&[BIG], NoticeFault::List),
-        (&[BIG, TOPIC, b"\x00\x07\x00\x0c\x00"], NoticeFault::List),
-        (&[BIG, END], NoticeFault::NoGuid),
-        (&[BIG, PARTICIPANT_A, TOPIC, TYPE, END], NoticeFault::NoGuid),
-        (
-            &[BIG, b"\x00\x5a\x00\x0f123456789012345", TOPIC, TYPE, END],
-            NoticeFault::NoGuid,
-        ),
-        (&[BIG, WRITER_A, END], NoticeFault::NoTopic),
-        (&[BIG, WRITER_A, NO_TEXT, END], NoticeFault::NoType),
-        (
-            &[BIG, WRITER_A, NO_TEXT, TYPE, RELIABILITY_3, END],
-            NoticeFault::BadText,
-        ),
-        (
-            &[BIG, WRITER_A, TOPIC, NO_TEXT_TYPE, END],
-            NoticeFault::BadText,
-        ),
-        (
-            &[BIG, WRITER_A, TOPIC, TYPE, RELIABILITY_3, DURABILITY_4, END],
-            NoticeFault::BadReliability,
-        ),
-        (
-            &[BIG, WRITER_A, TOPIC, TYPE, RELIABILITY_0, END],
-            NoticeFault::BadReliability,
-        ),
-        (
-            &[BIG, WRITER_A, TOPIC, TYPE, CUT_RELIABILITY, END],
-            NoticeFault::BadReliability,
-        ),
-        (
-            &[BIG, WRITER_A, TOPIC, TYPE, RELIABLE, DURABILITY_4, END],
-            NoticeFault::BadDurability,
-        ),
-        (
-            &[BIG, WRITER_A, TOPIC, TYPE, CUT_DURABILITY, END],
-            NoticeFault::BadDurability,
-        ),
-    ];
-    for (parts, fault) in rows {
+    for (parts, fault) in REFUSED {
         let payload = joined(rt.alloc(), parts)?;
         assert_eq!(rt; read_endpoint(&payload, Side::Writer).err(), Some(fault));
         assert_eq!(rt; read_endpoint(&payload, Side::Reader).err(), Some(fault));
     }
-    assert_eq!(rt; NoticeFault::CutRepresentation as u8, 1);
-    assert_eq!(rt; NoticeFault::BadDurability as u8, 9);
     Ok(())
+}
+
+#[test]
+fn faults_have_numbers_in_their_order(rt: HostRuntime) {
+    for (fault, number) in [
+        (NoticeFault::CutRepresentation, 1),
+        (NoticeFault::Representation, 2),
+        (NoticeFault::List, 3),
+        (NoticeFault::NoGuid, 4),
+        (NoticeFault::NoTopic, 5),
+        (NoticeFault::NoType, 6),
+        (NoticeFault::BadText, 7),
+        (NoticeFault::BadReliability, 8),
+        (NoticeFault::BadDurability, 9),
+    ] {
+        assert_eq!(rt; (fault.number(), fault as u8), (number, number));
+    }
 }
 
 #[test]

@@ -107,6 +107,12 @@ fn sets_of_octets(rt: HostRuntime) {
 }
 
 #[test]
+fn faults_have_numbers_in_their_order(rt: HostRuntime) {
+    assert_eq!(rt; SetFault::BadSet.number(), 1);
+    assert_eq!(rt; SetFault::CutWords.number(), 2);
+}
+
+#[test]
 fn identities_print_their_digits(rt: HostRuntime) -> Result<(), Fail> {
     let guid = Guid {
         prefix: GuidPrefix([1, 2, 3, 4, 5, 6, 7, 8, 9, 10, 11, 0xff]),

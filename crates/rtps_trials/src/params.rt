@@ -51,8 +51,16 @@ fn refuses_what_is_cut(rt: HostRuntime) {
     for (octets, fault) in rows {
         assert_eq!(rt; ParamList::read(octets, Order::Big).err(), Some(fault));
     }
-    assert_eq!(rt; ParamFault::CutHeader as u8, 1);
-    assert_eq!(rt; ParamFault::CutValue as u8, 2);
+}
+
+#[test]
+fn faults_have_numbers_in_their_order(rt: HostRuntime) {
+    assert_eq!(rt; ParamFault::CutHeader.number(), 1);
+    assert_eq!(rt; ParamFault::CutValue.number(), 2);
+    assert_eq!(rt; ListFault::ValueTooLong.number(), 3);
+    assert_eq!(rt; ListFault::ValueUnaligned.number(), 4);
+    assert_eq!(rt; ListFault::PidReserved.number(), 5);
+    assert_eq!(rt; ListFault::Memory.number(), 6);
 }
 
 #[test]

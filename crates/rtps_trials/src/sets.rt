@@ -128,24 +128,28 @@ fn range(order: u8, place: u8, chance: &mut Chance) -> (u8, u8) {
     (single, single + 1)
 }
 
+/// Whether sets agree while ranges come in an order, and keep one range more at most behind each.
+fn agree_in_order(alloc: Global, order: u8, chance: &mut Chance) -> Result<bool, Memory> {
+    let mut sets = Sets::empty(alloc);
+    let mut agree = sets.agree();
+    for place in 0..40 {
+        let before = sets.merged.len();
+        let (lo, hi) = range(order, place, chance);
+        sets.add(lo, hi)?;
+        agree = agree && sets.agree() && sets.merged.len() <= before.saturating_add(1);
+    }
+    Ok(agree)
+}
+
 #[test]
 fn sets_agree_in_any_order_of_ranges(rt: HostRuntime) -> Result<(), Fail> {
-    for seed in 1..40u64 {
-        let mut chance = Chance(seed);
-        for order in 0..10 {
-            let mut sets = Sets::empty(rt.alloc());
-            assert!(rt; sets.agree());
-            for place in 0..40 {
-                let before = sets.merged.len();
-                let (lo, hi) = range(order, place, &mut chance);
-                sets.add(lo, hi)?;
-                assert!(rt;
-                    sets.agree(),
-                    "order {order}, place {place}, seed {seed}: {lo} to {hi}"
-                );
-                assert!(rt; sets.merged.len() <= before.saturating_add(1));
-            }
-        }
+    let mut chance = Chance(1);
+    for turn in 0..390u16 {
+        let order = (turn % 10) as u8;
+        assert!(rt;
+            agree_in_order(rt.alloc(), order, &mut chance)?,
+            "order {order}, turn {turn}"
+        );
     }
     Ok(())
 }
@@ -160,21 +164,38 @@ const BITS: [u64; 6] = [
     u64::MAX,
 ];
 
+/// Whether sets agree while bits come from a number on, those of `BITS` from a place on, with a range behind each.
+fn agree_on_bits(alloc: Global, lo: u8, first: usize, chance: &mut Chance) -> Result<bool, Memory> {
+    let mut sets = Sets::empty(alloc);
+    let mut agree = true;
+    for place in first..BITS.len() {
+        sets.add_bits(lo, BITS[place])?;
+        agree = agree && sets.agree();
+        let (from, to) = range(9, 0, chance);
+        sets.add(from, to)?;
+        agree = agree && sets.agree();
+    }
+    Ok(agree)
+}
+
 #[test]
 fn sets_agree_on_bits_with_ranges_between(rt: HostRuntime) -> Result<(), Fail> {
     let mut chance = Chance(1);
-    for lo in 1..36u8 {
-        for first in 0..BITS.len() {
-            let mut sets = Sets::empty(rt.alloc());
-            for place in first..BITS.len() {
-                let bits = BITS[place];
-                sets.add_bits(lo, bits)?;
-                assert!(rt; sets.agree(), "{bits} from {lo}");
-                let (from, to) = range(9, 0, &mut chance);
-                sets.add(from, to)?;
-                assert!(rt; sets.agree(), "{from} to {to} behind {bits} from {lo}");
-            }
-        }
+    for turn in 6..216u8 {
+        let (lo, first) = (turn / 6, usize::from(turn % 6));
+        assert!(rt;
+            agree_on_bits(rt.alloc(), lo, first, &mut chance)?,
+            "from number {lo} and place {first} on"
+        );
+    }
+    Ok(())
+}
+
+/// Adds 500 numbers, every second one, from 1 or from 2 on.
+fn add_500(set: &mut MergedRanges, is_even: bool) -> Result<(), Memory> {
+    for half in 0..500u16 {
+        let number = 1 + i64::from(is_even) + i64::from(2 * half);
+        set.add(number, number + 1)?;
     }
     Ok(())
 }
@@ -182,16 +203,10 @@ fn sets_agree_on_bits_with_ranges_between(rt: HostRuntime) -> Result<(), Fail> {
 #[test]
 fn even_numbers_are_500_ranges_and_with_the_odd_ones_1(rt: HostRuntime) -> Result<(), Fail> {
     let mut set = MergedRanges::empty(rt.alloc());
-    for half in 1..501u16 {
-        let even = i64::from(2 * half);
-        set.add(even, even + 1)?;
-    }
+    add_500(&mut set, true)?;
     assert_eq!(rt; set.len(), 500);
     assert_eq!(rt; set.front(), 1);
-    for half in 1..501u16 {
-        let odd = i64::from(2 * half - 1);
-        set.add(odd, odd + 1)?;
-    }
+    add_500(&mut set, false)?;
     assert_eq!(rt; set.len(), 1);
     assert_eq!(rt; set.front(), 1001);
     Ok(())
