@@ -89,6 +89,14 @@ impl Counts {
         }
     }
 
+    /// Writes how many messages are refused when they are read, for each fault.
+    fn write_unread<W: fmt::Write>(&self, f: &mut fmt::Formatter<W>) -> fmt::Result {
+        for fault in READING {
+            write_refused(f, "not read", fault, self.refused_for(fault.number()))?;
+        }
+        Ok(())
+    }
+
     /// An `Err` where a message that was written does not read back.
     pub(crate) fn outcome(&self) -> Result<(), Fault> {
         if self.differs > 0 {
@@ -117,9 +125,7 @@ impl fmt::Display for Counts {
         writeln!(f, "other octets, the same items: {}", self.otherwise)?;
         writeln!(f, "other items: {}", self.differs)?;
         writeln!(f, "not written, with a skipped item: {}", self.skipped)?;
-        for fault in READING {
-            write_refused(f, "not read", fault, self.refused_for(fault.number()))?;
-        }
+        self.write_unread(f)?;
         for fault in WRITING {
             write_refused(f, "not written", fault, self.refused_for(fault.number()))?;
         }

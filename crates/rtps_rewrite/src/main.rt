@@ -4,11 +4,11 @@
 //!                               and prints how many are written as they were, and why others are not written
 //!     rtps_rewrite open         prints a recording of an acknowledgement that lacks
 //!     rtps_rewrite unfounded    prints a recording of an acknowledgement of a number that nothing told
-//!     rtps_rewrite read N       reads each message of standard input that can be written N times
-//!     rtps_rewrite write N      reads each of them once and writes it N times
+//!     rtps_rewrite read N       reads each message of standard input with no refusal and no skipped item N times
+//!     rtps_rewrite write N      reads each of them once and writes it N times, where it can be written
 //!
-//! The status is 1 where a message that was written does not read back, 2 where words or input are refused, and 3 where
-//! memory, reading or writing fails.
+//! The status is 1 where a message that was written does not read back or one that is made is not written, 2 where words or
+//! input are refused, and 3 where memory, reading or writing fails.
 #![tactic(auto)]
 
 mod counts;
