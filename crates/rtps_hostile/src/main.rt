@@ -2,13 +2,13 @@
 //! refused. Standard input has recordings, with an empty line between them; the first one announces the pair,
 //! and each other goes on from there.
 //!
-//!     rtps_hostile              tries all recordings, and prints a line for each group with what was counted, and the texts
-//!                               of the first one that are read and written octet by octet
+//!     rtps_hostile              tries all recordings, and prints a line for each group with what was counted, the texts
+//!                               of the first one that are read and written octet by octet, and a line for each call
 //!     rtps_hostile CALL         makes this call on the first recording, once more where it is refused memory, and
 //!                               prints whether it was; `tests/refused.py` has each request refused in turn
 //!
-//! A difference is told on standard error; the status is then 1. It is 3 where memory is refused outside of the call,
-//! or the input cannot be read.
+//! A difference is told on standard error; the status is then 1. It is 2 where there is no such call or the input has no
+//! such recordings, and 3 where memory is refused outside of the call, or reading or writing fails.
 #![tactic(auto)]
 
 mod acknowledgements;

@@ -1,5 +1,5 @@
 //! Each octet of each datagram of each recording is set to 00, to ff and has its lowest bit turned, where that changes it.
-//! `audit` answers, and each verdict is what every other way to judge gives.
+//! `audit` answers, and each verdict is what the index gives, and the judge with each kind of set.
 
 use crate::fault::Fault;
 use crate::recordings::{ANNOUNCING, datagrams};
@@ -125,7 +125,8 @@ fn judge_changed(
     judge_every_way(alloc, &with_it)
 }
 
-/// Counts the rows of the audit. Each verdict is the same by every way to judge, and so is that of the pair.
+/// Counts the rows of the audit. Each verdict is the same by the index and by the judge with each of three sets, and so is
+/// that of the pair.
 pub(crate) fn judge_every_way(alloc: Global, recording: &[&[u8]]) -> Result<usize, Fault> {
     let index = Index::build(alloc, recording)?;
     judge_beside(alloc, recording, &index)

@@ -1,4 +1,4 @@
-//! Verdicts and reports where there is memory: each call that may want some answers, and as every other does.
+//! Verdicts and reports where there is memory, by the judge with each kind of set and by the index.
 
 use crate::said::{
     ACK_NACK_2, ACK_NACK_3, ACK_NACK_4, DATA_1_AND_2, DATA_3_AND_HEARTBEAT, READER, WRITER,
@@ -13,7 +13,8 @@ use rtps_receiver::{Act, ActBody, Walk};
 use std::alloc::Global;
 use std::test::Fail;
 
-/// The verdicts on number 3, which the reader claims with those below it, from each of the numbers 1 to 5 on.
+/// The verdicts on a pair whose reader claims number 3, the only one sent, and those below it, from each of the numbers 1
+/// to 5 on.
 const JOINED_LATE: [Verdict; 5] = [
     Verdict::Unfounded {
         datagram: 2,
