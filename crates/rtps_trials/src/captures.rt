@@ -42,12 +42,9 @@ fn frames_stand_for_datagrams(rt: HostRuntime) -> Result<(), Fail> {
 fn a_capture_is_read_in_any_pieces(rt: HostRuntime) -> Result<(), Fail> {
     let octets = capture(rt.alloc())?;
     for cut in [0, 1, 3, 4, 5, 23, 24, 40, 41, 56] {
-        for most in [1, usize::MAX] {
-            assert!(rt;
-                reads_as_whole(rt.alloc(), in_pieces(&octets, most, cut)),
-                "{cut}"
-            );
-        }
+        let slow = reads_as_whole(rt.alloc(), in_pieces(&octets, 1, cut));
+        let fast = reads_as_whole(rt.alloc(), in_pieces(&octets, usize::MAX, cut));
+        assert!(rt; slow && fast, "{cut}");
     }
     Ok(())
 }

@@ -145,18 +145,28 @@ fn runs_print_the_texts_within_the_size_of_the_input(rt: HostRuntime) -> Result<
     Ok(())
 }
 
+/// Whether each run refuses a text as too large for limits, and prints nothing.
+fn is_refused_by_each(alloc: Global, text: &[u8], limits: Limits) -> Result<bool, Fail> {
+    for (run, _, _) in RUNS {
+        let mut output = Vec::new(alloc);
+        let outcome = run_within(alloc, run, limits, text, &mut output, number(2)?);
+        if outcome != Err(RunFault::Recording(RecFault::TooMany)) || !output.is_empty() {
+            return Ok(false);
+        }
+    }
+    Ok(true)
+}
+
 #[test]
 fn runs_print_nothing_of_an_input_that_is_too_large(rt: HostRuntime) -> Result<(), Fail> {
     let alloc = rt.alloc();
     let text = lines(alloc)?;
     for (datagrams, octets) in [(3, 10_000), (4, 700)] {
         let limits = Limits { datagrams, octets };
-        for (run, _, _) in RUNS {
-            let mut output = Vec::new(alloc);
-            let outcome = run_within(alloc, run, limits, text.as_bytes(), &mut output, number(2)?);
-            assert_eq!(rt; outcome, Err(RunFault::Recording(RecFault::TooMany)));
-            assert!(rt; output.is_empty());
-        }
+        assert!(rt;
+            is_refused_by_each(alloc, text.as_bytes(), limits)?,
+            "{octets}"
+        );
     }
     Ok(())
 }
