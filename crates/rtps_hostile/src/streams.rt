@@ -146,9 +146,9 @@ fn octet_by_octet(left: &[u8], fails_at: usize, failure: ErrorKind) -> Slow<'_> 
 pub(crate) fn count_reads(alloc: Global, input: &[u8]) -> Result<usize, Fault> {
     let mut count = 0usize;
     for run in RUNS {
-        for failure in [ErrorKind::ConnectionReset, ErrorKind::Interrupted] {
-            count = count.saturating_add(fail_each_read(alloc, run, input, failure)?);
-        }
+        let reset = fail_each_read(alloc, run, input, ErrorKind::ConnectionReset)?;
+        let interrupted = fail_each_read(alloc, run, input, ErrorKind::Interrupted)?;
+        count = count.saturating_add(reset).saturating_add(interrupted);
     }
     Ok(count)
 }
@@ -174,16 +174,16 @@ fn fail_each_read(
     Ok(input.len().saturating_add(1))
 }
 
-/// Counts inputs that end early, behind each octet. What is read of one octet by octet is what is read of it at once.
+/// Counts inputs that end early, before each octet. What is read of one octet by octet is what is read of it at once.
 pub(crate) fn count_ends(alloc: Global, input: &[u8]) -> Result<usize, Fault> {
     let mut count = 0usize;
     for run in RUNS {
-        count = count.saturating_add(end_behind_each_octet(alloc, run, input)?);
+        count = count.saturating_add(end_before_each_octet(alloc, run, input)?);
     }
     Ok(count)
 }
 
-fn end_behind_each_octet(alloc: Global, run: Run, input: &[u8]) -> Result<usize, Fault> {
+fn end_before_each_octet(alloc: Global, run: Run, input: &[u8]) -> Result<usize, Fault> {
     for length in 0..input.len() {
         let left = &input[..length];
         let mut wanted = Vec::new(alloc);
@@ -211,9 +211,15 @@ const WRITERS: [(usize, bool); 4] = [
 pub(crate) fn count_writers(alloc: Global, input: &[u8]) -> Result<usize, Fault> {
     let mut count = 0usize;
     for run in RUNS {
-        for (most, fails) in WRITERS {
-            count = count.saturating_add(fail_each_write(alloc, run, input, most, fails)?);
-        }
+        count = count.saturating_add(fail_each_writer(alloc, run, input)?);
+    }
+    Ok(count)
+}
+
+fn fail_each_writer(alloc: Global, run: Run, input: &[u8]) -> Result<usize, Fault> {
+    let mut count = 0usize;
+    for (most, fails) in WRITERS {
+        count = count.saturating_add(fail_each_write(alloc, run, input, most, fails)?);
     }
     Ok(count)
 }
