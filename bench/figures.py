@@ -5,8 +5,8 @@
 
 A NAME is a recording, or a recording and a command, as robot or robot_why; without a command it is `audit`. Without a NAME
 all are measured. PROGRAM is the built program of this repository where none is given. OTHER is another program with the
-same commands. Beside them, on the same file: `cat`; `tshark` of a capture, where it is installed; `xxd -r -p` of a text; and
-`audit` where the command is another.
+commands show, list and audit. Beside them, on the same file: `cat`; `tshark` of a capture, where it is installed; `xxd -r -p`
+of a text; and `audit` where the command is another.
 
 Recordings are made in the folder RTPS_BENCH_DIR, where that is set, and stay there; else in a folder that is removed. Each
 figure is the least wall time of RUNS runs that take turns (3 where none is given), and the greatest memory of the program.
@@ -150,7 +150,7 @@ def beside_of(path, view, program, other):
     """the commands beside the program's: the name of each, and its words"""
     if view != 'audit':
         yield 'audit', [program, 'audit', path]
-    if other:
+    if other and view in ('show', 'list', 'audit'):
         yield os.path.basename(other), [other, *COMMANDS[view], path]
     yield 'cat', ['cat', path]
     if path.endswith('.rec'):
@@ -161,6 +161,8 @@ def beside_of(path, view, program, other):
 
 def measured(name, program, other, runs, folder):
     recording, _, view = (name, '', 'audit') if name in RECORDINGS else name.rpartition('_')
+    if recording not in RECORDINGS or view not in COMMANDS:
+        raise SystemExit(__doc__)
     ending, datagrams = RECORDINGS[recording]
     path = os.path.join(folder, f'{recording}.{ending}')
     if not os.path.exists(path):
@@ -170,7 +172,9 @@ def measured(name, program, other, runs, folder):
     times, peak = {}, 0
     for _ in range(runs):
         for label, words in [('', [program, *COMMANDS[view], path]), *beside.items()]:
-            seconds, memory, _ = run(words)
+            seconds, memory, status = run(words)
+            if status > 1:
+                raise SystemExit(f'figures.py: {" ".join(words)} ends with status {status}')
             times[label] = min(seconds, times.get(label, seconds))
             peak = max(peak, memory * 1024 if label == '' else 0)
     compared = ', '.join(f'`{label}` {times[label]:.2f} s' for label in beside)
