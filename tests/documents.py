@@ -1,14 +1,17 @@
 #!/usr/bin/env python3
-"""Tests that what the guide and the README print of recordings is what the program prints of them.
+"""Tests that what the documents show is what the program prints, and that what they name is there.
 
     tests/documents.py PROGRAM
 
-Each command of these pages that names a recording of examples/ is run, in the order of the page, and so are `audit` and
-`why` of each of these recordings. A block of a page that has rows has to stand so in what one of them printed. A block
-whose writer is in no recording of examples/ was printed of another one, and is counted alone. The last line is
-'N passed, M failed'.
+Each command of a page that names a recording of examples/ is run, in the order of the page, and so are `audit`, `why` and
+`audit --json` of each of these recordings. A block of a page that shows lines of an answer has to stand so in what one of
+them printed; JSON may be broken into lines. A block whose writer is in no recording of examples/ is of another recording,
+and is counted alone. Code of a page has to stand in the program of crates/rtps_example, line by line, in this order; `..`
+stands for lines that are left out. A page or a folder that a page links to or names has to be there, and pages have at most
+so many lines. The last line is 'N passed, M failed'.
 """
 import os
+import re
 import subprocess
 import sys
 import tempfile
@@ -16,8 +19,14 @@ import tempfile
 sys.dont_write_bytecode = True
 from program import ROOT, Counts, file_of
 
-PAGES = (('docs', 'GUIDE.md'), ('README.md',))
+# Each page, and the most lines that it may have.
+PAGES = {'README.md': 130, 'CONTRIBUTING.md': 120, 'CHANGELOG.md': None, 'docs/GUIDE.md': 250, 'docs/ARCHITECTURE.md': None,
+         'docs/PROOFS.md': None, 'docs/PERFORMANCE.md': None, 'docs/DECISIONS.md': 120}
 EXAMPLES = sorted(name for name in os.listdir(os.path.join(ROOT, 'examples')) if name.endswith(('.rec', '.pcap')))
+COMMANDS = 'bin/rtps-audit ', 'grep ', 'head '
+ANSWERS = re.compile(r'(pairs?|announced|acknowledged|payloads|number|claimed|datagrams) ["0-9a-z]|\{"pairs"|[0-9a-f]{24}\.[0-9a-f]{8} ')
+LINKS = re.compile(r'\]\(([^)#]+)\)')
+NAMED = re.compile(r'`((?:bin|bench|tests|docs|examples|crates|package)/[a-zA-Z0-9_./-]+)`')
 
 
 def blocks_of(page):
@@ -36,12 +45,18 @@ def blocks_of(page):
     return blocks
 
 
-def has_rows(block):
-    return any(line.startswith(('pair ', 'pairs ')) for line in block)
+def prose_of(page):
+    """a page without its code in fences, and that code"""
+    parts = re.split(r'^```.*$', page, flags=re.MULTILINE)
+    return ''.join(parts[::2]), parts[1::2]
+
+
+def is_answer(block):
+    return bool(ANSWERS.match(block[0]))
 
 
 def is_command(line):
-    return line.startswith(('bin/rtps-audit ', 'grep ', 'head ')) and ('examples/' in line or 'late.rec' in line)
+    return line.startswith(COMMANDS) and ('examples/' in line or 'late.rec' in line)
 
 
 def printed(program, commands, folder):
@@ -52,28 +67,62 @@ def printed(program, commands, folder):
         yield done.stdout.decode()
 
 
+def unbroken(text):
+    """a text whose lines begin without spaces; JSON as one line"""
+    lines = [line.lstrip() for line in text.splitlines()]
+    return ''.join(lines) if text.lstrip().startswith('{') else ''.join(f'{line}\n' for line in lines)
+
+
+def stands_in(code, source):
+    """each line of the code is a line of the source, in this order"""
+    lines = iter(line.strip() for line in source.splitlines())
+    return all(wanted.strip() in lines for wanted in code.splitlines() if wanted.strip() not in ('', '..'))
+
+
+def answers(tests, name, blocks, known, outputs):
+    """compares the blocks of a page that show answers; how many are of another recording"""
+    others = 0
+    for block in filter(is_answer, blocks):
+        text = unbroken('\n'.join(block))
+        writer = re.search(r'[0-9a-f]{24}\.[0-9a-f]{8}', text)
+        if writer and not any(writer.group() in output for output in known):
+            others += 1
+            continue
+        tests.holds(f'{name}: {block[0]}', True, any(text in output for output in outputs))
+    return others
+
+
+def names(tests, name, page):
+    """what a page links to, or names in one of the folders, is there"""
+    links = [os.path.join(os.path.dirname(name), link) for link in LINKS.findall(page) if ':' not in link]
+    for path in sorted({*links, *NAMED.findall(page)}):
+        if 'NAME' not in path and '/out' not in path:
+            tests.holds(f'{name} names {path}', True, os.path.exists(os.path.join(ROOT, path)))
+
+
 def main():
     if len(sys.argv) != 2:
         raise SystemExit(__doc__)
     program, tests, others, commands = os.path.realpath(sys.argv[1]), Counts(), 0, 0
+    example = file_of('crates', 'rtps_example', 'src', 'main.rt').decode()
     with tempfile.TemporaryDirectory() as folder:
         os.symlink(os.path.join(ROOT, 'examples'), os.path.join(folder, 'examples'))
-        whole = [f'bin/rtps-audit {view} examples/{name}' for view in ('audit', 'why') for name in EXAMPLES]
-        known = [*printed(program, whole, folder)]
-        for page in PAGES:
-            blocks = blocks_of(file_of(*page).decode())
-            named = [line.split('  #')[0] for block in blocks for line in block if is_command(line)]
-            outputs = known + [*printed(program, named, folder)]
-            commands += len(named)
-            for block in filter(has_rows, blocks):
-                row = next((line for line in block if '.' in line), '')
-                writer = next((word for word in row.split() if '.' in word), '')
-                if writer and not any(writer in output for output in known):
-                    others += 1
-                    continue
-                text = ''.join(f'{line}\n' for line in block)
-                tests.holds(f"{'/'.join(page)}: {row or block[0]}", True, any(text in output for output in outputs))
-    print(f'documents: {commands} commands run, {tests.passed + tests.failed} blocks compared, {others} of another recording')
+        whole = [f'bin/rtps-audit {view} examples/{name}' for view in ('audit', 'why', 'audit --json') for name in EXAMPLES]
+        known = [unbroken(output) for output in printed(program, whole, folder)]
+        for name, most in PAGES.items():
+            page = file_of(*name.split('/')).decode()
+            prose, codes = prose_of(page)
+            blocks = blocks_of(prose)
+            run = [line.split('  #')[0] for block in blocks for line in block if is_command(line)]
+            outputs = known + [unbroken(output) for output in printed(program, run, folder)]
+            commands += len(run)
+            others += answers(tests, name, blocks, known, outputs)
+            for code in codes:
+                tests.holds(f'{name}: its code is that of the example', True, stands_in(code, example))
+            names(tests, name, page)
+            if most:
+                tests.holds(f'{name} has at most {most} lines', True, len(page.splitlines()) <= most)
+    print(f'documents: {commands} commands run, {tests.passed + tests.failed} things compared, {others} answers of another recording')
     return tests.told()
 
 
