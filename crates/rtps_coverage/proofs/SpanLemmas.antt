@@ -5,8 +5,9 @@ use Rattle.std.specs.List.{list_any, find, filter}
 use Rattle.std.proofs.lemmas.List.Elements.{All-head, All-tail, All-cons}
 use Rattle.std.proofs.lemmas.Bool.{or_right}
 use Rattle.std.proofs.lemmas.Bool.Decides.{nat_tests}
-use Rattle.rtps_coverage.specs.declared.span.Span.{Span}
-use Rattle.rtps_coverage.specs.Spans.{has_number, IsBounded, Reaches}
+use Rattle.rtps_coverage.specs.declared.coverage.Span.{Span}
+use Rattle.rtps_coverage.specs.Coverage.{IsLeastFrom}
+use Rattle.rtps_coverage.specs.Spans.{any_span_has, has_number, IsBounded}
 
 -- some range has the number where the first that has it is found
 pub list_any-find : (p : Span → Bool) (spans : List Span) → list_any p spans ≡ is_some (find p spans)
@@ -104,7 +105,7 @@ tests_join : (front lo hi reached n : ℕ) (all kept : Bool) → 1 ≤ lo → lo
 tests_join front lo hi reached n all kept a b c d e f g h = grind (arith, nat_tests)
 
 -- the set after a range that begins at the front or below, and ends past it
-pub joins_front : (front lo hi reached : ℕ) (spans : List Span) → 1 ≤ lo → lo ≤ front → front < hi → All IsBounded spans → Reaches spans hi reached → (n : ℕ)
+pub joins_front : (front lo hi reached : ℕ) (spans : List Span) → 1 ≤ lo → lo ≤ front → front < hi → All IsBounded spans → IsLeastFrom (any_span_has spans) hi reached → (n : ℕ)
     → ((nat_le 1 n && nat_lt n reached) || list_any (has_number n) (filter (λ span. nat_lt reached span.lo) spans)) ≡ (((nat_le 1 n && nat_lt n front) || list_any (has_number n) spans) || (nat_le lo n && nat_lt n hi))
 joins_front front lo hi reached spans a b c bounded r n =
     let kept = filter (λ span. nat_lt reached span.lo) spans in

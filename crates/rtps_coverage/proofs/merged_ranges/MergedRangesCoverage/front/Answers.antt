@@ -2,7 +2,7 @@ use Rattle.std.proofs.Common.{◌≡◌, ◌-◌, pos, subst, arith, to_z, of_z,
 use Rattle.std.proofs.lemmas.Int.{ints}
 use Rattle.rtps_coverage.specs.Coverage.{IsFront}
 use Rattle.rtps_coverage.specs.MergedRanges.{covered_of, covered_in_range}
-use Rattle.rtps_coverage.proofs.KeptLemmas.{front_of}
+use Rattle.rtps_coverage.proofs.RangeMapLemmas.{front_of}
 use Rattle.rtps_coverage.proofs.merged_ranges.MergedRangesCoverage.front.Goals as goal
 
 pub returns-in-Some : goal.returns-in-Some
