@@ -85,6 +85,9 @@ impl Coverage for MergedRanges {
     }
 
     fn covers(&self, n: i64) -> bool {
-        1 <= n && self.end_of(n.cast_unsigned()).is_some()
+        if n < 1 {
+            return false;
+        }
+        self.end_of(n.cast_unsigned()).is_some()
     }
 }
