@@ -1,9 +1,15 @@
 -- Ranges in a map. The key of a range is a number in it, and stays the same as the range grows.
 -- own: so a range that grows needs no memory, and the cost of a number does not depend on the order of numbers.
 use Rattle.std.specs.BTreeMap as tree
-use Rattle.std.specs.Prelude.{ℕ, Bool, true, false, ◌≡◌, ◌≤◌, ◌<◌, ◌^◌, Option, Some, None, is_some}
-use Rattle.std.specs.BTreeMap.{BTreeMap, IsOrdered, values}
+use Rattle.std.specs.Prelude.{ℕ, Bool, true, ◌≡◌, ◌≤◌, ◌<◌, ◌^◌, List, Option, Some, None, is_some, IfSome, All, refl}
+use Rattle.std.specs.BTreeMap.{BTreeMap, IsOrdered, is_at, values}
+use Rattle.std.specs.Cmp.{eq_by_cmp_equiv}
+use Rattle.std.specs.List.Sorted.{IsStrictlySortedBy}
+use Rattle.std.specs.Map.{keys_of, values_of, lookup}
 use Rattle.std.specs.Ordering.{nat_cmp}
+use Rattle.std.proofs.lemmas.Cmp.{nat_cmp_total}
+use Rattle.std.proofs.lemmas.Map.Keys.{IsDistinct-from_sorted}
+use Rattle.std.proofs.lemmas.Map.Views.{All-values_from_lookup}
 use Rattle.rtps_coverage.specs.Spans.{any_span_has}
 use Rattle.rtps_coverage.specs.declared.coverage.Span.{Span}
 
@@ -88,3 +94,17 @@ pub record IsWider (kept : BTreeMap ℕ Span) (key : ℕ) (span : Span) : Type 0
   pub bounded : span.hi < 2 ^ 63
   pub before : (other : ℕ) (that : Span) → HasRange kept other that → other < key → that.hi < span.lo
   pub after : (other : ℕ) (that : Span) → HasRange kept other that → key < other → span.hi < that.lo
+
+-- ---- what holds of each range
+
+-- what holds of a value where there is one
+if_some : (o : Option Span) (P : Span → Type 0) → ((span : Span) → o ≡ Some span → P span) → IfSome o P
+if_some None P f = tt
+if_some (Some span) P f = f span refl
+
+-- what holds of the range of each key holds of each range
+pub values_all : (es : List (ℕ × Span)) (P : Span → Type 0) → IsStrictlySortedBy nat_cmp (keys_of es)
+    → ((key : ℕ) (span : Span) → lookup (is_at (nat_cmp key)) es ≡ Some span → P span) → All P (values_of es)
+values_all es P sorted f =
+    All-values_from_lookup (eq_by_cmp_equiv nat_cmp_total) P es (IsDistinct-from_sorted nat_cmp (keys_of es) sorted)
+    (λ key. if_some (lookup (is_at (nat_cmp key)) es) P (λ span e. f key span e))
