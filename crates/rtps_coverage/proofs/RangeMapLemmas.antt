@@ -33,11 +33,13 @@ not_gt a b le =
 pub not_at : (a b : ℕ) → b < a → is_eq (nat_cmp a b) ≡ false
 not_at a b lt = ap is_eq (sym (nat_cmp_is a b Greater lt))
 
--- no range has a number where none that is kept has it
+-- ---- which numbers the ranges have
+
+-- none has a number that the range of no key has
 pub none_has : (kept : BTreeMap ℕ Span) (n : ℕ) → IsOrdered nat_cmp kept → ((key : ℕ) (span : Span) → HasRange kept key span → has_number n span ≡ false) → kept_has kept n ≡ false
 none_has kept n ordered f = list_any_none (has_number n) (values kept) (values_all kept.entries (λ span. has_number n span ≡ false) ordered f)
 
--- some range has a number where one that is kept has it
+-- some range has each number that the range of a key has
 pub some_has : (n key : ℕ) (span : Span) (es : List (ℕ × Span)) → lookup (is_at (nat_cmp key)) es ≡ Some span → has_number n span ≡ true → list_any (has_number n) (values_of es) ≡ true
 some_has n key span [] e h = absurd (none-some span e)
 some_has n key span (x ∷ xs) e h = step (λ k. some_has n key span xs k h) (is_at (nat_cmp key) x.0) e

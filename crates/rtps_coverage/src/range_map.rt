@@ -52,19 +52,14 @@ pub(crate) fn range_with(kept: &BTreeMap<u64, Span>, n: u64) -> Option<Span>
 }
 
 /// The first range that overlaps or touches the numbers from `lo` on and below `hi`, with its key.
-///
-/// The last range is asked first, since numbers mostly come in order.
 fn first_touching(kept: &BTreeMap<u64, Span>, lo: u64, hi: u64) -> Option<(u64, Span)>
     requires apart { IsApart kept.now }
     requires ordered { lo < hi }
     ensures { MatchOption result (IsClear kept.now lo hi) (λ p. IsFirstTouching kept.now lo hi p.0 p.1) }
 {
-    let (key, last) = last_range(kept)?;
+    let (_, last) = last_range(kept)?;
     if last.hi < lo {
         return None;
-    }
-    if last.lo <= lo {
-        return Some((key, last));
     }
     if let Some((key, span)) = last_up_to(kept, lo) {
         if lo <= span.hi {
@@ -152,6 +147,8 @@ fn insert(kept: &mut BTreeMap<u64, Span>, lo: u64, hi: u64) -> Result<(), Memory
 }
 
 /// Joins the numbers from `lo` on and below `hi`. After `Memory` the map is the same.
+///
+/// The last range is tried first, since numbers mostly come in order.
 pub(crate) fn join(kept: &mut BTreeMap<u64, Span>, lo: u64, hi: u64) -> Result<(), Memory>
     requires apart { IsApart kept.old }
     requires positive { 1 ≤ lo }
@@ -164,6 +161,13 @@ pub(crate) fn join(kept: &mut BTreeMap<u64, Span>, lo: u64, hi: u64) -> Result<(
     ensures touching { (n : ℕ) → kept_has kept.old n ≡ true → lo ≤ n + 1 → n ≤ hi
         → IsOk result × (btree_map_len kept.new ≤ btree_map_len kept.old) }
 {
+    if let Some((key, last)) = last_range(kept) {
+        if last.lo <= lo && lo <= last.hi {
+            let hi = hi.max(last.hi);
+            widen(kept, key, Span { lo: last.lo, hi });
+            return Ok(());
+        }
+    }
     match first_touching(kept, lo, hi) {
         Some((key, first)) => {
             grow(kept, key, first, lo, hi);
