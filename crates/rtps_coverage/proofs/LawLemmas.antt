@@ -1,5 +1,5 @@
 -- The ranges of a set lie apart.
-use Rattle.std.proofs.Common.{ℕ, Bool, true, false, cond, ◌≡◌, ◌<◌, List, [], ◌∷◌, Option, Some, refl, ◌∙◌, sym, ap, subst, arith}
+use Rattle.std.proofs.Common.{ℕ, Bool, true, false, cond, ◌≡◌, ◌<◌, List, [], ◌∷◌, Some, refl, ◌∙◌, sym, ap, subst, arith}
 use Rattle.std.specs.Prelude.{suc, length}
 use Rattle.std.specs.List.{AllByRecursion}
 use Rattle.std.specs.List.Sorted.{IsStrictlySortedBy}

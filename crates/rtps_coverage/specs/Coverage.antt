@@ -1,4 +1,4 @@
--- Sets of sequence numbers. A set is a test that each of its numbers passes.
+-- Sets of sequence numbers. A set is a test of numbers: it has those that pass.
 -- own: a verdict asks which numbers were told, and not in which order or how often.
 use Rattle.std.specs.Prelude.{ℕ, Bool, true, false, ◌≡◌, ◌≤◌, ◌<◌, ◌-◌, ◌^◌, ◌&&◌, ◌||◌, ℤ, pos, negsuc, ◌≤ℤ◌, ◌<ℤ◌, int_le, int_lt}
 
