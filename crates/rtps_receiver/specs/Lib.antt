@@ -1,4 +1,5 @@
 pub mod Acts
+pub mod Audience
 pub mod Destination
 pub mod Speech
 pub mod Values

@@ -5,8 +5,9 @@ use rtps_ids::{EntityId, Guid, GuidPrefix};
 const UNKNOWN: EntityId = EntityId([0; 4]);
 
 /// Whom it is for that a writer says something: of everyone or of one participant, each reader or one (DDSI-RTPS 2.5,
-/// 8.3.4 "The RTPS Message Receiver").
-#[derive(Clone, Copy)]
+/// 8.3.4 "The RTPS Message Receiver"). Audiences compare by their destinations, everyone first, and then by the reader,
+/// octet by octet.
+#[derive(Clone, Copy, PartialEq, Eq, PartialOrd, Ord, Debug)]
 pub struct Audience {
     /// The participant, or None for everyone.
     pub dest: Option<GuidPrefix>,
@@ -35,6 +36,7 @@ impl Audience {
 impl<'a> Act<'a> {
     ghost use Rattle.std.specs.Prelude.{◌↔◌, ◌≡◌, IsTrue, Some};
     ghost use Rattle.rtps_ids.specs.declared.identity.Guid.{Guid as GuidValue};
+    ghost use Rattle.rtps_receiver.specs.Audience.{audience_of};
     ghost use Rattle.rtps_receiver.specs.Speech.{IsAnswer, IsHeardBy, IsSpokenBy, is_answer, is_heard_by, is_spoken_by, origin_of, reader_named, writer_answered, writer_named};
     ghost use Rattle.rtps_receiver.specs.Values.{act_value};
 
@@ -69,14 +71,20 @@ impl<'a> Act<'a> {
         ensures relation { IsTrue result ↔ IsHeardBy (act_value self.now) reader }
         ensures test { result ≡ is_heard_by (act_value self.now) reader }
     {
-        let Some(named) = self.reader_named() else {
-            return false;
-        };
-        let audience = Audience {
+        match self.audience() {
+            Some(audience) => audience.has(reader),
+            None => false,
+        }
+    }
+
+    /// Whom a DATA, HEARTBEAT or GAP is for. None of an ACKNACK.
+    pub fn audience(&self) -> Option<Audience>
+        ensures { result ≡ audience_of (act_value self.now) }
+    {
+        Some(Audience {
             dest: self.dest,
-            reader: named,
-        };
-        audience.has(reader)
+            reader: self.reader_named()?,
+        })
     }
 
     /// Whether the act is an ACKNACK of this reader that answers this writer: its destination is the writer's

@@ -15,6 +15,7 @@ pub mod WrittenData
 pub mod WrittenBodies
 pub mod WrittenMessage
 pub mod WrittenItems
+pub mod WrittenGrowth
 pub mod SpelledFields
 pub mod Numbers
 pub mod SpelledFlags

@@ -7,7 +7,7 @@ use Rattle.rtps_ids.specs.Octets.{number_of, octets_of, sequence_number_octets, 
 use Rattle.rtps_ids.specs.declared.identity.EntityId.{EntityId}
 use Rattle.rtps_ids.specs.declared.identity.Vendor.{Vendor}
 use Rattle.rtps_ids.specs.declared.order.Order.{Order}
-use Rattle.rtps_ids.proofs.Offered.{number-octets_of, sequence_number-octets}
+use Rattle.rtps_ids.proofs.Offered.{length-octets_of, length-sequence_number_octets, number-octets_of, sequence_number-octets}
 use Rattle.rtps_wire.specs.Fields.{entity_at, vendor_at}
 
 -- behind a field that is passed over
@@ -35,3 +35,6 @@ word_read order value rest octets small found = ap (number_of order 4) found ∙
 pub sequence_number_read : (order : Order) (value : ℤ) (rest octets : List ℕ) → pos 0 ≤ℤ value → value <ℤ pos (2 ^ 63) → octets ≡ sequence_number_octets order value ++ rest
     → sequence_number_of order octets ≡ value
 sequence_number_read order value rest octets low high found = ap (sequence_number_of order) found ∙ sequence_number-octets order value rest (omega (arith, ints))
+
+-- how long written numbers are, for tactics
+pub ruleset lengths = (length-octets_of, length-sequence_number_octets)

@@ -1,5 +1,5 @@
 -- The flags, the fields and the length of a HEARTBEAT that is written.
-use Rattle.std.proofs.Common.{◌≡◌, ℕ, ℤ, pos, Bool, true, false, length, refl, arith}
+use Rattle.std.proofs.Common.{◌+◌, ◌≡◌, ℕ, ℤ, pos, Bool, true, false, length, refl, arith}
 use Rattle.std.specs.Prelude.{bit_and, bit_or, not, ◌==◌}
 use Rattle.std.proofs.lemmas.List.{length-append}
 use Rattle.rtps_ids.specs.declared.identity.EntityId.{EntityId}
@@ -38,11 +38,15 @@ live_flag Little true false = refl
 live_flag Little false true = refl
 live_flag Little false false = refl
 
-pub heartbeat_long : (order : Order) (body : HeartbeatBody) → IsHeldHeartbeat body → length (heartbeat_octets order body) ≡ 28
-heartbeat_long order body held =
-    let r = held.reader in
-    let w = held.writer in
+pub heartbeat_parts : (order : Order) (body : HeartbeatBody) → length (heartbeat_octets order body) ≡ length body.reader.0 + (length body.writer.0 + 20)
+heartbeat_parts order body =
     let f = length-sequence_number_octets order (pos body.first) in
     let l = length-sequence_number_octets order body.last in
     let c = length-octets_of order 4 body.count in
     omega (arith, length-append {A = ℕ})
+
+pub heartbeat_long : (order : Order) (body : HeartbeatBody) → IsHeldHeartbeat body → length (heartbeat_octets order body) ≡ 28
+heartbeat_long order body held =
+    let r = held.reader in
+    let w = held.writer in
+    omega (arith, heartbeat_parts order body)

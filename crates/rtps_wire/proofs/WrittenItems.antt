@@ -1,14 +1,19 @@
 -- Items one after another: the reasons against them, what they hold, and how long they are.
-use Rattle.std.proofs.Common.{◌≡◌, ◌<◌, ◌+◌, ◌^◌, ℕ, zero, suc, List, [], ◌∷◌, ◌++◌, false, None, length, take, drop, get_or, map, refl, ap, sym, subst, ◌∙◌, arith}
-use Rattle.std.specs.Prelude.{◌==◌, All}
+use Rattle.std.proofs.Common.{◌≡◌, ◌≤◌, ◌<◌, ◌+◌, ◌^◌, ℕ, zero, suc, List, [], ◌∷◌, ◌++◌, false, Some, None, length, take, drop, get_or, map, refl, ap, sym, subst, ◌∙◌, arith}
+use Rattle.std.specs.Prelude.{◌==◌, All, MatchOption, Option, unwrap_or}
 use Rattle.std.proofs.lemmas.Bool.Decides.{nat_tests}
 use Rattle.std.proofs.lemmas.List.Elements.{All-push}
-use Rattle.std.proofs.lemmas.List.{drop_more, length-append, length-drop, map-append, take-take, take_at, take_more}
+use Rattle.std.proofs.lemmas.List.{append-nil, drop_more, length-append, length-drop, map-append, take-take, take_at, take_more}
 use Rattle.rtps_wire.proofs.Reasons.{no_fault, no_first}
 use Rattle.rtps_wire.specs.Held.{IsHeldItem}
-use Rattle.rtps_wire.specs.Values.{ItemValue, item_value}
+use Rattle.rtps_wire.specs.Values.{ItemValue, body_value, item_value}
 use Rattle.rtps_wire.specs.Writable.{first_of, is_none_left, item_fault, items_fault}
-use Rattle.rtps_wire.specs.Written.{written_body}
+use Rattle.rtps_wire.specs.Written.{item_octets, written_body}
+use Rattle.rtps_ids.proofs.Offered.{length-octets_of}
+use Rattle.rtps_ids.specs.Octets.{octets_of}
+use Rattle.std.proofs.lemmas.Grind.{flat_map-append}
+use Rattle.std.proofs.lemmas.List.Folds.{flat_map-map, length-flat_map-take}
+use Rattle.std.specs.List.{flat_map}
 use Rattle.rtps_wire.specs.declared.body.Item.{Item}
 
 none_left : (items : List Item) → is_none_left (map item_value items) ≡ (length items == 0)
@@ -49,6 +54,39 @@ small_at (first ∷ items) zero item good inside is =
 small_at (first ∷ items) (suc i) item good inside is =
     let parts = no_first (item_fault (is_none_left (map item_value items)) (item_value first)) (items_fault (map item_value items)) good in
     small_at items i item parts.1 (omega arith) is
+
+-- how long an item is
+item_long : (item : ItemValue) → length (item_octets item) ≡ 4 + length (written_body item.order item.body)
+item_long item = omega (arith, length-append {A = ℕ}, length-octets_of item.order 2 (length (written_body item.order item.body)))
+
+module _ (items : List Item) (i : ℕ) (inside : i < length items) (item : Item) where
+  -- what is written of the items up to one, with that one, is no longer than all
+  pub octets_within : length (flat_map item_octets (map item_value (take i items))) + length (item_octets (item_value (get_or items i item))) ≤ length (flat_map item_octets (map item_value items))
+  octets_within =
+      let f = λ (x : Item). item_octets (item_value x) in
+      rw (flat_map-map item_octets item_value (take i items), flat_map-map item_octets item_value items) (length-flat_map-take f items i item inside)
+
+  -- with one item more
+  pub octets_more : flat_map item_octets (map item_value (take (i + 1) items)) ≡ flat_map item_octets (map item_value (take i items)) ++ item_octets (item_value (get_or items i item))
+  octets_more =
+      ap (λ xs. flat_map item_octets (map item_value xs)) (take_more items i item inside)
+      ∙ ap (flat_map item_octets) (map-append item_value (take i items) (get_or items i item ∷ []))
+      ∙ flat_map-append item_octets (map item_value (take i items)) (item_value (get_or items i item) ∷ [])
+      ∙ ap (λ (l : List ℕ). flat_map item_octets (map item_value (take i items)) ++ l) (append-nil (item_octets (item_value (get_or items i item))))
+
+  -- room for the items up to one and for that one is room for no more than both
+  pub room_more : (room next size : ℕ) → item ≡ get_or items i item → room ≤ 20 + length (flat_map item_octets (map item_value (take i items))) → size ≤ length (written_body item.order (body_value item.body))
+      → next ≤ room + (4 + size) → next ≤ 20 + length (flat_map item_octets (map item_value (take (i + 1) items)))
+  room_more room next size is before this enough =
+      let long = item_long (item_value item) in
+      let same = ap (λ (x : Item). length (item_octets (item_value x))) is in
+      let more = ap length octets_more in
+      omega (arith, length-append (flat_map item_octets (map item_value (take i items))) (item_octets (item_value (get_or items i item))))
+
+-- a size that is told, or 0
+pub size_within : (told : Option ℕ) (size : ℕ) → MatchOption told (2 ^ 16 ≤ size) (λ n. size ≡ n) → unwrap_or told 0 ≤ size
+size_within None size is = omega arith
+size_within (Some n) size is = omega arith
 
 -- what was there stays, where more was appended and then more again
 pub kept_behind : (before more now after : List ℕ) (start size : ℕ) → length before ≡ start → now ≡ before ++ more → length now ≡ size → take size after ≡ now → take start after ≡ before

@@ -1,12 +1,12 @@
 -- A written set of sequence numbers: its length, and how its words are read.
-use Rattle.std.proofs.Common.{◌≡◌, ◌<◌, ◌+◌, ◌*◌, ◌/◌, ◌^◌, ℕ, zero, suc, pos, List, [], ◌∷◌, ◌++◌, false, length, take, drop, get_or, map, refl, ap, ◌∙◌, append_assoc, arith, inl, inr}
+use Rattle.std.proofs.Common.{◌≤◌, ◌≡◌, ◌<◌, ◌+◌, ◌*◌, ◌/◌, ◌^◌, ℕ, zero, suc, pos, List, [], ◌∷◌, ◌++◌, false, length, take, drop, get_or, map, refl, ap, ◌∙◌, append_assoc, arith, inl, inr}
 use Rattle.std.specs.Prelude.{nat_lt}
 use Rattle.std.specs.List.{flat_map, range_with_len}
 use Rattle.std.proofs.lemmas.Bool.{cases_lt}
 use Rattle.std.proofs.lemmas.Bool.Decides.{nat_tests}
 use Rattle.std.proofs.lemmas.List.{length-append, length-take-le}
-use Rattle.rtps_ids.specs.NumberSet.{NumberSetValue, cleared, cleared_words, is_bad, octets_of_count, spelled_base, spelled_count, spelled_set}
-use Rattle.rtps_ids.specs.Octets.{number_of, octets_of}
+use Rattle.rtps_ids.specs.NumberSet.{NumberSetValue, cleared, cleared_words, is_bad, octets_of_count, spelled_base, spelled_count, spelled_set, words_of_count}
+use Rattle.rtps_ids.specs.Octets.{number_of, octets_of, sequence_number_octets}
 use Rattle.rtps_ids.specs.declared.order.Order.{Order}
 use Rattle.rtps_ids.proofs.Offered.{length-octets_of, length-sequence_number_octets}
 use Rattle.rtps_wire.proofs.WrittenFields.{past, word_read}
@@ -16,6 +16,17 @@ use Rattle.rtps_wire.specs.SetField.{set_octets}
 pub length-words : (order : Order) (words : List ℕ) → length (flat_map (octets_of order 4) words) ≡ 4 * length words
 length-words order [] = refl
 length-words order (word ∷ words) = omega (arith, length-append {A = ℕ}, length-octets_of order 4 word, length-words order words)
+
+pub set_parts : (order : Order) (set : NumberSetValue) → length (set_octets order set) ≡ 12 + length (flat_map (octets_of order 4) (take (words_of_count set.count) set.words))
+set_parts order set =
+    let words = flat_map (octets_of order 4) (take (words_of_count set.count) set.words) in
+    omega (arith, length-append (sequence_number_octets order (pos set.base)) (octets_of order 4 set.count ++ words), length-append (octets_of order 4 set.count) words, length-sequence_number_octets order (pos set.base), length-octets_of order 4 set.count)
+
+-- the words up to one, and that one, are no longer than all that are written
+pub words_within : (order : Order) (words : List ℕ) (i count : ℕ) → i < count → count ≤ length words
+    → length (flat_map (octets_of order 4) (take i words)) + 4 ≤ length (flat_map (octets_of order 4) (take count words))
+words_within order words i count inside whole =
+    omega (arith, length-words order (take i words), length-words order (take count words), length-take-le i words (omega arith), length-take-le count words whole)
 
 pub words_read : (order : Order) (words rest : List ℕ) (i : ℕ) → ((k : ℕ) → k < length words → get_or words k 0 < 2 ^ 32) → i < length words
     → number_of order 4 (drop (4 * i) (flat_map (octets_of order 4) words ++ rest)) ≡ get_or words i 0

@@ -106,6 +106,12 @@ payload_octets (Key octets) = octets
 abbrev pub data_flags : DataValue → ℕ
 data_flags body = bit_or (qos_flag body.qos) (payload_flag body.payload)
 
+-- the fields of a DATA that is written. own: extraFlags are written as 0, and octetsToInlineQos counts to right behind
+-- the fields
+abbrev pub field_octets : Order → DataValue → List ℕ
+field_octets order body =
+    0 ∷ 0 ∷ (octets_of order 2 (SIZE - QOS_FROM) ++ (body.reader.0 ++ (body.writer.0 ++ sequence_number_octets order (pos body.number))))
+
 -- own: extraFlags are written as 0, and what octetsToInlineQos tells stands right behind the fields
 abbrev pub data_octets : Order → DataValue → List ℕ
 data_octets order body =

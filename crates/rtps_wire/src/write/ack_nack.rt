@@ -1,4 +1,4 @@
-ghost use Rattle.std.specs.Prelude.{◌≡◌, ◌++◌, length, take, vec_len, OnOk};
+ghost use Rattle.std.specs.Prelude.{◌≡◌, ◌++◌, length, take, vec_len, OnOk, ◌<◌, ◌≤◌, ◌+◌, vec_capacity, OnErr};
 ghost use Rattle.rtps_ids.specs.declared.order.Order.{Order};
 ghost use Rattle.rtps_wire.specs.Held.{IsHeldAckNack};
 ghost use Rattle.rtps_wire.specs.AckNack.{ack_nack_flags, ack_nack_octets};
@@ -26,9 +26,12 @@ pub(crate) fn size(body: AckNackBody) -> u16
 }
 
 /// Appends the body of an ACKNACK.
+#[tactic(auto, using(crate::proofs::WrittenFields::lengths))]
 pub(crate) fn ack_nack(order: Order, body: &AckNackBody, out: &mut Vec<u8>) -> Result<(), Memory>
     ensures written { OnOk result (out.new.items ≡ out.old.items ++ ack_nack_octets order body.now) }
     ensures kept { take (vec_len out.old) out.new.items ≡ out.old.items }
+    ensures full { OnErr result (vec_capacity out.old < vec_len out.old + length (ack_nack_octets order body.now)) }
+    ensures room { vec_capacity out.old ≤ vec_capacity out.new }
 {
     put_entities(&body.reader, &body.writer, out)?;
     put_set(order, &body.set, out)?;

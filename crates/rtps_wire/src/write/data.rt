@@ -1,5 +1,5 @@
-ghost use Rattle.std.specs.Prelude.{◌≡◌, ◌≤◌, ◌++◌, ◌^◌, length, take, vec_len, MatchOption, OnOk};
-ghost use Rattle.rtps_wire.specs.Data.{data_flags, data_octets, is_other_order as is_other_order_lem, payload_flag as payload_flag_lem, payload_octets as payload_octets_lem};
+ghost use Rattle.std.specs.Prelude.{◌≡◌, ◌≤◌, ◌++◌, ◌^◌, length, take, vec_len, MatchOption, OnOk, ◌<◌, ◌+◌, vec_capacity, OnErr};
+ghost use Rattle.rtps_wire.specs.Data.{data_flags, data_octets, field_octets, is_other_order as is_other_order_lem, payload_flag as payload_flag_lem, payload_octets as payload_octets_lem};
 ghost use Rattle.rtps_ids.specs.declared.order.Order.{Order};
 ghost use Rattle.rtps_wire.specs.Held.{IsHeldData};
 ghost use Rattle.rtps_wire.specs.Values.{data_value, payload_value};
@@ -73,14 +73,27 @@ pub(crate) fn size(body: &DataBody<'_>) -> Option<u16>
 pub(crate) fn data(order: Order, body: &DataBody<'_>, out: &mut Vec<u8>) -> Result<(), Memory>
     ensures written { OnOk result (out.new.items ≡ out.old.items ++ data_octets order (data_value body.now)) }
     ensures kept { take (vec_len out.old) out.new.items ≡ out.old.items }
+    ensures full { OnErr result (vec_capacity out.old < vec_len out.old + length (data_octets order (data_value body.now))) }
+    ensures room { vec_capacity out.old ≤ vec_capacity out.new }
 {
-    out.extend_from_slice(&[0, 0])?;
-    put_u16(order, (data::SIZE - data::QOS_FROM) as u16, out)?;
-    put_entities(&body.reader, &body.writer, out)?;
-    put_number(order, body.number.get(), out)?;
+    put_fields(order, body, out)?;
     if let Some(list) = body.qos {
         out.extend_from_slice(list.octets())?;
     }
     out.extend_from_slice(payload_octets(&body.payload))?;
     Ok(())
+}
+
+/// Appends the fields of a DATA, behind which its inline QoS begins.
+#[tactic(auto, using(crate::proofs::WrittenFields::lengths))]
+fn put_fields(order: Order, body: &DataBody<'_>, out: &mut Vec<u8>) -> Result<(), Memory>
+    ensures written { OnOk result (out.new.items ≡ out.old.items ++ field_octets order (data_value body.now)) }
+    ensures kept { take (vec_len out.old) out.new.items ≡ out.old.items }
+    ensures full { OnErr result (vec_capacity out.old < vec_len out.old + length (field_octets order (data_value body.now))) }
+    ensures room { vec_capacity out.old ≤ vec_capacity out.new }
+{
+    out.extend_from_slice(&[0, 0])?;
+    put_u16(order, (data::SIZE - data::QOS_FROM) as u16, out)?;
+    put_entities(&body.reader, &body.writer, out)?;
+    put_number(order, body.number.get(), out)
 }

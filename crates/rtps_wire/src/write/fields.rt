@@ -1,4 +1,4 @@
-ghost use Rattle.std.specs.Prelude.{◌≡◌, ◌+◌, ◌≤◌, ◌++◌, take, vec_len, OnOk};
+ghost use Rattle.std.specs.Prelude.{◌≡◌, ◌+◌, ◌≤◌, ◌++◌, take, vec_len, OnOk, ◌<◌, length, vec_capacity, OnErr};
 ghost use Rattle.rtps_ids.specs.NumberSet.{octets_of_count, words_of_count};
 ghost use Rattle.rtps_wire.specs.Held.{IsHeldEntity, IsHeldNumber, IsHeldSet};
 ghost use Rattle.std.specs.List.{flat_map};
@@ -64,6 +64,8 @@ pub(crate) fn put_entities(
 ) -> Result<(), Memory>
     ensures written { OnOk result (out.new.items ≡ out.old.items ++ (reader.now.0 ++ writer.now.0)) }
     ensures kept { take (vec_len out.old) out.new.items ≡ out.old.items }
+    ensures full { OnErr result (vec_capacity out.old < vec_len out.old + length (reader.now.0 ++ writer.now.0)) }
+    ensures room { vec_capacity out.old ≤ vec_capacity out.new }
 {
     out.extend_from_slice(&reader.0)?;
     out.extend_from_slice(&writer.0)?;
@@ -71,9 +73,12 @@ pub(crate) fn put_entities(
 }
 
 /// Appends a sequence number set.
+#[tactic(auto, using(crate::proofs::WrittenFields::lengths))]
 pub(crate) fn put_set(order: Order, set: &NumberSet, out: &mut Vec<u8>) -> Result<(), Memory>
     ensures written { OnOk result (out.new.items ≡ out.old.items ++ set_octets order set.now) }
     ensures kept { take (vec_len out.old) out.new.items ≡ out.old.items }
+    ensures full { OnErr result (vec_capacity out.old < vec_len out.old + length (set_octets order set.now)) }
+    ensures room { vec_capacity out.old ≤ vec_capacity out.new }
 {
     put_number(order, set.base(), out)?;
     put_u32(order, set.count(), out)?;
@@ -84,6 +89,8 @@ pub(crate) fn put_set(order: Order, set: &NumberSet, out: &mut Vec<u8>) -> Resul
 fn put_words(order: Order, set: &NumberSet, out: &mut Vec<u8>) -> Result<(), Memory>
     ensures written { OnOk result (out.new.items ≡ out.old.items ++ flat_map (octets_of order 4) (take (words_of_count set.now.count) set.now.words)) }
     ensures kept { take (vec_len out.old) out.new.items ≡ out.old.items }
+    ensures full { OnErr result (vec_capacity out.old < vec_len out.old + length (flat_map (octets_of order 4) (take (words_of_count set.now.count) set.now.words))) }
+    ensures room { vec_capacity out.old ≤ vec_capacity out.new }
 {
     for i in 0..set.count().div_ceil(WORD_BITS) as usize {
         put_u32(order, set.word(i), out)?;

@@ -1,4 +1,4 @@
-ghost use Rattle.std.specs.Prelude.{◌≡◌, ◌==◌, ◌++◌, length, take, vec_len, OnOk};
+ghost use Rattle.std.specs.Prelude.{◌≡◌, ◌==◌, ◌++◌, length, take, vec_len, OnOk, ◌<◌, ◌≤◌, ◌+◌, vec_capacity, OnErr};
 ghost use Rattle.rtps_ids.specs.declared.order.Order.{Order};
 ghost use Rattle.rtps_wire.specs.Held.{IsHeldGap};
 ghost use Rattle.rtps_wire.specs.Gap.{gap_octets};
@@ -27,9 +27,12 @@ pub(crate) fn size(body: GapBody) -> u16
 }
 
 /// Appends the body of a GAP.
+#[tactic(auto, using(crate::proofs::WrittenFields::lengths))]
 pub(crate) fn gap(order: Order, body: &GapBody, out: &mut Vec<u8>) -> Result<(), Memory>
     ensures written { OnOk result (out.new.items ≡ out.old.items ++ gap_octets order body.now) }
     ensures kept { take (vec_len out.old) out.new.items ≡ out.old.items }
+    ensures full { OnErr result (vec_capacity out.old < vec_len out.old + length (gap_octets order body.now)) }
+    ensures room { vec_capacity out.old ≤ vec_capacity out.new }
 {
     put_entities(&body.reader, &body.writer, out)?;
     put_number(order, body.start.get(), out)?;

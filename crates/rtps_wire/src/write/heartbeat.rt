@@ -1,4 +1,4 @@
-ghost use Rattle.std.specs.Prelude.{◌≡◌, ◌++◌, length, take, vec_len, OnOk};
+ghost use Rattle.std.specs.Prelude.{◌≡◌, ◌++◌, length, take, vec_len, OnOk, ◌<◌, ◌≤◌, ◌+◌, vec_capacity, OnErr};
 ghost use Rattle.rtps_ids.specs.declared.order.Order.{Order};
 ghost use Rattle.rtps_wire.specs.Held.{IsHeldHeartbeat};
 ghost use Rattle.rtps_wire.specs.Heartbeat.{heartbeat_flags, heartbeat_octets, is_bad_range as is_bad_range_lem};
@@ -34,9 +34,12 @@ pub(crate) fn size(body: HeartbeatBody) -> u16
 }
 
 /// Appends the body of a HEARTBEAT.
+#[tactic(auto, using(crate::proofs::WrittenFields::lengths))]
 pub(crate) fn heartbeat(order: Order, body: &HeartbeatBody, out: &mut Vec<u8>) -> Result<(), Memory>
     ensures written { OnOk result (out.new.items ≡ out.old.items ++ heartbeat_octets order body.now) }
     ensures kept { take (vec_len out.old) out.new.items ≡ out.old.items }
+    ensures full { OnErr result (vec_capacity out.old < vec_len out.old + length (heartbeat_octets order body.now)) }
+    ensures room { vec_capacity out.old ≤ vec_capacity out.new }
 {
     put_entities(&body.reader, &body.writer, out)?;
     put_number(order, body.first.get(), out)?;

@@ -1,4 +1,4 @@
-ghost use Rattle.std.specs.Prelude.{◌≡◌, ◌++◌, length, take, vec_len, OnOk};
+ghost use Rattle.std.specs.Prelude.{◌≡◌, ◌++◌, length, take, vec_len, OnOk, ◌<◌, ◌≤◌, ◌+◌, vec_capacity, OnErr};
 ghost use Rattle.rtps_ids.specs.declared.order.Order.{Order};
 ghost use Rattle.rtps_wire.specs.Held.{IsHeldTime};
 ghost use Rattle.rtps_wire.specs.Info.{info_dst_octets, info_src_octets, info_ts_flags as info_ts_flags_lem, info_ts_octets};
@@ -29,9 +29,12 @@ pub(crate) fn info_ts_size(time: Option<Stamp>) -> u16
 }
 
 /// Appends the body of an INFO_TS.
+#[tactic(auto, using(crate::proofs::WrittenFields::lengths))]
 pub(crate) fn info_ts(order: Order, time: &Option<Stamp>, out: &mut Vec<u8>) -> Result<(), Memory>
     ensures written { OnOk result (out.new.items ≡ out.old.items ++ info_ts_octets order time.now) }
     ensures kept { take (vec_len out.old) out.new.items ≡ out.old.items }
+    ensures full { OnErr result (vec_capacity out.old < vec_len out.old + length (info_ts_octets order time.now)) }
+    ensures room { vec_capacity out.old ≤ vec_capacity out.new }
 {
     let Some(stamp) = time else {
         return Ok(());
@@ -52,6 +55,8 @@ pub(crate) fn info_dst_size(prefix: GuidPrefix) -> u16
 pub(crate) fn info_dst(prefix: &GuidPrefix, out: &mut Vec<u8>) -> Result<(), Memory>
     ensures written { OnOk result (out.new.items ≡ out.old.items ++ info_dst_octets prefix.now) }
     ensures kept { take (vec_len out.old) out.new.items ≡ out.old.items }
+    ensures full { OnErr result (vec_capacity out.old < vec_len out.old + length (info_dst_octets prefix.now)) }
+    ensures room { vec_capacity out.old ≤ vec_capacity out.new }
 {
     out.extend_from_slice(&prefix.0)?;
     Ok(())
@@ -74,6 +79,8 @@ pub(crate) fn info_src(
 ) -> Result<(), Memory>
     ensures written { OnOk result (out.new.items ≡ out.old.items ++ info_src_octets version vendor.now prefix.now) }
     ensures kept { take (vec_len out.old) out.new.items ≡ out.old.items }
+    ensures full { OnErr result (vec_capacity out.old < vec_len out.old + length (info_src_octets version vendor.now prefix.now)) }
+    ensures room { vec_capacity out.old ≤ vec_capacity out.new }
 {
     out.extend_from_slice(&[0, 0, 0, 0, version.major, version.minor])?;
     out.extend_from_slice(&vendor.0)?;

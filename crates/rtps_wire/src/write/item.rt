@@ -1,4 +1,4 @@
-ghost use Rattle.std.specs.Prelude.{◌≡◌, ◌≤◌, ◌<◌, ◌++◌, ◌^◌, length, take, vec_len, MatchOption, OnOk};
+ghost use Rattle.std.specs.Prelude.{◌≡◌, ◌≤◌, ◌<◌, ◌++◌, ◌^◌, length, take, vec_len, MatchOption, OnOk, ◌+◌, vec_capacity, OnErr};
 ghost use Rattle.rtps_ids.specs.declared.order.Order.{Order};
 ghost use Rattle.rtps_wire.specs.Held.{IsHeldBody, IsHeldItem};
 ghost use Rattle.rtps_wire.specs.Values.{body_value, item_value};
@@ -97,6 +97,8 @@ fn own_flags(body: &Body<'_>) -> u8
 fn put_body(order: Order, body: &Body<'_>, out: &mut Vec<u8>) -> Result<(), Memory>
     ensures written { OnOk result (out.new.items ≡ out.old.items ++ written_body order (body_value body.now)) }
     ensures kept { take (vec_len out.old) out.new.items ≡ out.old.items }
+    ensures full { OnErr result (vec_capacity out.old < vec_len out.old + length (written_body order (body_value body.now))) }
+    ensures room { vec_capacity out.old ≤ vec_capacity out.new }
 {
     match body {
         Body::Data(body) => data::data(order, body, out),
@@ -115,10 +117,13 @@ fn put_body(order: Order, body: &Body<'_>, out: &mut Vec<u8>) -> Result<(), Memo
 }
 
 /// Appends an item, whose body is not too long.
+#[tactic(auto, using(crate::proofs::WrittenFields::lengths))]
 pub(crate) fn put_item(item: &Item<'_>, out: &mut Vec<u8>) -> Result<(), Memory>
     requires { length (written_body item.now.order (body_value item.now.body)) < 2 ^ 16 }
     ensures written { OnOk result (out.new.items ≡ out.old.items ++ item_octets (item_value item.now)) }
     ensures kept { take (vec_len out.old) out.new.items ≡ out.old.items }
+    ensures full { OnErr result (vec_capacity out.old < vec_len out.old + length (item_octets (item_value item.now))) }
+    ensures room { vec_capacity out.old ≤ vec_capacity out.new }
 {
     let flags = order_flag(item.order) | own_flags(&item.body);
     let size = size(&item.body).unwrap_or(0);

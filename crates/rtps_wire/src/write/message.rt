@@ -1,11 +1,11 @@
-ghost use Rattle.std.specs.Prelude.{◌≡◌, ◌==◌, ◌++◌, drop, map, take, vec_len, unwrap_or, All, IfErr, OnErr, IfNone, OnOk, None};
+ghost use Rattle.std.specs.Prelude.{◌≡◌, ◌==◌, ◌++◌, drop, map, take, vec_len, unwrap_or, All, IfErr, OnErr, IfNone, OnOk, None, ◌<◌, ◌≤◌, ◌+◌, length, vec_capacity};
 ghost use Rattle.std.specs.List.{flat_map};
 ghost use Rattle.rtps_wire.specs.Header.{header_octets};
 ghost use Rattle.rtps_wire.specs.Held.{IsHeldHeader, IsHeldItem};
 ghost use Rattle.rtps_wire.specs.Reading.{reading_of};
 ghost use Rattle.rtps_wire.specs.Values.{item_value};
 ghost use Rattle.rtps_wire.specs.Writable.{items_fault, write_fault as write_fault_lem};
-ghost use Rattle.rtps_wire.specs.declared.layout.header.TheConstants.{VERSION};
+ghost use Rattle.rtps_wire.specs.declared.layout.header.TheConstants.{SIZE, VERSION};
 ghost use Rattle.rtps_wire.specs.Written.{clean_reading, item_octets, message_octets};
 
 use super::item;
@@ -34,6 +34,9 @@ pub fn write_message(
     ensures writable { OnOk result (write_fault_lem header.now (map item_value items.now) ≡ None) }
     ensures fault { IfErr result (λ fault. fault ≡ unwrap_or (write_fault_lem header.now (map item_value items.now)) WriteFault.Memory) }
     ensures unchanged { OnErr result (out.new.items ≡ out.old.items) }
+    ensures full { write_fault_lem header.now (map item_value items.now) ≡ None → OnErr result
+        (vec_capacity out.old < vec_len out.old + length (message_octets header.now (map item_value items.now))) }
+    ensures room { vec_capacity out.old ≤ vec_capacity out.new }
 {
     if let Some(fault) = refusal(header, items) {
         return Err(fault);
@@ -84,9 +87,12 @@ fn items_refusal(items: &[Item<'_>]) -> Option<WriteFault>
 
 /// Appends a message against which there is no reason.
 fn put_message(header: &Header, items: &[Item<'_>], out: &mut Vec<u8>) -> Result<(), Memory>
-    requires { items_fault (map item_value items.now) ≡ None }
+    requires held { IsHeldHeader header.now }
+    requires good { items_fault (map item_value items.now) ≡ None }
     ensures written { OnOk result (out.new.items ≡ out.old.items ++ message_octets header.now (map item_value items.now)) }
     ensures kept { take (vec_len out.old) out.new.items ≡ out.old.items }
+    ensures full { OnErr result (vec_capacity out.old < vec_len out.old + length (message_octets header.now (map item_value items.now))) }
+    ensures room { vec_capacity out.old ≤ vec_capacity out.new }
 {
     out.reserve(room_for(items))?;
     put_header(header, out)?;
@@ -94,7 +100,9 @@ fn put_message(header: &Header, items: &[Item<'_>], out: &mut Vec<u8>) -> Result
 }
 
 /// How many octets a message of these items has.
-fn room_for(items: &[Item<'_>]) -> usize {
+fn room_for(items: &[Item<'_>]) -> usize
+    ensures { result ≤ SIZE + length (flat_map item_octets (map item_value items.now)) }
+{
     let mut room = header::SIZE;
     for item in items {
         let size = item::size(&item.body).unwrap_or(0);
@@ -107,6 +115,8 @@ fn room_for(items: &[Item<'_>]) -> usize {
 fn put_header(header: &Header, out: &mut Vec<u8>) -> Result<(), Memory>
     ensures written { OnOk result (out.new.items ≡ out.old.items ++ header_octets header.now) }
     ensures kept { take (vec_len out.old) out.new.items ≡ out.old.items }
+    ensures full { OnErr result (vec_capacity out.old < vec_len out.old + length (header_octets header.now)) }
+    ensures room { vec_capacity out.old ≤ vec_capacity out.new }
 {
     let version = header.version;
     out.extend_from_slice(&header::PROTOCOL)?;
@@ -121,6 +131,8 @@ fn put_items(items: &[Item<'_>], out: &mut Vec<u8>) -> Result<(), Memory>
     requires { items_fault (map item_value items.now) ≡ None }
     ensures written { OnOk result (out.new.items ≡ out.old.items ++ flat_map item_octets (map item_value items.now)) }
     ensures kept { take (vec_len out.old) out.new.items ≡ out.old.items }
+    ensures full { OnErr result (vec_capacity out.old < vec_len out.old + length (flat_map item_octets (map item_value items.now))) }
+    ensures room { vec_capacity out.old ≤ vec_capacity out.new }
 {
     for item in items {
         item::put_item(item, out)?;
