@@ -14,8 +14,8 @@ use Rattle.rtps_capture.specs.declared.cursor.Cursor.{Cursor}
 use Rattle.rtps_capture.specs.declared.frames.Frame.{Frame}
 use Rattle.rtps_capture.specs.declared.layout.file.TheConstants as header
 use Rattle.rtps_capture.specs.declared.layout.record.TheConstants.{CAPTURED, SIZE}
-use Rattle.rtps_capture.specs.declared.link.Link.{Link}
-use Rattle.rtps_capture.specs.declared.place.Place.{Place}
+use Rattle.rtps_capture.specs.declared.opening.Link.{Link}
+use Rattle.rtps_capture.specs.declared.datagram.ByteRange.{ByteRange}
 use Rattle.rtps_capture.specs.Opening.{link_by, link_of, link_type_in, order_of}
 use Rattle.rtps_capture.proofs.FrameLemmas.{frames_from-frame}
 use Rattle.rtps_capture.proofs.Offered.{order_of-append}
@@ -66,7 +66,7 @@ is_whole-append order rest more whole =
     let octets : nat_le (captured order rest) (length (rest ++ more) - SIZE) ≡ true = grind (arith, nat_tests) in
     rw (header, same, octets) refl
 
-abbrev stands : ℕ → ℕ → Place
+abbrev stands : ℕ → ℕ → ByteRange
 stands at size = record { from = at + SIZE; to = at + SIZE + size }
 
 -- a whole frame stands where it stands, and gives what it gives
@@ -76,7 +76,7 @@ frame_at-append order file more at within whole =
     let is = whole_is order (drop at file) whole in
     ap (stands at) (ap (captured order) (drop-append-le at file more within) ∙ four_behind order CAPTURED (drop at file) more (omega (arith, is.header)))
 
-given_at-append : (link : Link) (file more : List ℕ) (frame : Place) → frame.from ≤ frame.to → frame.to ≤ length file
+given_at-append : (link : Link) (file more : List ℕ) (frame : ByteRange) → frame.from ≤ frame.to → frame.to ≤ length file
     → given_at link (file ++ more) frame ≡ given_at link file frame
 given_at-append link file more frame ordered within =
     ap (λ (octets : List ℕ). given (moved frame.from (datagram_of_frame link octets))) (slice_range-append frame.from frame.to file more ordered within)
@@ -102,7 +102,7 @@ frames_left-whole cursor octets later some whole =
     let there : is_whole order (drop at file) ≡ true =
     ap (is_whole order) (drop-append-le at octets later (omega arith)) ∙ is_whole-append order (drop at octets) later whole in
     frames_from-frame order link file at (omega (arith, length-append octets later)) there
-    ∙ ap (λ (f : Place). given_at link file f ∷ frames_from order link file f.to) same
+    ∙ ap (λ (f : ByteRange). given_at link file f ∷ frames_from order link file f.to) same
     ∙ ap (λ (f : Frame). f ∷ frames_from order link file frame.to) (given_at-append link octets later frame (omega arith) within.1)
 
 -- how a capture begins is told by its header
@@ -155,7 +155,7 @@ pub opened_other : (octets : List ℕ) (order : Order) → order_of octets ≡ S
 unfolding opened
 opened_other octets order begins is = ap (opened_by octets) begins ∙ ap (opened_with octets order) is
 
-pub stands_given : (octets : List ℕ) (datagram : Option Place) → IfSome datagram (λ place. (place.from ≤ place.to) × (place.to ≤ length octets))
+pub stands_given : (octets : List ℕ) (datagram : Option ByteRange) → IfSome datagram (λ place. (place.from ≤ place.to) × (place.to ≤ length octets))
     → StandsWithin (length octets) (given datagram)
 stands_given octets None within = tt
 stands_given octets (Some place) within = within

@@ -6,8 +6,8 @@ use Rattle.rtps_ids.specs.declared.order.Order.{Order}
 use Rattle.rtps_capture.specs.Frames.{HasFrames, frame_at, frames_from, frames_with, frames_within, given_at, is_whole}
 use Rattle.rtps_capture.specs.declared.frames.Frame.{Frame}
 use Rattle.rtps_capture.specs.declared.frames.Frame.TheVariants.{Cut}
-use Rattle.rtps_capture.specs.declared.link.Link.{Link}
-use Rattle.rtps_capture.specs.declared.place.Place.{Place}
+use Rattle.rtps_capture.specs.declared.opening.Link.{Link}
+use Rattle.rtps_capture.specs.declared.datagram.ByteRange.{ByteRange}
 
 true_is_false : true ≡ false → ⊥
 true_is_false same = grind (arith, nat_tests)
@@ -81,22 +81,22 @@ frames_from-cut order link file at some cut =
     frames_from-step order link file at some ∙ ap (frames_with (frames_from order link file) order link file at) cut
 
 -- a file has frames and an end
-has_frames : (n : ℕ) (order : Order) (file : List ℕ) (at : ℕ) → length file ≤ at + n → (frames : List Place) × (cut : Bool) × HasFrames order file at frames cut
+has_frames : (n : ℕ) (order : Order) (file : List ℕ) (at : ℕ) → length file ≤ at + n → (frames : List ByteRange) × (cut : Bool) × HasFrames order file at frames cut
 has_frames zero order file at enough = ([], false, omega arith)
 has_frames (suc n) order file at enough = by (nat_lt at (length file)) refl (is_whole order (drop at file)) refl (has_frames n order file (frame_at order file at).to (omega arith))
   where
     by : (left : Bool) → nat_lt at (length file) ≡ left → (whole : Bool) → is_whole order (drop at file) ≡ whole
-        → (frames : List Place) × (cut : Bool) × HasFrames order file (frame_at order file at).to frames cut
-        → (frames : List Place) × (cut : Bool) × HasFrames order file at frames cut
+        → (frames : List ByteRange) × (cut : Bool) × HasFrames order file (frame_at order file at).to frames cut
+        → (frames : List ByteRange) × (cut : Bool) × HasFrames order file at frames cut
     by false past whole is rest = ([], false, grind (arith, nat_tests))
     by true left false is rest = ([], true, (grind (arith, nat_tests), is))
     by true left true is rest = (frame_at order file at ∷ rest.0, rest.1, (grind (arith, nat_tests), is, refl, rest.2))
 
-pub exists : (order : Order) (file : List ℕ) (at : ℕ) → (frames : List Place) × (cut : Bool) × HasFrames order file at frames cut
+pub exists : (order : Order) (file : List ℕ) (at : ℕ) → (frames : List ByteRange) × (cut : Bool) × HasFrames order file at frames cut
 exists order file at = has_frames (length file) order file at (omega arith)
 
 -- and no others
-pub unique : (order : Order) (file : List ℕ) (at : ℕ) (frames others : List Place) (cut other : Bool)
+pub unique : (order : Order) (file : List ℕ) (at : ℕ) (frames others : List ByteRange) (cut other : Bool)
     → HasFrames order file at frames cut → HasFrames order file at others other → (frames ≡ others) × (cut ≡ other)
 unique order file at [] [] false false p q = (refl, refl)
 unique order file at [] [] true true p q = (refl, refl)
@@ -108,16 +108,16 @@ unique order file at [] (frame ∷ frames) true other p q = absurd (true_is_fals
 unique order file at (frame ∷ frames) [] cut true p q = absurd (true_is_false (sym p.1 ∙ q.1))
 unique order file at (frame ∷ frames) (another ∷ others) cut other p q =
     let same : frame ≡ another = p.2 ∙ sym q.2 in
-    let rest = unique order file frame.to frames others cut other p.3 (subst (λ (f : Place). HasFrames order file f.to others other) (sym same) q.3) in
-    (ap₂ (λ (f : Place) (fs : List Place). f ∷ fs) same rest.0, rest.1)
+    let rest = unique order file frame.to frames others cut other p.3 (subst (λ (f : ByteRange). HasFrames order file f.to others other) (sym same) q.3) in
+    (ap₂ (λ (f : ByteRange) (fs : List ByteRange). f ∷ fs) same rest.0, rest.1)
 
 -- what is read is what they give
-pub read : (order : Order) (link : Link) (file : List ℕ) (at : ℕ) (frames : List Place) (cut : Bool)
+pub read : (order : Order) (link : Link) (file : List ℕ) (at : ℕ) (frames : List ByteRange) (cut : Bool)
     → HasFrames order file at frames cut → frames_from order link file at ≡ map (given_at link file) frames ++ (if cut then Cut ∷ [] else [])
 read order link file at [] false p = frames_from-done order link file at p
 read order link file at [] true p = frames_from-cut order link file at p.0 p.1
 read order link file at (frame ∷ frames) cut p =
     let rest = read order link file frame.to frames cut p.3 in
     frames_from-frame order link file at p.0 p.1
-    ∙ ap (λ (f : Place). given_at link file f ∷ frames_from order link file f.to) (sym p.2)
+    ∙ ap (λ (f : ByteRange). given_at link file f ∷ frames_from order link file f.to) (sym p.2)
     ∙ ap (λ (more : List Frame). given_at link file frame ∷ more) rest

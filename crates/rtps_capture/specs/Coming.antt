@@ -4,7 +4,8 @@
 use Rattle.std.specs.Prelude.{ℕ, ◌≡◌, ◌<◌, ◌≤◌, false, List, ◌∷◌, ◌++◌, length, drop, Option, Some, None}
 use Rattle.rtps_capture.specs.Frames.{StandsWithin, Unread, frames_left, given, is_whole, opened}
 use Rattle.rtps_capture.specs.declared.cursor.Cursor.{Cursor}
-use Rattle.rtps_capture.specs.declared.place.Place.{Place}
+use Rattle.rtps_capture.specs.declared.cursor.NextFrame.{NextFrame}
+use Rattle.rtps_capture.specs.declared.cursor.NextFrame.TheVariants.{Unfinished, Whole}
 
 -- what is unread of a file behind a cursor
 abbrev pub unread_behind : Cursor → List ℕ → Unread
@@ -17,7 +18,7 @@ StandsAtFirst octets (Some cursor) = (cursor.at ≤ length octets) × ((later : 
 
 -- The frame behind a cursor is whole in these octets, and this is the datagram that it gives, or none, in each capture
 -- that they begin; the cursor stands behind it then. Else the cursor stays.
-abbrev pub GivesWhole : List ℕ → Cursor → Option (Option Place) → Cursor → Type 0
-GivesWhole octets old None new = (new ≡ old) × (old.at < length octets → is_whole old.order (drop old.at octets) ≡ false)
-GivesWhole octets old (Some datagram) new = (old.at < new.at) × (new.at ≤ length octets) × StandsWithin (length octets) (given datagram)
+abbrev pub GivesWhole : List ℕ → Cursor → NextFrame → Cursor → Type 0
+GivesWhole octets old Unfinished new = (new ≡ old) × (old.at < length octets → is_whole old.order (drop old.at octets) ≡ false)
+GivesWhole octets old (Whole datagram) new = (old.at < new.at) × (new.at ≤ length octets) × StandsWithin (length octets) (given datagram)
     × ((later : List ℕ) → frames_left (unread_behind old (octets ++ later)) ≡ given datagram ∷ frames_left (unread_behind new (octets ++ later)))

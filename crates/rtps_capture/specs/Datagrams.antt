@@ -8,9 +8,9 @@ use Rattle.rtps_ids.specs.declared.order.Order.TheVariants.{Big}
 use Rattle.rtps_capture.specs.declared.layout.ethernet.TheConstants as ethernet
 use Rattle.rtps_capture.specs.declared.layout.packet.TheConstants.{FRAGMENT, FRAGMENT_BITS, LEAST, PROTOCOL, TOTAL, UDP, VERSION}
 use Rattle.rtps_capture.specs.declared.layout.udp.TheConstants as udp
-use Rattle.rtps_capture.specs.declared.link.Link.{Link}
-use Rattle.rtps_capture.specs.declared.link.Link.TheVariants.{Ethernet, RawIp}
-use Rattle.rtps_capture.specs.declared.place.Place.{Place}
+use Rattle.rtps_capture.specs.declared.opening.Link.{Link}
+use Rattle.rtps_capture.specs.declared.opening.Link.TheVariants.{Ethernet, RawIp}
+use Rattle.rtps_capture.specs.declared.datagram.ByteRange.{ByteRange}
 
 -- two octets as a number, as all of these lay it
 abbrev pub number_at : ℕ → List ℕ → ℕ
@@ -58,24 +58,24 @@ abbrev pub has_datagram : List ℕ → Bool
 has_datagram packet = is_version_4 packet && is_whole_packet packet && is_no_fragment packet && is_udp packet && is_whole_datagram packet
 
 -- where a datagram stands in its packet: behind the UDP header, up to the end that the length tells; it may be empty
-unfoldable pub datagram_of_packet : List ℕ → Option Place
+unfoldable pub datagram_of_packet : List ℕ → Option ByteRange
 datagram_of_packet packet =
     if has_datagram packet then Some (record { from = header_size packet + udp.SIZE; to = header_size packet + udp_size packet }) else None
 
 -- a place that is counted from another on
-abbrev pub moved : ℕ → Option Place → Option Place
+abbrev pub moved : ℕ → Option ByteRange → Option ByteRange
 moved by None = None
 moved by (Some place) = Some (record { from = by + place.from; to = by + place.to })
 
 -- where the datagram stands of the packet that begins at this place of a frame
-abbrev pub datagram_behind : Option ℕ → List ℕ → Option Place
+abbrev pub datagram_behind : Option ℕ → List ℕ → Option ByteRange
 datagram_behind None frame = None
 datagram_behind (Some at) frame = moved at (datagram_of_packet (drop at frame))
 
 -- where a datagram stands in its frame
-abbrev pub datagram_of_frame : Link → List ℕ → Option Place
+abbrev pub datagram_of_frame : Link → List ℕ → Option ByteRange
 datagram_of_frame link frame = datagram_behind (packet_at link frame) frame
 
 -- where the datagram stands in a file that the frame at this place gives
-abbrev pub datagram_at : Link → List ℕ → Place → Option Place
+abbrev pub datagram_at : Link → List ℕ → ByteRange → Option ByteRange
 datagram_at link file frame = moved frame.from (datagram_of_frame link (slice_range file frame.from frame.to))

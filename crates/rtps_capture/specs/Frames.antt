@@ -11,8 +11,8 @@ use Rattle.rtps_capture.specs.declared.frames.Frame.{Frame}
 use Rattle.rtps_capture.specs.declared.frames.Frame.TheVariants.{Datagram, Ignored, Cut}
 use Rattle.rtps_capture.specs.declared.layout.file.TheConstants as file_header
 use Rattle.rtps_capture.specs.declared.layout.record.TheConstants.{CAPTURED, SIZE}
-use Rattle.rtps_capture.specs.declared.link.Link.{Link}
-use Rattle.rtps_capture.specs.declared.place.Place.{Place}
+use Rattle.rtps_capture.specs.declared.opening.Link.{Link}
+use Rattle.rtps_capture.specs.declared.datagram.ByteRange.{ByteRange}
 
 -- how many octets of a frame were captured, by its header, which these octets begin with
 abbrev pub captured : Order → List ℕ → ℕ
@@ -23,23 +23,23 @@ abbrev pub is_whole : Order → List ℕ → Bool
 is_whole order rest = nat_le SIZE (length rest) && nat_le (captured order rest) (length rest - SIZE)
 
 -- where the frame stands whose header is at this place of a file
-abbrev pub frame_at : Order → List ℕ → ℕ → Place
+abbrev pub frame_at : Order → List ℕ → ℕ → ByteRange
 frame_at order file at = record { from = at + SIZE; to = at + SIZE + captured order (drop at file) }
 
 -- From this place on, a file is these frames, each behind its header, and then it ends, or is cut within a frame.
-abbrev pub HasFrames : Order → List ℕ → ℕ → List Place → Bool → Type 0
+abbrev pub HasFrames : Order → List ℕ → ℕ → List ByteRange → Bool → Type 0
 HasFrames order file at [] false = length file ≤ at
 HasFrames order file at [] true = (at < length file) × (is_whole order (drop at file) ≡ false)
 HasFrames order file at (frame ∷ frames) cut =
     (at < length file) × (is_whole order (drop at file) ≡ true) × (frame ≡ frame_at order file at) × HasFrames order file frame.to frames cut
 
 -- what a frame gives
-abbrev pub given : Option Place → Frame
+abbrev pub given : Option ByteRange → Frame
 given (Some datagram) = Datagram datagram
 given None = Ignored
 
 -- what a frame at this place gives
-abbrev pub given_at : Link → List ℕ → Place → Frame
+abbrev pub given_at : Link → List ℕ → ByteRange → Frame
 given_at link file frame = given (datagram_at link file frame)
 
 -- what is still unread of a capture: its octets from this place on

@@ -6,8 +6,8 @@ use Rattle.rtps_ids.specs.Octets.{number_of}
 use Rattle.rtps_ids.specs.declared.order.Order.{Order}
 use Rattle.rtps_ids.specs.declared.order.Order.TheVariants.{Big, Little}
 use Rattle.rtps_capture.specs.declared.layout.file.TheConstants.{ETHERNET, LINK, LINKS, MAJOR, MICROSECONDS, NANOSECONDS, RAW_IP, SIZE, VERSION}
-use Rattle.rtps_capture.specs.declared.link.Link.{Link}
-use Rattle.rtps_capture.specs.declared.link.Link.TheVariants.{Ethernet, RawIp}
+use Rattle.rtps_capture.specs.declared.opening.Link.{Link}
+use Rattle.rtps_capture.specs.declared.opening.Link.TheVariants.{Ethernet, RawIp}
 
 -- the two numbers that captures begin with
 abbrev pub is_magic : ℕ → Bool

@@ -2,12 +2,20 @@ ghost use Rattle.std.specs.Prelude.{◌≡◌, [], nat_le, length, IsTrue};
 ghost use Rattle.rtps_capture.specs.Coming.{GivesWhole, StandsAtFirst, unread_behind};
 ghost use Rattle.rtps_capture.specs.Frames.{frames_left};
 
+use crate::datagram::ByteRange;
 use crate::frames::{datagram_given, frame_at};
 use crate::layout::file;
-use crate::link::Link;
-use crate::opening::{capture_order, link_of};
-use crate::place::Place;
+use crate::opening::{Link, capture_order, link_of};
 use rtps_ids::Order;
+
+/// The frame behind a cursor, as far as its octets have come.
+#[derive(Clone, Copy, PartialEq, Eq, Debug)]
+pub enum NextFrame {
+    /// It is not whole yet, or there is none.
+    Unfinished,
+    /// It is whole. The datagram that it gives stands here; None where it gives none.
+    Whole(Option<ByteRange>),
+}
 
 /// A place in a capture whose octets are still coming, in front of a frame.
 #[derive(Clone, Copy, Debug)]
@@ -35,19 +43,20 @@ impl Cursor {
         })
     }
 
-    /// Where the datagram stands that the frame gives, or None where it gives none, if the frame is whole in these octets,
-    /// which begin the capture: it gives the same whatever comes behind them, and the cursor goes on to the next one. Else
-    /// None, and the cursor stays.
+    /// What the frame behind the cursor gives, if it is whole in these octets, which begin the capture: it gives the same
+    /// whatever comes behind them, and the cursor goes on to the next one. Else the cursor stays.
     #[inline]
-    pub fn next_whole(&mut self, octets: &[u8]) -> Option<Option<Place>>
+    pub fn next_whole(&mut self, octets: &[u8]) -> NextFrame
         ensures { GivesWhole octets.now self.old result self.new }
     {
         if self.at >= octets.len() {
-            return None;
+            return NextFrame::Unfinished;
         }
-        let frame = frame_at(self.order, octets, self.at)?;
+        let Some(frame) = frame_at(self.order, octets, self.at) else {
+            return NextFrame::Unfinished;
+        };
         self.at = frame.to;
-        Some(datagram_given(self.link, octets, frame))
+        NextFrame::Whole(datagram_given(self.link, octets, frame))
     }
 
     /// Whether a capture that is these octets has no frame more.

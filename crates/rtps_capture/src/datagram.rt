@@ -2,19 +2,25 @@ ghost use Rattle.std.specs.Prelude.{◌≡◌, ◌≤◌, IfSome, length};
 ghost use Rattle.rtps_capture.specs.Datagrams.{datagram_of_frame as datagram_of_frame_lem, datagram_of_packet as datagram_of_packet_lem, packet_at as packet_at_lem};
 
 use crate::layout::{ethernet, packet, udp};
-use crate::link::Link;
-use crate::place::Place;
+use crate::opening::Link;
 use rtps_ids::{Order, u16_at};
+
+/// Octets in others: from the place of the first on, up to the place behind the last. Places count from 0.
+#[derive(Clone, Copy, PartialEq, Eq, Debug)]
+pub struct ByteRange {
+    pub from: usize,
+    pub to: usize,
+}
 
 /// Where the datagram stands that a frame gives, if it gives one.
 #[inline]
-pub(crate) fn datagram_of_frame(link: Link, frame: &[u8]) -> Option<Place>
+pub(crate) fn datagram_of_frame(link: Link, frame: &[u8]) -> Option<ByteRange>
     ensures place { result ≡ datagram_of_frame_lem link frame.now }
     ensures within { IfSome result (λ place. (place.from ≤ place.to) × (place.to ≤ length frame.now)) }
 {
     let at = packet_at(link, frame)?;
     let place = datagram_of_packet(&frame[at..])?;
-    Some(Place {
+    Some(ByteRange {
         from: at + place.from,
         to: at + place.to,
     })
@@ -44,7 +50,7 @@ fn packet_at(link: Link, frame: &[u8]) -> Option<usize>
 /// Where the datagram stands that a packet carries, if it carries a whole one of UDP.
 #[tactic(auto, unfolding(crate::specs::Datagrams::datagram_of_packet))]
 #[inline]
-fn datagram_of_packet(octets: &[u8]) -> Option<Place>
+fn datagram_of_packet(octets: &[u8]) -> Option<ByteRange>
     ensures place { result ≡ datagram_of_packet_lem octets.now }
     ensures within { IfSome result (λ place. (place.from ≤ place.to) × (place.to ≤ length octets.now)) }
 {
@@ -64,7 +70,7 @@ fn datagram_of_packet(octets: &[u8]) -> Option<Place>
     if size < udp::SIZE || size > total - header {
         return None;
     }
-    Some(Place {
+    Some(ByteRange {
         from: header + udp::SIZE,
         to: header + size,
     })

@@ -3,11 +3,9 @@ ghost use Rattle.std.specs.Iterator.{item_count};
 ghost use Rattle.rtps_capture.specs.Datagrams.{datagram_at};
 ghost use Rattle.rtps_capture.specs.Frames.{GivesNext, StandsWithin, frame_at as frame_at_lem, frames_left, given_at, is_whole, opened};
 
-use crate::datagram::datagram_of_frame;
+use crate::datagram::{ByteRange, datagram_of_frame};
 use crate::layout::{file, record};
-use crate::link::Link;
-use crate::opening::{capture_order, link_of};
-use crate::place::Place;
+use crate::opening::{Link, capture_order, link_of};
 use rtps_ids::{Order, u32_at};
 use std::marker::Model;
 
@@ -15,7 +13,7 @@ use std::marker::Model;
 #[derive(Clone, Copy, PartialEq, Eq, Debug)]
 pub enum Frame {
     /// A UDP datagram, which stands at this place of the capture.
-    Datagram(Place),
+    Datagram(ByteRange),
     /// Nothing: it carries no whole UDP datagram of IPv4 that was sent in one packet.
     Ignored,
     /// The capture ends within it.
@@ -89,7 +87,7 @@ impl<'a> Iterator for Frames<'a> {
 
 /// Where the frame stands whose header begins at this place, if both are whole.
 #[inline]
-pub(crate) fn frame_at(order: Order, octets: &[u8], at: usize) -> Option<Place>
+pub(crate) fn frame_at(order: Order, octets: &[u8], at: usize) -> Option<ByteRange>
     requires { at ≤ length octets.now }
     ensures { MatchOption result
         (is_whole order (drop at octets.now) ≡ false)
@@ -104,7 +102,7 @@ pub(crate) fn frame_at(order: Order, octets: &[u8], at: usize) -> Option<Place>
         return None;
     }
     let from = at + record::SIZE;
-    Some(Place {
+    Some(ByteRange {
         from,
         to: from + captured,
     })
@@ -112,7 +110,7 @@ pub(crate) fn frame_at(order: Order, octets: &[u8], at: usize) -> Option<Place>
 
 /// What the frame at this place gives.
 #[inline]
-fn frame_given(link: Link, octets: &[u8], frame: Place) -> Frame
+fn frame_given(link: Link, octets: &[u8], frame: ByteRange) -> Frame
     requires ordered { frame.from ≤ frame.to }
     requires within { frame.to ≤ length octets.now }
     ensures given { result ≡ given_at link octets.now frame }
@@ -126,14 +124,14 @@ fn frame_given(link: Link, octets: &[u8], frame: Place) -> Frame
 
 /// Where the datagram stands that the frame at this place gives, if it gives one.
 #[inline]
-pub(crate) fn datagram_given(link: Link, octets: &[u8], frame: Place) -> Option<Place>
+pub(crate) fn datagram_given(link: Link, octets: &[u8], frame: ByteRange) -> Option<ByteRange>
     requires ordered { frame.from ≤ frame.to }
     requires within { frame.to ≤ length octets.now }
     ensures given { result ≡ datagram_at link octets.now frame }
     ensures within { IfSome result (λ place. (place.from ≤ place.to) × (place.to ≤ length octets.now)) }
 {
     let place = datagram_of_frame(link, &octets[frame.from..frame.to])?;
-    Some(Place {
+    Some(ByteRange {
         from: frame.from + place.from,
         to: frame.from + place.to,
     })

@@ -6,12 +6,9 @@ mod datagram;
 mod frames;
 pub mod laws;
 mod layout;
-mod link;
 mod opening;
-mod place;
 
-pub use cursor::Cursor;
+pub use cursor::{Cursor, NextFrame};
+pub use datagram::ByteRange;
 pub use frames::{Frame, Frames};
-pub use link::Link;
-pub use opening::{CAPTURE_HEADER_SIZE, capture_order, unread_link_type};
-pub use place::Place;
+pub use opening::{CAPTURE_HEADER_SIZE, Link, capture_order, unread_link_type};

@@ -3,11 +3,19 @@ ghost use Rattle.rtps_capture.specs.Opening.{is_magic as is_magic_lem, link_numb
 ghost use Rattle.rtps_capture.specs.declared.layout.file.TheConstants.{SIZE};
 
 use crate::layout::file;
-use crate::link::Link;
 use rtps_ids::{Order, u16_at, u32_at};
 
 /// How many octets of a capture tell whether it is one that is read: those of its header.
 pub const CAPTURE_HEADER_SIZE: usize = file::SIZE;
+
+/// What the frames of a capture are.
+#[derive(Clone, Copy, PartialEq, Eq, Debug)]
+pub enum Link {
+    /// Ethernet frames (IEEE 802.3).
+    Ethernet,
+    /// IP packets with nothing in front of them.
+    RawIp,
+}
 
 /// The order of the numbers in the headers of a capture, by its first four octets; None where they begin no capture
 /// (PCAP Capture File Format, 4 "File Header").

@@ -12,7 +12,6 @@ pub mod laws;
 mod layout;
 mod matching;
 mod notice;
-mod noting;
 mod offers;
 mod topic_index;
 

@@ -1,6 +1,0 @@
-/// Where octets stand in others: from the place of the first on, up to the place behind the last. Places count from 0.
-#[derive(Clone, Copy, PartialEq, Eq, Debug)]
-pub struct Place {
-    pub from: usize,
-    pub to: usize,
-}
