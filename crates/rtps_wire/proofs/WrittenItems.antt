@@ -10,7 +10,6 @@ use Rattle.rtps_wire.specs.Values.{ItemValue, body_value, item_value}
 use Rattle.rtps_wire.specs.Writable.{first_of, is_none_left, item_fault, items_fault}
 use Rattle.rtps_wire.specs.Written.{item_octets, written_body}
 use Rattle.rtps_ids.proofs.Offered.{length-octets_of}
-use Rattle.rtps_ids.specs.Octets.{octets_of}
 use Rattle.std.proofs.lemmas.Grind.{flat_map-append}
 use Rattle.std.proofs.lemmas.List.Folds.{flat_map-map, length-flat_map-take}
 use Rattle.std.specs.List.{flat_map}

@@ -2,8 +2,8 @@
 #![tactic(auto)]
 
 mod body;
-mod counting;
 mod counts;
+mod datagram_tally;
 mod fault;
 mod flags;
 mod header;
@@ -15,8 +15,8 @@ mod write;
 mod write_fault;
 
 pub use body::{AckNackBody, Body, DataBody, GapBody, HeartbeatBody, Item, Payload};
-pub use counting::tally;
 pub use counts::Tally;
+pub use datagram_tally::tally;
 pub use fault::{Refusal, WireFault};
 pub use flags::DataFlags;
 pub use header::Header;

@@ -1,8 +1,8 @@
 use Rattle.std.proofs.Common.{ℕ, arith}
 use Rattle.std.proofs.lemmas.List.{length-append}
 use Rattle.std.proofs.lemmas.Result.{on_err_weaker}
-use Rattle.rtps_ids.proofs.Offered.{length-octets_of, length-sequence_number_octets}
-use Rattle.rtps_wire.proofs.WrittenGrowth.{grown, lacks, on_err, stays}
+use Rattle.rtps_ids.proofs.Offered.{length-octets_of}
+use Rattle.rtps_wire.proofs.WrittenGrowth.{grown, lacks}
 use Rattle.rtps_wire.proofs.write.ack_nack.ack_nack.Goals as goal
 
 pub returns-clause-full : goal.returns-clause-full

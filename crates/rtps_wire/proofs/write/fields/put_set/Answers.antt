@@ -1,9 +1,7 @@
 use Rattle.std.proofs.Common.{ℕ, arith}
 use Rattle.std.proofs.lemmas.List.{length-append}
-use Rattle.std.proofs.lemmas.Result.{on_err_weaker}
 use Rattle.rtps_ids.proofs.Offered.{length-octets_of, length-sequence_number_octets}
 use Rattle.rtps_wire.proofs.WrittenGrowth.{grown, lacks, on_err, stays}
-use Rattle.std.specs.Prelude.{pos}
 use Rattle.rtps_wire.proofs.WrittenSets.{set_parts}
 use Rattle.rtps_wire.proofs.write.fields.put_set.Goals as goal
 

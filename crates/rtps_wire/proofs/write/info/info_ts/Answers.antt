@@ -1,4 +1,4 @@
-use Rattle.std.proofs.Common.{ap, length, arith, Some}
+use Rattle.std.proofs.Common.{ap, length, arith}
 use Rattle.std.proofs.lemmas.Result.{on_err_weaker}
 use Rattle.rtps_ids.proofs.Offered.{length-octets_of}
 use Rattle.rtps_wire.proofs.WrittenGrowth.{grown, lacks, on_err}

@@ -1,5 +1,4 @@
 use Rattle.std.proofs.Common.{sym, arith}
-use Rattle.std.proofs.lemmas.List.{length-append}
 use Rattle.rtps_wire.proofs.WrittenGrowth.{grown, lacks, on_err}
 use Rattle.rtps_wire.proofs.WrittenItems.{kept_behind, octets_within, small_at}
 use Rattle.rtps_wire.proofs.write.message.put_items.Goals as goal

@@ -1,4 +1,4 @@
-use Rattle.std.proofs.Common.{ℕ, ◌++◌, map, arith}
+use Rattle.std.proofs.Common.{◌++◌, map, arith}
 use Rattle.std.specs.List.{flat_map}
 use Rattle.std.proofs.lemmas.List.{length-append}
 use Rattle.rtps_wire.proofs.WrittenGrowth.{lacks, on_err}

@@ -1,6 +1,4 @@
-use Rattle.std.proofs.Common.{◌≡◌, ◌≤◌, ◌+◌, map, take, length, arith}
-use Rattle.std.specs.List.{flat_map}
-use Rattle.std.proofs.lemmas.List.{take_all}
+use Rattle.std.proofs.Common.{arith}
 use Rattle.rtps_wire.proofs.WrittenItems.{room_more, size_within}
 use Rattle.rtps_wire.proofs.write.message.room_for.Goals as goal
 

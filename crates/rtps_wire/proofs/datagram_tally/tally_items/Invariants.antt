@@ -2,7 +2,7 @@ use Rattle.std.proofs.Common.{◌≡◌, ◌<◌, ◌≤◌, ◌^◌, ◌+◌, l
 use Rattle.std.specs.Prelude.{◌||◌, is_some}
 use Rattle.rtps_wire.specs.Reading.{items_among, outcomes_left, refusal_among}
 use Rattle.rtps_wire.specs.Tally.{fragments_in, skipped_in}
-use Rattle.rtps_wire.proofs.counting.tally_items.Given as goal
+use Rattle.rtps_wire.proofs.datagram_tally.tally_items.Given as goal
 
 -- what is counted so far and what is left are all
 abbrev pub invariant-loop-outcome : goal.invariant-loop-outcome
