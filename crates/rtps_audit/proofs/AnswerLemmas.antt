@@ -6,13 +6,11 @@ use Rattle.std.proofs.lemmas.Bool.Decides.{nat_tests}
 use Rattle.std.proofs.lemmas.Int.{ints}
 use Rattle.std.proofs.lemmas.List.Elements.{All-push, All-weaker, Contains-append_left, Contains-push}
 use Rattle.rtps_ids.specs.declared.identity.Guid.{Guid}
-use Rattle.rtps_audit.specs.Answered.{IsFirstAmong, IsToldAll, IsUntoldAmong, base_among}
-use Rattle.rtps_audit.specs.Claims.{is_earlier}
-use Rattle.rtps_audit.specs.Hearing.{IsFrontBy}
+use Rattle.rtps_audit.specs.Answered.{IsFirstAmong, IsToldAll, IsUntoldAmong, base_among, is_earlier, IsFrontBy}
 use Rattle.rtps_audit.specs.Placed.{PlacedValue}
 use Rattle.rtps_audit.specs.Speech.{natural}
-use Rattle.rtps_audit.specs.declared.answers.Answer.{Answer}
-use Rattle.rtps_audit.specs.declared.claims.Untold.{Untold}
+use Rattle.rtps_audit.specs.declared.answer.Answer.{Answer}
+use Rattle.rtps_audit.specs.declared.verdict.Untold.{Untold}
 
 -- a signed number is not below 0, or nothing natural
 sign : (z : ℤ) → (z ≡ pos (natural z)) ⊎ ((z <ℤ pos 0) × (natural z ≡ 0))

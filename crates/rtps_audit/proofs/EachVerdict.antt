@@ -1,12 +1,12 @@
--- Each recording has a verdict.
-use Rattle.std.proofs.Common.{◌≡◌, ℕ, zero, suc, ◌+◌, ◌≤◌, ◌<◌, Bool, true, false, List, [], ◌∷◌, length, Option, Some, None, slice_get, refl, sym, ◌∙◌, ap, subst, arith, ◌⊎◌, inl, inr, pos}
+-- Each recording of words for numbers below some bound has a verdict.
+use Rattle.std.proofs.Common.{◌≡◌, ℕ, zero, suc, List, [], ◌∷◌, Option, Some, slice_get, refl, ◌∙◌, ap, ◌⊎◌, inl, inr, ◌+◌, ◌≤◌, ◌<◌, Bool, true, false, length, None, sym, subst, arith, pos}
 use Rattle.std.specs.Prelude.{Contains, ◌≢◌, Decides}
 use Rattle.std.specs.Cmp.Lexicographic.{bytes_decides}
 use Rattle.std.proofs.lemmas.Bool.{cases_lt}
 use Rattle.std.proofs.lemmas.Option.{slice_get_cases, slice_get_within}
 use Rattle.rtps_wire.specs.Values.{PayloadValue}
-use Rattle.rtps_audit.specs.Delivery.{Word, Datagram, Speech, IsAsked, Gives, Claims, greatest, last_announced_from}
 use Rattle.rtps_wire.specs.Values.PayloadValue.{Absent, Whole, Key}
+use Rattle.rtps_audit.specs.Delivery.{Word, Datagram, Speech, IsAsked, Gives, Claims, greatest, last_announced_from}
 use Rattle.rtps_audit.specs.Delivery.Word.{Told, Gone}
 use Rattle.rtps_audit.specs.RunVerdict.{IsLeast, ClaimsUntold, IsVerdictFrom}
 use Rattle.rtps_audit.specs.PlainVerdict.{IsFounded, IsSpoken, SpeaksTwo, IsClaimed, IsUnclaimed}
@@ -15,11 +15,34 @@ use Rattle.rtps_audit.specs.Judge.{greatest_base}
 use Rattle.rtps_audit.specs.Laws.{EachHasAVerdict}
 use Rattle.rtps_audit.specs.declared.verdict.Verdict.{Verdict}
 use Rattle.rtps_audit.specs.declared.verdict.Verdict.TheVariants.{Unfounded, Conflict, Open, Complete}
-use Rattle.rtps_audit.proofs.ActPlaces.{Has, has_here, has_later, has_cases, has_none}
-use Rattle.rtps_audit.proofs.Greatest.{below_greatest, greatest_below}
-use Rattle.rtps_audit.proofs.BelowBase.{claimed_from_below, below_from_claims}
+use Rattle.rtps_audit.proofs.Greatest.{below_greatest, greatest_below, claimed_from_below, below_from_claims}
 use Rattle.rtps_audit.proofs.DeliveryRuns.{asked_or_not}
 use Rattle.rtps_audit.proofs.Verdicts.{told_or_not, from_plain}
+
+-- ---- what stands at the places of a list of acts
+
+-- the act at place k of these has the word for n
+pub record Has (acts : List (ℕ → Option Word)) (k n : ℕ) (word : Word) : Type 0 where
+  pub act : ℕ → Option Word
+  pub speaks : slice_get acts k ≡ Some act
+  pub says : act n ≡ Some word
+
+pub has_here : (act : ℕ → Option Word) (acts : List (ℕ → Option Word)) (n : ℕ) (word : Word) → act n ≡ Some word → Has (act ∷ acts) 0 n word
+has_here act acts n word says = record { act = act; speaks = refl; says = says }
+
+pub has_later : (act : ℕ → Option Word) (acts : List (ℕ → Option Word)) (k n : ℕ) (word : Word) → Has acts k n word → Has (act ∷ acts) (suc k) n word
+has_later act acts k n word has = record { act = has.act; speaks = has.speaks; says = has.says }
+
+pub has_cases : (act : ℕ → Option Word) (acts : List (ℕ → Option Word)) (k n : ℕ) (word : Word) → Has (act ∷ acts) k n word → (act n ≡ Some word) ⊎ ((j : ℕ) × Has acts j n word)
+has_cases act acts zero n word has =
+    let same : act ≡ has.act = (let both = has.speaks in cc) in
+    inl (ap (λ (f : ℕ → Option Word). f n) same ∙ has.says)
+has_cases act acts (suc k) n word has = inr (k, record { act = has.act; speaks = has.speaks; says = has.says })
+
+pub has_none : (k n : ℕ) (word : Word) → Has [] k n word → ⊥
+has_none k n word has = let none = has.speaks in cc
+
+-- ---- the verdict
 
 -- a fact holds or does not
 abbrev Decided : Type 0 → Type 0

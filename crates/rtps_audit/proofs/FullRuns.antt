@@ -1,16 +1,67 @@
--- The run that takes all it can, of each recording.
-use Rattle.std.proofs.Common.{ℕ, List}
+-- The run that takes all it can: it is one, whichever bound its numbers are looked at below, and it decides of each recording.
+use Rattle.std.proofs.Common.{◌≡◌, ℕ, zero, suc, ◌<◌, ◌≤◌, List, [], ◌∷◌, ◌++◌, Option, Some, None, slice_get, refl, sym, ◌∙◌, ap, ap₂, arith, append-nil, inl, inr}
+use Rattle.std.proofs.lemmas.Bool.{cases_lt}
 use Rattle.rtps_ids.specs.declared.identity.Guid.{Guid}
-use Rattle.rtps_audit.specs.Delivery.{Speech, HasRun}
-use Rattle.rtps_audit.specs.FullRun.{IsBoundedBy, IsFullRun, HasFullRunFrom}
+use Rattle.rtps_audit.specs.Delivery.{Word, Datagram, Speech, IsAsked, Event, HasRun}
+use Rattle.rtps_audit.specs.Delivery.Event.{Send}
+use Rattle.rtps_audit.specs.FullRun.{asked_word, take_of, takes_of_act, takes_of_acts, full_run_from, IsBoundedBy, IsFullRun, HasFullRunFrom}
+use Rattle.rtps_audit.specs.Laws.{FullRunIsOne, EachRecordingHasAVerdict, FullRunDecidesRecordings}
+use Rattle.rtps_audit.proofs.FullRunLemmas.{says_asked, full_run_decides}
 use Rattle.rtps_audit.specs.RunVerdict.{IsVerdictFrom}
 use Rattle.rtps_audit.specs.Speech.{speech_of}
-use Rattle.rtps_audit.specs.Laws.{EachRecordingHasAVerdict, FullRunDecidesRecordings}
 use Rattle.rtps_audit.specs.declared.verdict.Verdict.{Verdict}
 use Rattle.rtps_audit.specs.declared.verdict.Verdict.TheVariants.{Unfounded, Conflict, Open, Complete}
 use Rattle.rtps_audit.proofs.Bounded.{end_of_recording, some_bound}
 use Rattle.rtps_audit.proofs.EachVerdict.{each_has_a_verdict}
-use Rattle.rtps_audit.proofs.FullRunLemmas.{full_run_decides}
+
+-- ---- by any bound
+
+-- each word that these acts have for a number that is asked for is for one below the bound
+abbrev ActsEnd : ℕ → List (ℕ → Option Word) → ℕ → Type 0
+ActsEnd from acts bound = (k n : ℕ) (act : ℕ → Option Word) (word : Word) → slice_get acts k ≡ Some act → IsAsked from n → act n ≡ Some word → n < bound
+
+no_take : (from i k : ℕ) (act : ℕ → Option Word) (n : ℕ) (found : Option Word) → asked_word from act n ≡ found → ((word : Word) → IsAsked from n → act n ≡ Some word → ⊥) → take_of i k n found ≡ []
+no_take from i k act n None is never = refl
+no_take from i k act n (Some word) is never = absurd (let asked = says_asked from act n word is in never word asked.0 asked.1)
+
+act_same : (from i k : ℕ) (act : ℕ → Option Word) (bound other : ℕ) → ((n : ℕ) (word : Word) → IsAsked from n → act n ≡ Some word → n < bound) → bound ≤ other
+    → takes_of_act from i k act other ≡ takes_of_act from i k act bound
+act_same from i k act bound zero ends le = let none : 0 ≡ bound = omega arith in ap (takes_of_act from i k act) none
+act_same from i k act bound (suc m) ends le = elim (cases_lt m bound) [
+  | inl below ↦ let all : suc m ≡ bound = omega arith in ap (takes_of_act from i k act) all
+  | inr past ↦
+      ap (λ (es : List Event). takes_of_act from i k act m ++ es) (no_take from i k act m (asked_word from act m) refl (λ word asked says. let lt = ends m word asked says in omega arith))
+      ∙ append-nil (takes_of_act from i k act m)
+      ∙ act_same from i k act bound m ends past
+]
+
+acts_same : (from i k : ℕ) (acts : List (ℕ → Option Word)) (bound other : ℕ) → ActsEnd from acts bound → bound ≤ other → takes_of_acts from i k acts other ≡ takes_of_acts from i k acts bound
+acts_same from i k [] bound other ends le = refl
+acts_same from i k (act ∷ acts) bound other ends le =
+    ap₂ (λ (xs ys : List Event). xs ++ ys) (act_same from i k act bound other (λ n word asked says. ends 0 n act word refl asked says) le)
+    (acts_same from i (suc k) acts bound other (λ j n one word at asked says. ends (suc j) n one word at asked says) le)
+
+first_ends : (from : ℕ) (datagram : Datagram) (speech : Speech) (bound : ℕ) → IsBoundedBy from (datagram ∷ speech) bound → ActsEnd from datagram.acts bound
+first_ends from datagram speech bound bounded k n act word speaks asked says =
+    bounded 0 k n word (record { datagram = datagram; act = act; stands = refl; speaks = speaks; asked = asked; says = says })
+
+rest_bounded : (from : ℕ) (datagram : Datagram) (speech : Speech) (bound : ℕ) → IsBoundedBy from (datagram ∷ speech) bound → IsBoundedBy from speech bound
+rest_bounded from datagram speech bound bounded i k n word gives =
+    bounded (suc i) k n word (record { datagram = gives.datagram; act = gives.act; stands = gives.stands; speaks = gives.speaks; asked = gives.asked; says = gives.says })
+
+run_same : (from i : ℕ) (speech : Speech) (bound other : ℕ) → IsBoundedBy from speech bound → bound ≤ other → full_run_from from i speech other ≡ full_run_from from i speech bound
+run_same from i [] bound other bounded le = refl
+run_same from i (datagram ∷ speech) bound other bounded le =
+    ap₂ (λ (xs ys : List Event). (Send ∷ xs) ++ ys) (acts_same from i 0 datagram.acts bound other (first_ends from datagram speech bound bounded) le)
+    (run_same from (suc i) speech bound other (rest_bounded from datagram speech bound bounded) le)
+
+pub full_run_is_one : FullRunIsOne
+full_run_is_one from speech bound other bounded also = elim (cases_lt bound other) [
+  | inl below ↦ sym (run_same from 0 speech bound other bounded (omega arith))
+  | inr above ↦ run_same from 0 speech other bound also above
+]
+
+-- ---- of each recording
 
 pub each_recording_has_a_verdict : EachRecordingHasAVerdict
 each_recording_has_a_verdict from writer reader recording =

@@ -1,10 +1,12 @@
--- The greatest of a list of numbers.
-use Rattle.std.proofs.Common.{ℕ, zero, suc, ◌≡◌, ◌<◌, max, List, [], ◌∷◌, ◌++◌, Option, Some, None, refl, ◌∙◌, ap, arith, inl, inr}
+-- The greatest of a list of numbers, and the greatest base of a recording: a number below it is claimed.
+use Rattle.std.proofs.Common.{ℕ, zero, suc, ◌≡◌, ◌<◌, max, List, [], ◌∷◌, ◌++◌, Option, Some, None, refl, ◌∙◌, ap, arith, inl, inr, subst}
 use Rattle.std.specs.Prelude.{Contains, unwrap_or}
 use Rattle.std.specs.List.{filter_map, cons_option}
 use Rattle.std.proofs.lemmas.Bool.{cases_lt}
 use Rattle.std.proofs.lemmas.List.Elements.{filter_map-append, Contains-append_left, Contains-append_right, Contains-append_cases, Contains-push}
-use Rattle.rtps_audit.specs.Delivery.{greatest}
+use Rattle.rtps_audit.specs.Delivery.{greatest, Datagram, Speech, IsAsked, Claims}
+use Rattle.rtps_audit.specs.PlainVerdict.{IsClaimed}
+use Rattle.rtps_audit.specs.Judge.{greatest_base}
 
 greatest-append : (xs ys : List ℕ) → greatest (xs ++ ys) ≡ max (greatest xs) (greatest ys)
 greatest-append [] ys = omega arith
@@ -41,3 +43,27 @@ greatest_below n x (y ∷ ys) among lt = elim (Contains-append_cases (y ∷ []) 
     only_number : (a b : ℕ) → Contains (a ∷ []) b → a ≡ b
     only_number a b (zero, h, e) = e
     only_number a b (suc k, h, e) = absurd (omega arith)
+
+-- ---- the greatest base
+
+-- a claim with a datagram more before it
+claims_next : {from : ℕ} (d : Datagram) (speech : Speech) (j n : ℕ) → Claims from speech j n → Claims from (d ∷ speech) (suc j) n
+claims_next d speech j n claims = record { datagram = claims.datagram; base = claims.base; stands = claims.stands; answers = claims.answers; asked = claims.asked; below = claims.below }
+
+pub claimed_from_below : {from : ℕ} (n : ℕ) (speech : Speech) → IsAsked from n → n < greatest_base speech → IsClaimed from speech n
+claimed_from_below n [] asked lt = absurd (omega arith)
+claimed_from_below n (d ∷ speech) asked lt = elim (cases_lt n (greatest d.bases)) [
+  | inl here ↦ let base = below_greatest n d.bases here in (0, record { datagram = d; base = base.0; stands = refl; answers = base.1; asked = asked; below = base.2 })
+  | inr not ↦ let rest = claimed_from_below n speech asked (omega arith) in (suc rest.0, claims_next d speech rest.0 n rest.1)
+]
+
+pub below_from_claims : {from : ℕ} (n j : ℕ) (speech : Speech) → Claims from speech j n → n < greatest_base speech
+below_from_claims n j [] claims = let none = claims.stands in cc
+below_from_claims n zero (d ∷ speech) claims =
+    let same : claims.datagram ≡ d = (let both = claims.stands in cc) in
+    let among : Contains d.bases claims.base = subst (λ (x : Datagram). Contains x.bases claims.base) same claims.answers in
+    let below = greatest_below n claims.base d.bases among claims.below in
+    omega arith
+below_from_claims n (suc j) (d ∷ speech) claims =
+    let rest = below_from_claims n j speech (record { datagram = claims.datagram; base = claims.base; stands = claims.stands; answers = claims.answers; asked = claims.asked; below = claims.below }) in
+    omega arith

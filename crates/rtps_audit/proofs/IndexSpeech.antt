@@ -1,8 +1,9 @@
--- What the acts of an index say of a pair's speech: its words, its claims and its numbers.
+-- What is heard and answered by acts of an index is what the recording says, and so the verdicts are the same.
 use Rattle.std.proofs.Common.{◌≡◌, ◌≢◌, ℕ, zero, suc, ℤ, pos, negsuc, ◌+◌, ◌-◌, ◌<◌, ◌≤◌, ◌^◌, Bool, true, false, ◌&&◌, List, [], ◌∷◌, map, max, filter, Option, Some, None, slice_get, ◌⊎◌, inl, inr, refl, sym, ap, ◌∙◌, subst, arith}
-use Rattle.std.specs.Prelude.{Contains, MatchOption, if◌then◌else◌, ◌<ℤ◌}
+use Rattle.std.specs.Prelude.{Contains, MatchOption, if◌then◌else◌, nat_le, ◌<ℤ◌}
 use Rattle.std.specs.List.{filter_map}
 use Rattle.std.proofs.lemmas.Bool.{cases_lt}
+use Rattle.std.proofs.lemmas.Bool.Decides.{nat_tests}
 use Rattle.std.proofs.lemmas.Int.{ints}
 use Rattle.std.proofs.lemmas.List.Elements.{All-contains}
 use Rattle.rtps_ids.specs.declared.identity.Guid.{Guid}
@@ -13,21 +14,22 @@ use Rattle.rtps_receiver.specs.Speech.{entity_from, is_entity, is_prefix, is_spo
 use Rattle.rtps_receiver.specs.Values.{ActBodyValue}
 use Rattle.rtps_receiver.specs.Values.ActBodyValue.{Data, Heartbeat, AckNack, Gap}
 use Rattle.rtps_discovery.specs.declared.matching.Pair.{Pair}
-use Rattle.rtps_audit.specs.Answered.{IsToldAll, IsUntoldAmong, base_among}
-use Rattle.rtps_audit.specs.Delivery.{Claims, Datagram, Gives, IsAsked, Speech, Word, greatest, last_announced, last_announced_from}
+use Rattle.rtps_audit.specs.Answered.{HearsTwo, IsGivenBy, IsHeard, IsToldAll, IsToldBy, IsUntoldAmong, base_among, last_among, verdict_by}
+use Rattle.rtps_audit.specs.Delivery.{Claims, Datagram, Gives, IsAsked, Speech, Word, greatest, last_announced_from}
 use Rattle.rtps_audit.specs.Delivery.Word.{Told}
-use Rattle.rtps_audit.specs.Hearing.{HearsTwo, IsHeard, IsToldBy, last_among}
 use Rattle.rtps_audit.specs.Judge.{IsFirstUntold, greatest_base}
 use Rattle.rtps_audit.specs.Placed.{PlacedValue, answer_at, answer_of, answers_among, is_from, placed_in}
-use Rattle.rtps_audit.specs.PlainVerdict.{SpeaksTwo}
-use Rattle.rtps_audit.specs.RunVerdict.{ClaimsUntold, IsLeast, IsTold}
+use Rattle.rtps_audit.specs.PlainVerdict.{IsClaimed, IsUnclaimed, SpeaksTwo}
+use Rattle.rtps_audit.specs.RunVerdict.{ClaimsUntold, IsLeast, IsTold, IsVerdictFrom}
 use Rattle.rtps_audit.specs.Speech.{announced_for, announced_of_body, base_for, natural, said_by, speech_of, word_for, word_of}
-use Rattle.rtps_audit.specs.declared.answers.Answer.{Answer}
-use Rattle.rtps_audit.specs.declared.claims.Untold.{Untold}
-use Rattle.rtps_audit.proofs.DatagramMore.{last_announced_max}
-use Rattle.rtps_audit.proofs.Greatest.{below_greatest, greatest_below}
+use Rattle.rtps_audit.specs.declared.answer.Answer.{Answer}
+use Rattle.rtps_audit.specs.declared.verdict.Untold.{Untold}
+use Rattle.rtps_audit.proofs.Greatest.{below_from_claims, below_greatest, claimed_from_below, greatest_below}
 use Rattle.rtps_audit.proofs.PlacedActs.{contains_cases, contains_head, contains_none, contains_tail, kept_if_passed, kept_is_there, made_from, makes, stands_there, stands_where}
 use Rattle.rtps_audit.proofs.PlacedLemmas.{both, bytes_eq-sym}
+use Rattle.rtps_audit.specs.declared.verdict.Verdict.{Verdict}
+use Rattle.rtps_audit.specs.declared.verdict.Verdict.TheVariants.{Conflict, Complete, Open, Unfounded}
+use Rattle.rtps_audit.proofs.Verdicts.{from_plain}
 
 -- ---- places in lists
 
@@ -83,12 +85,28 @@ by_body writer source (Gap value) e = both (bytes_eq-sym writer.prefix.0 source.
 pub spoken_is_from : (writer : Guid) (placed : PlacedValue) → is_spoken_by placed.act writer ≡ true → is_from writer placed ≡ true
 spoken_is_from writer placed e = by_body writer placed.act.source placed.act.body e
 
+-- ---- acts that have all that a writer says
+
+-- these are acts of the recording, and all that the writer speaks are among them
+pub record HasSpeech (writer : Guid) (recording : List (List ℕ)) (placed : List PlacedValue) : Type 0 where
+  pub there : (at : PlacedValue) → Contains placed at → Contains (placed_in recording) at
+  pub kept : (at : PlacedValue) → Contains (placed_in recording) at → is_spoken_by at.act writer ≡ true → Contains placed at
+
+pub all_have : (writer : Guid) (recording : List (List ℕ)) → HasSpeech writer recording (placed_in recording)
+all_have writer recording = record { there = λ at among. among; kept = λ at among spoken. among }
+
+pub its_have : (writer : Guid) (recording : List (List ℕ)) → HasSpeech writer recording (filter (is_from writer) (placed_in recording))
+its_have writer recording = record {
+  there = λ at among. kept_is_there (is_from writer) (placed_in recording) at among;
+  kept = λ at among spoken. kept_if_passed (is_from writer) (placed_in recording) at among (spoken_is_from writer at spoken);
+}
+
 -- ---- words
 
-pub gives_from : {from : ℕ} (writer reader : Guid) (recording : List (List ℕ)) (n : ℕ) (word : Word) (heard : IsHeard writer reader (filter (is_from writer) (placed_in recording)) n word) → IsAsked from n
+pub gives_from : {from : ℕ} (writer reader : Guid) (recording : List (List ℕ)) (placed : List PlacedValue) → HasSpeech writer recording placed → (n : ℕ) (word : Word) (heard : IsHeard writer reader placed n word) → IsAsked from n
     → (i : ℕ) × (k : ℕ) × Gives from (speech_of writer reader recording) i k n word × (heard.at.datagram ≡ i + 1)
-gives_from {from} writer reader recording n word heard asked =
-    let stands = stands_where 0 recording heard.at (kept_is_there (is_from writer) (placed_in recording) heard.at heard.among) in
+gives_from {from} writer reader recording placed has n word heard asked =
+    let stands = stands_where 0 recording heard.at (has.there heard.at heard.among) in
     let at = contained_at (acts_of (reading_of stands.octets)) heard.at.act stands.among in
     let gives : Gives from (speech_of writer reader recording) stands.place at.0 n word = record {
       datagram = said_by writer reader (acts_of (reading_of stands.octets));
@@ -100,47 +118,47 @@ gives_from {from} writer reader recording n word heard asked =
     } in
     (stands.place, at.0, gives, stands.at ∙ omega arith)
 
-pub heard_from : {from : ℕ} (writer reader : Guid) (recording : List (List ℕ)) (i k n : ℕ) (word : Word) → Gives from (speech_of writer reader recording) i k n word
-    → (heard : IsHeard writer reader (filter (is_from writer) (placed_in recording)) n word) × (heard.at.datagram ≡ i + 1)
-heard_from writer reader recording i k n word gives =
+pub heard_from : {from : ℕ} (writer reader : Guid) (recording : List (List ℕ)) (placed : List PlacedValue) → HasSpeech writer recording placed → (i k n : ℕ) (word : Word) → Gives from (speech_of writer reader recording) i k n word
+    → (heard : IsHeard writer reader placed n word) × (heard.at.datagram ≡ i + 1)
+heard_from writer reader recording placed has i k n word gives =
     let octets = mapped_get (λ octets. said_by writer reader (acts_of (reading_of octets))) recording i gives.datagram gives.stands in
     let acts = acts_of (reading_of octets.0) in
     let speaks = ap (λ (d : Datagram). slice_get d.acts k) octets.2 ∙ gives.speaks in
     let act = mapped_get (word_for writer reader) acts k gives.act speaks in
     let says : word_for writer reader act.0 n ≡ Some word = ap (λ (f : ℕ → Option Word). f n) act.2 ∙ gives.says in
-    let placed : PlacedValue = record { datagram = 0 + i + 1; act = act.0 } in
+    let here : PlacedValue = record { datagram = 0 + i + 1; act = act.0 } in
     let spoken = and_first _ _ (if_some _ (word_of act.0.body n) word says).0 in
     let there = stands_there 0 i recording octets.0 act.0 octets.1 (at_contained acts k act.0 act.1) in
-    (record { at = placed; among = kept_if_passed (is_from writer) (placed_in recording) placed there (spoken_is_from writer placed spoken); says = says }, omega arith)
+    (record { at = here; among = has.kept here there spoken; says = says }, omega arith)
 
-told_from : {from : ℕ} (writer reader : Guid) (recording : List (List ℕ)) (j n : ℕ) → IsAsked from n → IsToldBy writer reader (filter (is_from writer) (placed_in recording)) j n → IsTold from (speech_of writer reader recording) j n
-told_from writer reader recording j n asked (word, (heard, until)) =
-    let gives = gives_from writer reader recording n word heard asked in
+told_from : {from : ℕ} (writer reader : Guid) (recording : List (List ℕ)) (placed : List PlacedValue) → HasSpeech writer recording placed → (j n : ℕ) → IsAsked from n → IsToldBy writer reader placed j n → IsTold from (speech_of writer reader recording) j n
+told_from writer reader recording placed has j n asked (word, (heard, until)) =
+    let gives = gives_from writer reader recording placed has n word heard asked in
     let at = gives.3 in
     record { place = gives.0; act = gives.1; word = word; earlier = omega arith; gives = gives.2 }
 
-told_to : {from : ℕ} (writer reader : Guid) (recording : List (List ℕ)) (j n : ℕ) → IsTold from (speech_of writer reader recording) j n → IsToldBy writer reader (filter (is_from writer) (placed_in recording)) j n
-told_to writer reader recording j n told =
-    let heard = heard_from writer reader recording told.place told.act n told.word told.gives in
+told_to : {from : ℕ} (writer reader : Guid) (recording : List (List ℕ)) (placed : List PlacedValue) → HasSpeech writer recording placed → (j n : ℕ) → IsTold from (speech_of writer reader recording) j n → IsToldBy writer reader placed j n
+told_to writer reader recording placed has j n told =
+    let heard = heard_from writer reader recording placed has told.place told.act n told.word told.gives in
     let at = heard.1 in
     let earlier = told.earlier in
     (told.word, (heard.0, omega arith))
 
-two_from : {from : ℕ} (writer reader : Guid) (recording : List (List ℕ)) (n : ℕ) → HearsTwo from writer reader (filter (is_from writer) (placed_in recording)) n → SpeaksTwo from (speech_of writer reader recording) n
-two_from writer reader recording n (asked, (x, y, one, two, differ)) =
-    let a = gives_from writer reader recording n (Told x) one asked in
-    let b = gives_from writer reader recording n (Told y) two asked in
+two_from : {from : ℕ} (writer reader : Guid) (recording : List (List ℕ)) (placed : List PlacedValue) → HasSpeech writer recording placed → (n : ℕ) → HearsTwo from writer reader placed n → SpeaksTwo from (speech_of writer reader recording) n
+two_from writer reader recording placed has n (asked, (x, y, one, two, differ)) =
+    let a = gives_from writer reader recording placed has n (Told x) one asked in
+    let b = gives_from writer reader recording placed has n (Told y) two asked in
     (x, y, record { place = a.0; act = a.1; gives = a.2 }, record { place = b.0; act = b.1; gives = b.2 }, differ)
 
-two_to : {from : ℕ} (writer reader : Guid) (recording : List (List ℕ)) (n : ℕ) → SpeaksTwo from (speech_of writer reader recording) n → HearsTwo from writer reader (filter (is_from writer) (placed_in recording)) n
-two_to writer reader recording n (x, y, one, two, differ) =
-    (one.gives.asked, (x, y, (heard_from writer reader recording one.place one.act n (Told x) one.gives).0, (heard_from writer reader recording two.place two.act n (Told y) two.gives).0, differ))
+two_to : {from : ℕ} (writer reader : Guid) (recording : List (List ℕ)) (placed : List PlacedValue) → HasSpeech writer recording placed → (n : ℕ) → SpeaksTwo from (speech_of writer reader recording) n → HearsTwo from writer reader placed n
+two_to writer reader recording placed has n (x, y, one, two, differ) =
+    (one.gives.asked, (x, y, (heard_from writer reader recording placed has one.place one.act n (Told x) one.gives).0, (heard_from writer reader recording placed has two.place two.act n (Told y) two.gives).0, differ))
 
-pub conflict_from : (from : ℕ) (writer reader : Guid) (recording : List (List ℕ)) (conflict : Option ℕ)
-    → MatchOption conflict ((n : ℕ) → ¬ HearsTwo from writer reader (filter (is_from writer) (placed_in recording)) n) (IsLeast (HearsTwo from writer reader (filter (is_from writer) (placed_in recording))))
+pub conflict_from : (from : ℕ) (writer reader : Guid) (recording : List (List ℕ)) (placed : List PlacedValue) → HasSpeech writer recording placed → (conflict : Option ℕ)
+    → MatchOption conflict ((n : ℕ) → ¬ HearsTwo from writer reader placed n) (IsLeast (HearsTwo from writer reader placed))
     → MatchOption conflict ((n : ℕ) → ¬ SpeaksTwo from (speech_of writer reader recording) n) (IsLeast (SpeaksTwo from (speech_of writer reader recording)))
-conflict_from from writer reader recording None never = λ n two. never n (two_to writer reader recording n two)
-conflict_from from writer reader recording (Some n) least = record { holds = two_from writer reader recording n least.holds; least = λ m two. least.least m (two_to writer reader recording m two) }
+conflict_from from writer reader recording placed has None never = λ n two. never n (two_to writer reader recording placed has n two)
+conflict_from from writer reader recording placed has (Some n) least = record { holds = two_from writer reader recording placed has n least.holds; least = λ m two. least.least m (two_to writer reader recording placed has m two) }
 
 -- ---- claims
 
@@ -194,18 +212,15 @@ answers_counted pair recording k d lt =
 
 -- ---- the first claim that is not told
 
-pub first_from : (from : ℕ) (pair : Pair) (recording : List (List ℕ)) (untold : Option Untold) → IsUntoldAmong from pair.writer pair.reader (filter (is_from pair.writer) (placed_in recording)) (answers_among pair (placed_in recording)) untold
+pub first_from : (from : ℕ) (pair : Pair) (recording : List (List ℕ)) (placed : List PlacedValue) → HasSpeech pair.writer recording placed → (untold : Option Untold) → IsUntoldAmong from pair.writer pair.reader placed (answers_among pair (placed_in recording)) untold
     → IsFirstUntold from (speech_of pair.writer pair.reader recording) untold
-first_from from pair recording None all = λ j n claims.
+first_from from pair recording placed has None all = λ j n claims.
     let answer = claim_of pair recording j n claims in
-    let told = All-contains (IsToldAll from pair.writer pair.reader (filter (is_from pair.writer) (placed_in recording))) (answers_among pair (placed_in recording)) answer.0 all answer.1 n claims.asked answer.3 in
+    let told = All-contains (IsToldAll from pair.writer pair.reader placed) (answers_among pair (placed_in recording)) answer.0 all answer.1 n claims.asked answer.3 in
     let at : answer.0.datagram - 1 ≡ j = (let h = answer.2 in omega arith) in
-    told_from pair.writer pair.reader recording j n claims.asked (subst (λ i. IsToldBy pair.writer pair.reader (filter (is_from pair.writer) (placed_in recording)) i n) at told)
-first_from from pair recording (Some untold) first = by_sign untold.number refl
+    told_from pair.writer pair.reader recording placed has j n claims.asked (subst (λ i. IsToldBy pair.writer pair.reader placed i n) at told)
+first_from from pair recording placed has (Some untold) first = by_sign untold.number refl
   where
-    placed : List PlacedValue
-    placed = filter (is_from pair.writer) (placed_in recording)
-
     by_sign : (f : ℤ) → untold.number ≡ f → IsFirstUntold from (speech_of pair.writer pair.reader recording) (Some untold)
     by_sign (negsuc f) e = absurd (let low = first.front.positive in omega (arith, ints))
     by_sign (pos f) e =
@@ -228,7 +243,7 @@ first_from from pair recording (Some untold) first = by_sign untold.number refl
         } in
         let untold_here : ClaimsUntold from (speech_of pair.writer pair.reader recording) j f = (
           claim,
-          λ told. outside.1 (subst (λ i. IsToldBy pair.writer pair.reader placed i f) (sym here) (told_to pair.writer pair.reader recording j f told)),
+          λ told. outside.1 (subst (λ i. IsToldBy pair.writer pair.reader placed i f) (sym here) (told_to pair.writer pair.reader recording placed has j f told)),
         ) in (
           j,
           first.datagram ∙ at,
@@ -244,7 +259,7 @@ first_from from pair recording (Some untold) first = by_sign untold.number refl
               let at = answer.2 in
               let told = All-contains (λ (other : Answer). other.datagram < untold.datagram → IsToldAll from pair.writer pair.reader placed other) (answers_among pair (placed_in recording)) answer.0 first.first answer.1 (omega arith) n claims.asked answer.3 in
               let same : answer.0.datagram - 1 ≡ m = omega arith in
-              absurd (not (told_from pair.writer pair.reader recording m n claims.asked (subst (λ i. IsToldBy pair.writer pair.reader placed i n) same told)))
+              absurd (not (told_from pair.writer pair.reader recording placed has m n claims.asked (subst (λ i. IsToldBy pair.writer pair.reader placed i n) same told)))
           | inr ge ↦ ge
         ]
 
@@ -252,13 +267,13 @@ first_from from pair recording (Some untold) first = by_sign untold.number refl
         least_number j f e here small m (claims, not) = elim (cases_lt m f) [
           | inl lt ↦
               let told = first.front.below m claims.asked (omega (arith, ints, e)) (omega (arith, ints, e)) in
-              absurd (not (told_from pair.writer pair.reader recording j m claims.asked (subst (λ i. IsToldBy pair.writer pair.reader placed i m) here told)))
+              absurd (not (told_from pair.writer pair.reader recording placed has j m claims.asked (subst (λ i. IsToldBy pair.writer pair.reader placed i m) here told)))
           | inr ge ↦ ge
         ]
 
 -- ---- the greatest numbers
 
-same_number : (a b : ℕ) → ((n : ℕ) → n < a → n < b) → ((n : ℕ) → n < b → n < a) → a ≡ b
+pub same_number : (a b : ℕ) → ((n : ℕ) → n < a → n < b) → ((n : ℕ) → n < b → n < a) → a ≡ b
 same_number a b to back = elim (cases_lt a b) [
   | inl lt ↦ absurd (let h = back a lt in omega arith)
   | inr ge ↦ elim (cases_lt b a) [
@@ -267,12 +282,17 @@ same_number a b to back = elim (cases_lt a b) [
   ]
 ]
 
-last_at : (n i : ℕ) (d : Datagram) (speech : Speech) → slice_get speech i ≡ Some d → n < greatest d.announced → n < last_announced speech
+-- it is from - 1 or the greatest number that is announced
+last_announced_max : (from : ℕ) (speech : Speech) → last_announced_from from speech ≡ max (from - 1) (last_announced_from 1 speech)
+last_announced_max from [] = omega arith
+last_announced_max from (x ∷ xs) = let rest = last_announced_max from xs in omega arith
+
+last_at : (n i : ℕ) (d : Datagram) (speech : Speech) → slice_get speech i ≡ Some d → n < greatest d.announced → n < last_announced_from 1 speech
 last_at n i d [] e lt = cc
 last_at n zero d (first ∷ speech) e lt = let same : first ≡ d = (let h = e in cc) in let here = ap (λ (x : Datagram). greatest x.announced) same in omega arith
 last_at n (suc i) d (first ∷ speech) e lt = let rest = last_at n i d speech e lt in omega arith
 
-at_last : (n : ℕ) (speech : Speech) → n < last_announced speech → (i : ℕ) × (d : Datagram) × (slice_get speech i ≡ Some d) × (n < greatest d.announced)
+at_last : (n : ℕ) (speech : Speech) → n < last_announced_from 1 speech → (i : ℕ) × (d : Datagram) × (slice_get speech i ≡ Some d) × (n < greatest d.announced)
 at_last n [] lt = absurd (omega arith)
 at_last n (first ∷ speech) lt = elim (cases_lt n (greatest first.announced)) [
   | inl here ↦ (0, first, refl, here)
@@ -291,22 +311,22 @@ at_base n (first ∷ speech) lt = elim (cases_lt n (greatest first.bases)) [
   | inr past ↦ let rest = at_base n speech (omega arith) in (suc rest.0, rest.1, rest.2, rest.3)
 ]
 
-pub last_from : (from : ℕ) (writer reader : Guid) (recording : List (List ℕ)) → max (from - 1) (last_among writer (filter (is_from writer) (placed_in recording))) ≡ last_announced_from from (speech_of writer reader recording)
-last_from from writer reader recording = ap (max (from - 1)) (same_number _ _ to back) ∙ sym (last_announced_max from (speech_of writer reader recording))
+pub last_from : (from : ℕ) (writer reader : Guid) (recording : List (List ℕ)) (placed : List PlacedValue) → HasSpeech writer recording placed → max (from - 1) (last_among writer placed) ≡ last_announced_from from (speech_of writer reader recording)
+last_from from writer reader recording placed has = ap (max (from - 1)) (same_number _ _ to back) ∙ sym (last_announced_max from (speech_of writer reader recording))
   where
     of : List ℕ → Datagram
     of octets = said_by writer reader (acts_of (reading_of octets))
 
-    to : (n : ℕ) → n < last_among writer (filter (is_from writer) (placed_in recording)) → n < last_announced (speech_of writer reader recording)
+    to : (n : ℕ) → n < last_among writer placed → n < last_announced_from 1 (speech_of writer reader recording)
     to n lt =
-        let number = below_greatest n (filter_map (λ (at : PlacedValue). announced_for writer at.act) (filter (is_from writer) (placed_in recording))) lt in
-        let from = made_from (λ (at : PlacedValue). announced_for writer at.act) (filter (is_from writer) (placed_in recording)) number.0 number.1 in
-        let stands = stands_where 0 recording from.0 (kept_is_there (is_from writer) (placed_in recording) from.0 from.1) in
+        let number = below_greatest n (filter_map (λ (at : PlacedValue). announced_for writer at.act) placed) lt in
+        let from = made_from (λ (at : PlacedValue). announced_for writer at.act) placed number.0 number.1 in
+        let stands = stands_where 0 recording from.0 (has.there from.0 from.1) in
         let there = makes (announced_for writer) (acts_of (reading_of stands.octets)) from.0.act number.0 stands.among from.2 in
         let at = get_mapped (λ octets. said_by writer reader (acts_of (reading_of octets))) recording stands.place stands.octets stands.stands in
         last_at n stands.place _ (speech_of writer reader recording) at (greatest_below n number.0 (filter_map (announced_for writer) (acts_of (reading_of stands.octets))) there number.2)
 
-    back : (n : ℕ) → n < last_announced (speech_of writer reader recording) → n < last_among writer (filter (is_from writer) (placed_in recording))
+    back : (n : ℕ) → n < last_announced_from 1 (speech_of writer reader recording) → n < last_among writer placed
     back n lt =
         let found = at_last n (speech_of writer reader recording) lt in
         let octets = mapped_get (λ octets. said_by writer reader (acts_of (reading_of octets))) recording found.0 found.1 found.2 in
@@ -315,10 +335,10 @@ last_from from writer reader recording = ap (max (from - 1)) (same_number _ _ to
         let here = found.3 in
         let number = below_greatest n (filter_map (announced_for writer) acts) (omega (arith, same)) in
         let act = made_from (announced_for writer) acts number.0 number.1 in
-        let placed : PlacedValue = record { datagram = 0 + found.0 + 1; act = act.0 } in
+        let at : PlacedValue = record { datagram = 0 + found.0 + 1; act = act.0 } in
         let spoken = (if_some _ (announced_of_body act.0.body) number.0 act.2).0 in
-        let there = kept_if_passed (is_from writer) (placed_in recording) placed (stands_there 0 found.0 recording octets.0 act.0 octets.1 act.1) (spoken_is_from writer placed spoken) in
-        greatest_below n number.0 _ (makes (λ (at : PlacedValue). announced_for writer at.act) (filter (is_from writer) (placed_in recording)) placed number.0 there act.2) number.2
+        let there = has.kept at (stands_there 0 found.0 recording octets.0 act.0 octets.1 act.1) spoken in
+        greatest_below n number.0 _ (makes (λ (at : PlacedValue). announced_for writer at.act) placed at number.0 there act.2) number.2
 
 pub base_from : (pair : Pair) (recording : List (List ℕ)) → base_among (answers_among pair (placed_in recording)) ≡ greatest_base (speech_of pair.writer pair.reader recording)
 base_from pair recording = same_number _ _ to back
@@ -342,3 +362,51 @@ base_from pair recording = same_number _ _ to back
         let number = below_greatest n (said_by pair.writer pair.reader (acts_of (reading_of octets.0))).bases (omega (arith, same)) in
         let there = answer_there pair recording found.0 octets.0 number.0 octets.1 number.1 in
         greatest_below n number.0 _ (mapped_contains (λ (answer : Answer). natural answer.base) (answers_among pair (placed_in recording)) _ there.1) number.2
+
+-- ---- the verdict
+
+verdict_known : {from : ℕ} (speech : Speech) (untold : Option Untold) (conflict : Option ℕ) (base last : ℕ) → 1 ≤ from → IsFirstUntold from speech untold
+    → MatchOption conflict ((n : ℕ) → ¬ SpeaksTwo from speech n) (IsLeast (SpeaksTwo from speech)) → base ≡ max from (greatest_base speech) → last ≡ last_announced_from from speech
+    → IsVerdictFrom from speech (verdict_by untold conflict base last)
+verdict_known {from} speech (Some untold) conflict base last positive first two is_base is_last = from_plain from speech (Unfounded untold.datagram untold.number) first
+verdict_known {from} speech None (Some n) base last positive founded least is_base is_last = from_plain from speech (Conflict (pos n)) (founded, least)
+verdict_known {from} speech None None base last positive founded never is_base is_last = by_test (nat_le base last) refl
+  where
+    open_at : base ≤ last → IsLeast (IsUnclaimed from speech) base
+    open_at le = record {
+      holds = (
+        (omega (arith, is_base), omega (arith, is_base)),
+        omega (arith, is_last),
+        λ claimed. let below = below_from_claims base claimed.0 speech claimed.1 in omega (arith, is_base),
+      );
+      least = λ m unclaimed. elim (cases_lt m base) [
+        | inl below ↦ absurd (let a = unclaimed.0.1 in unclaimed.2 (claimed_from_below m speech unclaimed.0 (omega (arith, is_base))))
+        | inr above ↦ above
+      ];
+    }
+
+    all : last < base → (n : ℕ) → IsAsked from n → n ≤ last_announced_from from speech → IsClaimed from speech n
+    all lt n asked announced = let a = asked.1 in claimed_from_below n speech asked (omega (arith, is_base, is_last))
+
+    by_test : (b : Bool) → nat_le base last ≡ b → IsVerdictFrom from speech (if b then Open (pos base) else Complete (pos last))
+    by_test true e =
+        let le : base ≤ last = grind (arith, nat_tests) in
+        from_plain from speech (Open (pos base)) (founded, never, open_at le)
+    by_test false e =
+        let lt : last < base = grind (arith, nat_tests) in
+        from_plain from speech (Complete (pos last)) (ap pos is_last, founded, never, all lt)
+
+-- by acts that have all that the writer says
+pub verdict_of : (from : ℕ) (pair : Pair) (recording : List (List ℕ)) (placed : List PlacedValue) → HasSpeech pair.writer recording placed → (answers : List Answer) (verdict : Verdict) → 1 ≤ from
+    → IsGivenBy from pair.writer pair.reader placed answers verdict → answers ≡ answers_among pair (placed_in recording) → IsVerdictFrom from (speech_of pair.writer pair.reader recording) verdict
+verdict_of from pair recording placed has answers verdict positive is are =
+    let first = subst (λ l. IsUntoldAmong from pair.writer pair.reader placed l is.untold) are is.first in
+    subst (IsVerdictFrom from (speech_of pair.writer pair.reader recording)) (sym is.value)
+    (verdict_known (speech_of pair.writer pair.reader recording) is.untold is.conflict _ is.last positive (first_from from pair recording placed has is.untold first) (conflict_from from pair.writer pair.reader recording placed has is.conflict is.least)
+    (ap (λ l. max from (base_among l)) are ∙ ap (max from) (base_from pair recording)) (is.announced ∙ last_from from pair.writer pair.reader recording placed has))
+
+-- by the acts from the writer
+pub verdict_given : (from : ℕ) (pair : Pair) (recording : List (List ℕ)) (answers : List Answer) (verdict : Verdict) → 1 ≤ from
+    → IsGivenBy from pair.writer pair.reader (filter (is_from pair.writer) (placed_in recording)) answers verdict → answers ≡ answers_among pair (placed_in recording)
+    → IsVerdictFrom from (speech_of pair.writer pair.reader recording) verdict
+verdict_given from pair recording answers verdict positive is are = verdict_of from pair recording (filter (is_from pair.writer) (placed_in recording)) (its_have pair.writer recording) answers verdict positive is are

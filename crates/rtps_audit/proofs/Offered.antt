@@ -1,11 +1,5 @@
--- Lemmas about the definitions of this crate, for the crates above it: who an act is from, that what stands among the acts of a
--- recording is what its speech has, and the numbers of a GAP's list word by word.
-pub use Rattle.rtps_audit.proofs.AudienceLemmas.{TestsHearing}
-pub use Rattle.rtps_audit.proofs.GroupLemmas.{entry_written, equal_of, found_alike, lent_items}
-pub use Rattle.rtps_audit.proofs.PlacedLemmas.{exact_guids, guids_total}
-pub use Rattle.rtps_audit.proofs.SetWords.{is_in_words, word_more}
-pub use Rattle.rtps_audit.proofs.ToldLemmas.{heard_directed}
-pub use Rattle.rtps_audit.proofs.WordLemmas.{or_cases}
+-- Lemmas about the definitions of this crate, for the crates above it: who an act is from, and that what stands among the
+-- acts of a recording is what its speech has.
 use Rattle.std.proofs.Common.{◌≡◌, ℕ, ◌+◌, ◌-◌, ◌<◌, ◌∙◌, Bool, true, false, ◌&&◌, max, filter, List, Option, Some, sym, refl, subst, arith, ◌≤◌, zero, suc}
 use Rattle.std.specs.Prelude.{Contains}
 use Rattle.rtps_ids.specs.declared.identity.Guid.{Guid}
@@ -23,15 +17,11 @@ use Rattle.rtps_audit.proofs.Sound.{founded_from_run, held_from_claim, spoken_fr
 use Rattle.rtps_audit.proofs.Verdicts.{ends_without}
 use Rattle.rtps_audit.proofs.DeliveryRuns.{Ends-took, took}
 use Rattle.std.proofs.lemmas.List.Elements.{Contains-append_left, Contains-push}
-use Rattle.std.specs.List.{All, list_all}
-use Rattle.rtps_receiver.specs.Speech.{is_heard_by}
-use Rattle.rtps_audit.specs.Everyone.{is_for_everyone, nobody}
-use Rattle.rtps_audit.specs.Hearing.{IsHeard, last_among}
+use Rattle.rtps_audit.specs.Answered.{IsHeard, last_among}
 use Rattle.rtps_audit.specs.Placed.{PlacedValue, is_from, placed_in}
-use Rattle.rtps_audit.specs.Speech.{announced_for, announced_of_body, base_for, said_by, speech_of, word_for, word_of}
-use Rattle.rtps_audit.proofs.HearingLemmas.{all_alike}
-use Rattle.rtps_audit.proofs.IndexSpeech.{get_mapped, gives_from, heard_from, if_some, last_from, mapped_get, spoken_is_from}
-use Rattle.rtps_audit.proofs.PlacedActs.{kept_if_passed, kept_is_there, made_from, makes, stands_there, stands_where}
+use Rattle.rtps_audit.specs.Speech.{announced_for, announced_of_body, base_for, said_by, speech_of, word_for}
+use Rattle.rtps_audit.proofs.IndexSpeech.{all_have, get_mapped, gives_from, heard_from, if_some, its_have, last_from, mapped_get, spoken_is_from}
+use Rattle.rtps_audit.proofs.PlacedActs.{kept_if_passed, made_from, makes, stands_there, stands_where}
 use Rattle.rtps_audit.proofs.PlacedLemmas.{both, bytes_eq-sym}
 
 -- ---- who an act is from
@@ -66,25 +56,20 @@ answerer_is_origin reader writer placed e = by_body placed.act.source placed.act
 
 -- the last announced number is that of the writer's acts
 pub last_is_last : (from : ℕ) (writer reader : Guid) (recording : List (List ℕ)) → max (from - 1) (last_among writer (filter (is_from writer) (placed_in recording))) ≡ last_announced_from from (speech_of writer reader recording)
-last_is_last from writer reader recording = last_from from writer reader recording
+last_is_last from writer reader recording = last_from from writer reader recording (filter (is_from writer) (placed_in recording)) (its_have writer recording)
 
 -- an act that has a word gives it, and the other way round
 pub word_is_given : (from : ℕ) (writer reader : Guid) (recording : List (List ℕ)) (n : ℕ) (word : Word) (placed : PlacedValue) → Contains (placed_in recording) placed → word_for writer reader placed.act n ≡ Some word → IsAsked from n
     → (i : ℕ) × (k : ℕ) × Gives from (speech_of writer reader recording) i k n word × (placed.datagram ≡ i + 1)
 word_is_given from writer reader recording n word placed among says asked =
-    let spoken = spoken_is_from writer placed (first_of _ _ (if_some _ (word_of placed.act.body n) word says).0) in
-    let heard : IsHeard writer reader (filter (is_from writer) (placed_in recording)) n word = record { at = placed; among = kept_if_passed (is_from writer) (placed_in recording) placed among spoken; says = says } in
-    gives_from writer reader recording n word heard asked
-  where
-    first_of : (a b : Bool) → (a && b) ≡ true → a ≡ true
-    first_of true b e = refl
-    first_of false b e = cc
+    let heard : IsHeard writer reader (placed_in recording) n word = record { at = placed; among = among; says = says } in
+    gives_from writer reader recording (placed_in recording) (all_have writer recording) n word heard asked
 
 pub given_is_word : (from : ℕ) (writer reader : Guid) (recording : List (List ℕ)) (i k n : ℕ) (word : Word) → Gives from (speech_of writer reader recording) i k n word
     → (placed : PlacedValue) × Contains (placed_in recording) placed × (word_for writer reader placed.act n ≡ Some word) × (placed.datagram ≡ i + 1)
 given_is_word from writer reader recording i k n word gives =
-    let heard = heard_from writer reader recording i k n word gives in
-    (heard.0.at, kept_is_there (is_from writer) (placed_in recording) heard.0.at heard.0.among, heard.0.says, heard.1)
+    let heard = heard_from writer reader recording (placed_in recording) (all_have writer recording) i k n word gives in
+    (heard.0.at, heard.0.among, heard.0.says, heard.1)
 
 -- an answer claims each number below its base that is asked for, and the other way round
 pub base_is_claim : (from : ℕ) (writer reader : Guid) (recording : List (List ℕ)) (n base : ℕ) (placed : PlacedValue) → Contains (placed_in recording) placed → base_for writer reader placed.act ≡ Some base → n < base → IsAsked from n
@@ -118,7 +103,7 @@ announced_is_reached from writer reader recording n placed among announces =
     let kept = kept_if_passed (is_from writer) (placed_in recording) placed among spoken in
     let number = makes (λ (at : PlacedValue). announced_for writer at.act) (filter (is_from writer) (placed_in recording)) placed n kept announces in
     let below : n ≤ last_among writer (filter (is_from writer) (placed_in recording)) = at_most n _ number in
-    let is = last_from from writer reader recording in
+    let is = last_from from writer reader recording (filter (is_from writer) (placed_in recording)) (its_have writer recording) in
     omega arith
   where
     at_most : (n : ℕ) (ns : List ℕ) → Contains ns n → n ≤ greatest ns
@@ -153,9 +138,3 @@ claimed_is_held from speech end j n ends claims = held_from_claim speech end j n
 
 pub held_is_spoken : (from : ℕ) (speech : Speech) (end : DeliveryState) (n : ℕ) (word : Word) → Ends from speech end → Contains end.held (n, word) → IsSpoken from speech n word
 held_is_spoken from speech end n word ends held = spoken_from_held speech end n word ends held
-
--- ---- who hears
-
--- what is for everyone is heard by all readers alike
-pub all_hear_alike : (acts : List PlacedValue) (reader : Guid) → list_all (λ at. is_for_everyone at.act) acts ≡ true → All (λ (at : PlacedValue). is_heard_by at.act reader ≡ is_heard_by at.act nobody) acts
-all_hear_alike acts reader e = all_alike acts reader e

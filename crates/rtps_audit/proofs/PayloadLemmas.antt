@@ -9,7 +9,7 @@ use Rattle.std.proofs.lemmas.Bool.{cases_lt}
 use Rattle.rtps_wire.specs.Values.{PayloadValue, payload_value}
 use Rattle.rtps_audit.specs.RunVerdict.{IsLeast}
 use Rattle.rtps_audit.specs.KeptPayloads.{IsKept, KeepsTwo, Agrees, number_of}
-use Rattle.rtps_audit.specs.declared.payloads.KeptPayload.{KeptPayload}
+use Rattle.rtps_audit.specs.declared.payload.KeptPayload.{KeptPayload}
 
 -- what stands at a place
 abbrev number_at : List KeptPayload → KeptPayload → ℕ → ℕ
@@ -95,7 +95,7 @@ least_two_at xs d before here e sorted =
     let P : ℕ → Type 0 = λ k. AllAdjacentBelow Agrees xs k → k < length xs → number_at xs d before ≡ number_at xs d k → payload_at xs d before ≢ payload_at xs d k → IsLeast (KeepsTwo xs) (number_at xs d k) in
     subst P (sym e) (λ adjacent within same differ. least_two xs d before sorted adjacent within same differ)
 
-pub kept_after : (xs ys : List KeptPayload) → IsPermutation xs ys → (n : ℕ) (p : PayloadValue) → IsKept xs n p → IsKept ys n p
+kept_after : (xs ys : List KeptPayload) → IsPermutation xs ys → (n : ℕ) (p : PayloadValue) → IsKept xs n p → IsKept ys n p
 kept_after xs ys moved n p kept = record { entry = kept.entry; among = Contains-permutation xs ys kept.entry moved kept.among; number = kept.number; value = kept.value }
 
 two_after : (xs ys : List KeptPayload) → IsPermutation xs ys → (n : ℕ) → KeepsTwo xs n → KeepsTwo ys n

@@ -1,18 +1,25 @@
 -- The acts of a recording with their datagrams: one datagram more, in what order they stand, and where.
-use Rattle.std.proofs.Common.{◌≡◌, ℕ, zero, suc, ◌+◌, ◌<◌, ◌≤◌, Bool, true, false, cond, List, [], ◌∷◌, ◌++◌, length, map, filter, take, get_or, Bor, Option, Some, None, slice_get, ◌⊎◌, inl, inr, refl, sym, ap, ◌∙◌, subst, arith, append_assoc, append-nil}
+use Rattle.std.proofs.Common.{◌≡◌, ℕ, ◌+◌, ◌<◌, List, [], ◌∷◌, ◌++◌, length, map, take, get_or, Bor, sym, ◌∙◌, ap, zero, suc, ◌≤◌, Bool, true, false, cond, filter, Option, Some, None, slice_get, ◌⊎◌, inl, inr, refl, subst, arith, append_assoc, append-nil}
+use Rattle.std.proofs.lemmas.List.{map-append, take_more, get_or-map, length-map, length-take-le}
+use Rattle.std.proofs.lemmas.Grind.{flat_map-append}
 use Rattle.std.specs.Prelude.{Contains, ⊤}
 use Rattle.std.specs.List.{All, cons_option, filter_map}
 use Rattle.std.specs.List.Sorted.{IsNonDecreasingBy}
-use Rattle.std.proofs.lemmas.List.{get_or-map, length-map, map-append, take_more, length-take-le}
-use Rattle.std.proofs.lemmas.List.Elements.{All-append, All-contains, All-contains_itself, All-cons, All-filter, All-head, All-map, All-nil, All-tail, All-weaker, Contains-append_cases, Contains-append_left, Contains-append_right, Contains-push}
+use Rattle.std.proofs.lemmas.List.Elements.{All-append, All-contains, All-contains_itself, All-cons, All-filter, All-head, All-nil, All-tail, All-weaker, Contains-append_cases, Contains-append_left, Contains-append_right, Contains-push}
 use Rattle.rtps_wire.specs.Reading.{reading_of}
-use Rattle.rtps_receiver.specs.Acts.{acts_of}
+use Rattle.rtps_receiver.specs.Acts.{acts_in, acts_of}
 use Rattle.rtps_receiver.specs.Values.{ActValue}
-use Rattle.rtps_ids.specs.declared.identity.Guid.{Guid}
-use Rattle.rtps_receiver.specs.Speech.{is_spoken_by}
-use Rattle.rtps_audit.specs.Brief.{bare, brief_value, spoken_from}
-use Rattle.rtps_audit.specs.Placed.{PlacedValue, placed_at, placed_behind, placed_in}
-use Rattle.rtps_audit.specs.declared.brief.Brief.{Brief}
+use Rattle.rtps_audit.specs.Placed.{PlacedValue, placed_at, placed_behind, placed_in, placed_value}
+use Rattle.rtps_audit.specs.declared.placed.Placed.{Placed}
+
+-- the acts of one datagram more
+pub acts_in_more : (xs : List (Bor (List ℕ))) (i : ℕ) (d : Bor (List ℕ)) → i < length xs
+    → acts_in (map (λ datagram. datagram.now) (take (i + 1) xs)) ≡ acts_in (map (λ datagram. datagram.now) (take i xs)) ++ acts_of (reading_of (get_or xs i d).now)
+acts_in_more xs i d lt =
+    ap (λ l. acts_in (map (λ datagram. datagram.now) l)) (take_more xs i d lt)
+    ∙ ap acts_in (map-append (λ datagram. datagram.now) (take i xs) (get_or xs i d ∷ []))
+    ∙ flat_map-append (λ datagram. acts_of (reading_of datagram)) (map (λ datagram. datagram.now) (take i xs)) ((get_or xs i d).now ∷ [])
+    ∙ ap (λ l. acts_in (map (λ datagram. datagram.now) (take i xs)) ++ l) (append-nil (acts_of (reading_of (get_or xs i d).now)))
 
 -- ---- one datagram more
 
@@ -101,20 +108,14 @@ rising_behind before (datagram ∷ recording) =
     let later = All-weaker (λ (placed : PlacedValue). before + 1 + 1 ≤ placed.datagram) (λ (placed : PlacedValue). before + 1 ≤ placed.datagram) (λ placed h. omega arith) (placed_behind (before + 1) recording) rest.0 in
     (All-append (λ (placed : PlacedValue). before + 1 ≤ placed.datagram) (placed_at (before + 1) acts) _ (from_one (before + 1) acts) later, rising_append (λ (placed : PlacedValue). placed.datagram) (placed_at (before + 1) acts) (placed_behind (before + 1) recording) (before + 1) here.0 later here.1 rest.1)
 
-rising_bare : (writer : Guid) (xs : List PlacedValue) → Rising (λ (placed : PlacedValue). placed.datagram) xs → Rising (λ (placed : PlacedValue). placed.datagram) (map (bare writer) xs)
-unfolding Rising
-rising_bare writer [] h = tt
-rising_bare writer (x ∷ xs) h = (All-map (λ (y : PlacedValue). x.datagram ≤ y.datagram) (bare writer) xs h.0, rising_bare writer xs h.1)
-
--- what is kept of what a writer says in a recording is in order
-pub said_in_order : (recording : List (List ℕ)) (writer : Guid) (briefs : List Brief) → map (brief_value writer) briefs ≡ spoken_from writer (placed_in recording) → IsNonDecreasingBy (λ (brief : Brief). brief.datagram) briefs
-said_in_order recording writer briefs same i j d le lt =
-    let test = λ (at : PlacedValue). is_spoken_by at.act writer in
-    let rises = falls_nowhere (λ (placed : PlacedValue). placed.datagram) (spoken_from writer (placed_in recording)) (rising_bare writer _ (rising_filter _ test (placed_in recording) (rising_behind 0 recording).1)) in
+-- what is kept of the acts of a recording is in order
+pub kept_in_order : (recording : List (List ℕ)) (test : PlacedValue → Bool) (kept : List Placed) → map placed_value kept ≡ filter test (placed_in recording) → IsNonDecreasingBy (λ (placed : Placed). placed.datagram) kept
+kept_in_order recording test kept same i j d le lt =
+    let rises = falls_nowhere (λ (placed : PlacedValue). placed.datagram) (filter test (placed_in recording)) (rising_filter _ test (placed_in recording) (rising_behind 0 recording).1) in
     let also = subst (IsNonDecreasingBy (λ (placed : PlacedValue). placed.datagram)) (sym same) rises in
-    let here = also i j (brief_value writer d) le (omega (arith, length-map briefs (brief_value writer))) in
-    let one = ap (λ (placed : PlacedValue). placed.datagram) (get_or-map (brief_value writer) briefs i d (brief_value writer d) (omega arith)) in
-    let two = ap (λ (placed : PlacedValue). placed.datagram) (get_or-map (brief_value writer) briefs j d (brief_value writer d) lt) in
+    let here = also i j (placed_value d) le (omega (arith, length-map kept placed_value)) in
+    let one = ap (λ (placed : PlacedValue). placed.datagram) (get_or-map placed_value kept i d (placed_value d) (omega arith)) in
+    let two = ap (λ (placed : PlacedValue). placed.datagram) (get_or-map placed_value kept j d (placed_value d) lt) in
     omega arith
 
 -- ---- where they stand

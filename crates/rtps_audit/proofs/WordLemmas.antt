@@ -1,14 +1,53 @@
--- What the words of an act tell, and which payloads they keep.
-use Rattle.std.proofs.Common.{◌≡◌, ℕ, zero, suc, ◌<◌, ◌≤◌, Bool, true, false, cond, ◌==◌, ◌||◌, List, [], ◌∷◌, ◌++◌, Option, Some, None, refl, sym, ◌∙◌, ap, subst, arith, ◌⊎◌, inl, inr}
-use Rattle.std.specs.Prelude.{Contains, is_some}
+-- The numbers and payloads that the words of one act more add.
+use Rattle.std.proofs.Common.{◌≡◌, ℕ, ◌≤◌, Bool, true, false, ◌&&◌, ◌||◌, nat_le, nat_lt, pos, refl, arith, inl, inr, zero, suc, ◌<◌, cond, ◌==◌, List, [], ◌∷◌, ◌++◌, Option, Some, None, sym, ◌∙◌, ap, subst, ◌⊎◌}
 use Rattle.std.proofs.lemmas.Bool.Decides.{nat_tests}
+use Rattle.std.proofs.lemmas.Bool.{cases_lt}
+use Rattle.std.specs.Prelude.{Contains, is_some}
 use Rattle.std.proofs.lemmas.List.Elements.{Contains-append_left, Contains-append_right, Contains-append_cases}
+use Rattle.rtps_ids.specs.NumberSet.{IsMember, NumberSetValue, is_member}
+use Rattle.rtps_ids.specs.Ranges.{IsRangeFrom, HasNoneFrom}
+use Rattle.rtps_wire.specs.declared.body.GapBody.{GapBody}
+use Rattle.rtps_ids.proofs.Offered.{member_decides, not_member}
 use Rattle.rtps_wire.specs.Values.{PayloadValue, payload_value}
 use Rattle.rtps_coverage.specs.Coverage.{TellsMore}
+use Rattle.rtps_audit.specs.Speech.{is_in_gap, is_in_gap_below}
 use Rattle.rtps_audit.specs.Delivery.{Word}
 use Rattle.rtps_audit.specs.Delivery.Word.{Told as told}
 use Rattle.rtps_audit.specs.KeptPayloads.{IsKept, KeepsMore}
-use Rattle.rtps_audit.specs.declared.payloads.KeptPayload.{KeptPayload}
+use Rattle.rtps_audit.specs.declared.payload.KeptPayload.{KeptPayload}
+
+-- ---- the numbers of a GAP, range by range
+
+in_list : (set : NumberSetValue) (n : ℕ) → IsMember set (pos n) → is_member set n ≡ true
+in_list set n member = (member_decides set n).1 member
+
+-- the numbers below the list, and none of the list
+pub no_range : (gap : GapBody) (start base n : ℕ) → start ≡ gap.start → base ≡ gap.list.base → is_in_gap_below gap 0 n ≡ (nat_le start n && nat_lt n base)
+no_range gap start base n first end = rw (first, end) (grind (arith, nat_tests))
+
+-- a range more
+pub gap_range : (gap : GapBody) (at first past : ℕ) → IsRangeFrom gap.list at first past → (n : ℕ) → is_in_gap_below gap past n ≡ (is_in_gap_below gap at n || (nat_le first n && nat_lt n past))
+gap_range gap at first past range n = elim (cases_lt n first) [
+  | inl lt ↦ elim (cases_lt n at) [
+    | inl early ↦ let some = range.some in let onward = range.onward in grind (arith, nat_tests)
+    | inr le ↦
+        let none : is_member gap.list n ≡ false = not_member gap.list n (λ member. range.before n le lt member) in
+        rw none (grind (arith, nat_tests))
+  ]
+  | inr le ↦ elim (cases_lt n past) [
+    | inl lt ↦ let there : is_member gap.list n ≡ true = in_list gap.list n (range.members n le lt) in rw there (grind (arith, nat_tests))
+    | inr ge ↦ let some = range.some in let onward = range.onward in grind (arith, nat_tests)
+  ]
+]
+
+-- the last range
+pub gap_end : (gap : GapBody) (at : ℕ) → HasNoneFrom gap.list at → (n : ℕ) → is_in_gap gap n ≡ is_in_gap_below gap at n
+gap_end gap at none n = elim (cases_lt n at) [
+  | inl lt ↦ grind (arith, nat_tests)
+  | inr le ↦ let out : is_member gap.list n ≡ false = not_member gap.list n (λ member. none n le member) in rw out (grind (arith, nat_tests))
+]
+
+-- ---- words
 
 pub or_cases : (a b : Bool) → (a || b) ≡ true → (a ≡ true) ⊎ (b ≡ true)
 or_cases true b e = inl refl

@@ -1,17 +1,59 @@
--- The verdict by what a reader hears and by its answers. own: of an answer, what counts is whether each number that it
--- claims was told before it.
-use Rattle.std.specs.Prelude.{ℕ, pos, ◌≡◌, ◌<◌, ◌-◌, ◌^◌, ◌<ℤ◌, max, List, map, Option, Contains, MatchOption}
-use Rattle.std.specs.List.{All}
+-- The verdict by what a reader hears and by its answers. own: of an answer, what counts is whether each number that it claims
+-- was told before it; a reader claims only what it was told (DDSI-RTPS 2.5, 8.4.2.3 "Required RTPS Reader Behavior").
+use Rattle.std.specs.Prelude.{ℕ, ◌≡◌, ℤ, pos, int_lt, nat_le, nat_lt, Bool, true, ◌&&◌, Option, Some, None, if◌then◌else◌, ◌≢◌, ◌≤◌, ◌<◌, ◌-◌, ◌^◌, ◌<ℤ◌, ◌≤ℤ◌, List, Contains, max, map, MatchOption}
+use Rattle.std.specs.List.{filter_map, All}
 use Rattle.rtps_ids.specs.declared.identity.Guid.{Guid}
-use Rattle.rtps_audit.specs.Claims.{verdict_by}
-use Rattle.rtps_audit.specs.Delivery.{IsAsked, greatest}
-use Rattle.rtps_audit.specs.Hearing.{IsFrontBy, IsToldBy}
-use Rattle.rtps_audit.specs.Placed.{PlacedValue}
-use Rattle.rtps_audit.specs.Speech.{natural}
-use Rattle.rtps_audit.specs.declared.answers.Answer.{Answer}
-use Rattle.rtps_audit.specs.declared.claims.Untold.{Untold}
-use Rattle.rtps_audit.specs.declared.hearing.Hearing.{Hearing}
+use Rattle.rtps_wire.specs.Values.{PayloadValue}
+use Rattle.rtps_audit.specs.declared.verdict.Untold.{Untold}
 use Rattle.rtps_audit.specs.declared.verdict.Verdict.{Verdict}
+use Rattle.rtps_audit.specs.declared.verdict.Verdict.TheVariants.{Unfounded, Conflict, Open, Complete}
+use Rattle.rtps_audit.specs.Delivery.{Word, IsAsked, greatest}
+use Rattle.rtps_audit.specs.Delivery.Word.{Told}
+use Rattle.rtps_audit.specs.Placed.{PlacedValue}
+use Rattle.rtps_audit.specs.Speech.{announced_for, word_for, natural}
+use Rattle.rtps_audit.specs.RunVerdict.{IsLeast}
+use Rattle.rtps_audit.specs.declared.answer.Answer.{Answer}
+
+-- whether a datagram stands before that of the claim which is known
+abbrev pub is_earlier : ℕ → Option Untold → Bool
+is_earlier datagram None = true
+is_earlier datagram (Some untold) = nat_lt datagram untold.datagram
+
+-- the front is one if it is below the base and the datagram is the first
+abbrev pub FindsUntold : Option Untold → Option Untold → ℕ → ℤ → ℕ → Type 0
+FindsUntold old new datagram front base = new ≡ (if is_earlier datagram old && int_lt front (pos base) then Some (record { datagram = datagram; number = front }) else old)
+
+-- the verdict, where the first claim that no earlier datagram tells is known, the least number that two payloads are
+-- spoken for, the least number that is asked for and not claimed, and the last number announced: the first of the four
+-- that holds
+abbrev pub verdict_by : Option Untold → Option ℕ → ℕ → ℕ → Verdict
+verdict_by (Some untold) conflict base last = Unfounded untold.datagram untold.number
+verdict_by None (Some number) base last = Conflict (pos number)
+verdict_by None None base last = if nat_le base last then Open (pos base) else Complete (pos last)
+
+-- the reader hears this word for n from the writer, by one of these acts
+pub record IsHeard (writer reader : Guid) (placed : List PlacedValue) (n : ℕ) (word : Word) : Type 0 where
+  pub at : PlacedValue
+  pub among : Contains placed at
+  pub says : word_for writer reader at.act n ≡ Some word
+
+-- up to that datagram it hears some word for n
+abbrev pub IsToldBy : Guid → Guid → List PlacedValue → ℕ → ℕ → Type 0
+IsToldBy writer reader placed datagram n = (word : Word) × ((heard : IsHeard writer reader placed n word) × (heard.at.datagram ≤ datagram))
+
+-- the least number that is asked for and for which it does not, as far as a set reaches
+pub record IsFrontBy (from : ℕ) (writer reader : Guid) (placed : List PlacedValue) (datagram : ℕ) (front : ℤ) : Type 0 where
+  pub positive : pos 1 ≤ℤ front
+  pub outside : (n : ℕ) → pos n ≡ front → n < 2 ^ 63 - 1 → IsAsked from n × ¬ IsToldBy writer reader placed datagram n
+  pub below : (n : ℕ) → IsAsked from n → n < 2 ^ 63 - 1 → pos n <ℤ front → IsToldBy writer reader placed datagram n
+
+-- it hears two different payloads for n, which is asked for
+abbrev pub HearsTwo : ℕ → Guid → Guid → List PlacedValue → ℕ → Type 0
+HearsTwo from writer reader placed n = IsAsked from n × ((x : PayloadValue) × (y : PayloadValue) × IsHeard writer reader placed n (Told x) × IsHeard writer reader placed n (Told y) × (x ≢ y))
+
+-- the last number that the writer announces by these acts, or 0
+abbrev pub last_among : Guid → List PlacedValue → ℕ
+last_among writer placed = greatest (filter_map (λ at. announced_for writer at.act) placed)
 
 -- each number that the answer claims, and that is asked for, is told by an earlier datagram
 abbrev pub IsToldAll : ℕ → Guid → Guid → List PlacedValue → Answer → Type 0
@@ -36,8 +78,12 @@ IsUntoldAmong from writer reader placed answers untold =
 abbrev pub base_among : List Answer → ℕ
 base_among answers = greatest (map (λ answer. natural answer.base) answers)
 
--- the verdict is that on what is heard and on these answers
-pub record IsAnsweredBy (writer reader : Guid) (placed : List PlacedValue) (hearing : Hearing) (answers : List Answer) (verdict : Verdict) : Type 0 where
+-- The verdict is that on what the reader hears by these acts and on its answers.
+pub record IsGivenBy (from : ℕ) (writer reader : Guid) (placed : List PlacedValue) (answers : List Answer) (verdict : Verdict) : Type 0 where
   pub untold : Option Untold
-  pub first : IsUntoldAmong hearing.from writer reader placed answers untold
-  pub value : verdict ≡ verdict_by untold hearing.conflict (max hearing.from (base_among answers)) hearing.last
+  pub conflict : Option ℕ
+  pub last : ℕ
+  pub first : IsUntoldAmong from writer reader placed answers untold
+  pub least : MatchOption conflict ((n : ℕ) → ¬ HearsTwo from writer reader placed n) (IsLeast (HearsTwo from writer reader placed))
+  pub announced : last ≡ max (from - 1) (last_among writer placed)
+  pub value : verdict ≡ verdict_by untold conflict (max from (base_among answers)) last

@@ -59,10 +59,6 @@ abbrev pub last_announced_from : ℕ → Speech → ℕ
 last_announced_from from [] = from - 1
 last_announced_from from (datagram ∷ speech) = max (greatest datagram.announced) (last_announced_from from speech)
 
--- the greatest number that the writer announced, or 0
-abbrev pub last_announced : Speech → ℕ
-last_announced speech = last_announced_from 1 speech
-
 -- how many datagrams are sent, and the words that the reader holds
 pub record DeliveryState : Type 0 where
   pub sent : ℕ

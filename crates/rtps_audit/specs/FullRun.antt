@@ -55,7 +55,3 @@ HasFullRunFrom from speech (Unfounded datagram number) = ¬ IsFullRun from speec
 HasFullRunFrom from speech (Conflict number) = IsFullRun from speech
 HasFullRunFrom from speech (Open number) = IsFullRun from speech
 HasFullRunFrom from speech (Complete last) = IsFullRun from speech
-
--- for all numbers
-abbrev pub HasFullRun : Speech → Verdict → Type 0
-HasFullRun speech verdict = HasFullRunFrom 1 speech verdict

@@ -1,10 +1,9 @@
 -- Payloads that are kept by number. own: a number has one payload, so two are a conflict.
-use Rattle.std.specs.Prelude.{ℕ, ◌<◌, ◌^◌, ◌≡◌, ◌≢◌, ◌⊎◌, ◌≤◌, ◌↔◌, List, Option, Some, Contains}
-use Rattle.std.specs.List.Sorted.{IsPartitionPoint}
+use Rattle.std.specs.Prelude.{ℕ, ◌<◌, ◌^◌, ◌≡◌, ◌≢◌, ◌⊎◌, ◌↔◌, List, Option, Some, Contains}
 use Rattle.rtps_wire.specs.Values.{PayloadValue, payload_value}
 use Rattle.rtps_audit.specs.Delivery.{Word, IsAsked}
 use Rattle.rtps_audit.specs.Delivery.Word.{Told}
-use Rattle.rtps_audit.specs.declared.payloads.KeptPayload.{KeptPayload}
+use Rattle.rtps_audit.specs.declared.payload.KeptPayload.{KeptPayload}
 
 -- its number is one of those from `from` on, and below 2^63
 abbrev pub IsNumbered : ℕ → KeptPayload → Type 0
@@ -32,7 +31,3 @@ Agrees x y = x.number ≡ y.number → payload_value x.payload ≡ payload_value
 -- the number that a payload is kept for
 abbrev pub number_of : KeptPayload → ℕ
 number_of entry = entry.number
-
--- the payloads before a place are of numbers below n, and no others are
-abbrev pub IsPlace : List KeptPayload → ℕ → ℕ → Type 0
-IsPlace payloads n place = IsPartitionPoint (λ entry. entry.number < n) (λ entry. n ≤ entry.number) payloads place

@@ -1,15 +1,20 @@
 -- The acts of a recording, each with the datagram that it stands in. own: what one GUID said stands together, so that a
 -- pair costs no more than what its two said.
-use Rattle.std.specs.Prelude.{ℕ, pos, Bool, ◌+◌, ◌&&◌, List, [], ◌∷◌, ◌++◌, map, Option, Some, None}
+use Rattle.std.specs.Prelude.{ℕ, pos, Bool, ◌+◌, ◌≡◌, ◌&&◌, List, [], ◌∷◌, ◌++◌, filter, map, Option, Some, None}
+use Rattle.std.specs.BTreeMap.{BTreeMap}
+use Rattle.std.specs.Global.{Vec}
 use Rattle.std.specs.List.{filter_map}
 use Rattle.rtps_ids.specs.declared.identity.Guid.{Guid}
 use Rattle.rtps_wire.specs.Reading.{reading_of}
 use Rattle.rtps_receiver.specs.Acts.{acts_of}
 use Rattle.rtps_receiver.specs.Speech.{is_entity, is_prefix, origin_of}
 use Rattle.rtps_receiver.specs.Values.{ActValue, act_value}
+use Rattle.rtps_discovery.specs.GuidOrder.{guid_cmp}
+use Rattle.rtps_discovery.specs.Listings.{pair_cmp}
 use Rattle.rtps_discovery.specs.declared.matching.Pair.{Pair}
+use Rattle.rtps_audit.specs.Groups.{values_at}
 use Rattle.rtps_audit.specs.Speech.{base_for}
-use Rattle.rtps_audit.specs.declared.answers.Answer.{Answer}
+use Rattle.rtps_audit.specs.declared.answer.Answer.{Answer}
 use Rattle.rtps_audit.specs.declared.placed.Placed.{Placed}
 
 -- an act, and the datagram that it stands in, counted from 1
@@ -17,7 +22,6 @@ pub record PlacedValue : Type 0 where
   pub datagram : ℕ
   pub act : ActValue
 
--- an act of the code with its datagram, as a value
 abbrev pub placed_value : Placed → PlacedValue
 placed_value placed = record { datagram = placed.datagram; act = act_value placed.act }
 
@@ -34,23 +38,31 @@ placed_behind before (datagram ∷ datagrams) = placed_at (before + 1) (acts_of 
 abbrev pub placed_in : List (List ℕ) → List PlacedValue
 placed_in recording = placed_behind 0 recording
 
--- two GUIDs are the same
+-- whether two GUIDs are the same
 abbrev pub is_guid : Guid → Guid → Bool
 is_guid one other = is_prefix one.prefix other.prefix && is_entity one.entity other.entity
 
--- the act is from this GUID
+-- whether an act is from this GUID
 abbrev pub is_from : Guid → PlacedValue → Bool
 is_from origin placed = is_guid origin (origin_of placed.act)
 
--- the answer that an act is of a pair's reader to its writer
+-- the answer of this base, where there is one, that stands at this place of a datagram
 abbrev pub answer_at : ℕ → ℕ → Option ℕ → Option Answer
 answer_at datagram at (Some base) = Some (record { datagram = datagram; at = at; base = pos base })
 answer_at datagram at None = None
 
--- the answer that an act is, of a pair
+-- the answer that an act is of a pair's reader to its writer
 abbrev pub answer_of : Pair → PlacedValue → Option Answer
 answer_of pair placed = answer_at placed.datagram placed.act.at (base_for pair.writer pair.reader placed.act)
 
--- the answers of a pair among these acts, in order
+-- the answers of a pair's reader to its writer
 abbrev pub answers_among : Pair → List PlacedValue → List Answer
 answers_among pair placed = filter_map (answer_of pair) placed
+
+-- the new lists have the acts of the old ones, and then these
+abbrev pub AddsActs : BTreeMap Guid (Vec Placed) → BTreeMap Guid (Vec Placed) → List PlacedValue → Type 0
+AddsActs old new placed = (origin : Guid) → map placed_value (values_at guid_cmp new origin) ≡ map placed_value (values_at guid_cmp old origin) ++ filter (is_from origin) placed
+
+-- and so the answers
+abbrev pub AddsAnswers : BTreeMap Pair (Vec Answer) → BTreeMap Pair (Vec Answer) → List PlacedValue → Type 0
+AddsAnswers old new placed = (pair : Pair) → values_at pair_cmp new pair ≡ values_at pair_cmp old pair ++ answers_among pair placed

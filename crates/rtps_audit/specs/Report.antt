@@ -43,7 +43,3 @@ pub record IsReportFrom (from : ℕ) (recording : List (List ℕ)) (report : Rep
   pub pairs : map (λ row. row.pair) report.rows.items ≡ reliable_pairs (matches_among (settled_in directory.endpoints))
   pub judged : All (IsJudgedFrom from recording) report.rows.items
   pub counts : report.counts ≡ counts_of recording (length (unsettled_in directory.endpoints))
-
--- the verdicts are on all numbers
-abbrev pub IsReport : List (List ℕ) → Report → Type 0
-IsReport recording report = IsReportFrom 1 recording report

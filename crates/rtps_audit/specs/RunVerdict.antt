@@ -50,7 +50,3 @@ IsVerdictFrom from speech (Open number) = HasRun from speech × ((n : ℕ) → �
 IsVerdictFrom from speech (Complete last) =
     (last ≡ pos (last_announced_from from speech)) × HasRun from speech × ((n : ℕ) → ¬ EndsInConflict from speech n)
     × ((end : DeliveryState) → Ends from speech end → (n : ℕ) → IsAsked from n → n ≤ last_announced_from from speech → Holds end n)
-
--- what it says of all numbers
-abbrev pub IsVerdict : Speech → Verdict → Type 0
-IsVerdict speech verdict = IsVerdictFrom 1 speech verdict

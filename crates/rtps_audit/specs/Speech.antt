@@ -1,6 +1,6 @@
 -- What a recording says of one writer and one reader. DDSI-RTPS 2.5, 8.3.8.1 "AckNack", 8.3.8.2 "Data", 8.3.8.4 "Gap"
 -- and 8.3.8.6 "Heartbeat", by the datagrams' acts (8.3.4 "The RTPS Message Receiver").
-use Rattle.std.specs.Prelude.{ℕ, ℤ, pos, negsuc, Bool, true, false, ◌==◌, ◌&&◌, ◌||◌, nat_le, nat_lt, if◌then◌else◌, List, map, Option, Some, None}
+use Rattle.std.specs.Prelude.{ℕ, ℤ, pos, negsuc, Bool, ◌==◌, ◌&&◌, ◌||◌, nat_le, nat_lt, if◌then◌else◌, List, map, Option, Some, None}
 use Rattle.std.specs.List.{filter_map}
 use Rattle.rtps_ids.specs.NumberSet.{is_member}
 use Rattle.rtps_ids.specs.declared.identity.Guid.{Guid}
@@ -32,13 +32,6 @@ word_of (Data value) n = if n == value.number then Some (Told value.payload) els
 word_of (Heartbeat value) n = if nat_lt n value.first then Some Gone else None
 word_of (Gap value) n = if is_in_gap value n then Some Gone else None
 word_of (AckNack value) n = None
-
--- whether an act may have a word for a number from 1 on. A HEARTBEAT whose first number is 1 has none
-abbrev pub may_tell : ActBodyValue → Bool
-may_tell (Data value) = true
-may_tell (Heartbeat value) = nat_lt 1 value.first
-may_tell (Gap value) = true
-may_tell (AckNack value) = false
 
 -- for the reader, if it hears the act from the writer
 abbrev pub word_for : Guid → Guid → ActValue → ℕ → Option Word

@@ -1,8 +1,15 @@
-ghost use Rattle.std.specs.Prelude.{◌≡◌, ◌++◌, map, OnOk};
+ghost use Rattle.std.specs.Prelude.{◌≡◌, ◌≤◌, ◌++◌, [], cond, length, map, OnOk};
+ghost use Rattle.std.specs.List.{AllWithin};
+ghost use Rattle.std.specs.Ordering.{is_eq};
+ghost use Rattle.rtps_ids.specs.declared.identity.Guid.{Guid as GuidValue};
+ghost use Rattle.rtps_receiver.specs.Speech.{origin_of};
 ghost use Rattle.rtps_receiver.specs.Values.{act_body_value, act_value};
-ghost use Rattle.rtps_audit.specs.Placed.{placed_at, placed_value};
+ghost use Rattle.rtps_discovery.specs.GuidOrder.{guid_cmp};
+ghost use Rattle.rtps_audit.specs.Groups.{values_at};
+ghost use Rattle.rtps_audit.specs.Placed.{AddsActs, placed_at, placed_value};
 
-use rtps_ids::Memory;
+use crate::groups::Groups;
+use rtps_ids::{Guid, Memory};
 use rtps_receiver::{Act, ActBody};
 use rtps_wire::DataBody;
 use std::slice;
@@ -14,7 +21,25 @@ pub struct Placed<'a> {
     pub act: Act<'a>,
 }
 
-/// An act in its datagram.
+/// A copy of a body.
+fn body_of<'a>(body: &ActBody<'a>) -> ActBody<'a>
+    ensures { act_body_value result ≡ act_body_value body.now }
+{
+    match body {
+        ActBody::Data(data) => ActBody::Data(DataBody {
+            reader: data.reader,
+            writer: data.writer,
+            number: data.number,
+            qos: data.qos,
+            payload: data.payload,
+        }),
+        ActBody::Heartbeat(heartbeat) => ActBody::Heartbeat(*heartbeat),
+        ActBody::AckNack(ack_nack) => ActBody::AckNack(*ack_nack),
+        ActBody::Gap(gap) => ActBody::Gap(*gap),
+    }
+}
+
+/// A copy of an act, in its datagram.
 fn place<'a>(datagram: usize, act: &Act<'a>) -> Placed<'a>
     ensures datagram { result.datagram ≡ datagram }
     ensures act { act_value result.act ≡ act_value act.now }
@@ -35,7 +60,7 @@ fn place<'a>(datagram: usize, act: &Act<'a>) -> Placed<'a>
 }
 
 /// Appends acts in their datagram. After `Memory` the list is of no use.
-pub(crate) fn append_placed<'a>(
+fn append_placed<'a>(
     placed: &mut Vec<Placed<'a>>,
     datagram: usize,
     acts: &[Act<'a>],
@@ -53,20 +78,55 @@ pub(crate) fn append_placed<'a>(
     Ok(())
 }
 
-/// The same body.
-fn body_of<'a>(body: &ActBody<'a>) -> ActBody<'a>
-    ensures { act_body_value result ≡ act_body_value body.now }
+/// The first place from this one on whose act is from another GUID; the end, where none is.
+fn run_end(acts: &[Act<'_>], start: usize, origin: Guid) -> usize
+    requires { start ≤ length acts.now }
+    ensures onward { start ≤ result }
+    ensures within { result ≤ length acts.now }
+    ensures run { AllWithin (λ act. origin_of (act_value act) ≡ origin) acts.now start result }
 {
-    match body {
-        ActBody::Data(data) => ActBody::Data(DataBody {
-            reader: data.reader,
-            writer: data.writer,
-            number: data.number,
-            qos: data.qos,
-            payload: data.payload,
-        }),
-        ActBody::Heartbeat(heartbeat) => ActBody::Heartbeat(*heartbeat),
-        ActBody::AckNack(ack_nack) => ActBody::AckNack(*ack_nack),
-        ActBody::Gap(gap) => ActBody::Gap(*gap),
+    for place in start..acts.len() {
+        if acts[place].origin() != origin {
+            return place;
+        }
     }
+    acts.len()
+}
+
+/// Adds acts of a datagram to those of this GUID. After `Memory` the lists are of no use.
+fn note_run<'a>(
+    origins: &mut Groups<Guid, Placed<'a>>,
+    origin: Guid,
+    datagram: usize,
+    run: &[Act<'a>],
+) -> Result<(), Memory>
+    ensures { OnOk result ((other : GuidValue) → map placed_value (values_at guid_cmp origins.new.map other)
+        ≡ map placed_value (values_at guid_cmp origins.old.map other)
+        ++ cond (is_eq (guid_cmp other origin)) (placed_at datagram (map act_value run.now)) []) }
+{
+    let placed = origins
+        .map
+        .entry(origin)?
+        .or_insert(Vec::new(origins.alloc));
+    append_placed(placed, datagram, run)?;
+    Ok(())
+}
+
+/// Adds the acts of one datagram more, each to those of the GUID that it is from. Those of one GUID that follow one
+/// another are added at once. After `Memory` the lists are of no use.
+pub(crate) fn note_acts<'a>(
+    origins: &mut Groups<Guid, Placed<'a>>,
+    datagram: usize,
+    acts: &[Act<'a>],
+) -> Result<(), Memory>
+    ensures { OnOk result (AddsActs origins.old.map origins.new.map (placed_at datagram (map act_value acts.now))) }
+{
+    let mut start = 0;
+    'runs: while start < acts.len() {
+        let origin = acts[start].origin();
+        let end = run_end(acts, start + 1, origin);
+        note_run(origins, origin, datagram, &acts[start..end])?;
+        start = end;
+    }
+    Ok(())
 }

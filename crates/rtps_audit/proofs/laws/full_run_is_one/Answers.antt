@@ -1,4 +1,4 @@
-use Rattle.rtps_audit.proofs.OneFullRun.{full_run_is_one}
+use Rattle.rtps_audit.proofs.FullRuns.{full_run_is_one}
 use Rattle.rtps_audit.proofs.laws.full_run_is_one.Goals as goal
 
 pub returns : goal.returns

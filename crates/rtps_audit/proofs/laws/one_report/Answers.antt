@@ -1,4 +1,4 @@
-use Rattle.rtps_audit.proofs.OneReport.{one_report}
+use Rattle.rtps_audit.proofs.OneVerdict.{one_report}
 use Rattle.rtps_audit.proofs.laws.one_report.Goals as goal
 
 pub returns : goal.returns

@@ -1,0 +1,37 @@
+use Rattle.std.proofs.Common.{◌+◌, ◌++◌, ◌∙◌, [], ap, arith, filter, map, subst, sym, take}
+use Rattle.std.proofs.lemmas.Grind.{common_steps}
+use Rattle.std.specs.Prelude.{count_by}
+use Rattle.rtps_receiver.specs.Acts.{acts_in}
+use Rattle.rtps_discovery.specs.Directory.{IsMapOf}
+use Rattle.rtps_audit.specs.Placed.{answers_among, is_from, placed_in}
+use Rattle.rtps_audit.specs.Report.{is_undirected}
+use Rattle.rtps_audit.proofs.PlacedActs.{placed_on, acts_in_more}
+use Rattle.rtps_audit.proofs.PlacedLemmas.{acts_joined, answers_joined}
+use Rattle.rtps_audit.proofs.index.Index.build.Goals as goal
+
+pub loop-datagram-preserved : goal.loop-datagram-preserved
+loop-datagram-preserved c =
+    let old = c.loop-datagram.invariant in
+    let i = c.loop-datagram.datagram-index in
+    let recording = c.args.recording.now in
+    let before = acts_in (map (λ datagram. datagram.now) (take i recording)) in
+    let placed = placed_in (map (λ datagram. datagram.now) (take i recording)) in
+    let more = placed_on recording i _ c.loop-datagram.place _ c.loop-datagram-test.true old.place (c.acts.ensures ∙ c.in_ok-tally.ensures.acts) in
+    let answered = placed_on recording i _ c.loop-datagram.place _ c.loop-datagram-test.true old.place (c.acts-in-loop-datagram.ensures ∙ c.in_ok-tally.ensures.acts) in
+    let heard = c.acts-in-loop-datagram-2.ensures ∙ c.in_ok-tally.ensures.acts in
+    let counted = c.undirected_among.ensures ∙ ap (count_by is_undirected) (c.acts-in-loop-datagram-3.ensures ∙ c.in_ok-tally.ensures.acts) in
+    record {
+      place = ap (λ n. n + 1) old.place;
+      acts = λ origin. acts_joined origin [] _ _ placed _ (old.acts origin) (c.in_ok-note_acts.ensures origin) ∙ ap (filter (is_from origin)) more;
+      answers = λ pair. answers_joined pair [] _ _ placed _ (old.answers pair) (c.in_ok-note_answers.ensures pair) ∙ ap (answers_among pair) answered;
+      map = subst (λ l. IsMapOf l c.note_all.new.self) (ap (λ l. before ++ l) heard ∙ sym (acts_in_more recording i _ c.loop-datagram-test.true)) (c.in_ok-note_all.ensures.map before old.map);
+      datagrams = old.datagrams;
+      refused = grind (arith, common_steps);
+      skipped = grind (arith, common_steps);
+      fragments = grind (arith, common_steps);
+      undirected = grind (arith, common_steps, counted);
+      few_refused = grind (arith, common_steps);
+      few_skipped = grind (arith, common_steps);
+      few_fragments = grind (arith, common_steps);
+      few_undirected = grind (arith, common_steps);
+    }

@@ -1,0 +1,60 @@
+-- Different payloads for one number, and who hears them. own: a number has one payload, so a reader that hears two of
+-- them is in doubt. Who hears a DATA: DDSI-RTPS 2.5, 8.3.4 "The RTPS Message Receiver" and 8.3.8.2 "Data".
+use Rattle.std.specs.Prelude.{ℕ, ◌==◌, ◌≡◌, ◌≢◌, ◌↔◌, ◌<◌, ◌≤◌, ◌^◌, if◌then◌else◌, true, Contains, List, Option, Some, None}
+use Rattle.rtps_ids.specs.declared.identity.Guid.{Guid}
+use Rattle.rtps_receiver.specs.Speech.{is_among, reader_named}
+use Rattle.rtps_receiver.specs.Values.{ActValue}
+use Rattle.rtps_wire.specs.Values.{PayloadValue, payload_value}
+use Rattle.rtps_audit.specs.Delivery.{IsAsked}
+use Rattle.rtps_audit.specs.Delivery.Word.{Told}
+use Rattle.rtps_audit.specs.Placed.{PlacedValue}
+use Rattle.rtps_audit.specs.Speech.{word_of}
+use Rattle.rtps_audit.specs.declared.payload_conflict.AddressedPayload.{AddressedPayload}
+
+-- the number by which an entry stands
+abbrev pub number_in : AddressedPayload → ℕ
+number_in entry = entry.number
+
+-- the number is that of a DATA
+abbrev pub IsInRange : AddressedPayload → Type 0
+IsInRange entry = (1 ≤ entry.number) × (entry.number < 2 ^ 63)
+
+-- the entry is what a DATA says, and whom it is for
+pub record IsSentBy (act : ActValue) (entry : AddressedPayload) : Type 0 where
+  pub dest : act.dest ≡ entry.audience.dest
+  pub reader : reader_named act.body ≡ Some entry.audience.reader
+  pub says : (n : ℕ) → word_of act.body n ≡ (if n == entry.number then Some (Told (payload_value entry.payload)) else None)
+
+-- the entries are those of the DATA among these acts whose numbers are asked for
+pub record AreSentIn (from : ℕ) (placed : List PlacedValue) (entries : List AddressedPayload) : Type 0 where
+  pub sent : (entry : AddressedPayload) → Contains entries entry → IsAsked from entry.number × ((at : PlacedValue) × Contains placed at × IsSentBy at.act entry)
+  pub all : (at : PlacedValue) (n : ℕ) (x : PayloadValue) → Contains placed at → IsAsked from n → word_of at.act.body n ≡ Some (Told x) → (entry : AddressedPayload) × Contains entries entry × IsSentBy at.act entry
+
+-- two of these entries have different payloads for the number
+pub record HasTwo (Among : AddressedPayload → Type 0) (n : ℕ) : Type 0 where
+  pub one : AddressedPayload
+  pub other : AddressedPayload
+  pub one_among : Among one
+  pub other_among : Among other
+  pub one_number : one.number ≡ n
+  pub other_number : other.number ≡ n
+  pub differ : payload_value one.payload ≢ payload_value other.payload
+
+-- kept are those of the entries whose number has two different payloads
+abbrev pub AreConflictsAmong : List AddressedPayload → List AddressedPayload → Type 0
+AreConflictsAmong entries kept = (entry : AddressedPayload) → Contains kept entry ↔ (Contains entries entry × HasTwo (Contains entries) entry.number)
+
+-- kept are those of the DATA among these acts whose number is asked for and has two different payloads
+pub record AreConflictsOf (from : ℕ) (kept : List AddressedPayload) (placed : List PlacedValue) : Type 0 where
+  pub entries : List AddressedPayload
+  pub sent : AreSentIn from placed entries
+  pub conflicts : AreConflictsAmong entries kept
+
+-- it is among these entries, and the reader hears it
+abbrev pub IsHeardAmong : List AddressedPayload → Guid → AddressedPayload → Type 0
+IsHeardAmong entries reader entry = Contains entries entry × (is_among entry.audience.dest (Some entry.audience.reader) reader ≡ true)
+
+-- there is an entry before this one, with another payload for the same number
+abbrev pub IsAnother : Option AddressedPayload → AddressedPayload → Type 0
+IsAnother None here = ⊥
+IsAnother (Some before) here = (before.number ≡ here.number) × (payload_value before.payload ≢ payload_value here.payload)

@@ -1,0 +1,173 @@
+ghost use Rattle.std.specs.Prelude.{ℕ, ◌≡◌, ◌≢◌, ◌<◌, ◌≤◌, ◌^◌, ◌↔◌, false, true, length, map, All, Contains, IfOk, IfSome, IsTrue, List, MatchOption, Some};
+ghost use Rattle.std.specs.List.{AllWithin, HoldsAt};
+ghost use Rattle.std.specs.List.Sorted.{IsNonDecreasingBy};
+ghost use Rattle.std.specs.Option.{ForSome};
+ghost use Rattle.rtps_ids.specs.declared.identity.Guid.{Guid as GuidValue};
+ghost use Rattle.rtps_receiver.specs.Values.{act_value};
+ghost use Rattle.rtps_wire.specs.Values.{PayloadValue, payload_value};
+ghost use Rattle.rtps_audit.specs.Delivery.{IsAsked, Word};
+ghost use Rattle.rtps_audit.specs.Answered.{HearsTwo};
+ghost use Rattle.rtps_audit.specs.PayloadConflict.{AreConflictsAmong, AreSentIn, AreConflictsOf, IsAnother, IsInRange, IsSentBy, number_in};
+ghost use Rattle.rtps_audit.specs.Placed.{PlacedValue, is_from, placed_value};
+ghost use Rattle.rtps_audit.specs.RunVerdict.{IsLeast};
+ghost use Rattle.rtps_audit.specs.Speech.{word_of};
+
+use crate::payload::is_same_payload;
+use crate::placed::Placed;
+use rtps_ids::{Guid, Memory};
+use rtps_receiver::{Act, ActBody, Audience};
+use rtps_wire::Payload;
+use std::alloc::Global;
+
+/// What a DATA says, and whom it is for.
+#[derive(Clone, Copy)]
+pub(crate) struct AddressedPayload<'a> {
+    pub(crate) audience: Audience,
+    pub(crate) number: u64,
+    pub(crate) payload: Payload<'a>,
+}
+
+/// Of a writer's DATA, those of each number that has two different payloads, whoever hears them, in the order of
+/// numbers. Mostly there are none.
+#[derive(Drop)]
+pub(crate) struct PayloadConflicts<'a> {
+    pub(crate) payloads: Vec<AddressedPayload<'a>>,
+    ghost sorted: { IsNonDecreasingBy number_in payloads.items },
+    ghost in_range: { All IsInRange payloads.items },
+}
+
+/// What an act says if it is a DATA whose number is `from` or a greater one; None of anything else.
+fn addressed<'a>(act: &Act<'a>, from: u64) -> Option<AddressedPayload<'a>>
+    ensures { MatchOption result
+        ((n : ℕ) (x : PayloadValue) → IsAsked from n → word_of (act_value act.now).body n ≢ Some (Word.Told x))
+        (λ entry. IsSentBy (act_value act.now) entry × IsAsked from entry.number × IsInRange entry) }
+{
+    let ActBody::Data(data) = &act.body else {
+        return None;
+    };
+    let number = data.number.get().cast_unsigned();
+    if number < from {
+        return None;
+    }
+    Some(AddressedPayload {
+        audience: Audience {
+            dest: act.dest,
+            reader: data.reader,
+        },
+        number,
+        payload: data.payload,
+    })
+}
+
+/// The DATA among these acts whose number is `from` or a greater one, in the order of sending.
+fn collect<'a>(
+    alloc: Global,
+    acts: &[Placed<'a>],
+    from: u64,
+) -> Result<Vec<AddressedPayload<'a>>, Memory>
+    ensures sent { IfOk result (λ entries. AreSentIn from (map placed_value acts.now) entries.items) }
+    ensures in_range { IfOk result (λ entries. All IsInRange entries.items) }
+{
+    let mut entries = Vec::new(alloc);
+    for place in 0..acts.len() {
+        if let Some(entry) = addressed(&acts[place].act, from) {
+            entries.push(entry)?;
+        }
+    }
+    Ok(entries)
+}
+
+/// The first place from this one on that has another number; the end, where none has.
+fn run_end(entries: &[AddressedPayload<'_>], start: usize, number: u64) -> usize
+    requires { start ≤ length entries.now }
+    ensures onward { start ≤ result }
+    ensures within { result ≤ length entries.now }
+    ensures run { AllWithin (λ entry. entry.number ≡ number) entries.now start result }
+    ensures end { result < length entries.now → HoldsAt (λ entry. entry.number ≢ number) entries.now result }
+{
+    for place in start..entries.len() {
+        if entries[place].number != number {
+            return place;
+        }
+    }
+    entries.len()
+}
+
+/// Whether one of these payloads is another one.
+fn has_other(entries: &[AddressedPayload<'_>], payload: Payload<'_>) -> bool
+    ensures other { result ≡ true → (entry : AddressedPayload) × Contains entries.now entry × (payload_value entry.payload ≢ payload_value payload.entry) }
+    ensures same { result ≡ false → All (λ entry. payload_value entry.payload ≡ payload_value payload.entry) entries.now }
+{
+    for place in 0..entries.len() {
+        if !is_same_payload(entries[place].payload, payload) {
+            return true;
+        }
+    }
+    false
+}
+
+/// Whether the payload that was heard before is another one for the same number.
+fn is_another(before: Option<AddressedPayload<'_>>, here: AddressedPayload<'_>) -> bool
+    ensures { IsTrue result ↔ IsAnother before.entry here.entry }
+{
+    match before {
+        Some(before) => {
+            before.number == here.number && !is_same_payload(before.payload, here.payload)
+        }
+        None => false,
+    }
+}
+
+impl<'a> PayloadConflicts<'a> {
+    /// Of these, which are in the order of numbers: the runs of one number in which two payloads differ.
+    fn among(alloc: Global, entries: &[AddressedPayload<'a>]) -> Result<Self, Memory>
+        requires sorted { IsNonDecreasingBy number_in entries.now }
+        requires in_range { All IsInRange entries.now }
+        ensures { IfOk result (λ conflicts. AreConflictsAmong entries.now conflicts.payloads.items) }
+    {
+        let mut payloads = Vec::new(alloc);
+        let mut start = 0;
+        'runs: while start < entries.len() {
+            let first = entries[start];
+            let end = run_end(entries, start + 1, first.number);
+            let run = &entries[start..end];
+            if has_other(run, first.payload) {
+                payloads.extend_from_slice(run)?;
+            }
+            start = end;
+        }
+        Ok(PayloadConflicts { payloads })
+    }
+
+    /// Of the DATA among a writer's acts whose number is `from` or a greater one. It takes the time of the acts where
+    /// their numbers came in order, as most do. `Memory` is answered where there is none for all these DATA.
+    pub(crate) fn of(alloc: Global, acts: &[Placed<'a>], from: u64) -> Result<Self, Memory>
+        ensures { IfOk result (λ conflicts. AreConflictsOf from conflicts.payloads.items (map placed_value acts.now)) }
+    {
+        let mut entries = collect(alloc, acts, from)?;
+        entries.sort_by_key(|entry| entry.number)?;
+        let conflicts = PayloadConflicts::among(alloc, &entries)?;
+        Ok(conflicts)
+    }
+
+    /// The least number for which a reader hears two different payloads. Each payload is compared with the one that the
+    /// reader heard before, since where two of a number differ, two that follow one another do. It takes no memory.
+    pub(crate) fn least_for(&self, reader: Guid) -> Option<u64>
+        ensures conflict { (from : ℕ) (writer : GuidValue) (placed : List PlacedValue) → AreConflictsOf from self.now.payloads.items placed
+            → All (λ at. is_from writer at ≡ true) placed
+            → MatchOption result ((n : ℕ) → ¬ HearsTwo from writer reader placed n) (IsLeast (HearsTwo from writer reader placed)) }
+        ensures in_range { IfSome result (λ n. (1 ≤ n) × (n < 2 ^ 63)) }
+    {
+        let mut before = None;
+        for place in 0..self.payloads.len() {
+            let here = self.payloads[place];
+            if here.audience.has(reader) {
+                if is_another(before, here) {
+                    return Some(here.number);
+                }
+                before = Some(here);
+            }
+        }
+        None
+    }
+}
