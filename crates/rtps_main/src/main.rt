@@ -20,16 +20,44 @@ const START: usize = CAPTURE_HEADER_SIZE;
 /// The octets that a pcapng file begins with.
 const PCAPNG: &[u8] = b"\x0a\x0d\x0d\x0a";
 
-/// An input that remembers how it began, how many octets were read of it, and why its last read failed, and tells of what
-/// was read.
+/// What is known of an input: how it began, how many octets were read of it, and why its last read failed.
 #[derive(Drop)]
-struct Remembering<'a, R> {
-    input: R,
-    progress: Progress<'a>,
+struct Seen {
     start: [u8; START],
     known: usize,
     octets: u64,
     failure: Option<io::Error>,
+}
+
+impl Seen {
+    /// Of an input that was not read yet.
+    fn nothing() -> Seen {
+        Seen {
+            start: [0; START],
+            known: 0,
+            octets: 0,
+            failure: None,
+        }
+    }
+
+    /// These octets came.
+    fn take(&mut self, octets: &[u8]) {
+        self.known = remember(&mut self.start, self.known, octets);
+        self.octets = self.octets.saturating_add(octets.len() as u64);
+    }
+
+    /// The first octets, as many as a capture's header has or fewer.
+    fn front(&self) -> &[u8] {
+        self.start.get(..self.known).unwrap_or(&[])
+    }
+}
+
+/// An input that remembers what was seen of it, and tells of what was read.
+#[derive(Drop)]
+struct Remembering<'a, R> {
+    input: R,
+    progress: Progress<'a>,
+    seen: Seen,
 }
 
 impl<R: Read> Read for Remembering<'_, R> {
@@ -37,11 +65,10 @@ impl<R: Read> Read for Remembering<'_, R> {
         let outcome = self.input.read(buf);
         match &outcome {
             Ok(got) => {
-                self.known = remember(&mut self.start, self.known, &buf[..*got]);
-                self.octets = self.octets.saturating_add(*got as u64);
-                self.progress.read(self.octets);
+                self.seen.take(&buf[..*got]);
+                self.progress.read(self.seen.octets);
             }
-            Err(failure) => self.failure = Some(same_error(failure)),
+            Err(failure) => self.seen.failure = Some(same_error(failure)),
         }
         outcome
     }
@@ -96,24 +123,37 @@ fn refuse_args(rt: &HostRuntime, error: &io::Error) -> u8 {
     2
 }
 
+/// Runs what these words ask for, behind the program's name.
 fn run_args(rt: &HostRuntime, args: &[String]) -> Result<u8, AllocError> {
     let mut words = Vec::new(rt.alloc());
     words.push("rtps-audit")?;
     for arg in args.iter().skip(1) {
         words.push(arg.as_str())?;
     }
-    Ok(match read_words(rt.alloc(), &words) {
+    Ok(run_words(rt, &words))
+}
+
+/// Runs what these words ask for, and answers the status to end with.
+fn run_words(rt: &HostRuntime, words: &[&str]) -> u8 {
+    match read_words(rt.alloc(), words) {
         Ok(choice) => finish(rt, &run_on_file(rt, &choice)),
-        Err(WordFault::Refused(refusal)) => {
+        Err(fault) => refuse_words(rt, &fault),
+    }
+}
+
+/// Tells why the words ask for nothing that can be run, and answers the status to end with.
+fn refuse_words(rt: &HostRuntime, fault: &WordFault) -> u8 {
+    match fault {
+        WordFault::Refused(refusal) => {
             let _ = refusal.print(rt);
             2
         }
-        Err(WordFault::Help(answer) | WordFault::Version(answer)) => {
+        WordFault::Help(answer) | WordFault::Version(answer) => {
             let _ = answer.print(rt);
             0
         }
-        Err(WordFault::Memory) => finish(rt, &Err(RunFault::Memory)),
-    })
+        WordFault::Memory => finish(rt, &Err(RunFault::Memory)),
+    }
 }
 
 /// Runs what was chosen on its FILE, if it has one. Where that cannot be opened or read, it is named with the reason.
@@ -129,10 +169,10 @@ fn run_on_file(rt: &HostRuntime, choice: &Choice) -> Result<Ending, RunFault> {
         );
     };
     if file == "-" {
-        return run_on_input(rt, choice, file, rt.stdin());
+        return run_on_input(rt, choice, rt.stdin());
     }
     match File::open(rt, file) {
-        Ok(input) => run_on_input(rt, choice, file, input),
+        Ok(input) => run_on_input(rt, choice, input),
         Err(error) => {
             tell_reason(rt, file, &error);
             Err(RunFault::Input)
@@ -144,39 +184,49 @@ fn run_on_file(rt: &HostRuntime, choice: &Choice) -> Result<Ending, RunFault> {
 fn run_on_input<R: Read + Drop>(
     rt: &HostRuntime,
     choice: &Choice,
-    file: &str,
     input: R,
 ) -> Result<Ending, RunFault> {
     let mut progress = Progress::new(rt);
     let mut input = Remembering {
         input,
         progress,
-        start: [0; START],
-        known: 0,
-        octets: 0,
-        failure: None,
+        seen: Seen::nothing(),
     };
     let mut output = Wiping::new(rt.stdout(), progress);
     let outcome = run_choice(rt.alloc(), choice, &mut input, &mut output, &mut progress);
     output.wipe();
-    if let Some(failure) = &input.failure {
+    tell_of_input(rt, choice, &input.seen, &outcome);
+    outcome
+}
+
+/// Tells of an input what the line of the run's fault leaves out: its name, and why it is not read or refused.
+fn tell_of_input(
+    rt: &HostRuntime,
+    choice: &Choice,
+    seen: &Seen,
+    outcome: &Result<Ending, RunFault>,
+) {
+    let Some(file) = choice.file() else {
+        return;
+    };
+    if let Some(failure) = &seen.failure {
         tell_reason(rt, file, failure);
     }
-    if let Err(RunFault::Recording(fault)) = &outcome {
-        tell_form(rt, file, input.start.get(..input.known).unwrap_or(&[]));
+    if let Err(RunFault::Recording(fault)) = outcome {
+        tell_form(rt, file, seen.front());
         if matches!(fault, RecFault::TooMany) {
-            tell_limit(rt, choice, file, input.octets);
+            tell_limit(rt, choice, file, seen.octets);
         }
     }
-    outcome
 }
 
 /// Says which of the limits an input passes of which so many octets were read, and what raises it. Octets are looked at
 /// before datagrams.
 fn tell_limit(rt: &HostRuntime, choice: &Choice, file: &str, octets: u64) {
-    let Some(limits) = choice.limits() else {
+    let Some(options) = choice.options() else {
         return;
     };
+    let limits = options.limits;
     let (most, what, option) = if octets > limits.octets {
         (limits.octets, "octets", "--max-octets")
     } else {
@@ -212,8 +262,8 @@ fn tell_reason(rt: &HostRuntime, file: &str, error: &io::Error) {
     let mut left = room.as_mut_slice();
     let _ = write!(left, "{error}");
     let free = left.len();
-    let said = room.get(..280usize.saturating_sub(free)).unwrap_or(&[]);
-    let text = str::from_utf8(said).unwrap_or("");
+    let written = room.get(..280usize.saturating_sub(free)).unwrap_or(&[]);
+    let text = str::from_utf8(written).unwrap_or("");
     let reason = text.split(" (os error ").next().unwrap_or("");
     let _ = writeln!(rt.stderr(), "rtps-audit: {file}: {reason}");
 }

@@ -13,8 +13,8 @@ use Rattle.rtps_audit.specs.declared.verdict.Verdict.TheVariants.{Unfounded, Con
 use Rattle.rtps_text.specs.ListText.{guid_text}
 use Rattle.rtps_text.specs.Recording.{RecordingValue}
 use Rattle.rtps_text.specs.ShowText.{line_of}
-use Rattle.rtps_text.specs.declared.ending.Ending.{Ending}
-use Rattle.rtps_text.specs.declared.ending.Ending.TheVariants.{Clean, Unclean}
+use Rattle.rtps_text.specs.declared.text.Ending.{Ending}
+use Rattle.rtps_text.specs.declared.text.Ending.TheVariants.{Clean, Unclean}
 
 -- the number behind `complete` is the last announced one, and each other is the least that shows the verdict
 unfoldable pub verdict_text : Verdict → List ℕ

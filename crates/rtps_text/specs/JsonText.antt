@@ -24,7 +24,7 @@ use Rattle.rtps_wire.specs.Values.PayloadValue.{Absent, Whole, Key}
 use Rattle.rtps_text.specs.ListText.{guid_text, octet_text}
 use Rattle.rtps_text.specs.Recording.{RecordingValue}
 use Rattle.rtps_text.specs.WhyText.{ending_of_rows, kind_text}
-use Rattle.rtps_text.specs.declared.ending.Ending.{Ending}
+use Rattle.rtps_text.specs.declared.text.Ending.{Ending}
 
 -- a name and a value of an object
 abbrev pub Member : Type 0

@@ -2,7 +2,7 @@
 -- recording decides it.
 use Rattle.std.specs.Prelude.{ℕ, ◌≡◌, List}
 use Rattle.rtps_text.specs.Recording.{RecordingValue}
-use Rattle.rtps_text.specs.declared.ending.Ending.{Ending}
+use Rattle.rtps_text.specs.declared.text.Ending.{Ending}
 
 -- of each recording there is one such text, and one ending
 abbrev pub HasOneText : (RecordingValue → List ℕ → Ending → Type 0) → Type 0

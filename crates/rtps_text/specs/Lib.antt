@@ -2,7 +2,7 @@ pub mod AuditText
 pub mod WhyText
 pub mod JsonText
 pub mod ListText
-pub mod Places
+pub mod DatagramSpan
 pub mod Recording
 pub mod Room
 pub mod SampleText

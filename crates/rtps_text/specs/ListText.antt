@@ -19,8 +19,8 @@ use Rattle.rtps_discovery.specs.declared.endpoint.Side.TheVariants.{Writer, Read
 use Rattle.rtps_discovery.specs.declared.matching.Match.{Match}
 use Rattle.rtps_text.specs.Recording.{RecordingValue}
 use Rattle.rtps_text.specs.ShowText.{line_of}
-use Rattle.rtps_text.specs.declared.ending.Ending.{Ending}
-use Rattle.rtps_text.specs.declared.ending.Ending.TheVariants.{Clean}
+use Rattle.rtps_text.specs.declared.text.Ending.{Ending}
+use Rattle.rtps_text.specs.declared.text.Ending.TheVariants.{Clean}
 
 -- a GUID: its prefix, a dot and its entity id
 abbrev pub guid_text : Guid → List ℕ

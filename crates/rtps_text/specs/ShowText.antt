@@ -28,8 +28,8 @@ use Rattle.rtps_wire.specs.declared.fault.Refusal.{Refusal}
 use Rattle.rtps_wire.specs.FaultText.{fault_name}
 use Rattle.rtps_wire.specs.declared.header.Header.{Header}
 use Rattle.rtps_text.specs.Recording.{RecordingValue}
-use Rattle.rtps_text.specs.declared.ending.Ending.{Ending}
-use Rattle.rtps_text.specs.declared.ending.Ending.TheVariants.{Clean}
+use Rattle.rtps_text.specs.declared.text.Ending.{Ending}
+use Rattle.rtps_text.specs.declared.text.Ending.TheVariants.{Clean}
 
 -- a line of fields: a space (32) after each, but a line feed (10) after the last
 abbrev pub line_of : List (List ℕ) → List ℕ

@@ -22,8 +22,8 @@ use Rattle.rtps_text.specs.AuditText.{is_complete, pairs_line, report_counts_lin
 use Rattle.rtps_text.specs.ListText.{guid_text, name_text}
 use Rattle.rtps_text.specs.Recording.{RecordingValue}
 use Rattle.rtps_text.specs.ShowText.{line_of, payload_text}
-use Rattle.rtps_text.specs.declared.ending.Ending.{Ending}
-use Rattle.rtps_text.specs.declared.ending.Ending.TheVariants.{Clean, Unclean}
+use Rattle.rtps_text.specs.declared.text.Ending.{Ending}
+use Rattle.rtps_text.specs.declared.text.Ending.TheVariants.{Clean, Unclean}
 
 -- a line behind two spaces
 abbrev pub inner_line : List (List ℕ) → List ℕ

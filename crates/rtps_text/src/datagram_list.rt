@@ -4,9 +4,9 @@ ghost use Rattle.std.specs.List.{slice_get};
 ghost use Rattle.std.specs.Option.{option_map};
 ghost use Rattle.hex.specs.Hex.{decode_of};
 ghost use Rattle.rtps_digits.specs.Pairs.{octets_of};
-ghost use Rattle.rtps_text.specs.Places.{ArePlaces, pieces};
+ghost use Rattle.rtps_text.specs.DatagramSpan.{AreSpans, pieces};
 
-use crate::places::{Place, make_room};
+use crate::datagram_span::{DatagramSpan, make_room};
 use std::alloc::{AllocError, Global};
 use std::marker::Model;
 
@@ -14,18 +14,18 @@ use std::marker::Model;
 #[derive(Drop)]
 pub struct DatagramList {
     octets: Vec<u8>,
-    places: Vec<Place>,
+    spans: Vec<DatagramSpan>,
 }
 
 impl Model for DatagramList {
     ghost use Rattle.std.specs.Prelude.{ℕ, List};
-    ghost use Rattle.rtps_text.specs.Places.{pieces, ArePlaces};
+    ghost use Rattle.rtps_text.specs.DatagramSpan.{pieces, AreSpans};
 
     ghost Value = { List (List ℕ) };
 
-    ghost view = { λ list. pieces list.octets.items list.places.items };
+    ghost view = { λ list. pieces list.octets.items list.spans.items };
 
-    ghost invariant = { λ list. ArePlaces list.octets.items list.places.items };
+    ghost invariant = { λ list. AreSpans list.octets.items list.spans.items };
 }
 
 impl DatagramList {
@@ -35,23 +35,23 @@ impl DatagramList {
     {
         DatagramList {
             octets: Vec::new(alloc),
-            places: Vec::new(alloc),
+            spans: Vec::new(alloc),
         }
     }
 
-    /// The datagrams at these places of octets.
-    pub fn at_places(octets: Vec<u8>, places: Vec<Place>) -> DatagramList
-        requires { ArePlaces octets.items places.items }
-        ensures { result ≡ pieces octets.items places.items }
+    /// The datagrams that stand so in octets.
+    pub fn at_spans(octets: Vec<u8>, spans: Vec<DatagramSpan>) -> DatagramList
+        requires { AreSpans octets.items spans.items }
+        ensures { result ≡ pieces octets.items spans.items }
     {
-        DatagramList { octets, places }
+        DatagramList { octets, spans }
     }
 
     /// How many datagrams there are.
     pub fn len(&self) -> usize
         ensures { result ≡ length self.now }
     {
-        self.places.len()
+        self.spans.len()
     }
 
     /// Whether there is none.
@@ -65,11 +65,11 @@ impl DatagramList {
     pub fn datagram(&self, i: usize) -> Option<&[u8]>
         ensures { option_map (λ octets. octets.now) result ≡ slice_get self.now i }
     {
-        if i >= self.places.len() {
+        if i >= self.spans.len() {
             return None;
         }
-        let place = self.places[i];
-        Some(&self.octets[place.start()..place.end()])
+        let span = self.spans[i];
+        Some(&self.octets[span.start()..span.end()])
     }
 
     /// The datagrams, in their order. There are no more than a `usize` counts.
@@ -79,12 +79,12 @@ impl DatagramList {
     {
         Datagrams {
             octets: self.octets.as_slice(),
-            places: self.places.as_slice(),
+            spans: self.spans.as_slice(),
         }
     }
 
     /// Appends the datagram that these hexadecimal digits stand for, and answers whether they stand for one. Nothing
-    /// changes where they do not, and after an `Err`: that is want of memory, or of a place ([`Place::new`]), where the
+    /// changes where they do not, and after an `Err`: that is want of memory, or of a span ([`DatagramSpan::new`]), where the
     /// datagram would have more than 65,535 octets or begin behind 2^48 of them.
     pub fn push_hex(&mut self, digits: &[u8]) -> Result<bool, AllocError>
         ensures found { IfOk result (λ found. found ≡ is_ok (decode_of digits.now)) }
@@ -92,14 +92,14 @@ impl DatagramList {
         ensures err { OnErr result (self.new ≡ self.old) }
     {
         let from = self.octets.len();
-        let Some(place) = Place::new(from, from + digits.len() / 2) else {
+        let Some(span) = DatagramSpan::new(from, from + digits.len() / 2) else {
             return Err(AllocError);
         };
-        make_room(&mut self.places, 1)?;
+        make_room(&mut self.spans, 1)?;
         if !append_hex(&mut self.octets, digits)? {
             return Ok(false);
         }
-        self.places.push_reserved(place);
+        self.spans.push_reserved(span);
         Ok(true)
     }
 }
@@ -108,18 +108,18 @@ impl DatagramList {
 #[derive(Drop)]
 pub struct Datagrams<'a> {
     octets: &'a [u8],
-    places: &'a [Place],
+    spans: &'a [DatagramSpan],
 }
 
 impl<'a> Model for Datagrams<'a> {
     ghost use Rattle.std.specs.Prelude.{ℕ, List};
-    ghost use Rattle.rtps_text.specs.Places.{pieces, ArePlaces};
+    ghost use Rattle.rtps_text.specs.DatagramSpan.{pieces, AreSpans};
 
     ghost Value = { List (List ℕ) };
 
-    ghost view = { λ d. pieces d.octets.now d.places.now };
+    ghost view = { λ d. pieces d.octets.now d.spans.now };
 
-    ghost invariant = { λ d. ArePlaces d.octets.now d.places.now };
+    ghost invariant = { λ d. AreSpans d.octets.now d.spans.now };
 }
 
 impl<'a> Iterator for Datagrams<'a> {
@@ -132,12 +132,12 @@ impl<'a> Iterator for Datagrams<'a> {
     /// The octets of the next datagram. After the last it answers None for good.
     #[inline(always)]
     fn next(&mut self) -> Option<&'a [u8]> {
-        if self.places.is_empty() {
+        if self.spans.is_empty() {
             return None;
         }
-        let place = self.places[0];
-        self.places = &self.places[1..];
-        Some(&self.octets[place.start()..place.end()])
+        let span = self.spans[0];
+        self.spans = &self.spans[1..];
+        Some(&self.octets[span.start()..span.end()])
     }
 }
 

@@ -3,20 +3,18 @@
 #![tactic(auto)]
 
 mod datagram_list;
-mod ending;
+mod datagram_span;
 pub mod laws;
-mod places;
 mod recording;
 mod text;
 
 pub use datagram_list::{DatagramList, Datagrams};
-pub use ending::Ending;
-pub use places::{Place, make_room, push_octets, push_place};
+pub use datagram_span::{DatagramSpan, make_room, push_octets, push_span};
 pub use recording::Recording;
 pub use rtps_audit::{Unwatched, Watch};
-pub use text::audit::audit_text;
+pub use text::audit_text::audit_text;
 pub use text::json_object::json_text;
-pub use text::list::list_text;
-pub use text::sample::sample_text;
-pub use text::show::show_text;
-pub use text::why::why_text;
+pub use text::list_text::list_text;
+pub use text::show_text::show_text;
+pub use text::why_text::why_text;
+pub use text::{Ending, sample_text};

@@ -1,11 +1,11 @@
 ghost use Rattle.std.specs.Prelude.{◌≡◌, ◌==◌, ◌<◌, ◌^◌, length, Some, None};
 ghost use Rattle.std.specs.List.{slice_get};
 ghost use Rattle.std.specs.Option.{option_map};
-ghost use Rattle.rtps_text.specs.Places.{ArePlaces, pieces};
+ghost use Rattle.rtps_text.specs.DatagramSpan.{AreSpans, pieces};
 ghost use Rattle.rtps_text.specs.Recording.{RecordingValue};
 
 use crate::datagram_list::{DatagramList, Datagrams};
-use crate::places::Place;
+use crate::datagram_span::DatagramSpan;
 use std::marker::Model;
 
 /// Datagrams in the order in which they were sent, and of a capture how many of its frames were ignored.
@@ -34,13 +34,13 @@ impl Recording {
         }
     }
 
-    /// The recording that is the datagrams at these places of a capture, of which so many frames gave none.
-    pub fn of_capture(octets: Vec<u8>, places: Vec<Place>, ignored: u64) -> Recording
-        requires { ArePlaces octets.items places.items }
-        ensures { result ≡ record { datagrams = pieces octets.items places.items; ignored = Some ignored } }
+    /// The recording that is the datagrams that stand so in a capture, of which so many frames gave none.
+    pub fn of_capture(octets: Vec<u8>, spans: Vec<DatagramSpan>, ignored: u64) -> Recording
+        requires { AreSpans octets.items spans.items }
+        ensures { result ≡ record { datagrams = pieces octets.items spans.items; ignored = Some ignored } }
     {
         Recording {
-            list: DatagramList::at_places(octets, places),
+            list: DatagramList::at_spans(octets, spans),
             ignored: Some(ignored),
         }
     }

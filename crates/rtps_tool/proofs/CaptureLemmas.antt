@@ -6,10 +6,10 @@ use Rattle.std.proofs.lemmas.List.{append-nil, append_assoc, length-append, leng
 use Rattle.std.proofs.lemmas.List.Elements.{All-nil, All-push}
 use Rattle.rtps_capture.specs.declared.frames.Frame.{Frame}
 use Rattle.rtps_capture.specs.declared.frames.Frame.TheVariants.{Datagram, Ignored, Cut}
-use Rattle.rtps_capture.specs.declared.place.Place.{Place as FilePlace}
-use Rattle.rtps_text.specs.Places.{ArePlaces, StandsWithin, end_of, piece, pieces, start_of}
+use Rattle.rtps_capture.specs.declared.datagram.ByteRange.{ByteRange}
+use Rattle.rtps_text.specs.DatagramSpan.{AreSpans, StandsWithin, end_of, piece, pieces, start_of}
 use Rattle.rtps_text.specs.Recording.{RecordingValue}
-use Rattle.rtps_text.specs.declared.places.Place.{Place}
+use Rattle.rtps_text.specs.declared.datagram_span.DatagramSpan.{DatagramSpan}
 use Rattle.rtps_tool.specs.CaptureFront.{HasPushed}
 use Rattle.rtps_tool.specs.Outcomes.{IsFaultOf}
 use Rattle.rtps_tool.specs.RecordingCapture.{cut_among, datagrams_among, ignored_among, recording_of_frames, unless_cut}
@@ -17,14 +17,14 @@ use Rattle.rtps_tool.specs.declared.faults.RecFault.{RecFault}
 use Rattle.rtps_tool.specs.declared.faults.RecFault.TheVariants.{CutCapture, TooMany}
 
 -- what the reader of a capture's frames answers, where this is defined
-abbrev pub IsReadFrom : List ℕ → Result RecordingValue RecFault → List Place → Result ℕ RecFault → Type 0
-IsReadFrom octets defined places result = MatchResult result
-    (λ ignored. ArePlaces octets places × (defined ≡ Ok (record { datagrams = pieces octets places; ignored = Some ignored })))
+abbrev pub IsReadFrom : List ℕ → Result RecordingValue RecFault → List DatagramSpan → Result ℕ RecFault → Type 0
+IsReadFrom octets defined spans result = MatchResult result
+    (λ ignored. AreSpans octets spans × (defined ≡ Ok (record { datagrams = pieces octets spans; ignored = Some ignored })))
     (IsFaultOf defined)
 
-pub HasPushed-start : (most : ℕ) (octets : List ℕ) (all : List Frame) (places : List Place) → places ≡ [] → HasPushed most octets all places 0 0 all
-HasPushed-start most octets all places none =
-    subst (λ (start : List Place). HasPushed most octets all start 0 0 all) (sym none) record {
+pub HasPushed-start : (most : ℕ) (octets : List ℕ) (all : List Frame) (spans : List DatagramSpan) → spans ≡ [] → HasPushed most octets all spans 0 0 all
+HasPushed-start most octets all spans none =
+    subst (λ (start : List DatagramSpan). HasPushed most octets all start 0 0 all) (sym none) record {
       few = omega arith;
       within = All-nil (StandsWithin (length octets));
       counted = omega arith;
@@ -35,33 +35,33 @@ HasPushed-start most octets all places none =
     }
 
 -- a frame that gives nothing
-pub HasPushed-ignored : (most : ℕ) (octets : List ℕ) (all : List Frame) (places : List Place) (number ignored : ℕ) (left later : List Frame)
-    → HasPushed most octets all places number ignored left → left ≡ Ignored ∷ later → HasPushed most octets all places (number + 1) (ignored + 1) later
-HasPushed-ignored most octets all places number ignored left later h is = record {
+pub HasPushed-ignored : (most : ℕ) (octets : List ℕ) (all : List Frame) (spans : List DatagramSpan) (number ignored : ℕ) (left later : List Frame)
+    → HasPushed most octets all spans number ignored left → left ≡ Ignored ∷ later → HasPushed most octets all spans (number + 1) (ignored + 1) later
+HasPushed-ignored most octets all spans number ignored left later h is = record {
   few = h.few;
   within = h.within;
   counted = omega (arith, h.counted, ap length is);
   least = omega (arith, h.least);
-  given = ap (λ (l : List Frame). pieces octets places ++ datagrams_among octets l) (sym is) ∙ h.given;
+  given = ap (λ (l : List Frame). pieces octets spans ++ datagrams_among octets l) (sym is) ∙ h.given;
   passed = omega (arith, h.passed, ap ignored_among is);
   cut = ap (cut_among (number + 1)) (sym is) ∙ h.cut;
 }
 
 -- a frame that gives a datagram
-pub HasPushed-datagram : (most : ℕ) (octets : List ℕ) (all : List Frame) (places pushed : List Place) (number ignored : ℕ) (left later : List Frame) (place : FilePlace) (one : Place)
-    → HasPushed most octets all places number ignored left → left ≡ Datagram place ∷ later → pushed ≡ places ++ one ∷ []
-    → start_of one ≡ place.from → end_of one ≡ place.to → place.from ≤ place.to → place.to ≤ length octets → length places < most
+pub HasPushed-datagram : (most : ℕ) (octets : List ℕ) (all : List Frame) (spans pushed : List DatagramSpan) (number ignored : ℕ) (left later : List Frame) (place : ByteRange) (one : DatagramSpan)
+    → HasPushed most octets all spans number ignored left → left ≡ Datagram place ∷ later → pushed ≡ spans ++ one ∷ []
+    → start_of one ≡ place.from → end_of one ≡ place.to → place.from ≤ place.to → place.to ≤ length octets → length spans < most
     → HasPushed most octets all pushed (number + 1) ignored later
-HasPushed-datagram most octets all places pushed number ignored left later place one h is push from to ordered within few =
-    subst (λ (now : List Place). HasPushed most octets all now (number + 1) ignored later) (sym push) record {
-      few = omega (arith, length-append places (one ∷ []));
-      within = All-push (StandsWithin (length octets)) places one h.within (omega (arith, from, to, ordered), omega (arith, to, within));
+HasPushed-datagram most octets all spans pushed number ignored left later place one h is push from to ordered within few =
+    subst (λ (now : List DatagramSpan). HasPushed most octets all now (number + 1) ignored later) (sym push) record {
+      few = omega (arith, length-append spans (one ∷ []));
+      within = All-push (StandsWithin (length octets)) spans one h.within (omega (arith, from, to, ordered), omega (arith, to, within));
       counted = omega (arith, h.counted, ap length is);
       least = omega (arith, h.least);
-      given = ap (λ (done : List (List ℕ)). done ++ datagrams_among octets later) (map-append (piece octets) places (one ∷ []))
-          ∙ append_assoc (pieces octets places) (piece octets one ∷ []) (datagrams_among octets later)
-          ∙ ap₂ (λ (a b : ℕ). pieces octets places ++ slice_range octets a b ∷ datagrams_among octets later) from to
-          ∙ ap (λ (l : List Frame). pieces octets places ++ datagrams_among octets l) (sym is) ∙ h.given;
+      given = ap (λ (done : List (List ℕ)). done ++ datagrams_among octets later) (map-append (piece octets) spans (one ∷ []))
+          ∙ append_assoc (pieces octets spans) (piece octets one ∷ []) (datagrams_among octets later)
+          ∙ ap₂ (λ (a b : ℕ). pieces octets spans ++ slice_range octets a b ∷ datagrams_among octets later) from to
+          ∙ ap (λ (l : List Frame). pieces octets spans ++ datagrams_among octets l) (sym is) ∙ h.given;
       passed = ap (λ (l : List Frame). ignored + ignored_among l) (sym is) ∙ h.passed;
       cut = ap (cut_among (number + 1)) (sym is) ∙ h.cut;
     }
@@ -72,35 +72,35 @@ unfolding recording_of_frames
 by_fault most octets all datagrams is few = let fits : nat_lt most (length datagrams) ≡ false = grind (arith, nat_tests) in rw is (rw fits refl)
 
 -- no frame is left
-pub recording_of_frames-done : (most : ℕ) (octets : List ℕ) (all : List Frame) (places : List Place) (number ignored : ℕ) (left : List Frame)
-    → HasPushed most octets all places number ignored left → left ≡ []
-    → recording_of_frames most octets all ≡ Ok (record { datagrams = pieces octets places; ignored = Some ignored })
-recording_of_frames-done most octets all places number ignored left h none =
-    let given : datagrams_among octets all ≡ pieces octets places =
-    sym h.given ∙ ap (λ (l : List Frame). pieces octets places ++ datagrams_among octets l) none ∙ append-nil (pieces octets places) in
+pub recording_of_frames-done : (most : ℕ) (octets : List ℕ) (all : List Frame) (spans : List DatagramSpan) (number ignored : ℕ) (left : List Frame)
+    → HasPushed most octets all spans number ignored left → left ≡ []
+    → recording_of_frames most octets all ≡ Ok (record { datagrams = pieces octets spans; ignored = Some ignored })
+recording_of_frames-done most octets all spans number ignored left h none =
+    let given : datagrams_among octets all ≡ pieces octets spans =
+    sym h.given ∙ ap (λ (l : List Frame). pieces octets spans ++ datagrams_among octets l) none ∙ append-nil (pieces octets spans) in
     let passed : ignored_among all ≡ ignored = omega (arith, h.passed, ap ignored_among none) in
     let whole : cut_among 1 all ≡ None = sym h.cut ∙ ap (cut_among (number + 1)) none in
-    by_fault most octets all (pieces octets places) given (omega (arith, length-map places (piece octets), h.few))
-    ∙ ap (λ cut. unless_cut cut (record { datagrams = pieces octets places; ignored = Some (ignored_among all) })) whole
-    ∙ ap (λ n. Ok (record { datagrams = pieces octets places; ignored = Some n })) passed
+    by_fault most octets all (pieces octets spans) given (omega (arith, length-map spans (piece octets), h.few))
+    ∙ ap (λ cut. unless_cut cut (record { datagrams = pieces octets spans; ignored = Some (ignored_among all) })) whole
+    ∙ ap (λ n. Ok (record { datagrams = pieces octets spans; ignored = Some n })) passed
 
 -- a frame is cut
-pub recording_of_frames-cut : (most : ℕ) (octets : List ℕ) (all : List Frame) (places : List Place) (number ignored : ℕ) (left later : List Frame)
-    → HasPushed most octets all places number ignored left → left ≡ Cut ∷ later → recording_of_frames most octets all ≡ Err (CutCapture (number + 1))
-recording_of_frames-cut most octets all places number ignored left later h is =
-    let given : datagrams_among octets all ≡ pieces octets places =
-    sym h.given ∙ ap (λ (l : List Frame). pieces octets places ++ datagrams_among octets l) is ∙ append-nil (pieces octets places) in
+pub recording_of_frames-cut : (most : ℕ) (octets : List ℕ) (all : List Frame) (spans : List DatagramSpan) (number ignored : ℕ) (left later : List Frame)
+    → HasPushed most octets all spans number ignored left → left ≡ Cut ∷ later → recording_of_frames most octets all ≡ Err (CutCapture (number + 1))
+recording_of_frames-cut most octets all spans number ignored left later h is =
+    let given : datagrams_among octets all ≡ pieces octets spans =
+    sym h.given ∙ ap (λ (l : List Frame). pieces octets spans ++ datagrams_among octets l) is ∙ append-nil (pieces octets spans) in
     let cut : cut_among 1 all ≡ Some (number + 1) = sym h.cut ∙ ap (cut_among (number + 1)) is in
-    by_fault most octets all (pieces octets places) given (omega (arith, length-map places (piece octets), h.few))
-    ∙ ap (λ cut. unless_cut cut (record { datagrams = pieces octets places; ignored = Some (ignored_among all) })) cut
+    by_fault most octets all (pieces octets spans) given (omega (arith, length-map spans (piece octets), h.few))
+    ∙ ap (λ cut. unless_cut cut (record { datagrams = pieces octets spans; ignored = Some (ignored_among all) })) cut
 
 -- there are too many datagrams
-pub recording_of_frames-many : (most : ℕ) (octets : List ℕ) (all : List Frame) (places : List Place) (number ignored : ℕ) (left later : List Frame) (place : FilePlace)
-    → HasPushed most octets all places number ignored left → left ≡ Datagram place ∷ later → most ≤ length places → recording_of_frames most octets all ≡ Err TooMany
+pub recording_of_frames-many : (most : ℕ) (octets : List ℕ) (all : List Frame) (spans : List DatagramSpan) (number ignored : ℕ) (left later : List Frame) (place : ByteRange)
+    → HasPushed most octets all spans number ignored left → left ≡ Datagram place ∷ later → most ≤ length spans → recording_of_frames most octets all ≡ Err TooMany
 unfolding recording_of_frames
-recording_of_frames-many most octets all places number ignored left later place h is many =
-    let size : length (datagrams_among octets all) ≡ length (pieces octets places) + length (datagrams_among octets left) =
-    ap length (sym h.given) ∙ length-append (pieces octets places) (datagrams_among octets left) in
+recording_of_frames-many most octets all spans number ignored left later place h is many =
+    let size : length (datagrams_among octets all) ≡ length (pieces octets spans) + length (datagrams_among octets left) =
+    ap length (sym h.given) ∙ length-append (pieces octets spans) (datagrams_among octets left) in
     let more : length (datagrams_among octets left) ≡ suc (length (datagrams_among octets later)) = ap (λ (l : List Frame). length (datagrams_among octets l)) is in
-    let past : nat_lt most (length (datagrams_among octets all)) ≡ true = grind (arith, nat_tests, length-map places (piece octets)) in
+    let past : nat_lt most (length (datagrams_among octets all)) ≡ true = grind (arith, nat_tests, length-map spans (piece octets)) in
     rw past refl

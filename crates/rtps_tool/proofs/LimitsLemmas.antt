@@ -16,7 +16,7 @@ use Rattle.rtps_tool.specs.RecordingText.{line_fault, recording_of_lines, record
 use Rattle.rtps_tool.specs.Unfinished.{with_front}
 use Rattle.rtps_tool.specs.declared.faults.RecFault.{RecFault}
 use Rattle.rtps_tool.specs.declared.faults.RecFault.TheVariants.{TooMany}
-use Rattle.rtps_tool.specs.declared.limits.Limits.{Limits}
+use Rattle.rtps_tool.specs.declared.runs.Limits.{Limits}
 use Rattle.rtps_tool.proofs.RecordingLemmas.{kind_of, recording_of_lines-faulty, recording_of_lines-nil, recording_of_lines-skipped, recording_of_lines-taken}
 use Rattle.rtps_tool.proofs.UnfinishedLemmas.{recording_of-within}
 

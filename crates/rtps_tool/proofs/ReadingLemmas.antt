@@ -17,7 +17,7 @@ use Rattle.rtps_tool.specs.Runs.{Reads, ReadsRecording, FailsReading}
 use Rattle.rtps_tool.specs.Unfinished.{ReadsOn, recording_behind}
 use Rattle.rtps_tool.specs.declared.faults.RecFault.{RecFault}
 use Rattle.rtps_tool.specs.declared.faults.RecFault.TheVariants.{BadHex, TooLong, TooMany, Memory, BadCapture, CutCapture}
-use Rattle.rtps_tool.specs.declared.limits.Limits.{Limits}
+use Rattle.rtps_tool.specs.declared.runs.Limits.{Limits}
 use Rattle.rtps_tool.proofs.UnfinishedLemmas.{recording_behind-start, recording_of-text, recording_of-past}
 use Rattle.rtps_tool.proofs.RecordingLemmas.{IsFaultOf-without_frames}
 

@@ -13,7 +13,7 @@ use Rattle.rtps_tool.specs.RecordingText.{recording_of_lines, recording_of_text,
 use Rattle.rtps_tool.specs.Unfinished.{with_front, recording_behind}
 use Rattle.rtps_tool.specs.declared.faults.RecFault.{RecFault}
 use Rattle.rtps_tool.specs.declared.faults.RecFault.TheVariants.{TooLong, TooMany}
-use Rattle.rtps_tool.specs.declared.limits.Limits.{Limits}
+use Rattle.rtps_tool.specs.declared.runs.Limits.{Limits}
 use Rattle.rtps_tool.proofs.LinesLemmas.{lines_of-append, lines_of-unfinished, first_part, later_parts}
 use Rattle.rtps_tool.proofs.RecordingLemmas.{with_front-ok, with_front-all, with_front-none, IsFaultOf-with_front, recording_of_lines-skipped, recording_of_lines-faulty}
 

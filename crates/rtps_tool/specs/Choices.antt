@@ -1,23 +1,33 @@
 -- What a run does by what the words chose.
 -- own: each subcommand is one run.
-use Rattle.std.specs.Prelude.{ℕ, ◌≡◌, true, false, List, Option, Result}
-use Rattle.rtps_text.specs.AuditText.{IsAuditedFrom}
-use Rattle.rtps_text.specs.JsonText.{IsJsonTextFrom}
-use Rattle.rtps_text.specs.ListText.{IsListed}
+use Rattle.std.specs.Prelude.{ℕ, ◌≡◌, List, Option, Some, None, Result}
 use Rattle.rtps_text.specs.SampleText.{sample}
-use Rattle.rtps_text.specs.ShowText.{IsShown}
-use Rattle.rtps_text.specs.WhyText.{IsExplainedTextFrom}
-use Rattle.rtps_text.specs.declared.ending.Ending.{Ending}
+use Rattle.rtps_text.specs.declared.text.Ending.{Ending}
+use Rattle.rtps_tool.specs.Commands.{IsTextOf}
 use Rattle.rtps_tool.specs.Runs.{RunsWithin, Writes}
 use Rattle.rtps_tool.specs.declared.command.Choice.{Choice}
 use Rattle.rtps_tool.specs.declared.command.Choice.TheVariants.{Show, List as ListChoice, Audit, Why, Sample}
+use Rattle.rtps_tool.specs.declared.command.ReportForm.{ReportForm}
+use Rattle.rtps_tool.specs.declared.command.ReportForm.TheVariants.{Lines, Json}
 use Rattle.rtps_tool.specs.declared.faults.RunFault.{RunFault}
+use Rattle.rtps_tool.specs.declared.runs.Command.{Command}
+use Rattle.rtps_tool.specs.declared.runs.Command.TheVariants.{Show as ShowCommand, List as ListCommand, Audit as AuditCommand, Json as JsonCommand, Why as WhyCommand}
+use Rattle.rtps_tool.specs.declared.runs.Options.{Options}
 
--- the run of its subcommand within its limits; `sample` leaves the reader as it is
-abbrev pub RunsChoice : Choice → (unread left held holds : Option (List ℕ)) → Result Ending RunFault → Type 0
-RunsChoice (Show file limits) unread left held holds result = RunsWithin limits IsShown unread left held holds result
-RunsChoice (ListChoice file limits) unread left held holds result = RunsWithin limits IsListed unread left held holds result
-RunsChoice (Audit file from limits false) unread left held holds result = RunsWithin limits (IsAuditedFrom from) unread left held holds result
-RunsChoice (Audit file from limits true) unread left held holds result = RunsWithin limits (IsJsonTextFrom from) unread left held holds result
-RunsChoice (Why file from limits) unread left held holds result = RunsWithin limits (IsExplainedTextFrom from) unread left held holds result
-RunsChoice Sample unread left held holds result = (left ≡ unread) × Writes sample held holds result
+-- what prints an audit in this form
+abbrev pub audit_command : ReportForm → Command
+audit_command Lines = AuditCommand
+audit_command Json = JsonCommand
+
+-- the options of its run; `sample` reads nothing, and has none
+abbrev pub options_of : Choice → Option Options
+options_of (Show file limits) = Some (record { command = ShowCommand; from = 1; limits = limits })
+options_of (ListChoice file limits) = Some (record { command = ListCommand; from = 1; limits = limits })
+options_of (Audit file from limits form) = Some (record { command = audit_command form; from = from; limits = limits })
+options_of (Why file from limits) = Some (record { command = WhyCommand; from = from; limits = limits })
+options_of Sample = None
+
+-- the run with these options; without, the sample is written, and the reader stays as it is
+abbrev pub RunsBy : Option Options → (unread left held holds : Option (List ℕ)) → Result Ending RunFault → Type 0
+RunsBy (Some options) unread left held holds result = RunsWithin options.limits (IsTextOf options.command options.from) unread left held holds result
+RunsBy None unread left held holds result = (left ≡ unread) × Writes sample held holds result

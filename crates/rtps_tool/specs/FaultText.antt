@@ -1,4 +1,5 @@
--- What is told of a fault. own: one line on standard error, the same for the same fault.
+-- What is told of a fault, and its number. own: one line on standard error, the same for the same fault; both stay, since
+-- reports and programs name faults by them.
 use Rattle.std.specs.Prelude.{ℕ, List, [], ◌∷◌, ◌++◌, codes, Option, None, Some}
 use Rattle.std.specs.Fmt.{decimal}
 use Rattle.rtps_tool.specs.declared.command.WordFault.{WordFault}
@@ -23,6 +24,22 @@ run_fault_text (Recording fault) = rec_fault_text fault
 run_fault_text Input = codes "cannot read input"
 run_fault_text (Output written) = codes "cannot write output"
 run_fault_text RunMemory = codes "out of memory"
+
+-- from 1 on: first those of texts, and then those of captures
+abbrev pub rec_fault_number : RecFault → ℕ
+rec_fault_number (BadHex line) = 1
+rec_fault_number (TooLong line) = 2
+rec_fault_number TooMany = 3
+rec_fault_number Memory = 4
+rec_fault_number BadCapture = 5
+rec_fault_number (CutCapture frame) = 6
+
+-- from 1 on, in the order in which a run can meet them, and want of memory last
+abbrev pub run_fault_number : RunFault → ℕ
+run_fault_number (Recording fault) = 1
+run_fault_number Input = 2
+run_fault_number (Output written) = 3
+run_fault_number RunMemory = 4
 
 -- the line of a fault, with LF (10)
 abbrev pub fault_line : RunFault → List ℕ

@@ -10,7 +10,7 @@ use Rattle.rtps_tool.specs.RecordingCapture.{recording_of_capture}
 use Rattle.rtps_tool.specs.RecordingText.{recording_of_text}
 use Rattle.rtps_tool.specs.declared.faults.RecFault.{RecFault}
 use Rattle.rtps_tool.specs.declared.faults.RecFault.TheVariants.{TooMany}
-use Rattle.rtps_tool.specs.declared.limits.Limits.{Limits}
+use Rattle.rtps_tool.specs.declared.runs.Limits.{Limits}
 
 -- a capture is known by the order of its numbers; there are at most so many datagrams
 abbrev pub recording_in_form : (most : ℕ) → Option Order → List ℕ → Result RecordingValue RecFault

@@ -5,12 +5,12 @@ use Rattle.std.specs.Io.KnownBytes.{Appends}
 use Rattle.rtps_ids.specs.declared.order.Order.{Order}
 use Rattle.rtps_capture.specs.Opening.{order_of}
 use Rattle.rtps_text.specs.Recording.{RecordingValue}
-use Rattle.rtps_text.specs.declared.ending.Ending.{Ending}
+use Rattle.rtps_text.specs.declared.text.Ending.{Ending}
 use Rattle.rtps_tool.specs.Forms.{recording_within}
 use Rattle.rtps_tool.specs.RecordingText.{recording_of_text}
 use Rattle.rtps_tool.specs.Runs.{Runs, RunsWithin}
 use Rattle.rtps_tool.specs.declared.faults.RecFault.{RecFault}
-use Rattle.rtps_tool.specs.declared.limits.Limits.{Limits}
+use Rattle.rtps_tool.specs.declared.runs.Limits.{Limits}
 
 -- two runs over one input that both answer an ending answer the same one, and write the same text
 abbrev pub RunsAgree : (RecordingValue → List ℕ → Ending → Type 0) → Type 0

@@ -11,6 +11,6 @@ pub mod RecordingText
 pub mod RunFaults
 pub mod Runs
 pub mod Statuses
-pub mod Subcommands
+pub mod Commands
 pub mod Unfinished
 pub mod Words

@@ -9,9 +9,9 @@ use Rattle.rtps_tool.specs.declared.faults.RecFault.{RecFault}
 use Rattle.rtps_tool.specs.declared.faults.RecFault.TheVariants.{Memory as RecMemory}
 use Rattle.rtps_tool.specs.declared.faults.RunFault.{RunFault}
 use Rattle.rtps_tool.specs.declared.faults.RunFault.TheVariants.{Recording, Input, Output, Memory}
-use Rattle.rtps_tool.specs.declared.limits.Limits.{Limits}
-use Rattle.rtps_text.specs.declared.ending.Ending.{Ending}
-use Rattle.rtps_text.specs.declared.ending.Ending.TheVariants.{Clean}
+use Rattle.rtps_tool.specs.declared.runs.Limits.{Limits}
+use Rattle.rtps_text.specs.declared.text.Ending.{Ending}
+use Rattle.rtps_text.specs.declared.text.Ending.TheVariants.{Clean}
 
 -- these octets were read: all that the reader had, or more of it than a recording may have
 pub record Reads (limits : Limits) (old new : Option (List ℕ)) (text : List ℕ) : Type 0 where

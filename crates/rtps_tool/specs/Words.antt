@@ -14,10 +14,12 @@ use Rattle.clap.specs.declared.error.kind.ErrorKind.TheVariants.{DisplayHelp, Di
 use Rattle.std.specs.String.{string_bytes}
 use Rattle.rtps_tool.specs.Limits.{usual}
 use Rattle.rtps_tool.specs.declared.command.Choice.{Choice}
+use Rattle.rtps_tool.specs.declared.command.ReportForm.{ReportForm}
+use Rattle.rtps_tool.specs.declared.command.ReportForm.TheVariants.{Lines, Json}
 use Rattle.rtps_tool.specs.declared.command.Choice.TheVariants.{Show, List as ListChoice, Audit, Why, Sample}
 use Rattle.rtps_tool.specs.declared.command.WordFault.{WordFault}
 use Rattle.rtps_tool.specs.declared.command.WordFault.TheVariants.{Refused, Help, Version, Memory}
-use Rattle.rtps_tool.specs.declared.limits.Limits.{Limits}
+use Rattle.rtps_tool.specs.declared.runs.Limits.{Limits}
 
 -- a file's name, or `-` for standard input, must be given
 abbrev pub file_rule : Rule
@@ -67,7 +69,7 @@ program =
 abbrev pub subcommand_name : Choice → Text
 subcommand_name (Show file limits) = codes "show"
 subcommand_name (ListChoice file limits) = codes "list"
-subcommand_name (Audit file from limits json) = codes "audit"
+subcommand_name (Audit file from limits form) = codes "audit"
 subcommand_name (Why file from limits) = codes "why"
 subcommand_name Sample = codes "sample"
 
@@ -75,7 +77,7 @@ subcommand_name Sample = codes "sample"
 abbrev pub file_name : Choice → Option Text
 file_name (Show file limits) = Some (string_bytes file)
 file_name (ListChoice file limits) = Some (string_bytes file)
-file_name (Audit file from limits json) = Some (string_bytes file)
+file_name (Audit file from limits form) = Some (string_bytes file)
 file_name (Why file from limits) = Some (string_bytes file)
 file_name Sample = None
 
@@ -98,30 +100,22 @@ IsNumberGiven text n = IsGivenOr 1 text n
 abbrev pub HasItsNumber : Choice → List Row → Type 0
 HasItsNumber (Show file limits) rows = Unit {0}
 HasItsNumber (ListChoice file limits) rows = Unit {0}
-HasItsNumber (Audit file from limits json) rows = IsNumberGiven (first_of (codes "N") rows) from
+HasItsNumber (Audit file from limits form) rows = IsNumberGiven (first_of (codes "N") rows) from
 HasItsNumber (Why file from limits) rows = IsNumberGiven (first_of (codes "N") rows) from
 HasItsNumber Sample rows = Unit {0}
 
--- The flag was given or not: `clap` gives it the text `true` where it was, and `false` where not.
-abbrev pub IsFlagGiven : Option Text → Bool → Type 0
-IsFlagGiven None flag = flag ≡ false
-IsFlagGiven (Some text) flag = (text ≡ codes "true" → flag ≡ true) × (text ≡ codes "false" → flag ≡ false)
+-- It asks for JSON where the flag was given: `clap` gives it the text `true` where it was, and `false` where not.
+abbrev pub IsFormGiven : Option Text → ReportForm → Type 0
+IsFormGiven None form = form ≡ Lines
+IsFormGiven (Some text) form = (text ≡ codes "true" → form ≡ Json) × (text ≡ codes "false" → form ≡ Lines)
 
--- it asks for JSON where the flag was given; only `audit` has one
+-- its form is the one that was asked for; only `audit` has one
 abbrev pub HasItsFlag : Choice → List Row → Type 0
 HasItsFlag (Show file limits) rows = Unit {0}
 HasItsFlag (ListChoice file limits) rows = Unit {0}
-HasItsFlag (Audit file from limits json) rows = IsFlagGiven (one_of (codes "json") rows) json
+HasItsFlag (Audit file from limits form) rows = IsFormGiven (one_of (codes "json") rows) form
 HasItsFlag (Why file from limits) rows = Unit {0}
 HasItsFlag Sample rows = Unit {0}
-
--- the limits that were chosen; `sample` has none
-abbrev pub limits_of : Choice → Option Limits
-limits_of (Show file limits) = Some limits
-limits_of (ListChoice file limits) = Some limits
-limits_of (Audit file from limits json) = Some limits
-limits_of (Why file from limits) = Some limits
-limits_of Sample = None
 
 -- the limits are those that were given, each the usual one where it was not
 pub record AreLimitsGiven (rows : List Row) (limits : Limits) : Type 0 where
@@ -130,7 +124,11 @@ pub record AreLimitsGiven (rows : List Row) (limits : Limits) : Type 0 where
 
 -- its limits are those that were given
 abbrev pub HasItsLimits : Choice → List Row → Type 0
-HasItsLimits choice rows = IfSome (limits_of choice) (AreLimitsGiven rows)
+HasItsLimits (Show file limits) rows = AreLimitsGiven rows limits
+HasItsLimits (ListChoice file limits) rows = AreLimitsGiven rows limits
+HasItsLimits (Audit file from limits form) rows = AreLimitsGiven rows limits
+HasItsLimits (Why file from limits) rows = AreLimitsGiven rows limits
+HasItsLimits Sample rows = Unit {0}
 
 -- the choice has the name of the subcommand that was found, its FILE, its number, its flag and its limits
 abbrev pub IsChoice : Option (Text × List Row) → Choice → Type 0

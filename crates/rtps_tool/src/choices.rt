@@ -1,14 +1,12 @@
 ghost use Rattle.std.specs.Prelude.{◌≡◌};
 ghost use Rattle.std.specs.Option.{option_map};
-ghost use Rattle.rtps_tool.specs.Choices.{RunsChoice};
-ghost use Rattle.rtps_tool.specs.Words.{file_name, limits_of};
+ghost use Rattle.rtps_tool.specs.Choices.{RunsBy, audit_command as audit_command_lem, options_of};
+ghost use Rattle.rtps_tool.specs.Words.{file_name};
 
-use crate::command::Choice;
+use crate::command::{Choice, ReportForm};
 use crate::faults::RunFault;
-use crate::limits::Limits;
-use crate::run::{
-    run_audit_within, run_json_within, run_list_within, run_sample, run_show_within, run_why_within,
-};
+use crate::runs::{Command, Options, run, run_sample};
+use rtps_ids::SeqNum;
 use rtps_text::{Ending, Watch};
 use std::alloc::Global;
 use std::io::{Read, Write};
@@ -27,23 +25,50 @@ impl Choice {
         }
     }
 
-    /// The limits of the recording. None where the choice reads nothing.
-    pub fn limits(&self) -> Option<Limits>
-        ensures { result ≡ limits_of self.now }
+    /// What its run prints, and of what. None where the choice reads nothing.
+    pub fn options(&self) -> Option<Options>
+        ensures { result ≡ options_of self.now }
     {
         match self {
-            Choice::Show { limits, .. }
-            | Choice::List { limits, .. }
-            | Choice::Audit { limits, .. }
-            | Choice::Why { limits, .. } => Some(*limits),
+            Choice::Show { limits, .. } => Some(Options {
+                command: Command::Show,
+                from: SeqNum::first(),
+                limits: *limits,
+            }),
+            Choice::List { limits, .. } => Some(Options {
+                command: Command::List,
+                from: SeqNum::first(),
+                limits: *limits,
+            }),
+            Choice::Audit {
+                from, limits, form, ..
+            } => Some(Options {
+                command: audit_command(*form),
+                from: *from,
+                limits: *limits,
+            }),
+            Choice::Why { from, limits, .. } => Some(Options {
+                command: Command::Why,
+                from: *from,
+                limits: *limits,
+            }),
             Choice::Sample => None,
         }
     }
 }
 
-/// Runs what the words chose: [`crate::run_show_within`], [`crate::run_list_within`], [`crate::run_audit_within`],
-/// [`crate::run_json_within`] or [`crate::run_why_within`] on an input, or [`crate::run_sample`], which leaves the input as
-/// it is. It tells how far an audit is. An `Err` is that of the run, and leaves what the run leaves.
+/// What prints an audit in this form.
+fn audit_command(form: ReportForm) -> Command
+    ensures { result ≡ audit_command_lem form }
+{
+    match form {
+        ReportForm::Lines => Command::Audit,
+        ReportForm::Json => Command::Json,
+    }
+}
+
+/// Runs what the words chose: [`crate::run`] on an input, or [`crate::run_sample`], which leaves the input as it is. It tells
+/// how far an audit is. An `Err` is that of the run, and leaves what the run leaves.
 pub fn run_choice<R: Read, W: Write, P: Watch>(
     alloc: Global,
     choice: &Choice,
@@ -51,29 +76,11 @@ pub fn run_choice<R: Read, W: Write, P: Watch>(
     output: &mut W,
     watch: &mut P,
 ) -> Result<Ending, RunFault>
-    ensures { RunsChoice choice.now
+    ensures { RunsBy (options_of choice.now)
         (R.remaining input.old) (R.remaining input.new) (W.contents output.old) (W.contents output.new) result }
 {
-    match choice {
-        Choice::Show { file: _, limits } => run_show_within(alloc, *limits, input, output),
-        Choice::List { file: _, limits } => run_list_within(alloc, *limits, input, output),
-        Choice::Audit {
-            file: _,
-            from,
-            limits,
-            json,
-        } => {
-            if *json {
-                run_json_within(alloc, *limits, input, output, *from, watch)
-            } else {
-                run_audit_within(alloc, *limits, input, output, *from, watch)
-            }
-        }
-        Choice::Why {
-            file: _,
-            from,
-            limits,
-        } => run_why_within(alloc, *limits, input, output, *from, watch),
-        Choice::Sample => run_sample(output),
+    match choice.options() {
+        Some(options) => run(alloc, &options, input, output, watch),
+        None => run_sample(output),
     }
 }

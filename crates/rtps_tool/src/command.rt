@@ -2,9 +2,9 @@ ghost use Rattle.std.specs.Prelude.{◌≡◌, ◌⊎◌, true, false, codes, So
 ghost use Rattle.std.specs.String.{string_bytes};
 ghost use Rattle.clap.specs.Words.{app_of, fault_of, first_of, found_of, new_app, one_of, rows_of, rule_of, subcommand_of, subcommand_rows_of, takes};
 ghost use Rattle.clap.specs.declared.builder.command.Command.TheViews.{out-Command};
-ghost use Rattle.rtps_tool.specs.Words.{bare_program as bare_app, audit_app, json_rule, number_rule, program as program_app, reading_app, report_app, AreLimitsGiven, IsChoice, IsFlagGiven, IsGivenOr, IsNumberGiven, IsOneOf, HasItsKind};
+ghost use Rattle.rtps_tool.specs.Words.{bare_program as bare_app, audit_app, json_rule, number_rule, program as program_app, reading_app, report_app, AreLimitsGiven, IsChoice, IsFormGiven, IsGivenOr, IsNumberGiven, IsOneOf, HasItsKind};
 
-use crate::limits::Limits;
+use crate::runs::Limits;
 use clap::builder::ValueParser;
 use clap::error::ErrorKind;
 use clap::{Arg, ArgAction, ArgMatches, Command};
@@ -12,6 +12,15 @@ use rtps_ids::SeqNum;
 use std::alloc::{AllocError, Global};
 use std::fmt;
 use thiserror::Error;
+
+/// How a report is printed.
+#[derive(Clone, Copy, Debug, PartialEq, Eq)]
+pub enum ReportForm {
+    /// As lines of text.
+    Lines,
+    /// As one JSON object, with what each verdict rests on.
+    Json,
+}
 
 /// What the words ask for. A FILE of `-` is standard input; the limits are those of its recording.
 #[derive(Debug, Drop)]
@@ -32,8 +41,7 @@ pub enum Choice {
         file: String,
         from: SeqNum,
         limits: Limits,
-        /// Whether the report is asked for as JSON, with what each verdict rests on.
-        json: bool,
+        form: ReportForm,
     },
     /// Say for each verdict of such an audit what it rests on, place by place.
     Why {
@@ -306,11 +314,15 @@ fn limits_of(found: &ArgMatches) -> Limits
     }
 }
 
-/// Whether JSON is asked for.
-fn flag_of(found: &ArgMatches) -> bool
-    ensures { IsFlagGiven (one_of (codes "json") (rows_of (found_of found.now))) result }
+/// The form that is asked for.
+fn form_of(found: &ArgMatches) -> ReportForm
+    ensures { IsFormGiven (one_of (codes "json") (rows_of (found_of found.now))) result }
 {
-    found.get_flag("json")
+    if found.get_flag("json") {
+        ReportForm::Json
+    } else {
+        ReportForm::Lines
+    }
 }
 
 /// What the matches choose; None where they have no subcommand that can be chosen.
@@ -333,12 +345,12 @@ fn choice_of(alloc: Global, matches: &ArgMatches) -> Result<Option<Choice>, Allo
         let file = file_of(alloc, audit)?;
         let from = number_of(audit);
         let limits = limits_of(audit);
-        let json = flag_of(audit);
+        let form = form_of(audit);
         return Ok(Some(Choice::Audit {
             file,
             from,
             limits,
-            json,
+            form,
         }));
     }
     if let Some(why) = matches.subcommand_matches("why") {

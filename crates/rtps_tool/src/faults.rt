@@ -1,9 +1,13 @@
-ghost use Rattle.std.specs.Prelude.{◌≡◌, Some};
-ghost use Rattle.rtps_tool.specs.FaultText.{rec_fault_text, run_fault_text};
+ghost use Rattle.std.specs.Prelude.{◌≡◌, true, Some};
+ghost use Rattle.std.specs.Io.KnownBytes.{Appends};
+ghost use Rattle.rtps_tool.specs.FaultText.{fault_line, rec_fault_number, rec_fault_text, run_fault_number, run_fault_text};
+ghost use Rattle.rtps_tool.specs.Statuses.{status_of};
 
 use rtps_ids::Memory;
+use rtps_text::Ending;
 use std::alloc::{AllocError, AllocFailed};
 use std::fmt;
+use std::io::Write;
 use thiserror::Error;
 
 /// Why an input is no recording. Lines are counted from 1, skipped ones too.
@@ -16,13 +20,29 @@ pub enum RecFault {
     /// There are more datagrams, or more octets of the input, than the limits allow ([`crate::Limits`]).
     /// Its one text, `too many datagrams`, stands for both.
     TooMany,
-    /// There was no memory for the recording, or no place for a datagram ([`rtps_text::Place`]): one that begins at 2^48
+    /// There was no memory for the recording, or no span for a datagram ([`rtps_text::DatagramSpan`]): one that begins at 2^48
     /// octets or behind has none.
     Memory,
     /// A capture's header is cut, its major version is not 2, or its link type is neither Ethernet nor raw IP.
     BadCapture,
     /// A capture ends within a frame. Frames are counted from 1, ignored ones too.
     CutCapture { frame: u64 },
+}
+
+impl RecFault {
+    /// Its number, from 1 on.
+    pub fn number(self) -> u8
+        ensures { result ≡ rec_fault_number self }
+    {
+        match self {
+            RecFault::BadHex { line: _ } => 1,
+            RecFault::TooLong { line: _ } => 2,
+            RecFault::TooMany => 3,
+            RecFault::Memory => 4,
+            RecFault::BadCapture => 5,
+            RecFault::CutCapture { frame: _ } => 6,
+        }
+    }
 }
 
 /// The text of [`RecFault::TooMany`] is `too many datagrams` for too many octets too.
@@ -71,8 +91,22 @@ pub enum RunFault {
     Input,
     /// A write failed or took no octet: the first `written` octets of the text were written before.
     Output { written: u64 },
-    /// There was no memory for the input, the recording or the text, or no place for a datagram ([`RecFault::Memory`]).
+    /// There was no memory for the input, the recording or the text, or no span for a datagram ([`RecFault::Memory`]).
     Memory,
+}
+
+impl RunFault {
+    /// Its number, from 1 on.
+    pub fn number(self) -> u8
+        ensures { result ≡ run_fault_number self }
+    {
+        match self {
+            RunFault::Recording(_) => 1,
+            RunFault::Input => 2,
+            RunFault::Output { written: _ } => 3,
+            RunFault::Memory => 4,
+        }
+    }
 }
 
 impl fmt::Display for RunFault {
@@ -120,4 +154,26 @@ impl From<Memory> for RunFault {
     fn from(_error: Memory) -> RunFault {
         RunFault::Memory
     }
+}
+
+/// The status that the program ends with after a run: 0 where it is clean, 1 where it is unclean, 2 where the recording
+/// is refused, 3 where a read, a write or a request for memory failed.
+pub fn status(outcome: &Result<Ending, RunFault>) -> u8
+    ensures { result ≡ status_of outcome.now }
+{
+    match outcome {
+        Ok(Ending::Clean) => 0,
+        Ok(Ending::Unclean) => 1,
+        Err(RunFault::Recording(RecFault::Memory)) => 3,
+        Err(RunFault::Recording(_)) => 2,
+        Err(RunFault::Input | RunFault::Output { .. } | RunFault::Memory) => 3,
+    }
+}
+
+/// Writes the line that tells of a fault: `rtps-audit: `, the fault's text and LF. Where it answers true, the line was written.
+/// Where it answers false, nothing is promised: a writer may fail at any call, and what was written then is open.
+pub fn write_fault<W: Write>(fault: &RunFault, output: &mut W) -> bool
+    ensures { result ≡ true → Appends (W.contents output.old) (W.contents output.new) (fault_line fault.now) }
+{
+    writeln!(output, "rtps-audit: {fault}").is_ok()
 }

@@ -4,14 +4,14 @@ ghost use Rattle.rtps_capture.specs.Opening.{order_of};
 ghost use Rattle.rtps_tool.specs.CaptureFront.{HasReadFront};
 ghost use Rattle.rtps_tool.specs.Runs.{ReadsRecording, FailsReading, FailsWriting};
 ghost use Rattle.rtps_tool.specs.Unfinished.{ReadsOn};
-ghost use Rattle.rtps_tool.specs.declared.limits.Limits.{Limits as LimitsValue};
+ghost use Rattle.rtps_tool.specs.declared.runs.Limits.{Limits as LimitsValue};
 ghost use Rattle.rtps_tool.specs.declared.faults.RunFault.TheVariants.{Input};
 
 use crate::faults::{RecFault, RunFault};
 use crate::form::capture_reader::CaptureReader;
 use crate::form::either::read_recording_within;
 use crate::form::line_reader::{KEPT_MAX, LineReader};
-use crate::limits::Limits;
+use crate::runs::Limits;
 use rtps_capture::capture_order;
 use rtps_text::{Recording, make_room, push_octets};
 use std::alloc::{AllocError, Global};

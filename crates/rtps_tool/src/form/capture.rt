@@ -1,12 +1,12 @@
 ghost use Rattle.std.specs.Prelude.{◌≡◌, ◌<◌, ◌^◌, [], length, Ok, Some, MatchResult};
 ghost use Rattle.rtps_capture.specs.Frames.{frames_left};
-ghost use Rattle.rtps_text.specs.Places.{ArePlaces, pieces};
+ghost use Rattle.rtps_text.specs.DatagramSpan.{AreSpans, pieces};
 ghost use Rattle.rtps_tool.specs.Outcomes.{IsFaultOf};
 ghost use Rattle.rtps_tool.specs.RecordingCapture.{recording_of_capture, recording_of_frames};
 
 use crate::faults::RecFault;
 use rtps_capture::{Frame, Frames};
-use rtps_text::{Place, Recording, push_place};
+use rtps_text::{DatagramSpan, Recording, push_span};
 use std::alloc::Global;
 
 /// Reads a recording of so many datagrams at most from a capture, whose octets it keeps.
@@ -15,32 +15,32 @@ pub(crate) fn read_capture(alloc: Global, most: u64, octets: Vec<u8>) -> Result<
         (λ recording. recording_of_capture most octets.items ≡ Ok recording)
         (IsFaultOf (recording_of_capture most octets.items)) }
 {
-    let mut places = Vec::new(alloc);
-    let ignored = read_places(most, &octets, &mut places)?;
-    Ok(Recording::of_capture(octets, places, ignored))
+    let mut spans = Vec::new(alloc);
+    let ignored = read_spans(most, &octets, &mut spans)?;
+    Ok(Recording::of_capture(octets, spans, ignored))
 }
 
 /// Appends the places of the datagrams of a capture, so many at most, and answers how many frames give none.
-fn read_places(most: u64, octets: &[u8], places: &mut Vec<Place>) -> Result<u64, RecFault>
-    requires empty { places.old.items ≡ [] }
+fn read_spans(most: u64, octets: &[u8], spans: &mut Vec<DatagramSpan>) -> Result<u64, RecFault>
+    requires empty { spans.old.items ≡ [] }
     ensures { MatchResult result
-        (λ ignored. ArePlaces octets.now places.new.items
-        × (recording_of_capture most octets.now ≡ Ok (record { datagrams = pieces octets.now places.new.items; ignored = Some ignored })))
+        (λ ignored. AreSpans octets.now spans.new.items
+        × (recording_of_capture most octets.now ≡ Ok (record { datagrams = pieces octets.now spans.new.items; ignored = Some ignored })))
         (IsFaultOf (recording_of_capture most octets.now)) }
 {
     match Frames::open(octets) {
-        Some(frames) => push_places(most, frames, places),
+        Some(frames) => push_spans(most, frames, spans),
         None => Err(RecFault::BadCapture),
     }
 }
 
 /// Appends the places of the datagrams that frames give, so many at most, and answers how many give none.
-fn push_places(most: u64, frames: Frames<'_>, places: &mut Vec<Place>) -> Result<u64, RecFault>
-    requires empty { places.old.items ≡ [] }
+fn push_spans(most: u64, frames: Frames<'_>, spans: &mut Vec<DatagramSpan>) -> Result<u64, RecFault>
+    requires empty { spans.old.items ≡ [] }
     requires few { length (frames_left frames) < 2 ^ 64 }
     ensures { let octets = frames.entry.octets in let defined = recording_of_frames most octets (frames_left frames.entry) in MatchResult result
-        (λ ignored. ArePlaces octets places.new.items
-        × (defined ≡ Ok (record { datagrams = pieces octets places.new.items; ignored = Some ignored })))
+        (λ ignored. AreSpans octets spans.new.items
+        × (defined ≡ Ok (record { datagrams = pieces octets spans.new.items; ignored = Some ignored })))
         (IsFaultOf defined) }
 {
     let mut number = 0u64;
@@ -51,13 +51,13 @@ fn push_places(most: u64, frames: Frames<'_>, places: &mut Vec<Place>) -> Result
             Frame::Cut => return Err(RecFault::CutCapture { frame: number }),
             Frame::Ignored => ignored += 1,
             Frame::Datagram(place) => {
-                if places.len() as u64 >= most {
+                if spans.len() as u64 >= most {
                     return Err(RecFault::TooMany);
                 }
-                let Some(place) = Place::new(place.from, place.to) else {
+                let Some(place) = DatagramSpan::new(place.from, place.to) else {
                     return Err(RecFault::Memory);
                 };
-                push_place(places, place)?;
+                push_span(spans, place)?;
             }
         }
     }

@@ -5,8 +5,8 @@ ghost use Rattle.rtps_tool.specs.RecordingCapture.{recording_of_capture};
 
 use crate::faults::RecFault;
 use crate::form::capture::read_capture;
-use rtps_capture::{Cursor, Place as FramePlace};
-use rtps_text::{Place, Recording, push_place};
+use rtps_capture::{ByteRange, Cursor, NextFrame};
+use rtps_text::{DatagramSpan, Recording, push_span};
 use std::alloc::{AllocError, Global};
 
 /// What was read of a capture whose octets are still coming. A frame is read when it is whole, while its octets are at
@@ -16,7 +16,7 @@ pub(crate) struct CaptureReader {
     /// In front of the first frame that was not read. None where the header was not.
     pub(crate) cursor: Option<Cursor>,
     /// Where the datagrams stand that the frames gave.
-    pub(crate) places: Vec<Place>,
+    pub(crate) spans: Vec<DatagramSpan>,
     /// How many frames gave none.
     pub(crate) ignored: u64,
 }
@@ -28,7 +28,7 @@ impl CaptureReader {
     {
         CaptureReader {
             cursor: None,
-            places: Vec::new(alloc),
+            spans: Vec::new(alloc),
             ignored: 0,
         }
     }
@@ -42,8 +42,8 @@ impl CaptureReader {
         let Some(mut cursor) = self.cursor_in(octets) else {
             return Ok(());
         };
-        'frames: while (self.places.len() as u64) < most {
-            let Some(datagram) = cursor.next_whole(octets) else {
+        'frames: while (self.spans.len() as u64) < most {
+            let NextFrame::Whole(datagram) = cursor.next_whole(octets) else {
                 return Ok(());
             };
             self.keep(datagram)?;
@@ -54,24 +54,24 @@ impl CaptureReader {
 
     /// Keeps where the datagram stands that a frame more gives, if it gives one. After an `Err` the reader is of no use.
     #[inline]
-    fn keep(&mut self, datagram: Option<FramePlace>) -> Result<(), AllocError>
+    fn keep(&mut self, datagram: Option<ByteRange>) -> Result<(), AllocError>
         requires { self.old.ignored + 1 < 2 ^ 64 }
         ensures { OnOk result (Keeps self.old datagram self.new) }
     {
-        let Some(place) = datagram else {
+        let Some(range) = datagram else {
             self.ignored += 1;
             return Ok(());
         };
-        let Some(place) = Place::new(place.from, place.to) else {
+        let Some(span) = DatagramSpan::new(range.from, range.to) else {
             return Err(AllocError);
         };
-        push_place(&mut self.places, place)
+        push_span(&mut self.spans, span)
     }
 
     /// In front of the first frame that was not read, where these octets have all of the header.
     fn cursor_in(&self, octets: &[u8]) -> Option<Cursor>
         ensures { (most : ℕ) → HasReadFront most self.now octets.now
-            → IfSome result (HasPassed most octets.now self.now.places.items self.now.ignored) }
+            → IfSome result (HasPassed most octets.now self.now.spans.items self.now.ignored) }
     {
         match self.cursor {
             Some(cursor) => Some(cursor),
@@ -93,7 +93,7 @@ impl CaptureReader {
     {
         if let Some(cursor) = self.cursor {
             if cursor.is_at_end(&octets) {
-                return Ok(Recording::of_capture(octets, self.places, self.ignored));
+                return Ok(Recording::of_capture(octets, self.spans, self.ignored));
             }
         }
         // What is wrong is told by reading all once more.

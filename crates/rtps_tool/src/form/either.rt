@@ -5,7 +5,7 @@ ghost use Rattle.rtps_tool.specs.Forms.{recording_of, recording_within};
 use crate::faults::RecFault;
 use crate::form::capture::read_capture;
 use crate::form::hex_lines::read_text;
-use crate::limits::Limits;
+use crate::runs::Limits;
 use rtps_capture::capture_order;
 use rtps_text::Recording;
 use std::alloc::Global;

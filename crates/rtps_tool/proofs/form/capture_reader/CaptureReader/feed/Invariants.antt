@@ -4,7 +4,7 @@ use Rattle.rtps_tool.proofs.form.capture_reader.CaptureReader.feed.Given as goal
 
 -- the frames up to the cursor were read
 abbrev pub invariant-frames : goal.invariant-frames
-invariant-frames l = HasPassed l.most l.octets l.self.places.items l.self.ignored l.cursor × HasReadFront l.most l.self l.octets
+invariant-frames l = HasPassed l.most l.octets l.self.spans.items l.self.ignored l.cursor × HasReadFront l.most l.self l.octets
 
 -- the octets behind it
 abbrev pub decreases-frames : goal.decreases-frames

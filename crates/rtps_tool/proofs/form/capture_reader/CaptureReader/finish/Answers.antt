@@ -11,7 +11,7 @@ of_capture-requires c =
     let cursor = c.in-Some.cursor in
     let none : frames_left (unread_behind cursor octets) ≡ [] =
     subst (λ (file : List ℕ). frames_left (unread_behind cursor file) ≡ []) c.deref.ensures.value (c.is_at_end.ensures.none c.if-is_at_end.true) in
-    (passed_all c.args.most octets reader.places.items reader.ignored cursor (front_passed c.args.most octets reader cursor c.in-Some.is c.requires) none).0
+    (passed_all c.args.most octets reader.spans.items reader.ignored cursor (front_passed c.args.most octets reader cursor c.in-Some.is c.requires) none).0
 
 pub returns-then-is_at_end : goal.returns-then-is_at_end
 returns-then-is_at_end c =
@@ -20,5 +20,5 @@ returns-then-is_at_end c =
     let cursor = c.in-Some.cursor in
     let none : frames_left (unread_behind cursor octets) ≡ [] =
     subst (λ (file : List ℕ). frames_left (unread_behind cursor file) ≡ []) c.deref.ensures.value (c.is_at_end.ensures.none c.if-is_at_end.true) in
-    (passed_all c.args.most octets reader.places.items reader.ignored cursor (front_passed c.args.most octets reader cursor c.in-Some.is c.requires) none).1
+    (passed_all c.args.most octets reader.spans.items reader.ignored cursor (front_passed c.args.most octets reader cursor c.in-Some.is c.requires) none).1
     ∙ ap Ok (sym c.of_capture.ensures)

@@ -1,0 +1,28 @@
+use Rattle.std.proofs.Common.{◌++◌, ◌∷◌, [], ◌+◌, ◌∙◌, ap, arith, subst, sym}
+use Rattle.std.proofs.lemmas.List.{append_assoc, length-append}
+use Rattle.rtps_discovery.specs.Directory.{IsMapOf}
+use Rattle.rtps_receiver.specs.Acts.{acts_in, acts_of}
+use Rattle.rtps_wire.specs.Reading.{reading_of}
+use Rattle.rtps_discovery.specs.Notice.{faults_in}
+use Rattle.rtps_text.proofs.ListLemmas.{acts_in-push, faults_in-append}
+use Rattle.rtps_text.proofs.text.list_text.note_datagrams.Goals as goal
+
+pub loop-octets-preserved : goal.loop-octets-preserved
+loop-octets-preserved c =
+    let octets = c.in-Some.octets.now in
+    let invariant = c.loop-octets.invariant in
+    let done = invariant.2 in
+    let acts = acts_of (reading_of octets) in
+    let more = acts_in-push done octets in
+    let noted = c.in_ok-note_all.ensures in
+    let heard = c.acts.ensures ∙ c.in_ok-read_data.ensures in
+    let faults = c.from.ensures ∙ noted.data_faults acts heard in
+    let count = ap (λ n. c.loop-octets.faults + n) faults in (
+      tt,
+      tt,
+      done ++ octets ∷ [],
+      append_assoc done (octets ∷ []) c.next.new.self ∙ ap (λ left. done ++ left) (sym c.in-Some.ensures.steps) ∙ invariant.3,
+      subst (λ all. IsMapOf all c.note_all.new.self) (sym more) (noted.data_map (acts_in done) acts heard invariant.4),
+      count ∙ (ap (λ n. n + faults_in acts) invariant.5 ∙ (sym (faults_in-append (acts_in done) acts) ∙ ap faults_in (sym more))),
+      omega (arith, c.from.ensures, noted.faults, invariant.6, length-append done (octets ∷ [])),
+    )

@@ -1,0 +1,13 @@
+use Rattle.std.proofs.Common.{◌≡◌, ◌*◌, ◌++◌, ◌≤◌, ◌^◌, ℕ, List, length}
+use Rattle.rtps_discovery.specs.Directory.{IsMapOf}
+use Rattle.rtps_receiver.specs.Acts.{acts_in}
+use Rattle.rtps_discovery.specs.Notice.{faults_in}
+use Rattle.rtps_text.proofs.text.list_text.note_datagrams.Given as goal
+
+-- the map of the acts of the datagrams so far, and how many had a fault
+abbrev pub invariant-loop-octets : goal.invariant-loop-octets
+invariant-loop-octets l =
+    (goal.iterator-loop-octets).can_next l.octets-iterator
+    × (goal.iterator-loop-octets).is_finite l.octets-iterator
+    × (done : List (List ℕ)) × (done ++ l.octets-iterator ≡ l.recording.datagrams)
+    × IsMapOf (acts_in done) l.directory × (l.faults ≡ faults_in (acts_in done)) × (l.faults ≤ length done * 2 ^ 64)

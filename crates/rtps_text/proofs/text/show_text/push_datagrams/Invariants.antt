@@ -1,0 +1,12 @@
+use Rattle.std.proofs.Common.{◌≡◌, ◌++◌, ◌+◌, length}
+use Rattle.std.specs.String.{string_bytes}
+use Rattle.rtps_text.specs.ShowText.{text_from}
+use Rattle.rtps_text.proofs.text.show_text.push_datagrams.Given as goal
+
+-- the lines so far, and those of the datagrams that are left
+abbrev pub invariant-loop-octets : goal.invariant-loop-octets
+invariant-loop-octets l =
+    (goal.iterator-loop-octets).can_next l.octets-iterator
+    × (goal.iterator-loop-octets).is_finite l.octets-iterator
+    × (l.number + length l.octets-iterator ≡ length l.recording.datagrams)
+    × (string_bytes l.text ++ text_from (l.number + 1) l.octets-iterator ≡ string_bytes l.initial.text ++ text_from 1 l.recording.datagrams)

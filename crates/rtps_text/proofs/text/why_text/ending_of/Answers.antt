@@ -1,0 +1,26 @@
+use Rattle.std.proofs.Common.{◌≡◌, ◌∙◌, Bool, ap, if◌then◌else◌, rules, sym}
+use Rattle.std.proofs.lemmas.Iterator.Search.{all_from_yields_List}
+use Rattle.std.proofs.lemmas.Iterator.{YieldsList-from_slice}
+use Rattle.std.proofs.lemmas.List.Folds.{list_all-map}
+use Rattle.std.specs.List.{list_all}
+use Rattle.rtps_evidence.specs.Explained.{ExplanationValue, explanation_value}
+use Rattle.rtps_evidence.specs.declared.explaining.Explanation.{Explanation}
+use Rattle.rtps_text.specs.AuditText.{is_complete}
+use Rattle.rtps_text.specs.declared.text.Ending.TheVariants.{Clean, Unclean}
+use Rattle.rtps_text.proofs.text.why_text.ending_of.Goals as goal
+
+pub returns-then-all : goal.returns-then-all
+returns-then-all c =
+    let rows = c.args.rows.now in
+    let of_row = λ (row : ExplanationValue). is_complete row.evidence.verdict in
+    let test = λ (row : Explanation). is_complete row.evidence.verdict in
+    let same : c.all.result ≡ list_all test rows = all_from_yields_List test _ _ _ c.all.ensures.ran (YieldsList-from_slice rows c.iter.ensures.rest) (λ x b q k. search (rules)) in
+    ap (λ (b : Bool). if b then Clean else Unclean) (sym c.if-all.true ∙ same ∙ sym (list_all-map of_row explanation_value rows))
+
+pub returns-else-all : goal.returns-else-all
+returns-else-all c =
+    let rows = c.args.rows.now in
+    let of_row = λ (row : ExplanationValue). is_complete row.evidence.verdict in
+    let test = λ (row : Explanation). is_complete row.evidence.verdict in
+    let same : c.all.result ≡ list_all test rows = all_from_yields_List test _ _ _ c.all.ensures.ran (YieldsList-from_slice rows c.iter.ensures.rest) (λ x b q k. search (rules)) in
+    ap (λ (b : Bool). if b then Clean else Unclean) (sym c.if-all.false ∙ same ∙ sym (list_all-map of_row explanation_value rows))

@@ -1,0 +1,26 @@
+use Rattle.std.proofs.Common.{◌≡◌, ◌++◌, ◌∙◌, ap, append_assoc, length, map, sym}
+use Rattle.std.proofs.lemmas.List.{length-map}
+use Rattle.std.proofs.lemmas.List.Folds.{flat_map-map}
+use Rattle.std.specs.List.{flat_map}
+use Rattle.std.specs.String.{string_bytes}
+use Rattle.rtps_evidence.specs.Explained.{explanation_value}
+use Rattle.rtps_text.specs.AuditText.{pairs_line, report_counts_line}
+use Rattle.rtps_text.specs.WhyText.{explanation_text}
+use Rattle.rtps_text.proofs.text.why_text.text_of.Goals as goal
+
+pub returns : goal.returns
+returns c =
+    let explained = c.args.explained.now in
+    let items = explained.rows.items in
+    let rows = map explanation_value items in
+    let lines = flat_map explanation_text rows in
+    let first = pairs_line (length rows) in
+    let last = report_counts_line explained.counts c.args.ignored in
+    let count : c.len.result ≡ length rows = c.len.ensures ∙ explained.rows.ok.0 ∙ sym (length-map items explanation_value) in
+    let one : string_bytes c.write.new.self ≡ first =
+    c.in_ok-write.ensures.bytes ∙ ap (λ bytes. bytes ++ pairs_line c.len.result) c.new-text.ensures.bytes ∙ ap pairs_line count in
+    let two : string_bytes c.push_rows.new.text ≡ first ++ lines =
+    c.in_ok-push_rows.ensures ∙ ap (λ bytes. bytes ++ flat_map (λ row. explanation_text (explanation_value row)) c.deref.result.now) one
+    ∙ ap (λ all. first ++ flat_map (λ row. explanation_text (explanation_value row)) all) c.deref.ensures.value
+    ∙ ap (λ more. first ++ more) (sym (flat_map-map explanation_text explanation_value items)) in
+    c.in_ok-write-2.ensures.bytes ∙ ap (λ bytes. bytes ++ last) two ∙ append_assoc first lines last

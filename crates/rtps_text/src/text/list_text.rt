@@ -1,0 +1,98 @@
+ghost use Rattle.std.specs.Prelude.{◌≡◌, ◌++◌, [], IfOk, OnOk};
+ghost use Rattle.std.specs.String.{string_bytes};
+ghost use Rattle.rtps_discovery.specs.Directory.{IsMapOf};
+ghost use Rattle.rtps_discovery.specs.Endpoint.{endpoint_value};
+ghost use Rattle.std.specs.List.{flat_map};
+ghost use Rattle.rtps_receiver.specs.Acts.{acts_in};
+ghost use Rattle.rtps_discovery.specs.Notice.{faults_in};
+ghost use Rattle.rtps_text.specs.ListText.{IsListed, directory_text as directory_text_lem, endpoint_line, match_line, participant_line};
+
+use crate::text::Ending;
+use crate::recording::Recording;
+use crate::text::list_lines::{CountsLine, EndpointLine, MatchLine, ParticipantLine};
+use rtps_discovery::{Directory, Endpoint, Match};
+use rtps_ids::{Guid, Memory};
+use rtps_receiver::Walk;
+use std::alloc::{AllocError, Global};
+
+/// What `list` prints of a recording, and that it ends [`Ending::Clean`].
+/// `Memory` is answered where the text, or what is kept for it, cannot grow.
+pub fn list_text(alloc: Global, recording: &Recording) -> Result<(String, Ending), Memory>
+    ensures { IfOk result (λ listed. IsListed recording.now (string_bytes listed.0) listed.1) }
+{
+    let mut directory = Directory::new(alloc);
+    let faults = note_datagrams(alloc, &mut directory, recording)?;
+    let text = directory_text(alloc, &directory, faults)?;
+    Ok((text, Ending::Clean))
+}
+
+/// Notes the acts of all datagrams, and answers how many had a fault.
+fn note_datagrams<'a>(
+    alloc: Global,
+    directory: &mut Directory<'a>,
+    recording: &'a Recording,
+) -> Result<u128, Memory>
+    requires { IsMapOf [] directory.old }
+    ensures map { OnOk result (IsMapOf (acts_in recording.now.datagrams) directory.new) }
+    ensures faults { IfOk result (λ faults. faults ≡ faults_in (acts_in recording.now.datagrams)) }
+{
+    let mut walk = Walk::new(alloc);
+    let mut faults = 0u128;
+    for octets in recording.datagrams() {
+        walk.read_data(octets)?;
+        faults += u128::from(directory.note_all(walk.acts())?);
+    }
+    Ok(faults)
+}
+
+/// The lines of a directory, and of so many faults.
+fn directory_text(alloc: Global, directory: &Directory<'_>, faults: u128) -> Result<String, Memory>
+    ensures { IfOk result (λ text. string_bytes text ≡ directory_text_lem directory.now faults) }
+{
+    let participants = directory.participants()?;
+    let endpoints = directory.endpoints()?;
+    let matches = directory.matched()?;
+    let counts = CountsLine {
+        participants: participants.len(),
+        endpoints: endpoints.len(),
+        unsettled: directory.unsettled(),
+        faults,
+    };
+    let mut text = String::new(alloc);
+    push_participants(&mut text, &participants)?;
+    push_endpoints(&mut text, &endpoints)?;
+    push_matches(&mut text, &matches)?;
+    write!(text, "{counts}")?;
+    Ok(text)
+}
+
+/// Appends the lines of participants.
+fn push_participants(text: &mut String, guids: &[Guid]) -> Result<(), AllocError>
+    ensures { OnOk result (string_bytes text.new ≡ string_bytes text.old ++ flat_map participant_line guids.now) }
+{
+    for guid in guids {
+        write!(text, "{}", ParticipantLine(*guid))?;
+    }
+    Ok(())
+}
+
+/// Appends the lines of endpoints.
+fn push_endpoints(text: &mut String, endpoints: &[Endpoint<'_>]) -> Result<(), AllocError>
+    ensures { OnOk result (string_bytes text.new
+        ≡ string_bytes text.old ++ flat_map (λ endpoint. endpoint_line (endpoint_value endpoint)) endpoints.now) }
+{
+    for endpoint in endpoints {
+        write!(text, "{}", EndpointLine(endpoint))?;
+    }
+    Ok(())
+}
+
+/// Appends the lines of matches.
+fn push_matches(text: &mut String, matches: &[Match]) -> Result<(), AllocError>
+    ensures { OnOk result (string_bytes text.new ≡ string_bytes text.old ++ flat_map match_line matches.now) }
+{
+    for found in matches {
+        write!(text, "{}", MatchLine(*found))?;
+    }
+    Ok(())
+}

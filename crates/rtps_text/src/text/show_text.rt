@@ -1,0 +1,147 @@
+ghost use Rattle.std.specs.Prelude.{◌≡◌, [], ◌∷◌, ◌++◌, IfOk, None, OnOk, Some};
+ghost use Rattle.std.specs.String.{string_bytes};
+ghost use Rattle.rtps_receiver.specs.Acts.{state_behind};
+ghost use Rattle.rtps_wire.specs.Reading.{outcomes_left, reading_of};
+ghost use Rattle.rtps_wire.specs.Values.{body_value, item_value};
+ghost use Rattle.rtps_text.specs.ShowTail.{IsTailIn, says_of_state};
+ghost use Rattle.rtps_text.specs.ShowText.{IsShown, datagram_line, outcomes_text, reading_text, refusal_line, text_from};
+
+use crate::text::Ending;
+use crate::recording::Recording;
+use crate::text::item_lines::{push_item, push_origin, push_skipped};
+use crate::text::parts::push_field;
+use rtps_ids::Memory;
+use rtps_receiver::State;
+use rtps_wire::{Body, Header, Item, Items, Refusal};
+use std::alloc::{AllocError, Global};
+use std::fmt;
+
+/// What `show` prints of a recording, and that it ends [`Ending::Clean`].
+/// `Memory` is answered where the text, or what is kept for it, cannot grow.
+pub fn show_text(alloc: Global, recording: &Recording) -> Result<(String, Ending), Memory>
+    ensures { IfOk result (λ shown. IsShown recording.now (string_bytes shown.0) shown.1) }
+{
+    let mut text = String::new(alloc);
+    let mut tail = String::new(alloc);
+    push_datagrams(&mut text, &mut tail, recording)?;
+    Ok((text, Ending::Clean))
+}
+
+/// Appends the lines of all datagrams. The tail is there for its room.
+fn push_datagrams(
+    text: &mut String,
+    tail: &mut String,
+    recording: &Recording,
+) -> Result<(), AllocError>
+    ensures { OnOk result (string_bytes text.new ≡ string_bytes text.old ++ text_from 1 recording.now.datagrams) }
+{
+    let mut number = 0;
+    for octets in recording.datagrams() {
+        number += 1;
+        push_datagram(text, tail, number, octets)?;
+    }
+    Ok(())
+}
+
+/// Appends the lines of a datagram of this number.
+fn push_datagram(
+    text: &mut String,
+    tail: &mut String,
+    number: usize,
+    octets: &[u8],
+) -> Result<(), AllocError>
+    ensures { OnOk result (string_bytes text.new ≡ string_bytes text.old ++ reading_text number (reading_of octets.now)) }
+{
+    match Items::open(octets) {
+        Ok((header, items)) => {
+            push_opened(text, number, &header)?;
+            push_items(text, tail, State::at_start(header), items)
+        }
+        Err(refusal) => {
+            push_unread(text, number)?;
+            write!(text, "{}", RefusalLine(refusal))
+        }
+    }
+}
+
+/// Appends the line of a datagram that has a header.
+fn push_opened(text: &mut String, number: usize, header: &Header) -> Result<(), AllocError>
+    ensures { OnOk result (string_bytes text.new ≡ string_bytes text.old ++ datagram_line number (Some header.now)) }
+{
+    push_field(text, "datagram ", number)?;
+    push_origin(text, header.version, header.vendor, header.prefix)
+}
+
+/// Appends the line of a datagram that has none.
+fn push_unread(text: &mut String, number: usize) -> Result<(), AllocError>
+    ensures { OnOk result (string_bytes text.new ≡ string_bytes text.old ++ datagram_line number None) }
+{
+    push_field(text, "datagram ", number)?;
+    text.push_str(" unread\n")
+}
+
+/// Appends the lines of what is left of a datagram, from a state of the receiver on. No item is made of a submessage that
+/// is skipped. The end of an act's line is made once for all acts in one state, in the tail.
+fn push_items(
+    text: &mut String,
+    tail: &mut String,
+    start: State,
+    items: Items<'_>,
+) -> Result<(), AllocError>
+    ensures { OnOk result (string_bytes text.new ≡ string_bytes text.old ++ outcomes_text start (outcomes_left items.entry)) }
+{
+    let mut state = start;
+    let mut items = items;
+    tail.clear();
+    'items: loop {
+        let at = items.at();
+        if let Some(id) = items.take_skipped() {
+            push_skipped(text, at, id)?;
+            continue;
+        }
+        match items.next() {
+            Some(Ok(item)) => {
+                push_item(text, tail, &state, &item)?;
+                interpret(&mut state, tail, &item);
+            }
+            Some(Err(refusal)) => write!(text, "{}", RefusalLine(refusal))?,
+            None => return Ok(()),
+        }
+    }
+}
+
+/// Takes what an item says of the state of what follows it. Where it says something, the tail is given up.
+#[inline(always)]
+fn interpret(state: &mut State, tail: &mut String, item: &Item<'_>)
+    requires { IsTailIn state.old (string_bytes tail.old) }
+    ensures state { state.new ≡ state_behind state.old (item_value item.now ∷ []) }
+    ensures tail { IsTailIn state.new (string_bytes tail.new) }
+{
+    state.interpret(item);
+    if says_state(&item.body) {
+        tail.clear();
+    }
+}
+
+/// Whether a body says something of the state of what follows it.
+#[inline(always)]
+fn says_state(body: &Body<'_>) -> bool
+    ensures { result ≡ says_of_state (body_value body.now) }
+{
+    matches!(
+        body,
+        Body::InfoTs(_) | Body::InfoDst(_) | Body::InfoSrc { .. }
+    )
+}
+
+/// The line of a refusal.
+#[derive(Drop)]
+struct RefusalLine(Refusal);
+
+impl fmt::Display for RefusalLine {
+    ghost output = { λ line. Some (refusal_line line.0) };
+
+    fn fmt<W: fmt::Write>(&self, f: &mut fmt::Formatter<W>) -> fmt::Result {
+        writeln!(f, "refused {} {}", self.0.at, self.0.fault)
+    }
+}

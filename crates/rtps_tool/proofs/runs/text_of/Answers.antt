@@ -1,0 +1,10 @@
+use Rattle.rtps_tool.proofs.runs.text_of.Goals as goal
+
+pub returns-in-Audit : goal.returns-in-Audit
+returns-in-Audit g c = rw c.in-Audit.is c.audit_text.ensures
+
+pub returns-in-Why : goal.returns-in-Why
+returns-in-Why g c = rw c.in-Why.is c.why_text.ensures
+
+pub returns-in-Json : goal.returns-in-Json
+returns-in-Json g c = rw c.in-Json.is c.json_text.ensures

@@ -1,0 +1,179 @@
+ghost use Rattle.std.specs.Prelude.{◌≡◌, IfOk};
+ghost use Rattle.std.specs.String.{string_bytes};
+ghost use Rattle.rtps_text.specs.AuditText.{IsAudited, IsAuditedFrom};
+ghost use Rattle.rtps_text.specs.ListText.{IsListed};
+ghost use Rattle.rtps_text.specs.SampleText.{sample};
+ghost use Rattle.rtps_text.specs.ShowText.{IsShown};
+ghost use Rattle.rtps_tool.specs.Commands.{IsTextOf};
+ghost use Rattle.rtps_tool.specs.Limits.{usual as usual_lem};
+ghost use Rattle.rtps_tool.specs.Runs.{Runs, RunsWithin, Writes};
+
+use crate::faults::RunFault;
+use crate::streams::{read_input, write_text};
+use rtps_ids::{Memory, SeqNum};
+use rtps_text::{
+    Ending, Recording, Unwatched, Watch, audit_text, json_text, list_text, sample_text, show_text,
+    why_text,
+};
+use std::alloc::Global;
+use std::io::{Read, Write};
+
+/// How large a recording may be; one that is larger is refused as [`crate::RecFault::TooMany`]. Any two numbers are
+/// limits. No limit asks for memory: what a recording takes depends on what it has.
+#[derive(Clone, Copy, Debug, PartialEq, Eq)]
+pub struct Limits {
+    /// The most datagrams of a recording.
+    pub datagrams: u64,
+    /// The most octets of an input, a text or a capture.
+    pub octets: u64,
+}
+
+impl Limits {
+    /// The limits where none are chosen: 1,000,000 datagrams and 1,073,741,824 octets.
+    pub fn usual() -> Limits
+        ensures { result ≡ usual_lem }
+    {
+        Limits {
+            datagrams: 1_000_000,
+            octets: 1 << 30,
+        }
+    }
+}
+
+/// What is printed of a recording.
+#[derive(Clone, Copy, Debug, PartialEq, Eq)]
+pub enum Command {
+    /// Each datagram and its submessages.
+    Show,
+    /// Participants, endpoints whose announcements agree, and matches.
+    List,
+    /// The verdict on each pair of a reliable writer and reader that match, and what was counted.
+    Audit,
+    /// The same, and what each verdict rests on, as one JSON object on one line.
+    Json,
+    /// Each verdict with what it rests on.
+    Why,
+}
+
+/// What a run prints, and of what.
+#[derive(Clone, Copy, Debug, PartialEq, Eq)]
+pub struct Options {
+    pub command: Command,
+    /// The number from which on an audit asks: smaller numbers are not asked for. `Show` and `List` ask for none.
+    pub from: SeqNum,
+    /// Those of the recording.
+    pub limits: Limits,
+}
+
+impl Options {
+    /// Within the usual limits.
+    pub fn usual(command: Command, from: SeqNum) -> Options
+        ensures { result ≡ record { command = command; from = from; limits = usual_lem } }
+    {
+        Options {
+            command,
+            from,
+            limits: Limits::usual(),
+        }
+    }
+}
+
+/// Reads a recording, to the end of the input or past the most octets that it may have, and writes what is printed of it.
+/// It tells how far an audit is. It ends [`Ending::Clean`], but for an audit that has a pair that is not complete.
+///
+/// The whole input is read and the whole text made before anything is written. An `Err` says what was written: nothing,
+/// but for [`RunFault::Output`]. How much was read is open after [`RunFault::Input`] and [`RunFault::Memory`].
+pub fn run<R: Read, W: Write, P: Watch>(
+    alloc: Global,
+    options: &Options,
+    input: &mut R,
+    output: &mut W,
+    watch: &mut P,
+) -> Result<Ending, RunFault>
+    ensures { RunsWithin options.now.limits (IsTextOf options.now.command options.now.from)
+        (R.remaining input.old) (R.remaining input.new) (W.contents output.old) (W.contents output.new) result }
+{
+    let recording = read_input(alloc, options.limits, input)?;
+    let (text, ending) = text_of(alloc, options, &recording, watch)?;
+    write_text(text.as_bytes(), output)?;
+    Ok(ending)
+}
+
+/// What is printed of a recording, and how the run ends.
+fn text_of<P: Watch>(
+    alloc: Global,
+    options: &Options,
+    recording: &Recording,
+    watch: &mut P,
+) -> Result<(String, Ending), Memory>
+    ensures { IfOk result (λ answer. IsTextOf options.now.command options.now.from recording.now (string_bytes answer.0) answer.1) }
+{
+    match options.command {
+        Command::Show => show_text(alloc, recording),
+        Command::List => list_text(alloc, recording),
+        Command::Audit => audit_text(alloc, recording, options.from, watch),
+        Command::Json => json_text(alloc, recording, options.from, watch),
+        Command::Why => why_text(alloc, recording, options.from, watch),
+    }
+}
+
+/// [`run`] that shows, within the usual limits.
+pub fn run_show<R: Read, W: Write>(
+    alloc: Global,
+    input: &mut R,
+    output: &mut W,
+) -> Result<Ending, RunFault>
+    ensures { Runs IsShown
+        (R.remaining input.old) (R.remaining input.new) (W.contents output.old) (W.contents output.new) result }
+{
+    let options = Options::usual(Command::Show, SeqNum::first());
+    run(alloc, &options, input, output, &mut Unwatched)
+}
+
+/// [`run`] that lists, within the usual limits.
+pub fn run_list<R: Read, W: Write>(
+    alloc: Global,
+    input: &mut R,
+    output: &mut W,
+) -> Result<Ending, RunFault>
+    ensures { Runs IsListed
+        (R.remaining input.old) (R.remaining input.new) (W.contents output.old) (W.contents output.new) result }
+{
+    let options = Options::usual(Command::List, SeqNum::first());
+    run(alloc, &options, input, output, &mut Unwatched)
+}
+
+/// [`run`] that audits by the numbers from `from` on, within the usual limits.
+pub fn run_audit_from<R: Read, W: Write>(
+    alloc: Global,
+    input: &mut R,
+    output: &mut W,
+    from: SeqNum,
+) -> Result<Ending, RunFault>
+    ensures { Runs (IsAuditedFrom from)
+        (R.remaining input.old) (R.remaining input.new) (W.contents output.old) (W.contents output.new) result }
+{
+    let options = Options::usual(Command::Audit, from);
+    run(alloc, &options, input, output, &mut Unwatched)
+}
+
+/// [`run`] that audits, within the usual limits.
+pub fn run_audit<R: Read, W: Write>(
+    alloc: Global,
+    input: &mut R,
+    output: &mut W,
+) -> Result<Ending, RunFault>
+    ensures { Runs IsAudited
+        (R.remaining input.old) (R.remaining input.new) (W.contents output.old) (W.contents output.new) result }
+{
+    run_audit_from(alloc, input, output, SeqNum::first())
+}
+
+/// Writes a recording to try, of six datagrams; it ends [`Ending::Clean`]. It reads nothing, and fails with
+/// [`RunFault::Output`] alone, which says how much of it was written.
+pub fn run_sample<W: Write>(output: &mut W) -> Result<Ending, RunFault>
+    ensures { Writes sample (W.contents output.old) (W.contents output.new) result }
+{
+    write_text(sample_text().as_bytes(), output)?;
+    Ok(Ending::Clean)
+}
