@@ -16,12 +16,12 @@ use Rattle.json.specs.Word.{after_exponent, after_fraction, after_number, after_
 use Rattle.rtps_audit.specs.declared.report.Counts.{Counts}
 use Rattle.rtps_audit.specs.declared.verdict.Verdict.{Verdict}
 use Rattle.rtps_audit.specs.declared.verdict.Verdict.TheVariants.{Unfounded, Conflict, Open, Complete}
-use Rattle.rtps_evidence.specs.Acting.{SentValue}
-use Rattle.rtps_evidence.specs.Explained.{EvidenceValue, ExplanationValue, explanation_value}
-use Rattle.rtps_evidence.specs.declared.announcing.Announcement.{Announcement}
-use Rattle.rtps_evidence.specs.declared.answering.Claim.{Claim}
-use Rattle.rtps_evidence.specs.declared.explaining.Explanation.{Explanation}
-use Rattle.rtps_evidence.specs.declared.telling.Teller.{Teller}
+use Rattle.rtps_evidence.specs.Locations.{SentValue}
+use Rattle.rtps_evidence.specs.Explanation.{EvidenceValue, ExplanationValue, explanation_value}
+use Rattle.rtps_evidence.specs.declared.last_announcement.Announcement.{Announcement}
+use Rattle.rtps_evidence.specs.declared.acknowledgement.Claim.{Claim}
+use Rattle.rtps_evidence.specs.declared.explanation.Explanation.{Explanation}
+use Rattle.rtps_evidence.specs.declared.teller.Teller.{Teller}
 use Rattle.rtps_wire.specs.Values.{PayloadValue}
 use Rattle.rtps_wire.specs.Values.PayloadValue.{Absent, Whole, Key}
 use Rattle.rtps_text.specs.JsonText.{Member, announcement_json, claim_json, counts_members, evidence_members, ignored_members, items_of, members_of, object_of, pair_members, payload_members, place_members, report_json, row_json, sent_json, shown_members, teller_json, tokens_of, tokens_of_member, verdict_members}

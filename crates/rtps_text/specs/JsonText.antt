@@ -12,13 +12,13 @@ use Rattle.json.specs.Tree.{json_tokens}
 use Rattle.rtps_audit.specs.declared.report.Counts.{Counts}
 use Rattle.rtps_audit.specs.declared.verdict.Verdict.{Verdict}
 use Rattle.rtps_audit.specs.declared.verdict.Verdict.TheVariants.{Unfounded, Conflict, Open, Complete}
-use Rattle.rtps_evidence.specs.Acting.{SentValue}
-use Rattle.rtps_evidence.specs.Explained.{EvidenceValue, ExplanationValue, IsExplainedFrom, explanation_value}
-use Rattle.rtps_evidence.specs.declared.announcing.Announcement.{Announcement}
-use Rattle.rtps_evidence.specs.declared.answering.Claim.{Claim}
-use Rattle.rtps_evidence.specs.declared.explaining.Explained.{Explained}
-use Rattle.rtps_evidence.specs.declared.places.Place.{Place}
-use Rattle.rtps_evidence.specs.declared.telling.Teller.{Teller}
+use Rattle.rtps_evidence.specs.Locations.{SentValue}
+use Rattle.rtps_evidence.specs.Explanation.{EvidenceValue, ExplanationValue, IsExplainedFrom, explanation_value}
+use Rattle.rtps_evidence.specs.declared.last_announcement.Announcement.{Announcement}
+use Rattle.rtps_evidence.specs.declared.acknowledgement.Claim.{Claim}
+use Rattle.rtps_evidence.specs.declared.explanation.Explained.{Explained}
+use Rattle.rtps_evidence.specs.declared.location.Location.{Location}
+use Rattle.rtps_evidence.specs.declared.teller.Teller.{Teller}
 use Rattle.rtps_wire.specs.Values.{PayloadValue}
 use Rattle.rtps_wire.specs.Values.PayloadValue.{Absent, Whole, Key}
 use Rattle.rtps_text.specs.ListText.{guid_text, octet_text}
@@ -57,7 +57,7 @@ abbrev pub number_json : ℤ → Json
 number_json n = number (signed_decimal n)
 
 -- where a submessage stands
-abbrev pub place_members : Place → List Member
+abbrev pub place_members : Location → List Member
 place_members place = (codes "datagram", count_json place.datagram) ∷ (codes "at", count_json place.at) ∷ []
 
 -- the last number that the writer announced, and the submessage that did so first; null where there is none

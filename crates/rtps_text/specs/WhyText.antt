@@ -8,15 +8,15 @@ use Rattle.std.specs.List.{flat_map, list_all}
 use Rattle.rtps_audit.specs.declared.report.Counts.{Counts}
 use Rattle.rtps_audit.specs.declared.verdict.Verdict.{Verdict}
 use Rattle.rtps_audit.specs.declared.verdict.Verdict.TheVariants.{Unfounded, Conflict, Open, Complete}
-use Rattle.rtps_evidence.specs.Acting.{SentValue}
-use Rattle.rtps_evidence.specs.Explained.{EvidenceValue, ExplanationValue, IsExplainedFrom, explanation_value}
-use Rattle.rtps_evidence.specs.declared.announcing.Announcement.{Announcement}
-use Rattle.rtps_evidence.specs.declared.answering.Claim.{Claim}
-use Rattle.rtps_evidence.specs.declared.explaining.Explained.{Explained}
-use Rattle.rtps_evidence.specs.declared.places.Kind.{Kind}
-use Rattle.rtps_evidence.specs.declared.places.Kind.TheVariants.{Data, Heartbeat, AckNack, Gap}
-use Rattle.rtps_evidence.specs.declared.places.Place.{Place}
-use Rattle.rtps_evidence.specs.declared.telling.Teller.{Teller}
+use Rattle.rtps_evidence.specs.Locations.{SentValue}
+use Rattle.rtps_evidence.specs.Explanation.{EvidenceValue, ExplanationValue, IsExplainedFrom, explanation_value}
+use Rattle.rtps_evidence.specs.declared.last_announcement.Announcement.{Announcement}
+use Rattle.rtps_evidence.specs.declared.acknowledgement.Claim.{Claim}
+use Rattle.rtps_evidence.specs.declared.explanation.Explained.{Explained}
+use Rattle.rtps_evidence.specs.declared.location.Kind.{Kind}
+use Rattle.rtps_evidence.specs.declared.location.Kind.TheVariants.{Data, Heartbeat, AckNack, Gap}
+use Rattle.rtps_evidence.specs.declared.location.Location.{Location}
+use Rattle.rtps_evidence.specs.declared.teller.Teller.{Teller}
 use Rattle.rtps_wire.specs.Values.{PayloadValue}
 use Rattle.rtps_text.specs.AuditText.{is_complete, pairs_line, report_counts_line, verdict_text}
 use Rattle.rtps_text.specs.ListText.{guid_text, name_text}
@@ -37,7 +37,7 @@ kind_text AckNack = codes "acknack"
 kind_text Gap = codes "gap"
 
 -- where an act stands in the recording
-unfoldable pub place_text : Place → List ℕ
+unfoldable pub place_text : Location → List ℕ
 place_text place = codes "in datagram " ++ (decimal place.datagram ++ (codes " at " ++ decimal place.at))
 
 -- the line of a pair with its verdict

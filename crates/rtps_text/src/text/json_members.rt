@@ -6,8 +6,8 @@ ghost use Rattle.std.specs.List.{flat_map};
 ghost use Rattle.std.specs.Option.{option_map};
 ghost use Rattle.json.specs.Token.{key, number as number_token, string as string_token};
 ghost use Rattle.json.specs.Tree.{json_tokens};
-ghost use Rattle.rtps_evidence.specs.Acting.{sent_value};
-ghost use Rattle.rtps_evidence.specs.Explained.{evidence_value};
+ghost use Rattle.rtps_evidence.specs.Locations.{sent_value};
+ghost use Rattle.rtps_evidence.specs.Explanation.{evidence_value};
 ghost use Rattle.rtps_wire.specs.Values.{payload_value};
 ghost use Rattle.rtps_text.specs.JsonText.{announcement_json, carried_members, claim_json, evidence_members, payload_members, place_members, sent_json, teller_json, tokens_of};
 ghost use Rattle.rtps_text.specs.ListText.{guid_text, octet_text};
@@ -16,7 +16,7 @@ use crate::text::list_lines::NameOctets;
 use crate::text::why_lines::kind_name;
 use itoa::Buffer;
 use json::Writer;
-use rtps_evidence::{Announcement, Claim, Evidence, Place, Sent, Teller};
+use rtps_evidence::{Announcement, Claim, Evidence, Location, Sent, Teller};
 use rtps_ids::Guid;
 use rtps_wire::Payload;
 use std::alloc::AllocError;
@@ -90,7 +90,7 @@ pub(crate) fn push_name(
 }
 
 /// Appends where a submessage stands.
-fn push_place(writer: &mut Writer, place: Place) -> Result<(), AllocError>
+fn push_place(writer: &mut Writer, place: Location) -> Result<(), AllocError>
     ensures tokens { OnOk result (writer.new.tokens ≡ writer.old.tokens ++ tokens_of (place_members place)) }
     ensures before { writer.new.before ≡ writer.old.before }
 {

@@ -1,10 +1,10 @@
 ghost use Rattle.std.specs.Prelude.{◌≡◌, Some};
-ghost use Rattle.rtps_evidence.specs.Explained.{explanation_value};
+ghost use Rattle.rtps_evidence.specs.Explanation.{explanation_value};
 ghost use Rattle.rtps_text.specs.WhyText.{acknowledged_line, amounts_line, announced_line, claimed_line, kind_text, names_line, pair_line, place_text, told_line};
 
 use crate::text::audit_lines::VerdictText;
 use crate::text::list_lines::NameText;
-use rtps_evidence::{Announcement, Claim, Evidence, Explanation, Kind, Place, Teller};
+use rtps_evidence::{Announcement, Claim, Evidence, Explanation, Kind, Location, Teller};
 use std::fmt;
 
 /// The line of a pair and its verdict.
@@ -144,7 +144,7 @@ impl fmt::Display for ClaimedLine {
 
 /// Where a submessage stands.
 #[derive(Drop)]
-pub(crate) struct PlaceText(pub(crate) Place);
+pub(crate) struct PlaceText(pub(crate) Location);
 
 impl fmt::Display for PlaceText {
     ghost output = { λ text. Some (place_text text.0) };

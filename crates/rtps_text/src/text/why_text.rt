@@ -2,8 +2,8 @@ ghost use Rattle.std.specs.Prelude.{◌≡◌, ◌++◌, IfOk, OnOk, map};
 ghost use Rattle.std.specs.List.{flat_map};
 ghost use Rattle.std.specs.Option.{option_map};
 ghost use Rattle.std.specs.String.{string_bytes};
-ghost use Rattle.rtps_evidence.specs.Acting.{sent_value};
-ghost use Rattle.rtps_evidence.specs.Explained.{IsExplainedFrom, evidence_value, explanation_value};
+ghost use Rattle.rtps_evidence.specs.Locations.{sent_value};
+ghost use Rattle.rtps_evidence.specs.Explanation.{IsExplainedFrom, evidence_value, explanation_value};
 ghost use Rattle.rtps_text.specs.WhyText.{IsExplainedTextFrom, ending_of_rows, explained_text, explanation_text, sent_line, shown_by};
 
 use crate::text::Ending;

@@ -4,7 +4,7 @@ use Rattle.rtps_discovery.specs.Directory.{DirectoryValue}
 use Rattle.rtps_discovery.specs.Notice.{faults_in}
 use Rattle.rtps_audit.specs.declared.report.Counts.{Counts}
 use Rattle.rtps_audit.specs.declared.report.Row.{Row}
-use Rattle.rtps_evidence.specs.Explained.{ExplanationValue, explanation_value}
+use Rattle.rtps_evidence.specs.Explanation.{ExplanationValue, explanation_value}
 use Rattle.rtps_text.specs.AuditText.{ending_of, report_text}
 use Rattle.rtps_text.specs.JsonText.{json_line, report_json}
 use Rattle.rtps_text.specs.ListText.{directory_text}

@@ -1,6 +1,6 @@
 use Rattle.std.proofs.Common.{◌∙◌, ap, map, subst}
 use Rattle.std.specs.String.{string_bytes}
-use Rattle.rtps_evidence.specs.Explained.{explanation_value}
+use Rattle.rtps_evidence.specs.Explanation.{explanation_value}
 use Rattle.rtps_text.specs.JsonText.{IsJsonLine, report_json}
 use Rattle.rtps_text.specs.WhyText.{ending_of_rows}
 use Rattle.rtps_text.proofs.text.json_object.json_text.Goals as goal

@@ -2,7 +2,7 @@ use Rattle.std.proofs.Common.{◌≡◌, ◌++◌, ◌∷◌, [], ◌∙◌, ap,
 use Rattle.json.specs.Lex.{tokens}
 use Rattle.json.specs.Print.{print}
 use Rattle.json.specs.Tree.{json_tokens}
-use Rattle.rtps_evidence.specs.Explained.{explanation_value}
+use Rattle.rtps_evidence.specs.Explanation.{explanation_value}
 use Rattle.rtps_text.specs.JsonText.{report_json}
 use Rattle.rtps_text.proofs.JsonLemmas.{report_reads_back}
 use Rattle.rtps_text.proofs.text.json_object.line_of.Goals as goal

@@ -3,7 +3,7 @@ use Rattle.std.proofs.lemmas.Result.{on_ok_weaker}
 use Rattle.std.specs.List.{flat_map}
 use Rattle.json.specs.Token.{begin_array, end_array, key}
 use Rattle.json.specs.Tree.{json_tokens}
-use Rattle.rtps_evidence.specs.Explained.{explanation_value}
+use Rattle.rtps_evidence.specs.Explanation.{explanation_value}
 use Rattle.rtps_text.specs.JsonText.{row_json}
 use Rattle.rtps_text.proofs.JsonLemmas.{rows_tokens}
 use Rattle.rtps_text.proofs.PartLemmas.{four_parts}

@@ -2,7 +2,7 @@ use Rattle.std.proofs.Common.{◌++◌, ◌∷◌, [], ◌∙◌, ap, map, sym}
 use Rattle.std.proofs.lemmas.Result.{on_ok_weaker}
 use Rattle.json.specs.Token.{begin_object, end_object}
 use Rattle.json.specs.Tree.{json_tokens}
-use Rattle.rtps_evidence.specs.Explained.{explanation_value}
+use Rattle.rtps_evidence.specs.Explanation.{explanation_value}
 use Rattle.rtps_text.specs.JsonText.{counts_members, ignored_members, pairs_member, report_json, tokens_of, tokens_of_member}
 use Rattle.rtps_text.proofs.JsonLemmas.{report_tokens}
 use Rattle.rtps_text.proofs.PartLemmas.{five_parts}

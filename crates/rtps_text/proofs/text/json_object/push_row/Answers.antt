@@ -1,7 +1,7 @@
 use Rattle.std.proofs.Common.{◌++◌, ◌∷◌, [], ◌∙◌, ap, sym}
 use Rattle.std.proofs.lemmas.Result.{on_ok_weaker}
 use Rattle.json.specs.Token.{begin_object, end_object}
-use Rattle.rtps_evidence.specs.Explained.{explanation_value}
+use Rattle.rtps_evidence.specs.Explanation.{explanation_value}
 use Rattle.rtps_text.specs.JsonText.{evidence_members, pair_members, shown_members, tokens_of, verdict_members}
 use Rattle.rtps_text.proofs.JsonLemmas.{row_tokens}
 use Rattle.rtps_text.proofs.PartLemmas.{six_parts}

@@ -3,8 +3,8 @@ use Rattle.std.proofs.lemmas.Iterator.Search.{all_from_yields_List}
 use Rattle.std.proofs.lemmas.Iterator.{YieldsList-from_slice}
 use Rattle.std.proofs.lemmas.List.Folds.{list_all-map}
 use Rattle.std.specs.List.{list_all}
-use Rattle.rtps_evidence.specs.Explained.{ExplanationValue, explanation_value}
-use Rattle.rtps_evidence.specs.declared.explaining.Explanation.{Explanation}
+use Rattle.rtps_evidence.specs.Explanation.{ExplanationValue, explanation_value}
+use Rattle.rtps_evidence.specs.declared.explanation.Explanation.{Explanation}
 use Rattle.rtps_text.specs.AuditText.{is_complete}
 use Rattle.rtps_text.specs.declared.text.Ending.TheVariants.{Clean, Unclean}
 use Rattle.rtps_text.proofs.text.why_text.ending_of.Goals as goal

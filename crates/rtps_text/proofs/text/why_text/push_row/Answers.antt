@@ -1,6 +1,6 @@
 use Rattle.std.proofs.lemmas.Result.{on_ok_weaker}
 use Rattle.std.specs.String.{string_bytes}
-use Rattle.rtps_evidence.specs.Explained.{explanation_value}
+use Rattle.rtps_evidence.specs.Explanation.{explanation_value}
 use Rattle.rtps_text.specs.WhyText.{acknowledged_line, amounts_line, announced_line, names_line, pair_line, shown_by}
 use Rattle.rtps_text.proofs.PartLemmas.{six_parts}
 use Rattle.rtps_text.proofs.text.why_text.push_row.Goals as goal

@@ -1,7 +1,7 @@
 use Rattle.std.proofs.Common.{◌≡◌, ◌++◌, take}
 use Rattle.std.specs.List.{flat_map}
 use Rattle.std.specs.String.{string_bytes}
-use Rattle.rtps_evidence.specs.Explained.{explanation_value}
+use Rattle.rtps_evidence.specs.Explanation.{explanation_value}
 use Rattle.rtps_text.specs.WhyText.{explanation_text}
 use Rattle.rtps_text.proofs.text.why_text.push_rows.Given as goal
 

@@ -3,7 +3,7 @@ use Rattle.std.proofs.lemmas.List.{length-map}
 use Rattle.std.proofs.lemmas.List.Folds.{flat_map-map}
 use Rattle.std.specs.List.{flat_map}
 use Rattle.std.specs.String.{string_bytes}
-use Rattle.rtps_evidence.specs.Explained.{explanation_value}
+use Rattle.rtps_evidence.specs.Explanation.{explanation_value}
 use Rattle.rtps_text.specs.AuditText.{pairs_line, report_counts_line}
 use Rattle.rtps_text.specs.WhyText.{explanation_text}
 use Rattle.rtps_text.proofs.text.why_text.text_of.Goals as goal

@@ -1,5 +1,5 @@
 use Rattle.std.proofs.Common.{◌∙◌, ap, map}
-use Rattle.rtps_evidence.specs.Explained.{explanation_value}
+use Rattle.rtps_evidence.specs.Explanation.{explanation_value}
 use Rattle.rtps_text.specs.WhyText.{ending_of_rows, explained_text}
 use Rattle.rtps_text.proofs.text.why_text.why_text.Goals as goal
 
