@@ -8,9 +8,9 @@ use Rattle.rtps_discovery.specs.declared.matching.Pair.{Pair}
 use Rattle.rtps_audit.specs.Delivery.{greatest}
 use Rattle.rtps_audit.specs.Placed.{PlacedValue, answer_at, answers_among}
 use Rattle.rtps_audit.specs.Speech.{base_for, natural}
-use Rattle.rtps_audit.specs.declared.answers.Answer.{Answer}
-use Rattle.rtps_evidence.specs.Acting.{acknowledgement_of, base_said, claim_at, claim_in, claim_of, greatest_base, place_of}
-use Rattle.rtps_evidence.specs.declared.answering.Claim.{Claim}
+use Rattle.rtps_audit.specs.declared.answer.Answer.{Answer}
+use Rattle.rtps_evidence.specs.Locations.{acknowledgement_of, base_said, claim_at, claim_in, claim_of, greatest_base, location_of}
+use Rattle.rtps_evidence.specs.declared.acknowledgement.Claim.{Claim}
 
 -- the bases of the answers are those of the acts
 pub bases_same : (pair : Pair) (placed : List PlacedValue) → greatest (map (λ (answer : Answer). natural answer.base) (answers_among pair placed)) ≡ greatest_base pair.writer pair.reader placed
@@ -36,8 +36,8 @@ found_among test pair (x ∷ placed) never = by (base_for pair.writer pair.reade
     stands = find (λ (at : PlacedValue). test at.datagram (base_said pair.writer pair.reader at)) placed
 
     first : (b : Bool) (base : ℕ) → base_for pair.writer pair.reader x.act ≡ Some base → kept ≡ option_map (claim_at pair.writer pair.reader) stands
-        → cond b (Some (record { below = pos base; place = place_of x })) kept ≡ option_map (claim_at pair.writer pair.reader) (cond b (Some x) stands)
-    first true base said h = ap (λ n. let made : Claim = record { below = pos n; place = place_of x } in Some made) (sym (ap (λ o. unwrap_or o 0) said))
+        → cond b (Some (record { below = pos base; place = location_of x })) kept ≡ option_map (claim_at pair.writer pair.reader) (cond b (Some x) stands)
+    first true base said h = ap (λ n. let made : Claim = record { below = pos n; place = location_of x } in Some made) (sym (ap (λ o. unwrap_or o 0) said))
     first false base said h = h
 
     by : (said : Option ℕ) → base_for pair.writer pair.reader x.act ≡ said → kept ≡ option_map (claim_at pair.writer pair.reader) stands

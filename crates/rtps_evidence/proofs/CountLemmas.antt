@@ -1,10 +1,11 @@
 -- Counts over ranges of numbers.
-use Rattle.std.proofs.Common.{◌≡◌, ◌≢◌, ℕ, zero, suc, ◌+◌, ◌-◌, ◌*◌, ◌/◌, ◌%◌, ◌^◌, ◌<◌, ◌≤◌, Bool, true, false, cond, refl, sym, ap, ◌∙◌, arith, ◌||◌, ◌&&◌, nat_eq, nat_le, nat_lt, List, [], ◌∷◌, length, filter, inl, inr, not}
-use Rattle.std.specs.Int.{bit_at}
-use Rattle.std.specs.Int.Count.{ones, ones_step}
-use Rattle.std.proofs.lemmas.Nat.Bits.{bit_at_lowest, bit_at-suc}
+use Rattle.std.proofs.Common.{◌≡◌, ℕ, zero, suc, ◌+◌, ◌-◌, ◌<◌, ◌≤◌, Bool, true, false, cond, refl, sym, ap, ◌∙◌, arith, ◌||◌, ◌&&◌, nat_le, nat_lt, max, min, List, [], ◌∷◌, length, filter, inl, inr, not, take, get_or}
 use Rattle.std.specs.List.{list_any}
-use Rattle.rtps_evidence.specs.declared.stretches.Stretch.{Stretch}
+use Rattle.std.specs.List.Sorted.{IsNonDecreasingBy}
+use Rattle.std.proofs.lemmas.List.{take_more, take_all, get_or_default}
+use Rattle.std.proofs.lemmas.List.Folds.{list_any-append}
+use Rattle.rtps_evidence.specs.declared.amount.Stretch.{Stretch}
+use Rattle.std.proofs.Math.Bool.{or-false}
 use Rattle.std.proofs.lemmas.Bool.{cases_lt}
 use Rattle.std.proofs.lemmas.Bool.Decides.{nat_tests}
 use Rattle.std.specs.List.{range_with_len}
@@ -14,8 +15,8 @@ use Rattle.rtps_ids.specs.declared.identity.Guid.{Guid}
 use Rattle.rtps_audit.specs.Delivery.{Word}
 use Rattle.rtps_audit.specs.Placed.{PlacedValue}
 use Rattle.rtps_audit.specs.Speech.{word_for}
-use Rattle.rtps_evidence.specs.Acting.{payload_in, sends, tells}
-use Rattle.rtps_evidence.specs.Counted.{AreAmounts, count_in, is_sent, is_told, stretches_have}
+use Rattle.rtps_evidence.specs.Locations.{payload_in, sends, tells}
+use Rattle.rtps_evidence.specs.Amount.{AreAmounts, count_in, is_sent, is_told, stretch_has, stretches_have}
 
 one_more : (b : Bool) (n : ℕ) (ns : List ℕ) → length (cond b (n ∷ ns) ns) ≡ cond b 1 0 + length ns
 one_more true n ns = omega arith
@@ -92,100 +93,40 @@ pub count_none : (has : ℕ → Bool) (lo hi : ℕ) → ((k : ℕ) → lo ≤ k 
 unfolding counted
 count_none has lo hi none = count_same has (λ k. false) lo hi none ∙ counted_none lo (hi - lo)
 
--- where no number lies from the one on and below the other
-pub count_empty : (has : ℕ → Bool) (lo hi : ℕ) → hi ≤ lo → count_in has lo hi ≡ 0
-count_empty has lo hi le = count_none has lo hi (λ n a b. absurd (omega arith))
+-- ---- a stretch more
 
--- where all that have it lie within
-pub count_within : (has : ℕ → Bool) (lo hi first behind : ℕ) → lo ≤ first → first ≤ behind → behind ≤ hi → ((n : ℕ) → lo ≤ n → n < first → has n ≡ false) → ((n : ℕ) → behind ≤ n → n < hi → has n ≡ false)
-    → count_in has lo hi ≡ count_in has first behind
-count_within has lo hi first behind a b c below above =
-    let whole = count_split has lo first hi a (omega arith) in
-    let rest = count_split has first behind hi b c in
-    let none = count_none has lo first below in
-    let gone = count_none has behind hi above in
+-- a number is among the stretches so far and one more where it is among those, or in that one
+pub record Joins (before behind : ℕ → Bool) (lo hi : ℕ) : Type 0 where
+  pub joins : (n : ℕ) → behind n ≡ (before n || (nat_le lo n && nat_lt n hi))
+
+same_below : (before behind : ℕ → Bool) (lo hi from reached : ℕ) → Joins before behind lo hi → ((n : ℕ) → lo ≤ n → from ≤ n → n < reached → before n ≡ true)
+    → (n : ℕ) → from ≤ n → n < reached → behind n ≡ before n
+same_below before behind lo hi from reached h filled n a b = elim (cases_lt n lo) [
+  | inl lt ↦ h.joins n ∙ (let out : nat_le lo n ≡ false = grind (arith, nat_tests) in rw out (or-false (before n)))
+  | inr le ↦ let is = filled n le a b in h.joins n ∙ (rw is refl)
+]
+
+pub count_stretch : (before behind : ℕ → Bool) (stretch_lo stretch_hi from reached end lo hi count : ℕ) → Joins before behind stretch_lo stretch_hi
+    → lo ≡ max stretch_lo reached → hi ≡ min stretch_hi end → lo < hi → from ≤ reached
+    → ((n : ℕ) → stretch_lo ≤ n → from ≤ n → n < reached → before n ≡ true) → ((n : ℕ) → reached ≤ n → n < end → before n ≡ false)
+    → count ≡ count_in before from reached → count + (hi - lo) ≡ count_in behind from hi
+count_stretch before behind stretch_lo stretch_hi from reached end lo hi count h lo_is hi_is some onward filled past counted =
+    let one = count_split behind from reached hi onward (omega arith) in
+    let two = count_split behind reached lo hi (omega arith) (omega arith) in
+    let same = count_same behind before from reached (same_below before behind stretch_lo stretch_hi from reached h filled) in
+    let gap = count_none behind reached lo (λ n a b. h.joins n ∙ (let out : before n ≡ false = past n a (omega arith) in let early : nat_le stretch_lo n ≡ false = grind (arith, nat_tests) in rw (out, early) refl)) in
+    let all = count_all behind lo hi (λ n a b. h.joins n ∙ (let from_lo : nat_le stretch_lo n ≡ true = grind (arith, nat_tests) in let to_hi : nat_lt n stretch_hi ≡ true = grind (arith, nat_tests) in rw (from_lo, to_hi) (or_true (before n)))) in
     omega arith
-
--- ---- the numbers of a block
-
--- the bits of a number, of which the lowest is that of lo
-counted_bits : (bits lo n : ℕ) → bits < 2 ^ n → counted (λ k. nat_eq (bit_at bits (k - lo)) 1) lo n ≡ ones bits
-unfolding counted ones
-counted_bits bits lo zero fits = let none : bits ≡ 0 = omega arith in sym (ap ones none ∙ ones_step 0)
-counted_bits bits lo (suc n) fits =
-    let first : lo - lo ≡ 0 = omega arith in
-    let low : bit_at bits (lo - lo) ≡ bits % 2 = ap (bit_at bits) first ∙ bit_at_lowest bits in
-    let half : bits / 2 < 2 ^ n = half_fits bits n fits in
-    let rest : counted (λ k. nat_eq (bit_at bits (k - lo)) 1) (lo + 1) n ≡ counted (λ k. nat_eq (bit_at (bits / 2) (k - (lo + 1))) 1) (lo + 1) n =
-    counted_same (λ k. nat_eq (bit_at bits (k - lo)) 1) (λ k. nat_eq (bit_at (bits / 2) (k - (lo + 1))) 1) (lo + 1) n (λ k a b. ap (λ w. nat_eq w 1) (next bits lo k a)) in
-    counted_next (λ k. nat_eq (bit_at bits (k - lo)) 1) lo n
-    ∙ ap (λ b. cond (nat_eq b 1) 1 0 + counted (λ k. nat_eq (bit_at bits (k - lo)) 1) (lo + 1) n) low
-    ∙ ap (λ m. cond (nat_eq (bits % 2) 1) 1 0 + m) (rest ∙ counted_bits (bits / 2) (lo + 1) n half)
-    ∙ ap (λ m. m + ones (bits / 2)) (one_bit (bits % 2) (omega arith))
-    ∙ sym (ones_step bits)
   where
-    half_fits : (bits n : ℕ) → bits < 2 ^ suc n → bits / 2 < 2 ^ n
-    half_fits bits n fits = let twice : 2 ^ suc n ≡ 2 * 2 ^ n = omega arith in omega arith
+    or_true : (b : Bool) → (b || true) ≡ true
+    or_true true = refl
+    or_true false = refl
 
-    next : (bits lo k : ℕ) → lo + 1 ≤ k → bit_at bits (k - lo) ≡ bit_at (bits / 2) (k - (lo + 1))
-    next bits lo k le = let place : k - lo ≡ suc (k - (lo + 1)) = omega arith in ap (bit_at bits) place ∙ bit_at-suc bits (k - (lo + 1))
-
-    one_bit : (b : ℕ) → b < 2 → cond (nat_eq b 1) 1 0 ≡ b
-    one_bit b few = grind (arith, nat_tests)
-
--- the numbers of a block whose bits say so
-pub count_block : (has : ℕ → Bool) (key bits : ℕ) → bits < 2 ^ 64 → ((n : ℕ) → n / 64 ≡ key → has n ≡ nat_eq (bit_at bits (n % 64)) 1) → count_in has (64 * key) (64 * key + 64) ≡ ones bits
-unfolding counted
-count_block has key bits fits is =
-    let few : 64 * key + 64 - 64 * key ≡ 64 = omega arith in
-    ap (counted has (64 * key)) few
-    ∙ counted_same has (λ k. nat_eq (bit_at bits (k - 64 * key)) 1) (64 * key) 64 (λ k a b.
-    let here : k / 64 ≡ key = omega arith in
-    let place : k % 64 ≡ k - 64 * key = omega arith in
-    is k here ∙ ap (λ i. nat_eq (bit_at bits i) 1) place)
-    ∙ counted_bits bits (64 * key) 64 fits
-
--- and those of them from one number on and below another
-module _ (has : ℕ → Bool) (key lo hi bits : ℕ) (fits : bits < 2 ^ 64) (is : (n : ℕ) → n / 64 ≡ key → nat_eq (bit_at bits (n % 64)) 1 ≡ (has n && (nat_le lo n && nat_lt n hi))) (out : (n : ℕ) → n / 64 ≢ key → has n ≡ false) where
-  abbrev part : ℕ → Bool
-  part n = has n && (nat_le lo n && nat_lt n hi)
-
-  and_true : (a : Bool) → (a && true) ≡ a
-  and_true true = refl
-  and_true false = refl
-
-  and_false : (a : Bool) → (a && false) ≡ false
-  and_false true = refl
-  and_false false = refl
-
-  block : count_in part (64 * key) (64 * key + 64) ≡ ones bits
-  block = count_block part key bits fits (λ n here. sym (is n here))
-
-  elsewhere : (n : ℕ) → n / 64 ≢ key → part n ≡ false
-  elsewhere n other = ap (λ b. b && (nat_le lo n && nat_lt n hi)) (out n other)
-
-  below : (n : ℕ) → n < lo → part n ≡ false
-  below n lt = let early : nat_le lo n ≡ false = grind (arith, nat_tests) in ap (λ b. has n && (b && nat_lt n hi)) early ∙ and_false (has n)
-
-  above : (n : ℕ) → hi ≤ n → part n ≡ false
-  above n le = let late : nat_lt n hi ≡ false = grind (arith, nat_tests) in ap (λ b. has n && (nat_le lo n && b)) late ∙ ap (λ b. has n && b) (and_false (nat_le lo n)) ∙ and_false (has n)
-
-  inside : (n : ℕ) → lo ≤ n → n < hi → has n ≡ part n
-  inside n le lt =
-      let from_lo : nat_le lo n ≡ true = grind (arith, nat_tests) in
-      let to_hi : nat_lt n hi ≡ true = grind (arith, nat_tests) in
-      sym (ap (λ b. has n && (b && nat_lt n hi)) from_lo ∙ ap (λ b. has n && b) to_hi ∙ and_true (has n))
-
-  pub count_part : count_in has lo hi ≡ ones bits
-  count_part = elim (cases_lt lo hi) [
-    | inl some ↦
-        let one = count_within part 0 (hi + 64 * key + 64) lo hi (omega arith) (omega arith) (omega arith) (λ n a lt. below n lt) (λ n le a. above n le) in
-        let other = count_within part 0 (hi + 64 * key + 64) (64 * key) (64 * key + 64) (omega arith) (omega arith) (omega arith) (λ n a lt. elsewhere n (λ e. omega arith)) (λ n le a. elsewhere n (λ e. omega arith)) in
-        count_same has part lo hi inside ∙ sym one ∙ other ∙ block
-    | inr none ↦
-        let nothing = count_none part (64 * key) (64 * key + 64) (λ n a b. elim (cases_lt n lo) [ inl lt ↦ below n lt | inr ge ↦ above n (omega arith) ]) in
-        count_empty has lo hi none ∙ sym nothing ∙ block
-  ]
+pub count_no_stretch : (before behind : ℕ → Bool) (stretch_lo stretch_hi from reached count : ℕ) → Joins before behind stretch_lo stretch_hi
+    → ((n : ℕ) → stretch_lo ≤ n → from ≤ n → n < reached → before n ≡ true)
+    → count ≡ count_in before from reached → count ≡ count_in behind from reached
+count_no_stretch before behind stretch_lo stretch_hi from reached count h filled counted =
+    counted ∙ sym (count_same behind before from reached (same_below before behind stretch_lo stretch_hi from reached h filled))
 
 -- those that have one and those that have it not but another
 pub count_rest : (some all : ℕ → Bool) (lo hi : ℕ) → ((n : ℕ) → some n ≡ true → all n ≡ true) → count_in all lo hi ≡ count_in some lo hi + count_in (λ n. all n && not (some n)) lo hi
@@ -212,6 +153,79 @@ count_rest some all lo hi h = rest lo (hi - lo)
 pub count_others : (has : ℕ → Bool) (lo hi : ℕ) → hi - lo ≡ count_in has lo hi + count_in (λ n. not (has n)) lo hi
 count_others has lo hi = sym (count_all (λ n. true) lo hi (λ n a b. refl)) ∙ count_rest has (λ n. true) lo hi (λ n h. refl)
 
+-- ---- stretches that were looked at
+
+joined : (stretches : List Stretch) (i : ℕ) (d : Stretch) → i < length stretches → Joins (stretches_have (take i stretches)) (stretches_have (take (i + 1) stretches)) (get_or stretches i d).lo (get_or stretches i d).hi
+joined stretches i d lt = record { joins = λ n. ap (list_any (stretch_has n)) (take_more stretches i d lt) ∙ list_any-append (stretch_has n) (take i stretches) (get_or stretches i d ∷ []) ∙ ap (λ b. stretches_have (take i stretches) n || b) (or-false (stretch_has n (get_or stretches i d))) }
+
+-- what is known where so many stretches were looked at, and the numbers below `reached` counted
+pub record IsCounted (stretches : List Stretch) (from end i reached count : ℕ) : Type 0 where
+  pub onward : from ≤ reached
+  pub within : reached ≤ end
+  pub fits : count ≤ reached - from
+  pub exact : count ≡ count_in (stretches_have (take i stretches)) from reached
+  pub past : (n : ℕ) → reached ≤ n → n < end → stretches_have (take i stretches) n ≡ false
+  pub filled : (k n : ℕ) (d : Stretch) → i ≤ k → k < length stretches → (get_or stretches k d).lo ≤ n → from ≤ n → n < reached → stretches_have (take i stretches) n ≡ true
+
+pub counted_stretch : (stretches : List Stretch) (from end i reached count : ℕ) (d : Stretch) (lo hi : ℕ) → IsNonDecreasingBy (λ (stretch : Stretch). stretch.lo) stretches → i < length stretches → IsCounted stretches from end i reached count
+    → lo ≡ max (get_or stretches i d).lo reached → hi ≡ min (get_or stretches i d).hi end → lo < hi → IsCounted stretches from end (i + 1) hi (count + (hi - lo))
+counted_stretch stretches from end i reached count d lo hi sorted lt is lo_is hi_is some =
+    let join = joined stretches i d lt in
+    let onward = is.onward in
+    let within = is.within in
+    let fits = is.fits in
+    record {
+      onward = omega arith;
+      within = omega arith;
+      fits = omega arith;
+      exact = count_stretch (stretches_have (take i stretches)) (stretches_have (take (i + 1) stretches)) (get_or stretches i d).lo (get_or stretches i d).hi from reached end lo hi count join lo_is hi_is some is.onward (λ n a b e. is.filled i n d (omega arith) lt a b e) is.past is.exact;
+      past = λ n a b. join.joins n ∙ (let out : stretches_have (take i stretches) n ≡ false = is.past n (omega arith) b in let late : nat_lt n (get_or stretches i d).hi ≡ false = grind (arith, nat_tests) in rw (out, late) (and_false (nat_le (get_or stretches i d).lo n)));
+      filled = λ k n e a b low from_n below.
+          let rises : (get_or stretches i e).lo ≤ (get_or stretches k e).lo = sorted i k e (omega arith) b in
+          let same : get_or stretches i e ≡ get_or stretches i d = get_or_default stretches i e d lt in
+          let lower = ap (λ (stretch : Stretch). stretch.lo) same in
+          join.joins n ∙ (let one : nat_le (get_or stretches i d).lo n ≡ true = grind (arith, nat_tests) in let two : nat_lt n (get_or stretches i d).hi ≡ true = grind (arith, nat_tests) in rw (one, two) (or_true (stretches_have (take i stretches) n)));
+    }
+  where
+    and_false : (b : Bool) → (false || (b && false)) ≡ false
+    and_false true = refl
+    and_false false = refl
+
+    or_true : (b : Bool) → (b || true) ≡ true
+    or_true true = refl
+    or_true false = refl
+
+pub counted_no_stretch : (stretches : List Stretch) (from end i reached count : ℕ) (d : Stretch) (lo hi : ℕ) → i < length stretches → IsCounted stretches from end i reached count
+    → lo ≡ max (get_or stretches i d).lo reached → hi ≡ min (get_or stretches i d).hi end → hi ≤ lo → IsCounted stretches from end (i + 1) reached count
+counted_no_stretch stretches from end i reached count d lo hi lt is lo_is hi_is none =
+    let join = joined stretches i d lt in
+    record {
+      onward = is.onward;
+      within = is.within;
+      fits = is.fits;
+      exact = count_no_stretch (stretches_have (take i stretches)) (stretches_have (take (i + 1) stretches)) (get_or stretches i d).lo (get_or stretches i d).hi from reached count join (λ n a b e. is.filled i n d (omega arith) lt a b e) is.exact;
+      past = λ n a b. join.joins n ∙ (let out : stretches_have (take i stretches) n ≡ false = is.past n a b in rw out (outside (get_or stretches i d).lo (get_or stretches i d).hi n (λ low high. omega arith)));
+      filled = λ k n e a b low from_n below. join.joins n ∙ (let in_it : stretches_have (take i stretches) n ≡ true = is.filled k n e (omega arith) b low from_n below in rw in_it refl);
+    }
+  where
+    outside : (lo hi n : ℕ) → (lo ≤ n → n < hi → ⊥) → (false || (nat_le lo n && nat_lt n hi)) ≡ false
+    outside lo hi n never = elim (cases_lt n lo) [
+      | inl lt ↦ grind (arith, nat_tests)
+      | inr le ↦ elim (cases_lt n hi) [
+        | inl lt ↦ absurd (never le lt)
+        | inr ge ↦ grind (arith, nat_tests)
+      ]
+    ]
+
+pub counted_end : (stretches : List Stretch) (from end i reached count : ℕ) → length stretches ≤ i → IsCounted stretches from end i reached count → count ≡ count_in (stretches_have stretches) from end
+counted_end stretches from end i reached count le is =
+    let all = take_all i stretches le in
+    let rest = count_none (stretches_have (take i stretches)) reached end is.past in
+    let whole = count_split (stretches_have (take i stretches)) from reached end is.onward is.within in
+    let same = ap (λ l. count_in (stretches_have l) from end) all in
+    let so_far = is.exact in
+    omega arith
+
 -- ---- payloads among words
 
 any_weaker : {X : Type 0} (p q : X → Bool) → ((x : X) → p x ≡ true → q x ≡ true) → (xs : List X) → list_any p xs ≡ true → list_any q xs ≡ true
@@ -232,21 +246,16 @@ sent_is_told writer reader acts n = any_weaker (sends writer reader n) (tells wr
     by_word None e = e
     by_word (Some word) e = refl
 
--- what the counts of the stretches say of the amounts
-pub record AreShares (from last : ℕ) (writer reader : Guid) (acts : List PlacedValue) (payloads told : ℕ) : Type 0 where
-  pub some : payloads ≤ told
-  pub all : told ≤ last + 1 - from
-  pub amounts : AreAmounts from last writer reader acts (record { payloads = payloads; gone = told - payloads; untold = last + 1 - from - told })
-
-pub shares : (from last : ℕ) (writer reader : Guid) (acts : List PlacedValue) (sent_items told_items : List Stretch) (payloads told : ℕ)
+-- the amounts, by the counts of the stretches
+pub amounts_counted : (from last : ℕ) (writer reader : Guid) (acts : List PlacedValue) (sent_items told_items : List Stretch) (payloads told : ℕ)
     → ((n : ℕ) → stretches_have sent_items n ≡ is_sent writer reader acts n) → ((n : ℕ) → stretches_have told_items n ≡ is_told writer reader acts n)
     → payloads ≡ count_in (stretches_have sent_items) from (last + 1) → told ≡ count_in (stretches_have told_items) from (last + 1)
-    → AreShares from last writer reader acts payloads told
-shares from last writer reader acts sent_items told_items payloads told sent_is told_is payloads_is told_counted =
+    → AreAmounts from last writer reader acts (record { payloads = payloads; gone = told - payloads; untold = last + 1 - from - told })
+amounts_counted from last writer reader acts sent_items told_items payloads told sent_is told_is payloads_is told_counted =
     let a : payloads ≡ count_in (is_sent writer reader acts) from (last + 1) = payloads_is ∙ count_same (stretches_have sent_items) (is_sent writer reader acts) from (last + 1) (λ n x y. sent_is n) in
     let b : told ≡ count_in (is_told writer reader acts) from (last + 1) = told_counted ∙ count_same (stretches_have told_items) (is_told writer reader acts) from (last + 1) (λ n x y. told_is n) in
     let rest : count_in (is_told writer reader acts) from (last + 1) ≡ count_in (is_sent writer reader acts) from (last + 1) + count_in (λ n. is_told writer reader acts n && not (is_sent writer reader acts n)) from (last + 1) =
     count_rest (is_sent writer reader acts) (is_told writer reader acts) from (last + 1) (sent_is_told writer reader acts) in
     let others : last + 1 - from ≡ count_in (is_told writer reader acts) from (last + 1) + count_in (λ n. not (is_told writer reader acts n)) from (last + 1) =
     count_others (is_told writer reader acts) from (last + 1) in
-    record { some = omega arith; all = omega arith; amounts = record { payloads = a; gone = omega arith; untold = omega arith } }
+    record { payloads = a; gone = omega arith; untold = omega arith }

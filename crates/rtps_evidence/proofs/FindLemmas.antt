@@ -1,10 +1,11 @@
 -- The first element of a list that passes a test, also where elements are left out that do not.
+use Rattle.std.proofs.Math.Bool.{and-false, or-false}
 use Rattle.std.proofs.lemmas.Bool.Decides.{nat_tests}
 use Rattle.std.proofs.Common.{◌≡◌, ◌==◌, ◌&&◌, ◌⊎◌, inl, inr, nat_lt, ℕ, ◌+◌, ◌<◌, ◌≤◌, Bool, true, false, ◌||◌, cond, List, [], ◌∷◌, ◌++◌, length, map, filter, take, drop, get_or, max, Some, None, refl, sym, ap, ◌∙◌, arith}
 use Rattle.std.specs.List.{find, list_any}
 use Rattle.std.specs.Option.{option_or}
 use Rattle.std.proofs.lemmas.List.{map-append, take_more, take-append-drop}
-use Rattle.std.proofs.lemmas.List.Folds.{find-append}
+use Rattle.std.proofs.lemmas.List.Folds.{find-append, list_any-append}
 use Rattle.rtps_audit.specs.Delivery.{greatest}
 
 find_past : {X : Type 0} (test : X → Bool) (x : X) (keeps : Bool) (xs : List X) → (test x ≡ true → keeps ≡ true) → find test (cond keeps (x ∷ xs) xs) ≡ cond (test x) (Some x) (find test xs)
@@ -50,6 +51,14 @@ found_here v test xs i d lt none is =
     ∙ find-append test (map v (take (i + 1) xs)) (map v (drop (i + 1) xs))
     ∙ ap (λ o. option_or o (find test (map v (drop (i + 1) xs)))) (find_more v test xs i d lt none ∙ ap (λ b. cond b (Some (v (get_or xs i d))) None) is)
 
+-- whether one passes, with one element more
+pub any_more : {X Y : Type 0} (v : X → Y) (test : Y → Bool) (xs : List X) (i : ℕ) (d : X) → i < length xs → list_any test (map v (take (i + 1) xs)) ≡ (list_any test (map v (take i xs)) || test (v (get_or xs i d)))
+any_more v test xs i d lt =
+    ap (λ l. list_any test (map v l)) (take_more xs i d lt)
+    ∙ ap (list_any test) (map-append v (take i xs) (get_or xs i d ∷ []))
+    ∙ list_any-append test (map v (take i xs)) (v (get_or xs i d) ∷ [])
+    ∙ ap (λ b. list_any test (map v (take i xs)) || b) (or-false (test (v (get_or xs i d))))
+
 -- ---- the element at hand
 
 pub none_past : {X Y : Type 0} (v : X → Y) (test : Y → Bool) (xs : List X) (i : ℕ) (x : X) → i < length xs → x ≡ get_or xs i x → find test (map v (take i xs)) ≡ None → test (v x) ≡ false → find test (map v (take (i + 1) xs)) ≡ None
@@ -57,6 +66,9 @@ none_past v test xs i x lt at none not = none_yet v test xs i x lt none (ap (λ 
 
 pub found_item : {X Y : Type 0} (v : X → Y) (test : Y → Bool) (xs : List X) (i : ℕ) (x : X) → i < length xs → x ≡ get_or xs i x → find test (map v (take i xs)) ≡ None → test (v x) ≡ true → find test (map v xs) ≡ Some (v x)
 found_item v test xs i x lt at none is = found_here v test xs i x lt none (ap (λ y. test (v y)) (sym at) ∙ is) ∙ ap (λ y. Some (v y)) (sym at)
+
+pub any_past : {X Y : Type 0} (v : X → Y) (test : Y → Bool) (xs : List X) (i : ℕ) (x : X) → i < length xs → x ≡ get_or xs i x → list_any test (map v (take (i + 1) xs)) ≡ (list_any test (map v (take i xs)) || test (v x))
+any_past v test xs i x lt at = any_more v test xs i x lt ∙ ap (λ y. list_any test (map v (take i xs)) || test (v y)) (sym at)
 
 -- ---- the greatest of what is made of each
 
@@ -96,10 +108,6 @@ claims_it a b n base e lt = grind (arith, nat_tests)
 
 pub claims_not : (a b n base : ℕ) → (a ≡ b × base ≤ n) ⊎ (a ≡ b → ⊥) → ((a == b) && nat_lt n base) ≡ false
 claims_not a b n base h = elim h [
-  | inl at ↦ let e = at.0 in let le = at.1 in let late : nat_lt n base ≡ false = grind (arith, nat_tests) in rw late (and_false (a == b))
+  | inl at ↦ let e = at.0 in let le = at.1 in let late : nat_lt n base ≡ false = grind (arith, nat_tests) in rw late (and-false (a == b))
   | inr not_it ↦ rw (differ a b not_it) refl
 ]
-  where
-    and_false : (b : Bool) → (b && false) ≡ false
-    and_false true = refl
-    and_false false = refl

@@ -1,39 +1,111 @@
--- Readers that hear the same hear the same amounts.
-use Rattle.std.proofs.Common.{◌≡◌, ◌∙◌, ◌&&◌, ◌||◌, ◌+◌, ℕ, Bool, All, List, [], ◌∷◌, get_or, refl, ap}
-use Rattle.std.specs.Prelude.{if◌then◌else◌, is_some, not, None}
+-- What is for everyone is heard by all readers alike; so what a reader hears is that, and what the other acts tell it.
+use Rattle.std.proofs.Common.{◌≡◌, ◌∙◌, ◌&&◌, ◌||◌, ◌+◌, ◌<◌, ◌≤◌, ℕ, Bool, true, false, List, [], ◌∷◌, ◌++◌, length, get_or, map, take, refl, sym, ap, subst}
+use Rattle.std.specs.Prelude.{if◌then◌else◌, is_some, None, slice_get}
 use Rattle.std.specs.List.{list_any}
-use Rattle.std.proofs.lemmas.List.Elements.{All-head, All-tail}
+use Rattle.std.specs.Option.{option_map}
+use Rattle.std.proofs.Math.Bool.{or-false}
+use Rattle.std.proofs.lemmas.List.Folds.{list_any-append, list_any_more}
+use Rattle.std.proofs.lemmas.Option.{slice_get-get_or, slice_get-map, slice_get_past}
 use Rattle.rtps_ids.specs.declared.identity.Guid.{Guid}
-use Rattle.rtps_receiver.specs.Speech.{is_heard_by, is_spoken_by}
-use Rattle.rtps_audit.specs.Placed.{PlacedValue}
+use Rattle.rtps_receiver.specs.Speech.{is_for, is_for_all, is_heard_by, is_spoken_by, names, reader_named, unknown_entity}
+use Rattle.rtps_receiver.specs.Values.{ActValue}
+use Rattle.rtps_audit.specs.Placed.{PlacedValue, placed_value}
 use Rattle.rtps_audit.specs.Speech.{word_for, word_of}
-use Rattle.rtps_evidence.specs.Acting.{payload_in, sends, tells}
-use Rattle.rtps_evidence.specs.Counted.{AreAmounts, is_sent, is_told}
-use Rattle.rtps_evidence.specs.declared.counting.Amounts.{Amounts}
-use Rattle.rtps_evidence.proofs.CountLemmas.{count_same}
+use Rattle.rtps_audit.specs.declared.placed.Placed.{Placed}
+use Rattle.rtps_evidence.specs.Amount.{AreNumbers, stretches_have}
+use Rattle.rtps_evidence.specs.Locations.{payload_in, sends, tells}
+use Rattle.rtps_evidence.specs.WriterSummary.{IsSplit, any_at, is_for_everyone, option_any}
+use Rattle.rtps_evidence.specs.declared.amount.HeardNumbers.{HeardNumbers}
+use Rattle.rtps_evidence.proofs.FindLemmas.{any_past}
+use Rattle.rtps_evidence.proofs.StretchLemmas.{or_assoc}
 
-any_alike : {X : Type 0} (one other : X → Bool) (xs : List X) → All (λ x. one x ≡ other x) xs → list_any one xs ≡ list_any other xs
-any_alike one other [] h = refl
-any_alike one other (x ∷ xs) h =
-    ap (λ b. b || list_any one xs) (All-head (λ x. one x ≡ other x) x xs h)
-    ∙ ap (λ b. other x || b) (any_alike one other xs (All-tail (λ x. one x ≡ other x) x xs h))
+heard : (act : ActValue) (reader : Guid) → is_for_everyone act ≡ true → is_heard_by act reader ≡ true
+heard act reader e = both (is_for_all act.dest) (is_for act.dest reader.prefix) (names (reader_named act.body) unknown_entity) (names (reader_named act.body) reader.entity) e
+  where
+    both : (a b c d : Bool) → (a && c) ≡ true → ((a || b) && (c || d)) ≡ true
+    both true b true d e = refl
+    both true b false d e = cc
+    both false b c d e = cc
 
-word_alike : (writer one other : Guid) (n : ℕ) (at : PlacedValue) → is_heard_by at.act one ≡ is_heard_by at.act other → word_for writer one at.act n ≡ word_for writer other at.act n
-word_alike writer one other n at same = ap (λ b. if is_spoken_by at.act writer && b then word_of at.act.body n else None) same
+word_alike : (writer one other : Guid) (n : ℕ) (at : PlacedValue) → is_for_everyone at.act ≡ true → word_for writer one at.act n ≡ word_for writer other at.act n
+word_alike writer one other n at e =
+    ap (λ b. if is_spoken_by at.act writer && b then word_of at.act.body n else None) (heard at.act one e ∙ sym (heard at.act other e))
 
-told_alike : (writer one other : Guid) (n : ℕ) (acts : List PlacedValue) → All (λ (at : PlacedValue). is_heard_by at.act one ≡ is_heard_by at.act other) acts → is_told writer one acts n ≡ is_told writer other acts n
-told_alike writer one other n acts alike = any_alike (tells writer one n) (tells writer other n) acts (λ k d lt. ap is_some (word_alike writer one other n (get_or acts k d) (alike k d lt)))
+pub tells_alike : (writer one other : Guid) (n : ℕ) (at : PlacedValue) → is_for_everyone at.act ≡ true → tells writer one n at ≡ tells writer other n at
+tells_alike writer one other n at e = ap is_some (word_alike writer one other n at e)
 
-sent_alike : (writer one other : Guid) (n : ℕ) (acts : List PlacedValue) → All (λ (at : PlacedValue). is_heard_by at.act one ≡ is_heard_by at.act other) acts → is_sent writer one acts n ≡ is_sent writer other acts n
-sent_alike writer one other n acts alike = any_alike (sends writer one n) (sends writer other n) acts (λ k d lt. ap (λ word. is_some (payload_in word)) (word_alike writer one other n (get_or acts k d) (alike k d lt)))
+pub sends_alike : (writer one other : Guid) (n : ℕ) (at : PlacedValue) → is_for_everyone at.act ≡ true → sends writer one n at ≡ sends writer other n at
+sends_alike writer one other n at e = ap (λ word. is_some (payload_in word)) (word_alike writer one other n at e)
 
-pub amounts_alike : (from last : ℕ) (writer one other : Guid) (acts : List PlacedValue) (amounts : Amounts) → All (λ (at : PlacedValue). is_heard_by at.act one ≡ is_heard_by at.act other) acts
-    → AreAmounts from last writer one acts amounts → AreAmounts from last writer other acts amounts
-amounts_alike from last writer one other acts amounts alike are =
-    let told = λ (n : ℕ). told_alike writer one other n acts alike in
-    let sent = λ (n : ℕ). sent_alike writer one other n acts alike in
-    record {
-      payloads = are.payloads ∙ count_same (is_sent writer one acts) (is_sent writer other acts) from (last + 1) (λ n a b. sent n);
-      gone = are.gone ∙ count_same (λ n. is_told writer one acts n && not (is_sent writer one acts n)) (λ n. is_told writer other acts n && not (is_sent writer other acts n)) from (last + 1) (λ n a b. rw (told n, sent n) refl);
-      untold = are.untold ∙ count_same (λ n. not (is_told writer one acts n)) (λ n. not (is_told writer other acts n)) from (last + 1) (λ n a b. ap not (told n));
-    }
+-- ---- an act more
+
+-- that is for everyone
+pub alike_more : (test : PlacedValue → Bool) (acts : List Placed) (i : ℕ) (x : Placed) (before behind others t : Bool) → i < length acts → x ≡ get_or acts i x → behind ≡ (before || t) → test (placed_value x) ≡ t
+    → list_any test (map placed_value (take i acts)) ≡ (before || others) → list_any test (map placed_value (take (i + 1) acts)) ≡ (behind || others)
+alike_more test acts i x before behind others t lt at more same so_far =
+    any_past placed_value test acts i x lt at
+    ∙ ap (λ b. b || test (placed_value x)) so_far
+    ∙ ap (λ b. (before || others) || b) same
+    ∙ swapped before others t
+    ∙ ap (λ b. b || others) (sym more)
+  where
+    swapped : (a b c : Bool) → ((a || b) || c) ≡ ((a || c) || b)
+    swapped true b c = refl
+    swapped false true true = refl
+    swapped false true false = refl
+    swapped false false c = sym (or-false c)
+
+-- what the act at a place tells
+at_place : (test : PlacedValue → Bool) (acts : List Placed) (i : ℕ) (x : Placed) → i < length acts → x ≡ get_or acts i x → option_any test (slice_get (map placed_value acts) i) ≡ test (placed_value x)
+at_place test acts i x lt at =
+    ap (option_any test) (slice_get-map placed_value acts i ∙ ap (option_map placed_value) (slice_get-get_or acts i x lt))
+    ∙ ap (λ (y : Placed). test (placed_value y)) (sym at)
+
+-- that is not for everyone
+pub other_more : (test : PlacedValue → Bool) (acts : List Placed) (i : ℕ) (x : Placed) (before : Bool) (old new : List ℕ) → i < length acts → x ≡ get_or acts i x → new ≡ old ++ i ∷ []
+    → list_any test (map placed_value (take i acts)) ≡ (before || any_at test (map placed_value acts) old) → list_any test (map placed_value (take (i + 1) acts)) ≡ (before || any_at test (map placed_value acts) new)
+other_more test acts i x before old new lt at is so_far =
+    any_past placed_value test acts i x lt at
+    ∙ ap (λ b. b || test (placed_value x)) so_far
+    ∙ or_assoc before (any_at test (map placed_value acts) old) (test (placed_value x))
+    ∙ ap (λ b. before || b) (sym pushed)
+  where
+    pushed : any_at test (map placed_value acts) new ≡ (any_at test (map placed_value acts) old || test (placed_value x))
+    pushed =
+        ap (any_at test (map placed_value acts)) is
+        ∙ list_any-append (λ place. option_any test (slice_get (map placed_value acts) place)) old (i ∷ [])
+        ∙ ap (λ b. any_at test (map placed_value acts) old || b) (or-false (option_any test (slice_get (map placed_value acts) i)) ∙ at_place test acts i x lt at)
+
+-- ---- a place more
+
+module _ (test : PlacedValue → Bool) (acts : List Placed) (places others : List ℕ) (k place : ℕ) (lt : k < length places) (same : places ≡ others) (at : place ≡ get_or places k 0) where
+  abbrev at_it : ℕ → Bool
+  at_it p = option_any test (slice_get (map placed_value acts) p)
+
+  more : (heard before b : Bool) → at_it place ≡ b → heard ≡ (before || any_at test (map placed_value acts) (take k others)) → (heard || b) ≡ (before || any_at test (map placed_value acts) (take (k + 1) others))
+  more heard before b there so_far =
+      let within : k < length others = subst (λ l. k < length l) same lt in
+      let here : get_or others k 0 ≡ place = sym (at ∙ ap (λ l. get_or l k 0) same) in
+      ap (λ a. a || b) so_far
+      ∙ or_assoc before (any_at test (map placed_value acts) (take k others)) b
+      ∙ ap (λ a. before || a) (ap (λ a. any_at test (map placed_value acts) (take k others) || a) (sym (ap at_it here ∙ there)) ∙ sym (list_any_more at_it others k 0 within))
+
+  -- at which an act stands
+  pub place_told : (x : Placed) (heard behind before : Bool) → place < length acts → x ≡ get_or acts place x → behind ≡ (heard || test (placed_value x)) → heard ≡ (before || any_at test (map placed_value acts) (take k others))
+      → behind ≡ (before || any_at test (map placed_value acts) (take (k + 1) others))
+  place_told x heard behind before within here adds so_far = adds ∙ more heard before (test (placed_value x)) (at_place test acts place x within here) so_far
+
+  -- at which none stands
+  pub place_past : (heard before : Bool) → length acts ≤ place → heard ≡ (before || any_at test (map placed_value acts) (take k others)) → heard ≡ (before || any_at test (map placed_value acts) (take (k + 1) others))
+  place_past heard before past so_far =
+      sym (or-false heard)
+      ∙ more heard before false (ap (option_any test) (slice_get-map placed_value acts place ∙ ap (option_map placed_value) (slice_get_past acts place past))) so_far
+
+-- ---- in order
+
+-- the same numbers in other stretches
+pub split_same : (writer : Guid) (acts : List PlacedValue) (old new : HeardNumbers) (others : List ℕ) → AreNumbers (stretches_have old.told.items) (stretches_have old.sent.items) new → IsSplit writer acts old others → IsSplit writer acts new others
+split_same writer acts old new others same split = record {
+  told = λ reader n. split.told reader n ∙ ap (λ b. b || any_at (tells writer reader n) acts others) (sym (same.told n));
+  sent = λ reader n. split.sent reader n ∙ ap (λ b. b || any_at (sends writer reader n) acts others) (sym (same.sent n));
+}

@@ -3,21 +3,21 @@ use Rattle.std.proofs.Common.{◌≡◌, ℕ, ℤ, pos, Option, ap, ◌∙◌}
 use Rattle.rtps_ids.specs.declared.identity.Guid.{Guid}
 use Rattle.rtps_wire.specs.Values.{PayloadValue}
 use Rattle.rtps_audit.specs.Placed.{PlacedValue}
-use Rattle.rtps_evidence.specs.Acting.{SentValue, announcement_at, kind_of, payload_for, place_of, sent_at}
-use Rattle.rtps_evidence.specs.declared.announcing.Announcement.{Announcement}
-use Rattle.rtps_evidence.specs.declared.places.Kind.{Kind}
-use Rattle.rtps_evidence.specs.declared.places.Place.{Place}
+use Rattle.rtps_evidence.specs.Locations.{SentValue, announcement_at, kind_of, payload_for, location_of, sent_at}
+use Rattle.rtps_evidence.specs.declared.last_announcement.Announcement.{Announcement}
+use Rattle.rtps_evidence.specs.declared.location.Kind.{Kind}
+use Rattle.rtps_evidence.specs.declared.location.Location.{Location}
 
-announcement : ℤ → Kind → Place → Announcement
+announcement : ℤ → Kind → Location → Announcement
 announcement number kind place = record { number = number; kind = kind; place = place }
 
-pub announcement_made : (n : ℕ) (number : ℤ) (kind : Kind) (place : Place) (placed : PlacedValue) → number ≡ pos n → kind ≡ kind_of placed.act.body → place ≡ place_of placed → (let made : Announcement = record { number = number; kind = kind; place = place } in made) ≡ announcement_at n placed
+pub announcement_made : (n : ℕ) (number : ℤ) (kind : Kind) (place : Location) (placed : PlacedValue) → number ≡ pos n → kind ≡ kind_of placed.act.body → place ≡ location_of placed → (let made : Announcement = record { number = number; kind = kind; place = place } in made) ≡ announcement_at n placed
 unfolding announcement
 announcement_made n number kind place placed a b c = ap (λ z. announcement z kind place) a ∙ ap (λ k. announcement (pos n) k place) b ∙ ap (announcement (pos n) (kind_of placed.act.body)) c
 
-sent : Option PayloadValue → Place → SentValue
+sent : Option PayloadValue → Location → SentValue
 sent payload place = record { payload = payload; place = place }
 
-pub sent_made : (writer reader : Guid) (n : ℕ) (payload : Option PayloadValue) (place : Place) (placed : PlacedValue) → payload ≡ payload_for writer reader n placed → place ≡ place_of placed → (let made : SentValue = record { payload = payload; place = place } in made) ≡ sent_at writer reader n placed
+pub sent_made : (writer reader : Guid) (n : ℕ) (payload : Option PayloadValue) (place : Location) (placed : PlacedValue) → payload ≡ payload_for writer reader n placed → place ≡ location_of placed → (let made : SentValue = record { payload = payload; place = place } in made) ≡ sent_at writer reader n placed
 unfolding sent
 sent_made writer reader n payload place placed a b = ap (λ o. sent o place) a ∙ ap (sent (payload_for writer reader n placed)) b

@@ -11,9 +11,9 @@ use Rattle.rtps_audit.specs.declared.report.Row.{Row}
 use Rattle.rtps_audit.specs.declared.verdict.Verdict.{Verdict}
 use Rattle.rtps_audit.specs.Placed.{placed_in}
 use Rattle.rtps_evidence.specs.Evidence.{IsEvidenceFrom, claim_by, first_by, other_by, teller_by}
-use Rattle.rtps_evidence.specs.Explained.{ExplanationValue, EvidenceValue, HasOneExplanation, IsNamed, evidence_value, explanation_value, row_of, topic_of, type_of}
-use Rattle.rtps_evidence.specs.declared.explaining.Explanation.{Explanation}
-use Rattle.rtps_evidence.specs.declared.why.Evidence.{Evidence}
+use Rattle.rtps_evidence.specs.Explanation.{ExplanationValue, EvidenceValue, HasOneExplanation, IsNamed, evidence_value, explanation_value, row_of, topic_of, type_of}
+use Rattle.rtps_evidence.specs.declared.explanation.Explanation.{Explanation}
+use Rattle.rtps_evidence.specs.declared.evidence.Evidence.{Evidence}
 
 one_evidence : (from : ℕ) (pair : Pair) (recording : List (List ℕ)) (one other : Evidence) → one.verdict ≡ other.verdict
     → IsEvidenceFrom from pair recording one → IsEvidenceFrom from pair recording other → evidence_value one ≡ evidence_value other

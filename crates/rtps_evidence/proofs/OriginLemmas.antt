@@ -8,16 +8,16 @@ use Rattle.rtps_ids.specs.declared.identity.Guid.{Guid}
 use Rattle.rtps_wire.specs.Values.{PayloadValue}
 use Rattle.rtps_receiver.specs.Speech.{is_heard_by, is_spoken_by}
 use Rattle.rtps_audit.specs.Delivery.{Word, greatest, is_asked, last_announced_from}
-use Rattle.rtps_audit.specs.Hearing.{last_among}
+use Rattle.rtps_audit.specs.Answered.{last_among}
 use Rattle.rtps_audit.specs.Placed.{PlacedValue, is_from, placed_in}
 use Rattle.rtps_audit.specs.Speech.{announced_for, announced_of_body, speech_of, word_for, word_of}
 use Rattle.rtps_audit.specs.declared.verdict.Verdict.{Verdict}
 use Rattle.rtps_audit.specs.declared.verdict.Verdict.TheVariants.{Unfounded, Conflict, Open, Complete}
 use Rattle.rtps_audit.proofs.Offered.{last_is_last, speaker_is_origin}
-use Rattle.rtps_evidence.specs.Acting.{announcement_at, announcement_of, differs, first_sending, first_sent, number_said, other_sending, other_sent, payload_at, payload_for, payload_in, sends, sent_at, teller_at, teller_of, tells}
-use Rattle.rtps_evidence.specs.Counted.{AreAmounts, is_sent, is_told}
+use Rattle.rtps_evidence.specs.Locations.{announcement_at, announcement_of, differs, first_sending, first_sent, number_said, other_sending, other_sent, payload_at, payload_for, payload_in, sends, sent_at, teller_at, teller_of, tells}
+use Rattle.rtps_evidence.specs.Amount.{AreAmounts, is_sent, is_told}
 use Rattle.rtps_evidence.specs.Evidence.{first_by, other_by, teller_by}
-use Rattle.rtps_evidence.specs.declared.counting.Amounts.{Amounts}
+use Rattle.rtps_evidence.specs.declared.amount.Amounts.{Amounts}
 use Rattle.rtps_evidence.proofs.CountLemmas.{count_same}
 use Rattle.rtps_evidence.proofs.FindLemmas.{any_filter, find_filter}
 

@@ -9,7 +9,7 @@ use Rattle.rtps_audit.specs.Placed.{PlacedValue}
 use Rattle.rtps_audit.specs.PlainVerdict.{IsSpoken}
 use Rattle.rtps_audit.specs.Speech.{announced_for, base_for, speech_of, word_for}
 use Rattle.rtps_audit.proofs.Offered.{announced_is_reached, base_is_claim, claim_is_base, claimed_is_held, given_is_word, held_is_spoken, run_is_founded, two_are_held, unclaimed_is_missed, word_is_given}
-use Rattle.rtps_evidence.specs.Acting.{base_said, payload_in}
+use Rattle.rtps_evidence.specs.Locations.{base_said, payload_in}
 use Rattle.rtps_evidence.specs.Certificates.{ClaimsAt, CompleteIsShown, ConflictIsShown, OpenIsShown, SendsAt, UnfoundedIsShown}
 
 some_above : (o : Option ℕ) (n : ℕ) → n < unwrap_or o 0 → (m : ℕ) × (o ≡ Some m) × (n < m)

@@ -8,7 +8,7 @@ use Rattle.rtps_audit.specs.Delivery.Word.{Told}
 use Rattle.rtps_audit.specs.Placed.{PlacedValue, placed_in}
 use Rattle.rtps_audit.specs.RunVerdict.{EndsWithout}
 use Rattle.rtps_audit.specs.Speech.{speech_of, word_for}
-use Rattle.rtps_evidence.specs.Acting.{base_said, number_said, payload_for}
+use Rattle.rtps_evidence.specs.Locations.{base_said, number_said, payload_for}
 
 -- an act of the recording is an answer whose base is above n
 pub record ClaimsAt (pair : Pair) (recording : List (List ℕ)) (n : ℕ) (at : PlacedValue) : Type 0 where

@@ -9,11 +9,11 @@ use Rattle.rtps_audit.specs.RunVerdict.{IsVerdictFrom}
 use Rattle.rtps_audit.specs.Speech.{natural, speech_of}
 use Rattle.rtps_audit.specs.declared.verdict.Verdict.{Verdict}
 use Rattle.rtps_audit.specs.declared.verdict.Verdict.TheVariants.{Unfounded, Conflict, Open, Complete}
-use Rattle.rtps_evidence.specs.Acting.{SentValue, acknowledgement_of, announcement_of, claim_of, first_sent, other_sent, sent_value, teller_of}
-use Rattle.rtps_evidence.specs.Counted.{AreAmounts}
-use Rattle.rtps_evidence.specs.declared.answering.Claim.{Claim}
-use Rattle.rtps_evidence.specs.declared.telling.Teller.{Teller}
-use Rattle.rtps_evidence.specs.declared.why.Evidence.{Evidence}
+use Rattle.rtps_evidence.specs.Locations.{SentValue, acknowledgement_of, announcement_of, claim_of, first_sent, other_sent, sent_value, teller_of}
+use Rattle.rtps_evidence.specs.Amount.{AreAmounts}
+use Rattle.rtps_evidence.specs.declared.acknowledgement.Claim.{Claim}
+use Rattle.rtps_evidence.specs.declared.teller.Teller.{Teller}
+use Rattle.rtps_evidence.specs.declared.evidence.Evidence.{Evidence}
 
 -- the teller of the number, where the verdict is open or unfounded
 abbrev pub teller_by : Verdict → Guid → Guid → List PlacedValue → Option Teller

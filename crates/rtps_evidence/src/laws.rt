@@ -2,7 +2,7 @@
 //! does nothing: its clause is the law, and its proof the law's proof.
 
 ghost use Rattle.rtps_evidence.specs.Certificates.{CompleteIsShown, ConflictIsShown, OpenIsShown, UnfoundedIsShown};
-ghost use Rattle.rtps_evidence.specs.Explained.{HasOneExplanation};
+ghost use Rattle.rtps_evidence.specs.Explanation.{HasOneExplanation};
 
 use rtps_audit::laws::one_report;
 use rtps_discovery::laws::one_map;

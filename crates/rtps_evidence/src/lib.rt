@@ -2,36 +2,21 @@
 //! (DDSI-RTPS 2.5, 8.4 "Behavior Module").
 #![tactic(auto)]
 
-mod announcing;
-mod answering;
-mod apart;
-mod asked;
-mod counting;
-mod explaining;
-mod firsts;
-mod hearers;
+mod acknowledgement;
+mod amount;
+mod evidence;
+mod explanation;
+mod last_announcement;
 pub mod laws;
-mod lists;
-mod payloads;
-mod places;
-mod questions;
-mod ranked;
-mod rivals;
-mod sending;
-mod shared;
-mod shares;
-mod slots;
-mod slotting;
-mod spoken;
-mod stretches;
-mod tellers;
-mod telling;
-mod why;
+mod location;
+mod sent_payload;
+mod teller;
+mod writer_summary;
 
-pub use announcing::Announcement;
-pub use answering::Claim;
-pub use explaining::{Explained, Explanation, explain_from};
-pub use places::{Kind, Place};
-pub use sending::Sent;
-pub use telling::Teller;
-pub use why::Evidence;
+pub use acknowledgement::Claim;
+pub use evidence::Evidence;
+pub use explanation::{Explained, Explanation, explain_from};
+pub use last_announcement::Announcement;
+pub use location::{Kind, Location};
+pub use sent_payload::Sent;
+pub use teller::Teller;

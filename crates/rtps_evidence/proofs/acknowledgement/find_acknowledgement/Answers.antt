@@ -1,0 +1,24 @@
+use Rattle.std.proofs.Common.{List, ◌∙◌, ◌==◌, ap, arith, map}
+use Rattle.std.proofs.lemmas.Int.{ints}
+use Rattle.std.specs.List.{find}
+use Rattle.rtps_audit.specs.Delivery.{greatest}
+use Rattle.rtps_audit.specs.Placed.{placed_in}
+use Rattle.rtps_audit.specs.Speech.{natural}
+use Rattle.rtps_audit.specs.declared.answer.Answer.{Answer}
+use Rattle.rtps_evidence.specs.Locations.{claim_in}
+use Rattle.rtps_evidence.specs.declared.acknowledgement.Claim.{Claim}
+use Rattle.rtps_evidence.proofs.AnswerLemmas.{acknowledged, unacknowledged}
+use Rattle.rtps_evidence.proofs.acknowledgement.find_acknowledgement.Goals as goal
+
+pub returns-then-base-cast_unsigned : goal.returns-then-base-cast_unsigned
+returns-then-base-cast_unsigned c = λ recording is.
+    unacknowledged c.args.from c.greatest_base-base.result c.args.pair (placed_in recording)
+    (c.greatest_base-base.ensures.value ∙ ap (λ (answers : List Answer). greatest (map (λ answer. natural answer.base) answers)) (c.answers_of-answers.ensures recording is)) (omega (arith, ints))
+
+pub returns : goal.returns
+returns c = λ recording is.
+    let answers = c.answers_of-answers.ensures recording is in
+    c.first_with.ensures
+    ∙ ap (λ (all : List Answer). find (λ (claim : Claim). natural claim.below == c.greatest_base-base.result) (map claim_in all)) answers
+    ∙ acknowledged c.args.from c.greatest_base-base.result c.args.pair (placed_in recording)
+    (c.greatest_base-base.ensures.value ∙ ap (λ (all : List Answer). greatest (map (λ answer. natural answer.base) all)) answers) (omega (arith, ints))

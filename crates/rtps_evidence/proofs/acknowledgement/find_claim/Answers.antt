@@ -1,0 +1,15 @@
+use Rattle.std.proofs.Common.{List, ◌∙◌, ◌==◌, ◌&&◌, nat_lt, ap, map}
+use Rattle.std.specs.List.{find}
+use Rattle.rtps_audit.specs.Placed.{placed_in}
+use Rattle.rtps_audit.specs.Speech.{natural}
+use Rattle.rtps_audit.specs.declared.answer.Answer.{Answer}
+use Rattle.rtps_evidence.specs.Locations.{claim_in}
+use Rattle.rtps_evidence.specs.declared.acknowledgement.Claim.{Claim}
+use Rattle.rtps_evidence.proofs.AnswerLemmas.{claimed}
+use Rattle.rtps_evidence.proofs.acknowledgement.find_claim.Goals as goal
+
+pub returns : goal.returns
+returns c = λ recording is.
+    c.first_above.ensures
+    ∙ ap (λ (all : List Answer). find (λ (claim : Claim). (claim.place.datagram == c.args.datagram) && nat_lt c.args.number (natural claim.below)) (map claim_in all)) (c.answers_of.ensures recording is)
+    ∙ claimed c.args.datagram c.args.number c.args.pair (placed_in recording)

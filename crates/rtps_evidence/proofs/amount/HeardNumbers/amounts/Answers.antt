@@ -1,0 +1,19 @@
+use Rattle.std.proofs.Common.{◌≡◌, ◌+◌, arith, subst}
+use Rattle.std.proofs.lemmas.Int.{ints}
+use Rattle.rtps_evidence.specs.Amount.{count_in, stretches_have}
+use Rattle.rtps_evidence.proofs.CountLemmas.{amounts_counted, count_others}
+use Rattle.rtps_evidence.proofs.amount.HeardNumbers.amounts.Goals as goal
+
+pub overflow_sub-result-2 : goal.overflow_sub-result-2
+overflow_sub-result-2 c =
+    let all = count_others (stretches_have c.args.self.now.told.items) c.cast_unsigned-first.result (c.args.asked.now.last + 1) in
+    let told = c.in_ok-told.ensures in
+    omega arith
+
+pub returns : goal.returns
+returns c = λ writer reader acts heard.
+    let first : c.cast_unsigned-first.result ≡ c.args.asked.now.from = omega (arith, ints) in
+    let amounts = amounts_counted c.args.asked.now.from c.args.asked.now.last writer reader acts c.args.self.now.sent.items c.args.self.now.told.items c.in_ok-payloads.payloads c.in_ok-told.told heard.sent heard.told
+    (subst (λ n. c.in_ok-payloads.payloads ≡ count_in (stretches_have c.args.self.now.sent.items) n (c.args.asked.now.last + 1)) first c.in_ok-payloads.ensures)
+    (subst (λ n. c.in_ok-told.told ≡ count_in (stretches_have c.args.self.now.told.items) n (c.args.asked.now.last + 1)) first c.in_ok-told.ensures) in
+    rw (first, c.saturating_sub.ensures) amounts

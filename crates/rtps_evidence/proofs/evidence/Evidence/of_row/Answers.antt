@@ -1,0 +1,30 @@
+use Rattle.std.proofs.Common.{◌≡◌, ◌∙◌, map, filter, ap, subst}
+use Rattle.rtps_ids.specs.declared.identity.Guid.{Guid}
+use Rattle.rtps_audit.specs.Delivery.{last_announced_from}
+use Rattle.rtps_audit.specs.Placed.{is_from, placed_in, placed_value}
+use Rattle.rtps_audit.specs.Speech.{speech_of}
+use Rattle.rtps_evidence.specs.Amount.{AreAmounts}
+use Rattle.rtps_evidence.specs.Evidence.{first_by, other_by, teller_by}
+use Rattle.rtps_evidence.specs.Locations.{announcement_of}
+use Rattle.rtps_evidence.proofs.OriginLemmas.{first_by_same, other_by_same, teller_by_same}
+use Rattle.rtps_evidence.proofs.evidence.Evidence.of_row.Goals as goal
+
+pub returns-clause-evidence : goal.returns-clause-evidence
+returns-clause-evidence c = λ recording is summary judged.
+    let from = c.args.summary.now.asked.from in
+    let row = c.args.row in
+    let writer = row.pair.writer in
+    let reader = row.pair.reader in
+    let all = placed_in recording in
+    let acts : map placed_value c.acts_of-acts.result.now ≡ filter (is_from writer) all = c.acts_of-acts.ensures recording is in
+    let last : c.args.summary.now.asked.last ≡ last_announced_from from (speech_of writer reader recording) = summary.last reader ∙ ap (λ (w : Guid). last_announced_from from (speech_of w reader recording)) c.requires in
+    record {
+      verdict = judged;
+      announcement = summary.announcement ∙ ap (λ (w : Guid). announcement_of from w c.args.summary.now.asked.last all) c.requires ∙ ap (λ n. announcement_of from writer n all) last;
+      acknowledgement = c.find_acknowledgement.ensures recording is;
+      amounts = subst (λ n. AreAmounts from n writer reader all c.in_ok-amounts.amounts) last (subst (λ (w : Guid). AreAmounts from c.args.summary.now.asked.last w reader all c.in_ok-amounts.amounts) c.requires (c.in_ok-amounts.ensures recording is summary));
+      teller = c.teller_of.ensures ∙ ap (teller_by row.verdict writer reader) acts ∙ teller_by_same row.verdict writer reader all;
+      claim = c.claim_of.ensures recording is;
+      first = c.first_of.ensures ∙ ap (first_by row.verdict writer reader) acts ∙ first_by_same row.verdict writer reader all;
+      other = c.other_of.ensures ∙ ap (other_by row.verdict writer reader) acts ∙ other_by_same row.verdict writer reader all;
+    }

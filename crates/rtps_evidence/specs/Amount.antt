@@ -1,0 +1,42 @@
+-- How many numbers have a payload, are gone, or have no word. own: numbers go up to 2^63 - 1, so they are counted by stretches
+-- of them and never one by one.
+use Rattle.std.specs.Prelude.{ℕ, Bool, ◌-◌, ◌+◌, ◌≡◌, ◌&&◌, nat_le, nat_lt, not, List, filter, length}
+use Rattle.std.specs.List.{list_any, range_with_len}
+use Rattle.rtps_ids.specs.declared.identity.Guid.{Guid}
+use Rattle.rtps_audit.specs.Placed.{PlacedValue}
+use Rattle.rtps_evidence.specs.Locations.{sends, tells}
+use Rattle.rtps_evidence.specs.declared.amount.Amounts.{Amounts}
+use Rattle.rtps_evidence.specs.declared.amount.HeardNumbers.{HeardNumbers}
+use Rattle.rtps_evidence.specs.declared.amount.Stretch.{Stretch}
+
+-- how many of the numbers from lo on and below hi have it
+abbrev pub count_in : (ℕ → Bool) → ℕ → ℕ → ℕ
+count_in has lo hi = length (filter has (range_with_len lo (hi - lo)))
+
+-- whether a stretch has a number
+abbrev pub stretch_has : ℕ → Stretch → Bool
+stretch_has n stretch = nat_le stretch.lo n && nat_lt n stretch.hi
+
+-- whether some stretch does
+abbrev pub stretches_have : List Stretch → ℕ → Bool
+stretches_have stretches n = list_any (stretch_has n) stretches
+
+-- whether the reader hears a word for n from the writer, by some act
+abbrev pub is_told : Guid → Guid → List PlacedValue → ℕ → Bool
+is_told writer reader acts n = list_any (tells writer reader n) acts
+
+-- whether it hears a payload for n
+abbrev pub is_sent : Guid → Guid → List PlacedValue → ℕ → Bool
+is_sent writer reader acts n = list_any (sends writer reader n) acts
+
+-- they are the numbers that have a word, and those that have a payload
+pub record AreNumbers (has_word has_payload : ℕ → Bool) (heard : HeardNumbers) : Type 0 where
+  pub told : (n : ℕ) → stretches_have heard.told.items n ≡ has_word n
+  pub sent : (n : ℕ) → stretches_have heard.sent.items n ≡ has_payload n
+
+-- Of the numbers from `from` to the last one: those with a payload, those told gone that have no payload, and those
+-- without a word.
+pub record AreAmounts (from last : ℕ) (writer reader : Guid) (acts : List PlacedValue) (amounts : Amounts) : Type 0 where
+  pub payloads : amounts.payloads ≡ count_in (is_sent writer reader acts) from (last + 1)
+  pub gone : amounts.gone ≡ count_in (λ n. is_told writer reader acts n && not (is_sent writer reader acts n)) from (last + 1)
+  pub untold : amounts.untold ≡ count_in (λ n. not (is_told writer reader acts n)) from (last + 1)

@@ -1,0 +1,103 @@
+-- Why each pair of a recording has its verdict. own: the pairs and the counts are those of the report; each pair has the
+-- topic and the type of its two, and its evidence.
+use Rattle.std.specs.Prelude.{ℕ, ◌≡◌, List, [], All, map, Option, Some, None}
+use Rattle.std.specs.Option.{option_map}
+use Rattle.rtps_receiver.specs.Acts.{acts_in}
+use Rattle.rtps_discovery.specs.Directory.{DirectoryValue, Entries, IsMapOf, settled_at}
+use Rattle.rtps_discovery.specs.Endpoint.{EndpointValue}
+use Rattle.rtps_discovery.specs.declared.matching.Pair.{Pair}
+use Rattle.rtps_audit.specs.Report.{IsReportFrom}
+use Rattle.rtps_audit.specs.declared.report.Report.{Report}
+use Rattle.rtps_audit.specs.declared.report.Row.{Row}
+use Rattle.rtps_audit.specs.declared.verdict.Verdict.{Verdict}
+use Rattle.rtps_evidence.specs.Locations.{SentValue, sent_value}
+use Rattle.rtps_evidence.specs.Evidence.{IsEvidenceFrom}
+use Rattle.rtps_evidence.specs.declared.last_announcement.Announcement.{Announcement}
+use Rattle.rtps_evidence.specs.declared.acknowledgement.Claim.{Claim}
+use Rattle.rtps_evidence.specs.declared.explanation.Explained.{Explained}
+use Rattle.rtps_evidence.specs.declared.explanation.Explanation.{Explanation}
+use Rattle.rtps_evidence.specs.declared.teller.Teller.{Teller}
+use Rattle.rtps_evidence.specs.declared.evidence.Evidence.{Evidence}
+
+-- evidence, with lists of octets where the type holds parts of the caller's datagrams
+pub record EvidenceValue : Type 0 where
+  pub verdict : Verdict
+  pub announcement : Option Announcement
+  pub acknowledgement : Option Claim
+  pub payloads : ℕ
+  pub gone : ℕ
+  pub untold : ℕ
+  pub teller : Option Teller
+  pub claim : Option Claim
+  pub first_sent : Option SentValue
+  pub other_sent : Option SentValue
+
+-- the evidence of the code, as a value
+abbrev pub evidence_value : Evidence → EvidenceValue
+evidence_value evidence =
+    record {
+      verdict = evidence.verdict;
+      announcement = evidence.announcement;
+      acknowledgement = evidence.acknowledgement;
+      payloads = evidence.payloads;
+      gone = evidence.gone;
+      untold = evidence.untold;
+      teller = evidence.teller;
+      claim = evidence.claim;
+      first_sent = option_map sent_value evidence.first_sent;
+      other_sent = option_map sent_value evidence.other_sent;
+    }
+
+-- a pair, what its two are about, and its evidence
+pub record ExplanationValue : Type 0 where
+  pub pair : Pair
+  pub topic : List ℕ
+  pub type_name : List ℕ
+  pub evidence : EvidenceValue
+
+-- a row of the code, as a value
+abbrev pub explanation_value : Explanation → ExplanationValue
+explanation_value explanation =
+    record {
+      pair = explanation.pair;
+      topic = explanation.topic.now;
+      type_name = explanation.type_name.now;
+      evidence = evidence_value explanation.evidence;
+    }
+
+-- the topic of an endpoint, empty where there is no endpoint
+abbrev pub topic_of : Option EndpointValue → List ℕ
+topic_of None = []
+topic_of (Some endpoint) = endpoint.topic
+
+-- the type of an endpoint, empty where there is no endpoint
+abbrev pub type_of : Option EndpointValue → List ℕ
+type_of None = []
+type_of (Some endpoint) = endpoint.type_name
+
+-- the topic and the type are those of the pair's writer, which are its reader's too, since the two match
+pub record IsNamed (entries : Entries) (explanation : Explanation) : Type 0 where
+  pub topic : explanation.topic.now ≡ topic_of (settled_at entries explanation.pair.writer)
+  pub type_name : explanation.type_name.now ≡ type_of (settled_at entries explanation.pair.writer)
+
+-- the row of the report that is explained
+abbrev pub row_of : Explanation → Row
+row_of explanation = record { pair = explanation.pair; verdict = explanation.evidence.verdict }
+
+-- The rows are those of the report by the numbers from `from` on, each with its names and its evidence, and the counts are
+-- the report's.
+pub record IsExplainedFrom (from : ℕ) (recording : List (List ℕ)) (explained : Explained) : Type 0 where
+  pub report : Report
+  pub reports : IsReportFrom from recording report
+  pub rows : map row_of explained.rows.items ≡ report.rows.items
+  pub counts : explained.counts ≡ report.counts
+  pub directory : DirectoryValue
+  pub is_map : IsMapOf (acts_in recording) directory
+  pub named : All (IsNamed directory.endpoints) explained.rows.items
+  pub shown : All (λ row. IsEvidenceFrom from row.pair recording row.evidence) explained.rows.items
+
+-- a recording is explained in one way: the same rows, and the same counts
+abbrev pub HasOneExplanation : Type 0
+HasOneExplanation =
+    (from : ℕ) (recording : List (List ℕ)) (one other : Explained) → IsExplainedFrom from recording one → IsExplainedFrom from recording other
+    → (map explanation_value one.rows.items ≡ map explanation_value other.rows.items) × (one.counts ≡ other.counts)

@@ -1,0 +1,241 @@
+ghost use Rattle.std.specs.Prelude.{ℕ, ◌≡◌, ◌-◌, ◌<◌, ◌≤◌, ◌||◌, ◌^◌, map, IfOk, IfSome, List, OnOk};
+ghost use Rattle.std.specs.List.Sorted.{IsNonDecreasingBy};
+ghost use Rattle.rtps_audit.specs.Placed.{placed_value};
+ghost use Rattle.rtps_audit.specs.Speech.{is_in_gap};
+ghost use Rattle.rtps_evidence.specs.Amount.{AreAmounts, count_in, is_sent, is_told, stretch_has, stretches_have};
+ghost use Rattle.rtps_evidence.specs.Locations.{sends, tells};
+
+use rtps_audit::Placed;
+use rtps_discovery::Pair;
+use rtps_ids::{Memory, SeqNum};
+use rtps_receiver::ActBody;
+use rtps_wire::GapBody;
+use std::alloc::Global;
+
+/// The numbers that are asked for: those from `from` to the last announced one. There are none where `last` is `from` - 1.
+#[derive(Clone, Copy, Debug)]
+pub(crate) struct AskedNumbers {
+    pub(crate) from: SeqNum,
+    pub(crate) last: u64,
+    ghost in_range: { (from - 1 ≤ last) × (last < 2 ^ 63) },
+}
+
+/// Of the numbers that are asked for: how many have a payload, are gone without one, and have no word.
+#[derive(Clone, Copy, Debug)]
+pub(crate) struct Amounts {
+    pub(crate) payloads: u64,
+    pub(crate) gone: u64,
+    pub(crate) untold: u64,
+}
+
+/// The numbers from `lo` on and below `hi`; there may be none.
+#[derive(Clone, Copy, Debug)]
+pub(crate) struct Stretch {
+    pub(crate) lo: u64,
+    pub(crate) hi: u64,
+}
+
+/// The numbers that have a word by what is heard, and those that have a payload.
+#[derive(Drop)]
+pub(crate) struct HeardNumbers {
+    pub(crate) told: Vec<Stretch>,
+    pub(crate) sent: Vec<Stretch>,
+}
+
+/// How many of the numbers from `from` on and below `end` lie in these stretches, which stand in the order of their
+/// beginnings.
+fn count_in_order(stretches: &[Stretch], from: u64, end: u64) -> u64
+    requires sorted { IsNonDecreasingBy (λ stretch. stretch.lo) stretches.now }
+    requires ordered { from ≤ end }
+    ensures { result ≡ count_in (stretches_have stretches.now) from end }
+{
+    let mut reached = from;
+    let mut count = 0;
+    for stretch in stretches {
+        let lo = stretch.lo.max(reached);
+        let hi = stretch.hi.min(end);
+        if lo < hi {
+            count += hi - lo;
+            reached = hi;
+        }
+    }
+    count
+}
+
+/// How many of the numbers from `from` on and below `end` lie in these stretches.
+fn count_of(stretches: &mut Vec<Stretch>, from: u64, end: u64) -> Result<u64, Memory>
+    requires { from ≤ end }
+    ensures { IfOk result (λ count. count ≡ count_in (stretches_have stretches.old.items) from end) }
+{
+    stretches.sort_by_key(|stretch| stretch.lo)?;
+    Ok(count_in_order(stretches, from, end))
+}
+
+/// The stretch that two make, where the second begins in the first or at its end.
+fn joined(first: Stretch, second: Stretch) -> Option<Stretch>
+    ensures { IfSome result (λ whole. (n : ℕ) → stretch_has n whole ≡ (stretch_has n first || stretch_has n second)) }
+{
+    if second.lo < first.lo || first.hi < second.lo {
+        return None;
+    }
+    Some(Stretch {
+        lo: first.lo,
+        hi: first.hi.max(second.hi),
+    })
+}
+
+/// Appends a stretch, or joins it to the last one. After `Memory` the stretches are of no use.
+fn push(stretches: &mut Vec<Stretch>, stretch: Stretch) -> Result<(), Memory>
+    ensures { OnOk result ((n : ℕ) → stretches_have stretches.new.items n ≡ (stretches_have stretches.old.items n || stretch_has n stretch)) }
+{
+    let Some(last) = stretches.pop() else {
+        stretches.push(stretch)?;
+        return Ok(());
+    };
+    if let Some(whole) = joined(last, stretch) {
+        stretches.push(whole)?;
+        return Ok(());
+    }
+    stretches.push(last)?;
+    stretches.push(stretch)?;
+    Ok(())
+}
+
+/// The numbers of these stretches in order, in as few stretches as they make.
+fn in_order(alloc: Global, stretches: &mut Vec<Stretch>) -> Result<Vec<Stretch>, Memory>
+    ensures { IfOk result (λ few. (n : ℕ) → stretches_have few.items n ≡ stretches_have stretches.old.items n) }
+{
+    stretches.sort_by_key(|stretch| stretch.lo)?;
+    let few = push_all(alloc, stretches)?;
+    Ok(few)
+}
+
+/// The numbers of these stretches, each joined to the one before where they meet.
+fn push_all(alloc: Global, stretches: &[Stretch]) -> Result<Vec<Stretch>, Memory>
+    ensures { IfOk result (λ few. (n : ℕ) → stretches_have few.items n ≡ stretches_have stretches.now n) }
+{
+    let mut few = Vec::new(alloc);
+    for stretch in stretches {
+        push(&mut few, *stretch)?;
+    }
+    Ok(few)
+}
+
+/// Appends the numbers that a GAP says will not come. After `Memory` the stretches are of no use.
+fn push_gap(stretches: &mut Vec<Stretch>, gap: &GapBody) -> Result<(), Memory>
+    ensures { OnOk result ((n : ℕ) → stretches_have stretches.new.items n ≡ (stretches_have stretches.old.items n || is_in_gap gap.now n)) }
+{
+    let lo = gap.start.get().cast_unsigned();
+    let hi = gap.list.base().cast_unsigned();
+    push(stretches, Stretch { lo, hi })?;
+    let mut at = hi;
+    'apart: while let Some(members) = gap.list.range_from(at) {
+        let (lo, hi) = (members.start, members.end);
+        push(stretches, Stretch { lo, hi })?;
+        at = members.end;
+    }
+    Ok(())
+}
+
+/// Appends the numbers that have a word by an act which the pair's reader hears from its writer. After `Memory` the stretches
+/// are of no use.
+fn push_told(stretches: &mut Vec<Stretch>, placed: &Placed<'_>, pair: Pair) -> Result<(), Memory>
+    ensures { OnOk result ((n : ℕ) → stretches_have stretches.new.items n
+        ≡ (stretches_have stretches.old.items n || tells pair.writer pair.reader n (placed_value placed.now))) }
+{
+    if !placed.act.spoken_by(pair.writer) || !placed.act.heard_by(pair.reader) {
+        return Ok(());
+    }
+    match &placed.act.body {
+        ActBody::Data(data) => {
+            let lo = data.number.get().cast_unsigned();
+            push(stretches, Stretch { lo, hi: lo + 1 })
+        }
+        ActBody::Heartbeat(heartbeat) => {
+            let hi = heartbeat.first.get().cast_unsigned();
+            push(stretches, Stretch { lo: 0, hi })
+        }
+        ActBody::Gap(gap) => push_gap(stretches, gap),
+        ActBody::AckNack(_) => Ok(()),
+    }
+}
+
+/// Appends the number that has a payload by an act which the pair's reader hears from its writer. After `Memory` the stretches
+/// are of no use.
+fn push_sent(stretches: &mut Vec<Stretch>, placed: &Placed<'_>, pair: Pair) -> Result<(), Memory>
+    ensures { OnOk result ((n : ℕ) → stretches_have stretches.new.items n
+        ≡ (stretches_have stretches.old.items n || sends pair.writer pair.reader n (placed_value placed.now))) }
+{
+    if !placed.act.spoken_by(pair.writer) || !placed.act.heard_by(pair.reader) {
+        return Ok(());
+    }
+    if let ActBody::Data(data) = &placed.act.body {
+        let lo = data.number.get().cast_unsigned();
+        push(stretches, Stretch { lo, hi: lo + 1 })?;
+    }
+    Ok(())
+}
+
+impl HeardNumbers {
+    ghost use Rattle.std.specs.Prelude.{[]};
+    ghost use Rattle.rtps_ids.specs.declared.identity.Guid.{Guid as GuidValue};
+    ghost use Rattle.rtps_audit.specs.Placed.{PlacedValue};
+    ghost use Rattle.rtps_evidence.specs.Amount.{AreNumbers};
+
+    /// No numbers.
+    pub(crate) fn new(alloc: Global) -> Self
+        ensures told { result.told.items ≡ [] }
+        ensures sent { result.sent.items ≡ [] }
+    {
+        HeardNumbers {
+            told: Vec::new(alloc),
+            sent: Vec::new(alloc),
+        }
+    }
+
+    /// Adds those of an act that the pair's reader hears from its writer. After `Memory` they are of no use.
+    pub(crate) fn note(&mut self, placed: &Placed<'_>, pair: Pair) -> Result<(), Memory>
+        ensures { OnOk result (AreNumbers
+            (λ n. stretches_have self.old.told.items n || tells pair.writer pair.reader n (placed_value placed.now))
+            (λ n. stretches_have self.old.sent.items n || sends pair.writer pair.reader n (placed_value placed.now)) self.new) }
+    {
+        push_told(&mut self.told, placed, pair)?;
+        push_sent(&mut self.sent, placed, pair)
+    }
+
+    /// Puts them in order, in as few stretches as they make. After `Memory` they are of no use.
+    pub(crate) fn put_in_order(&mut self, alloc: Global) -> Result<(), Memory>
+        ensures { OnOk result (AreNumbers (stretches_have self.old.told.items) (stretches_have self.old.sent.items) self.new) }
+    {
+        self.told = in_order(alloc, &mut self.told)?;
+        self.sent = in_order(alloc, &mut self.sent)?;
+        Ok(())
+    }
+
+    /// The same numbers once more.
+    pub(crate) fn copied(&self, alloc: Global) -> Result<HeardNumbers, Memory>
+        ensures { IfOk result (AreNumbers (stretches_have self.now.told.items) (stretches_have self.now.sent.items)) }
+    {
+        let mut copy = HeardNumbers::new(alloc);
+        copy.told.extend_from_slice(&self.told)?;
+        copy.sent.extend_from_slice(&self.sent)?;
+        Ok(copy)
+    }
+
+    /// The amounts of the numbers that are asked for. It puts the stretches in another order.
+    pub(crate) fn amounts(&mut self, asked: &AskedNumbers) -> Result<Amounts, Memory>
+        ensures { (writer reader : GuidValue) (acts : List PlacedValue)
+            → AreNumbers (is_told writer reader acts) (is_sent writer reader acts) self.old
+            → IfOk result (AreAmounts asked.now.from asked.now.last writer reader acts) }
+    {
+        let first = asked.from.get().cast_unsigned();
+        let end = asked.last + 1;
+        let told = count_of(&mut self.told, first, end)?;
+        let payloads = count_of(&mut self.sent, first, end)?;
+        Ok(Amounts {
+            payloads,
+            gone: told.saturating_sub(payloads),
+            untold: end - first - told,
+        })
+    }
+}

@@ -1,0 +1,90 @@
+ghost use Rattle.std.specs.Prelude.{◌≡◌, map};
+ghost use Rattle.std.specs.List.{find};
+ghost use Rattle.std.specs.Option.{option_map};
+ghost use Rattle.rtps_wire.specs.Values.{payload_value};
+ghost use Rattle.rtps_audit.specs.Placed.{placed_value};
+ghost use Rattle.rtps_evidence.specs.Locations.{differs, first_sent as first_sent_lem, is_same as is_same_lem, other_sent as other_sent_lem, payload_for as payload_for_lem, sent_at, sent_value};
+
+use crate::location::{Location, location_of};
+use rtps_audit::Placed;
+use rtps_discovery::Pair;
+use rtps_receiver::ActBody;
+use rtps_wire::Payload;
+
+/// A payload that was sent for a number, and the DATA that it stands in.
+#[derive(Clone, Copy, PartialEq, Eq, Debug)]
+pub struct Sent<'a> {
+    pub payload: Payload<'a>,
+    pub place: Location,
+}
+
+/// The payload that the reader hears for the number from the writer by an act.
+fn payload_for<'a>(placed: &Placed<'a>, pair: Pair, number: u64) -> Option<Payload<'a>>
+    ensures { option_map payload_value result ≡ payload_for_lem pair.writer pair.reader number (placed_value placed.now) }
+{
+    if !placed.act.spoken_by(pair.writer) || !placed.act.heard_by(pair.reader) {
+        return None;
+    }
+    match &placed.act.body {
+        ActBody::Data(data) if data.number.get().cast_unsigned() == number => Some(data.payload),
+        _ => None,
+    }
+}
+
+/// Whether two payloads are equal in kind and octets.
+fn is_same(one: Payload<'_>, other: Payload<'_>) -> bool
+    ensures { result ≡ is_same_lem (payload_value one.entry) (payload_value other.entry) }
+{
+    match (one, other) {
+        (Payload::Absent, Payload::Absent) => true,
+        (Payload::Whole(one), Payload::Whole(other)) => one == other,
+        (Payload::Key(one), Payload::Key(other)) => one == other,
+        _ => false,
+    }
+}
+
+/// The first payload for the number by these acts.
+pub(crate) fn first_sent<'a>(acts: &[Placed<'a>], pair: Pair, number: u64) -> Option<Sent<'a>>
+    ensures { option_map sent_value result ≡ first_sent_lem pair.writer pair.reader number (map placed_value acts.now) }
+{
+    for placed in acts {
+        if let Some(payload) = payload_for(placed, pair, number) {
+            return Some(Sent {
+                payload,
+                place: location_of(placed),
+            });
+        }
+    }
+    None
+}
+
+/// The first payload for the number by these acts that is another one than this.
+fn another_sent<'a>(
+    acts: &[Placed<'a>],
+    pair: Pair,
+    number: u64,
+    first: Payload<'_>,
+) -> Option<Sent<'a>>
+    ensures { option_map sent_value result ≡ option_map (sent_at pair.writer pair.reader number)
+        (find (λ placed. differs (payload_value first.entry) (payload_for_lem pair.writer pair.reader number placed)) (map placed_value acts.now)) }
+{
+    for placed in acts {
+        if let Some(payload) = payload_for(placed, pair, number) {
+            if !is_same(first, payload) {
+                return Some(Sent {
+                    payload,
+                    place: location_of(placed),
+                });
+            }
+        }
+    }
+    None
+}
+
+/// The first payload for the number by these acts that is another one than the first of all.
+pub(crate) fn other_sent<'a>(acts: &[Placed<'a>], pair: Pair, number: u64) -> Option<Sent<'a>>
+    ensures { option_map sent_value result ≡ other_sent_lem pair.writer pair.reader number (map placed_value acts.now) }
+{
+    let first = first_sent(acts, pair, number)?;
+    another_sent(acts, pair, number, first.payload)
+}
