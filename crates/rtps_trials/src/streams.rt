@@ -1,0 +1,194 @@
+//! Readers and writers that give and take octet by octet, and that fail at each place.
+
+use crate::fault::Fault;
+use crate::recording::second;
+use rtps_tool::{
+    Ending, Limits, RunFault, Unwatched, run_audit, run_audit_from, run_json_within, run_list,
+    run_show, run_why,
+};
+use std::alloc::Global;
+use std::io::{self, ErrorKind, Read, Write};
+
+/// Gives one octet a read. One of its reads fails, counted from 1, and those behind it go on.
+#[derive(Drop)]
+struct Slow<'a> {
+    left: &'a [u8],
+    reads: usize,
+    fails_at: usize,
+}
+
+impl Read for Slow<'_> {
+    fn read(&mut self, buf: &mut [u8]) -> io::Result<usize> {
+        self.reads = self.reads.saturating_add(1);
+        if self.reads == self.fails_at {
+            return Err(io::Error::from(ErrorKind::ConnectionReset));
+        }
+        let left = self.left;
+        match (left, buf) {
+            ([first, rest @ ..], [place, ..]) => {
+                *place = *first;
+                self.left = rest;
+                Ok(1)
+            }
+            _ => Ok(0),
+        }
+    }
+}
+
+/// Takes one octet a write while there is room, and then fails, or takes none.
+#[derive(Drop)]
+struct Narrow {
+    held: Vec<u8>,
+    room: usize,
+    fails: bool,
+}
+
+impl Write for Narrow {
+    fn write(&mut self, buf: &[u8]) -> io::Result<usize> {
+        if self.held.len() < self.room {
+            let size = buf.len().min(1);
+            self.held.extend_from_slice(&buf[..size])?;
+            return Ok(size);
+        }
+        if self.fails {
+            return Err(io::Error::from(ErrorKind::BrokenPipe));
+        }
+        Ok(0)
+    }
+
+    fn flush(&mut self) -> io::Result<()> {
+        Ok(())
+    }
+}
+
+/// A run that prints of a recording.
+#[derive(Clone, Copy)]
+pub(crate) enum Run {
+    Show,
+    List,
+    Audit,
+    AuditFrom,
+    Why,
+    Json,
+}
+
+const RUNS: [Run; 6] = [
+    Run::Show,
+    Run::List,
+    Run::Audit,
+    Run::AuditFrom,
+    Run::Why,
+    Run::Json,
+];
+
+impl Run {
+    pub(crate) fn of<R: Read, W: Write>(
+        self,
+        alloc: Global,
+        input: &mut R,
+        output: &mut W,
+    ) -> Result<Ending, RunFault> {
+        match self {
+            Run::Show => run_show(alloc, input, output),
+            Run::List => run_list(alloc, input, output),
+            Run::Audit => run_audit(alloc, input, output),
+            Run::AuditFrom => run_audit_from(alloc, input, output, second()),
+            Run::Why => run_why(alloc, input, output),
+            Run::Json => {
+                let watch = &mut Unwatched;
+                run_json_within(alloc, Limits::usual(), input, output, second(), watch)
+            }
+        }
+    }
+}
+
+/// What a run prints of an input where nothing fails, and how it ends. A `Vec` fails to take octets for want of memory
+/// alone.
+pub(crate) fn text_of(alloc: Global, run: Run, input: &[u8]) -> Result<(Vec<u8>, Ending), Fault> {
+    let mut left = input;
+    let mut output = Vec::new(alloc);
+    match run.of(alloc, &mut left, &mut output) {
+        Ok(ending) => Ok((output, ending)),
+        Err(RunFault::Memory | RunFault::Output { .. }) => Err(Fault::Memory),
+        Err(_) => Err(Fault::Differs("a run fails with nothing that fails")),
+    }
+}
+
+/// Counts reads that fail: each of them, also the one that would find the end. Nothing is written.
+pub(crate) fn count_reads(alloc: Global, input: &[u8]) -> Result<usize, Fault> {
+    let mut count = 0usize;
+    for run in RUNS {
+        count = count.saturating_add(fail_each_read(alloc, run, input)?);
+    }
+    Ok(count)
+}
+
+fn fail_each_read(alloc: Global, run: Run, input: &[u8]) -> Result<usize, Fault> {
+    let reads = input.len().saturating_add(1);
+    for place in 0..reads {
+        let mut output = Vec::new(alloc);
+        let mut reader = Slow {
+            left: input,
+            reads: 0,
+            fails_at: place + 1,
+        };
+        let outcome = run.of(alloc, &mut reader, &mut output);
+        if outcome != Err(RunFault::Input) || !output.is_empty() {
+            return Err(Fault::Differs("a failed read is answered otherwise"));
+        }
+    }
+    Ok(reads)
+}
+
+/// Counts writers that have room for fewer octets than the text has, each number of them, and then fail or take none. The
+/// text that comes and goes octet by octet is the one that comes and goes at once.
+pub(crate) fn count_writes(alloc: Global, input: &[u8]) -> Result<usize, Fault> {
+    let mut count = 0usize;
+    for run in RUNS {
+        let (text, ending) = text_of(alloc, run, input)?;
+        hold_written(alloc, run, input, &text, Ok(ending))?;
+        count = count.saturating_add(fail_each_write(alloc, run, input, &text)?);
+    }
+    Ok(count)
+}
+
+fn fail_each_write(alloc: Global, run: Run, input: &[u8], text: &[u8]) -> Result<usize, Fault> {
+    for room in 0..text.len() {
+        let written = room as u64;
+        hold_written(
+            alloc,
+            run,
+            input,
+            &text[..room],
+            Err(RunFault::Output { written }),
+        )?;
+    }
+    Ok(text.len())
+}
+
+/// A writer that has room for this text holds it behind the run, which ends so.
+fn hold_written(
+    alloc: Global,
+    run: Run,
+    input: &[u8],
+    text: &[u8],
+    ending: Result<Ending, RunFault>,
+) -> Result<(), Fault> {
+    for fails in [true, false] {
+        let mut output = Narrow {
+            held: Vec::new(alloc),
+            room: text.len(),
+            fails,
+        };
+        let mut reader = Slow {
+            left: input,
+            reads: 0,
+            fails_at: 0,
+        };
+        let outcome = run.of(alloc, &mut reader, &mut output);
+        if outcome != ending || output.held.as_slice() != text {
+            return Err(Fault::Differs("what is written octet by octet is answered otherwise"));
+        }
+    }
+    Ok(())
+}
