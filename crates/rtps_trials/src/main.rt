@@ -7,8 +7,6 @@
 //!     rtps_trials rewrite       writes each of its messages again from its items, and prints what becomes of them
 //!     rtps_trials read N        reads each of its messages N times
 //!     rtps_trials write N       reads each of them once and writes it N times, where it can be written
-//!     rtps_trials open          prints a recording of an acknowledgement that lacks
-//!     rtps_trials unfounded     prints a recording of an acknowledgement of a number that nothing told
 //!
 //! The status is 1 where something is not as it should be, 2 where words or input are refused, and 3 where memory,
 //! reading or writing fails.
@@ -19,7 +17,6 @@ mod cases;
 mod changed;
 mod fault;
 mod judged;
-mod made;
 mod recording;
 mod refusals;
 mod repeated;
@@ -47,10 +44,6 @@ fn run(rt: &HostRuntime) -> Result<(), Fault> {
     let args = env::args(rt)?.collect::<Vec<String>>(rt.alloc())?;
     match (args.get(1), args.get(2)) {
         (None, _) => try_all(rt),
-        (Some(mode), None) if mode.as_str() == "open" => print_made(rt, made::open(rt.alloc())),
-        (Some(mode), None) if mode.as_str() == "unfounded" => {
-            print_made(rt, made::unfounded(rt.alloc()))
-        }
         (Some(mode), None) => try_recording(rt, mode.as_str()),
         (Some(mode), Some(word)) => try_word(rt, mode.as_str(), word.as_str()),
     }
@@ -144,14 +137,5 @@ fn try_word(rt: &HostRuntime, mode: &str, word: &str) -> Result<(), Fault> {
         _ => return Err(Fault::Words),
     };
     println!(rt; "{octets}")?;
-    Ok(())
-}
-
-fn print_made(rt: &HostRuntime, made: Result<Vec<Vec<u8>>, Fault>) -> Result<(), Fault> {
-    let messages = made?;
-    for message in &messages {
-        let digits = hex::encode(rt.alloc(), message.as_slice())?;
-        println!(rt; "{digits}")?;
-    }
     Ok(())
 }

@@ -2,7 +2,7 @@
 
 use crate::fault::Fault;
 use crate::words::Words;
-use rtps_coverage::{Coverage, MergedRanges, PlainRanges};
+use rtps_coverage::{Coverage, MergedRanges, PlainRanges, least_outside};
 use rtps_ids::Memory;
 use std::alloc::Global;
 use std::fmt::Write;
@@ -68,4 +68,13 @@ fn add_each_second(set: &mut MergedRanges, first: i64, count: i64) -> Result<(),
         set.add(number, number + 1)?;
     }
     Ok(())
+}
+
+/// NUMBER RANGES RANGES: the least number from there on that neither set has
+pub(super) fn least_of_two(alloc: Global, words: &mut Words<'_>) -> Result<String, Fault> {
+    let from = words.number()?.clamp(1, i64::MAX as u64);
+    let one: MergedRanges = joined(alloc, words.word())?;
+    let other: MergedRanges = joined(alloc, words.word())?;
+    let least = least_outside(&[&one, &other], from);
+    Ok(format!(in alloc; "{least}")?)
 }
