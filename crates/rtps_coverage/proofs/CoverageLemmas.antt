@@ -1,4 +1,4 @@
--- Signed numbers against sets of numbers.
+-- Lemmas on signed numbers and sets of numbers.
 use Rattle.std.proofs.Common.{ℕ, Bool, true, false, ◌≡◌, ◌≤◌, ◌&&◌, nat_le, nat_lt, ℤ, pos, negsuc, ◌<ℤ◌, refl, subst, arith}
 use Rattle.std.proofs.lemmas.Bool.{false_from_ne_true}
 use Rattle.std.proofs.lemmas.Int.{ints}
@@ -13,7 +13,7 @@ has-below_one set positive (negsuc n) lt = refl
 pub has-pos : (set : ℕ → Bool) (n : ℤ) (k : ℕ) → pos k ≡ n → has set n ≡ set k
 has-pos set n k e = subst (λ m. has set m ≡ set k) e refl
 
--- between two numbers, in their signed form
+-- a number between two others, and their signed forms
 pub is_within-pos : (lo hi : ℤ) (l h : ℕ) → pos l ≡ lo → pos h ≡ hi → (n : ℕ) → is_within lo hi n ≡ (nat_le l n && nat_lt n h)
 is_within-pos lo hi l h e f n =
     subst (λ (m : ℤ). is_within m hi n ≡ (nat_le l n && nat_lt n h)) e (subst (λ (m : ℤ). is_within (pos l) m n ≡ (nat_le l n && nat_lt n h)) f refl)

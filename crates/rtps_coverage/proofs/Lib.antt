@@ -1,9 +1,4 @@
 pub mod SpanLemmas
-pub mod KeptLemmas
-pub mod NowLemmas
+pub mod RangeMapLemmas
+pub mod LawLemmas
 pub mod CoverageLemmas
-pub mod BlockLemmas
-pub mod EachBit
-pub mod BeyondLemmas
-pub mod TogetherLemmas
-pub mod Offered

@@ -1,14 +1,15 @@
--- Ranges of numbers.
+-- Lemmas on lists of ranges.
 use Rattle.std.proofs.Common.{ℕ, Bool, true, false, cond, ◌≡◌, ◌≤◌, ◌<◌, ◌^◌, ◌&&◌, ◌||◌, nat_le, nat_lt, List, [], ◌∷◌, Some, All, refl, ◌∙◌, subst, arith}
 use Rattle.std.specs.Prelude.{is_some}
 use Rattle.std.specs.List.{list_any, find, filter}
 use Rattle.std.proofs.lemmas.List.Elements.{All-head, All-tail, All-cons}
 use Rattle.std.proofs.lemmas.Bool.{or_right}
 use Rattle.std.proofs.lemmas.Bool.Decides.{nat_tests}
-use Rattle.rtps_coverage.specs.declared.span.Span.{Span}
-use Rattle.rtps_coverage.specs.Spans.{has_number, IsBounded, Reaches}
+use Rattle.rtps_coverage.specs.declared.coverage.Span.{Span}
+use Rattle.rtps_coverage.specs.Coverage.{IsLeastFrom}
+use Rattle.rtps_coverage.specs.Spans.{any_span_has, has_number, IsBounded}
 
--- some range has the number where the first that has it is found
+-- some range has a number where a first one that has it is found
 pub list_any-find : (p : Span → Bool) (spans : List Span) → list_any p spans ≡ is_some (find p spans)
 list_any-find p [] = refl
 list_any-find p (x ∷ xs) =
@@ -28,16 +29,18 @@ none_has_zero (x ∷ xs) h =
     step : (lo hi : ℕ) → 1 ≤ lo → (b : Bool) → b ≡ false → ((nat_le lo 0 && nat_lt 0 hi) || b) ≡ false
     step lo hi h b e = grind (arith, nat_tests)
 
--- one range: where it has no front, it is kept if it has a number from the front on
+-- one range that has not the front: it is kept where it has a number from the front on
 one_span : (front n lo hi : ℕ) (here kept all : Bool) → front ≤ n → kept ≡ all
     → ((nat_le lo front && nat_lt front hi) || here) ≡ false
     → cond (nat_lt front lo) ((nat_le lo n && nat_lt n hi) || kept) kept ≡ ((nat_le lo n && nat_lt n hi) || all)
 one_span front n lo hi here kept all le e none = grind (arith, nat_tests)
 
+-- where neither of two tests holds, the second does not
 right_false : (a b : Bool) → (a || b) ≡ false → b ≡ false
 right_false true b h = absurd (grind arith)
 right_false false b h = h
 
+-- a list with or without its first range
 any_cond : (n : ℕ) (b : Bool) (x : Span) (xs : List Span) → list_any (has_number n) (cond b (x ∷ xs) xs) ≡ cond b (has_number n x || list_any (has_number n) xs) (list_any (has_number n) xs)
 any_cond n true x xs = refl
 any_cond n false x xs = refl
@@ -58,12 +61,15 @@ pub record IsFound (n : ℕ) (spans : List Span) (span : Span) : Type 0 where
   pub bounded : span.hi < 2 ^ 63
   pub among : (m : ℕ) → span.lo ≤ m → m < span.hi → list_any (has_number m) spans ≡ true
 
+-- a number that a range has lies in it
 in_span : (n lo hi : ℕ) → (nat_le lo n && nat_lt n hi) ≡ true → (lo ≤ n) × (n < hi)
 in_span n lo hi h = (grind (arith, nat_tests), grind (arith, nat_tests))
 
+-- the first range has each number that lies in it
 first_has : (m lo hi : ℕ) (b : Bool) → lo ≤ m → m < hi → ((nat_le lo m && nat_lt m hi) || b) ≡ true
 first_has m lo hi b h k = grind (arith, nat_tests)
 
+-- the first range is found, or one behind it
 found_at : (n : ℕ) (x span : Span) (xs : List Span) (b : Bool) → has_number n x ≡ b → IsBounded x → cond b (Some x) (find (has_number n) xs) ≡ Some span
     → (find (has_number n) xs ≡ Some span → IsFound n xs span) → IsFound n (x ∷ xs) span
 found_at n x span xs true has bounded e rest =
@@ -88,7 +94,7 @@ find_tells n [] span h e = cc
 find_tells n (x ∷ xs) span h e =
     found_at n x span xs (has_number n x) refl (All-head IsBounded x xs h) e (λ k. find_tells n xs span (All-tail IsBounded x xs h) k)
 
--- a list is bounded where each of its elements is one of a bounded list
+-- bounded ranges of which some are left out
 pub All-filter : (p : Span → Bool) (spans : List Span) → All IsBounded spans → All IsBounded (filter p spans)
 All-filter p [] h = h
 All-filter p (x ∷ xs) h =
@@ -98,13 +104,14 @@ All-filter p (x ∷ xs) h =
     kept true k = All-cons IsBounded x (filter p xs) (All-head IsBounded x xs h) k
     kept false k = k
 
+-- one number, where the front moves from `front` to `reached`
 tests_join : (front lo hi reached n : ℕ) (all kept : Bool) → 1 ≤ lo → lo ≤ front → front < hi → hi ≤ reached
     → (n ≡ 0 → all ≡ false) → (n ≡ 0 → kept ≡ false) → (hi ≤ n → n < reached → all ≡ true) → (reached ≤ n → kept ≡ all)
     → ((nat_le 1 n && nat_lt n reached) || kept) ≡ (((nat_le 1 n && nat_lt n front) || all) || (nat_le lo n && nat_lt n hi))
 tests_join front lo hi reached n all kept a b c d e f g h = grind (arith, nat_tests)
 
 -- the set after a range that begins at the front or below, and ends past it
-pub joins_front : (front lo hi reached : ℕ) (spans : List Span) → 1 ≤ lo → lo ≤ front → front < hi → All IsBounded spans → Reaches spans hi reached → (n : ℕ)
+pub joins_front : (front lo hi reached : ℕ) (spans : List Span) → 1 ≤ lo → lo ≤ front → front < hi → All IsBounded spans → IsLeastFrom (any_span_has spans) hi reached → (n : ℕ)
     → ((nat_le 1 n && nat_lt n reached) || list_any (has_number n) (filter (λ span. nat_lt reached span.lo) spans)) ≡ (((nat_le 1 n && nat_lt n front) || list_any (has_number n) spans) || (nat_le lo n && nat_lt n hi))
 joins_front front lo hi reached spans a b c bounded r n =
     let kept = filter (λ span. nat_lt reached span.lo) spans in

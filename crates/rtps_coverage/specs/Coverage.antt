@@ -1,5 +1,5 @@
--- Sets of sequence numbers, as tests of a number. own: the standard counts numbers one by one; a set of
--- them is what a verdict rests on.
+-- Sets of sequence numbers. A set is a test of numbers: it has those that pass.
+-- own: a verdict asks which numbers were told, and not in which order or how often.
 use Rattle.std.specs.Prelude.{ℕ, Bool, true, false, ◌≡◌, ◌≤◌, ◌<◌, ◌-◌, ◌^◌, ◌&&◌, ◌||◌, ℤ, pos, negsuc, ◌≤ℤ◌, ◌<ℤ◌, int_le, int_lt}
 
 -- a number from lo on and below hi
@@ -30,8 +30,8 @@ pub record IsFront (set : ℕ → Bool) (front : ℤ) : Type 0 where
   pub below : (n : ℕ) → 1 ≤ n → pos n <ℤ front → set n ≡ true
 
 -- the least number from n on that is not in the set
-pub record IsPast (set : ℕ → Bool) (n past : ℕ) : Type 0 where
-  pub onward : n ≤ past
-  pub in_range : past < 2 ^ 63
-  pub outside : set past ≡ false
-  pub between : (m : ℕ) → n ≤ m → m < past → set m ≡ true
+pub record IsLeastFrom (set : ℕ → Bool) (n least : ℕ) : Type 0 where
+  pub onward : n ≤ least
+  pub in_range : least < 2 ^ 63
+  pub outside : set least ≡ false
+  pub between : (m : ℕ) → n ≤ m → m < least → set m ≡ true

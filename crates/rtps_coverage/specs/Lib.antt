@@ -1,11 +1,6 @@
 pub mod Coverage
 pub mod Spans
 pub mod PlainRanges
-pub mod KeptSpans
+pub mod RangeMap
 pub mod MergedRanges
-pub mod Blocks
-pub mod Beyond
-pub mod BitRanges
-pub mod Bits
-pub mod Together
 pub mod Laws

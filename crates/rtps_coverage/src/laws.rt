@@ -2,8 +2,8 @@
 
 ghost use Rattle.rtps_coverage.specs.Laws.{RangesLieApart};
 
-/// The ranges of [`crate::MergedRanges`], as they are at any time: none is empty, no two overlap or touch, the set has
-/// their numbers and no others, and its length is how many they are.
+/// The ranges of [`crate::MergedRanges`] at any time: none is empty, no two overlap or touch, the set has their numbers and
+/// no others, and its length is how many they are.
 pub fn ranges_lie_apart()
     ensures { RangesLieApart }
 {}

@@ -1,24 +1,24 @@
 ghost use Rattle.std.specs.Prelude.{◌≡◌, ◌≤◌, ◌<◌, ◌^◌, false, nat_lt, All};
-ghost use Rattle.std.specs.List.{filter, find, list_any};
-ghost use Rattle.rtps_coverage.specs.Spans.{has_number, Reaches, IsBounded};
+ghost use Rattle.std.specs.List.{filter, find};
+ghost use Rattle.rtps_coverage.specs.Coverage.{IsLeastFrom};
+ghost use Rattle.rtps_coverage.specs.Spans.{any_span_has, has_number, IsBounded};
 
-use crate::coverage::Coverage;
-use crate::span::Span;
+use crate::coverage::{Coverage, Span};
 use rtps_ids::Memory;
 use std::alloc::Global;
 
-/// A set of sequence numbers as its front, below which each positive number is in the set, and the ranges
-/// beyond it in no order.
+/// A set of sequence numbers as its front and the ranges beyond it, in no order. Each positive number below the front is
+/// in the set.
 ///
-/// A range that begins at the front or below costs no growth. Each range that is kept makes those adds
-/// slower which move the front.
+/// A range that begins at the front or below takes no memory. An addition that moves the front goes through the ranges
+/// that are kept.
 #[derive(Drop)]
 pub struct PlainRanges {
     front: u64,
     beyond: Vec<Span>,
     ghost front_in_range: { (1 ≤ front) × (front < 2 ^ 63) },
     ghost beyond_in_range: { All IsBounded beyond.items },
-    ghost front_outside: { list_any (has_number front) beyond.items ≡ false },
+    ghost front_outside: { any_span_has beyond.items front ≡ false },
 }
 
 /// The first of the ranges that has the number.
@@ -35,8 +35,7 @@ fn span_of(spans: &[Span], number: u64) -> Option<Span>
 fn reach(front: u64, spans: &[Span]) -> u64
     requires front { front < 2 ^ 63 }
     requires spans { All IsBounded spans.now }
-    ensures reaches { Reaches spans.now front result }
-    ensures in_range { result < 2 ^ 63 }
+    ensures { IsLeastFrom (any_span_has spans.now) front result }
 {
     let mut reached = front;
     while let Some(span) = span_of(spans, reached) {
@@ -69,7 +68,7 @@ impl Coverage for PlainRanges {
     }
 
     /// Joins each number from `lo` on and below `hi`. After `Memory` the set is the same. A range that begins at the front
-    /// or below needs no growth.
+    /// or below takes no memory.
     fn add(&mut self, lo: i64, hi: i64) -> Result<(), Memory>
         requires positive { pos 1 ≤ℤ lo }
         requires ordered { lo ≤ℤ hi }
@@ -89,16 +88,6 @@ impl Coverage for PlainRanges {
         }
         self.front = reach(hi, &self.beyond);
         keep_past(&mut self.beyond, self.front);
-        Ok(())
-    }
-
-    fn add_bits(&mut self, lo: u64, bits: u64) -> Result<(), Memory> {
-        for i in 0..64u32 {
-            if (bits >> i) % 2 == 1 {
-                let number = (lo + u64::from(i)).cast_signed();
-                self.add(number, number + 1)?;
-            }
-        }
         Ok(())
     }
 

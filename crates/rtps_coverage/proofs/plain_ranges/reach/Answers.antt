@@ -18,9 +18,10 @@ loop-span-preserved c =
       between = λ n from to. elim (cases_lt n c.loop-span.reached) [ inl below ↦ c.loop-span.invariant.between n from below | inr past ↦ found.among n (omega arith) to ];
     }
 
-pub returns-clause-reaches : goal.returns-clause-reaches
-returns-clause-reaches c = record {
+pub returns : goal.returns
+returns c = record {
   onward = c.loop-span.invariant.onward;
+  in_range = c.loop-span.invariant.in_range;
   outside = list_any-find (has_number c.loop-span.reached) c.args.spans.now ∙ ap is_some (sym c.span_of.ensures ∙ c.in_default.is);
   between = c.loop-span.invariant.between;
 }

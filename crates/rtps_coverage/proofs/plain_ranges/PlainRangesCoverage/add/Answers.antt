@@ -12,7 +12,7 @@ pub invariant_of-self-2 : goal.invariant_of-self-2
 invariant_of-self-2 c =
     let front = c.reach-self.result in
     let spans = c.args.self.now.beyond.items in
-    let reaches = rw c.deref.ensures.value at c.reach-self.ensures.reaches in
+    let reaches = rw c.deref.ensures.value at c.reach-self.ensures in
     record {
       front_in_range = (omega arith, c.reach-self.ensures.in_range);
       beyond_in_range = rw c.keep_past.ensures (All-filter (λ span. nat_lt front span.lo) spans c.args.self.now.beyond_in_range);
@@ -25,7 +25,7 @@ returns-clause-ok c =
     let lo = c.cast_unsigned-lo.result in
     let hi = c.cast_unsigned-hi.result in
     let front = c.reach-self.result in
-    let reaches = rw c.deref.ensures.value at c.reach-self.ensures.reaches in
+    let reaches = rw c.deref.ensures.value at c.reach-self.ensures in
     let low : pos lo ≡ c.args.lo = omega (arith, ints) in
     let high : pos hi ≡ c.args.hi = omega (arith, ints) in
     λ n.

@@ -1,0 +1,17 @@
+use Rattle.std.proofs.Common.{◌&&◌, ◌||◌, ◌∙◌, ap, min, nat_le, nat_lt}
+use Rattle.rtps_coverage.specs.RangeMap.{kept_has}
+use Rattle.rtps_coverage.proofs.RangeMapLemmas.{some_has, is_in, joins_first}
+use Rattle.rtps_coverage.proofs.range_map.grow.Goals as goal
+
+pub returns-clause-has : goal.returns-clause-has
+returns-clause-has c =
+    let first = c.args.first in
+    let touching = c.requires.touching in
+    let before = c.args.kept.now in
+    λ n.
+    c.widen.ensures.has n
+    ∙ c.absorb-hi.ensures.has n
+    ∙ ap (λ low. kept_has before n || (nat_le low n && nat_lt n c.max.result)) c.min-lo.ensures
+    ∙ ap (λ high. kept_has before n || (nat_le (min c.args.lo first.lo) n && nat_lt n high)) c.max.ensures
+    ∙ joins_first c.args.lo c.args.hi first.lo first.hi n (kept_has before n)
+    (λ a b. some_has n c.args.key first before.entries touching.kept_here (is_in n first a b)) touching.begins touching.ends
