@@ -22,47 +22,77 @@ pub(crate) fn count(alloc: Global, recording: &Recording) -> Result<Counted, Fau
         rows: 0,
     };
     let whole = datagrams(alloc, recording)?;
-    for place in 0..whole.len() {
-        change_each(alloc, &whole, place, &mut counted)?;
+    for (datagram, octets) in whole.iter().enumerate() {
+        change_each(alloc, &whole, (datagram, *octets), &mut counted)?;
     }
     Ok(counted)
 }
 
-/// Changes each octet of one datagram.
+/// Changes each octet of one datagram, which stands at a place.
 fn change_each(
     alloc: Global,
     recording: &[&[u8]],
-    place: usize,
+    (datagram, octets): (usize, &[u8]),
     counted: &mut Counted,
 ) -> Result<(), Fault> {
-    let mut changed = Vec::from_slice(alloc, recording[place])?;
-    for at in 0..changed.len() {
-        let octet = changed[at];
-        for other in [0, 0xff, octet ^ 1] {
-            if other != octet {
-                changed[at] = other;
-                count_set(alloc, recording, place, &changed, counted)?;
-            }
-        }
-        changed[at] = octet;
+    for (at, octet) in octets.iter().copied().enumerate() {
+        let place = Place {
+            datagram,
+            at,
+            octet,
+        };
+        change_octet(alloc, recording, place, counted)?;
     }
     Ok(())
 }
 
-/// Counts the rows of a recording in which this datagram stands in the place of another.
-fn count_set(
+/// Where an octet stands in a recording.
+#[derive(Clone, Copy)]
+struct Place {
+    datagram: usize,
+    at: usize,
+    octet: u8,
+}
+
+/// Sets one octet in each way that changes it.
+fn change_octet(
+    alloc: Global,
+    recording: &[&[u8]],
+    place: Place,
+    counted: &mut Counted,
+) -> Result<(), Fault> {
+    for octet in [0, 0xff, place.octet ^ 1] {
+        if octet != place.octet {
+            let rows = judge_set(alloc, recording, Place { octet, ..place })?;
+            counted.settings = counted.settings.saturating_add(1);
+            counted.rows = counted.rows.saturating_add(rows);
+        }
+    }
+    Ok(())
+}
+
+/// Judges a recording with this octet at its place.
+fn judge_set(alloc: Global, recording: &[&[u8]], place: Place) -> Result<usize, Fault> {
+    let Some(whole) = recording.get(place.datagram) else {
+        return Ok(0);
+    };
+    let mut changed = Vec::from_slice(alloc, whole)?;
+    if let Some(octet) = changed.get_mut(place.at) {
+        *octet = place.octet;
+    }
+    judge_changed(alloc, recording, place.datagram, &changed)
+}
+
+/// Judges a recording in which this datagram stands in the place of another.
+fn judge_changed(
     alloc: Global,
     recording: &[&[u8]],
     changed: usize,
     datagram: &[u8],
-    counted: &mut Counted,
-) -> Result<(), Fault> {
+) -> Result<usize, Fault> {
     let mut with_it = Vec::new(alloc);
     for (place, whole) in recording.iter().enumerate() {
         with_it.push(if place == changed { datagram } else { *whole })?;
     }
-    let rows = judge_alike(alloc, &with_it)?;
-    counted.settings = counted.settings.saturating_add(1);
-    counted.rows = counted.rows.saturating_add(rows);
-    Ok(())
+    judge_alike(alloc, &with_it)
 }

@@ -1,5 +1,5 @@
 //! A recording is judged in every way that the libraries have: by `audit` and the index, by the judge with each kind of
-//! set, and in the evidence. All have to say the same, of all numbers and of those from 2 and 3 on.
+//! set, and in the evidence. All have to say the same, of all numbers and of those from 2 on.
 
 use crate::fault::Fault;
 use crate::recording::{PAIR, datagrams, second};
@@ -21,123 +21,117 @@ pub(crate) fn count_rows(alloc: Global, recording: &Recording) -> Result<usize, 
     hold_walks(alloc, &recording)?;
     let index = Index::build(alloc, &recording)?;
     hold_directory(&index, index.directory())?;
-    for from in [SeqNum::first(), second(), third()] {
-        hold_reports(alloc, &recording, &index, from)?;
-    }
-    judge_index(alloc, &recording, &index)
-}
-
-fn third() -> SeqNum {
-    SeqNum::new(3).unwrap_or(SeqNum::first())
+    let judges = Judges {
+        alloc,
+        recording: &recording,
+        index: &index,
+    };
+    judges.hold_reports(SeqNum::first())?;
+    judges.hold_reports(second())?;
+    judges.count_rows()
 }
 
 /// Counts the rows of the audit of datagrams. Each verdict is the same in every way, and so is that of the pair, which
 /// need not match.
 pub(crate) fn judge_alike(alloc: Global, recording: &[&[u8]]) -> Result<usize, Fault> {
     let index = Index::build(alloc, recording)?;
-    judge_index(alloc, recording, &index)
+    let judges = Judges {
+        alloc,
+        recording,
+        index: &index,
+    };
+    judges.count_rows()
 }
 
-fn judge_index(alloc: Global, recording: &[&[u8]], index: &Index<'_>) -> Result<usize, Fault> {
-    let _ = verdict_on(alloc, recording, index, PAIR)?;
-    let report = audit(alloc, recording)?;
-    for row in &report.rows {
-        if row.verdict != verdict_on(alloc, recording, index, row.pair)? {
-            return Err(Fault::Differs("a verdict is another by another way"));
+/// The ways to judge a recording.
+#[derive(Clone, Copy)]
+struct Judges<'r, 'a> {
+    alloc: Global,
+    recording: &'r [&'a [u8]],
+    index: &'r Index<'a>,
+}
+
+impl Judges<'_, '_> {
+    fn count_rows(self) -> Result<usize, Fault> {
+        let _ = self.verdict(PAIR)?;
+        let report = audit(self.alloc, self.recording)?;
+        for row in &report.rows {
+            if row.verdict != self.verdict(row.pair)? {
+                return Err(Fault::Differs("a verdict is another by another way"));
+            }
         }
+        Ok(report.rows.len())
     }
-    Ok(report.rows.len())
-}
 
-/// The verdict on a pair by the index, which is that of the judge with each kind of set.
-fn verdict_on(
-    alloc: Global,
-    recording: &[&[u8]],
-    index: &Index<'_>,
-    pair: Pair,
-) -> Result<Verdict, Fault> {
-    let verdict = index.judge(pair)?;
-    let plain = judge_by::<PlainRanges>(alloc, recording, pair)?;
-    let merged = judge_by::<MergedRanges>(alloc, recording, pair)?;
-    if [judge(alloc, recording, pair)?, plain, merged] != [verdict; 3] {
-        return Err(Fault::Differs("a pair is judged otherwise by the index"));
-    }
-    Ok(verdict)
-}
-
-/// The audit of the numbers from one on, that of the index, and what is explained have the same rows.
-fn hold_reports(
-    alloc: Global,
-    recording: &[&[u8]],
-    index: &Index<'_>,
-    from: SeqNum,
-) -> Result<(), Fault> {
-    let report = audit_from(alloc, recording, from)?;
-    let other = index.report_from(from, &mut Unwatched)?;
-    if report.rows != other.rows || report.counts != other.counts {
-        return Err(Fault::Differs("the index reports otherwise"));
-    }
-    hold_explained(alloc, recording, &report, from)?;
-    for row in &report.rows {
-        hold_row(alloc, recording, index, *row, from)?;
-    }
-    Ok(())
-}
-
-/// What is explained has the counts and the verdicts of a report.
-fn hold_explained(
-    alloc: Global,
-    recording: &[&[u8]],
-    report: &Report,
-    from: SeqNum,
-) -> Result<(), Fault> {
-    let explained = explain_from(alloc, recording, from, &mut Unwatched)?;
-    if explained.counts != report.counts || explained.rows.len() != report.rows.len() {
-        return Err(Fault::Differs("another report is explained"));
-    }
-    for (one, other) in explained.rows.iter().zip(report.rows.iter()) {
-        if one.pair != other.pair || one.evidence.verdict != other.verdict {
-            return Err(Fault::Differs("another verdict is explained"));
+    /// The verdict on a pair by the index, which is that of the judge with each kind of set.
+    fn verdict(self, pair: Pair) -> Result<Verdict, Fault> {
+        let verdict = self.index.judge(pair)?;
+        let plain = judge_by::<PlainRanges>(self.alloc, self.recording, pair)?;
+        let merged = judge_by::<MergedRanges>(self.alloc, self.recording, pair)?;
+        if [judge(self.alloc, self.recording, pair)?, plain, merged] != [verdict; 3] {
+            return Err(Fault::Differs("a pair is judged otherwise by the index"));
         }
+        Ok(verdict)
     }
-    Ok(())
+
+    /// The audit of the numbers from one on, that of the index, and what is explained have the same rows.
+    fn hold_reports(self, from: SeqNum) -> Result<(), Fault> {
+        let report = audit_from(self.alloc, self.recording, from)?;
+        let other = self.index.report_from(from, &mut Unwatched)?;
+        if report.rows != other.rows || report.counts != other.counts {
+            return Err(Fault::Differs("the index reports otherwise"));
+        }
+        self.hold_explained(&report, from)?;
+        for row in &report.rows {
+            self.hold_row(*row, from)?;
+        }
+        Ok(())
+    }
+
+    /// What is explained has the counts and the verdicts of a report.
+    fn hold_explained(self, report: &Report, from: SeqNum) -> Result<(), Fault> {
+        let explained = explain_from(self.alloc, self.recording, from, &mut Unwatched)?;
+        if explained.counts != report.counts || explained.rows.len() != report.rows.len() {
+            return Err(Fault::Differs("another report is explained"));
+        }
+        for (one, other) in explained.rows.iter().zip(report.rows.iter()) {
+            if one.pair != other.pair || one.evidence.verdict != other.verdict {
+                return Err(Fault::Differs("another verdict is explained"));
+            }
+        }
+        Ok(())
+    }
+
+    /// A row of a report is what each judge says of the numbers from one on.
+    fn hold_row(self, row: Row, from: SeqNum) -> Result<(), Fault> {
+        let plain = judge_from::<PlainRanges>(self.alloc, self.recording, row.pair, from)?;
+        let merged = judge_from::<MergedRanges>(self.alloc, self.recording, row.pair, from)?;
+        let indexed = self.index.judge_from(row.pair, from)?;
+        let explained = Evidence::of_from(self.alloc, self.index, row.pair, from)?.verdict;
+        if [plain, merged, indexed, explained] != [row.verdict; 4] {
+            return Err(Fault::Differs("a verdict from a number on is another by another way"));
+        }
+        if Evidence::of(self.alloc, self.index, row.pair)?.verdict != self.index.judge(row.pair)? {
+            return Err(Fault::Differs("the evidence has another verdict than the index"));
+        }
+        Ok(())
+    }
 }
 
-/// A row of a report is what each judge says of the numbers from one on.
-fn hold_row(
-    alloc: Global,
-    recording: &[&[u8]],
-    index: &Index<'_>,
-    row: Row,
-    from: SeqNum,
-) -> Result<(), Fault> {
-    let plain = judge_from::<PlainRanges>(alloc, recording, row.pair, from)?;
-    let merged = judge_from::<MergedRanges>(alloc, recording, row.pair, from)?;
-    let indexed = index.judge_from(row.pair, from)?;
-    let explained = Evidence::of_from(alloc, index, row.pair, from)?.verdict;
-    if [plain, merged, indexed, explained] != [row.verdict; 4] {
-        return Err(Fault::Differs("a verdict from a number on is another by another way"));
-    }
-    if Evidence::of(alloc, index, row.pair)?.verdict != index.judge(row.pair)? {
-        return Err(Fault::Differs("the evidence has another verdict than the index"));
-    }
-    Ok(())
-}
-
-/// The directory gives each endpoint that it lists, its pairs are its RELIABLE matches, and each act of a writer is from it.
+/// The directory gives each endpoint that it lists, and its pairs are its RELIABLE matches.
 fn hold_directory(index: &Index<'_>, directory: &Directory<'_>) -> Result<(), Fault> {
     for endpoint in &directory.endpoints()? {
         if directory.endpoint(endpoint.guid) != Some(*endpoint) {
             return Err(Fault::Differs("an endpoint that is listed is not found"));
         }
     }
-    let reliable = directory
-        .matched()?
-        .iter()
-        .filter(|one| one.reliable)
-        .count();
+    hold_pairs(index, directory)
+}
+
+fn hold_pairs(index: &Index<'_>, directory: &Directory<'_>) -> Result<(), Fault> {
     let pairs = directory.pairs()?;
-    if pairs.len() != reliable {
+    let matched = directory.matched()?;
+    if pairs.len() != matched.iter().filter(|one| one.reliable).count() {
         return Err(Fault::Differs("pairs are other than the RELIABLE matches"));
     }
     for pair in &pairs {

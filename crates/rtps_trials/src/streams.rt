@@ -102,42 +102,22 @@ impl Run {
     }
 }
 
-/// What a run prints of an input where nothing fails, and how it ends. A `Vec` fails to take octets for want of memory
-/// alone.
-pub(crate) fn text_of(alloc: Global, run: Run, input: &[u8]) -> Result<(Vec<u8>, Ending), Fault> {
-    let mut left = input;
-    let mut output = Vec::new(alloc);
-    match run.of(alloc, &mut left, &mut output) {
-        Ok(ending) => Ok((output, ending)),
-        Err(RunFault::Memory | RunFault::Output { .. }) => Err(Fault::Memory),
-        Err(_) => Err(Fault::Differs("a run fails with nothing that fails")),
-    }
+/// A run that is made of an input.
+#[derive(Clone, Copy)]
+pub(crate) struct Made<'a> {
+    pub alloc: Global,
+    pub run: Run,
+    pub input: &'a [u8],
 }
 
 /// Counts reads that fail: each of them, also the one that would find the end. Nothing is written.
 pub(crate) fn count_reads(alloc: Global, input: &[u8]) -> Result<usize, Fault> {
     let mut count = 0usize;
     for run in RUNS {
-        count = count.saturating_add(fail_each_read(alloc, run, input)?);
+        let made = Made { alloc, run, input };
+        count = count.saturating_add(made.fail_each_read()?);
     }
     Ok(count)
-}
-
-fn fail_each_read(alloc: Global, run: Run, input: &[u8]) -> Result<usize, Fault> {
-    let reads = input.len().saturating_add(1);
-    for place in 0..reads {
-        let mut output = Vec::new(alloc);
-        let mut reader = Slow {
-            left: input,
-            reads: 0,
-            fails_at: place + 1,
-        };
-        let outcome = run.of(alloc, &mut reader, &mut output);
-        if outcome != Err(RunFault::Input) || !output.is_empty() {
-            return Err(Fault::Differs("a failed read is answered otherwise"));
-        }
-    }
-    Ok(reads)
 }
 
 /// Counts writers that have room for fewer octets than the text has, each number of them, and then fail or take none. The
@@ -145,50 +125,69 @@ fn fail_each_read(alloc: Global, run: Run, input: &[u8]) -> Result<usize, Fault>
 pub(crate) fn count_writes(alloc: Global, input: &[u8]) -> Result<usize, Fault> {
     let mut count = 0usize;
     for run in RUNS {
-        let (text, ending) = text_of(alloc, run, input)?;
-        hold_written(alloc, run, input, &text, Ok(ending))?;
-        count = count.saturating_add(fail_each_write(alloc, run, input, &text)?);
+        let made = Made { alloc, run, input };
+        let (text, ending) = made.text()?;
+        made.hold_written(&text, Ok(ending))?;
+        count = count.saturating_add(made.fail_each_write(&text)?);
     }
     Ok(count)
 }
 
-fn fail_each_write(alloc: Global, run: Run, input: &[u8], text: &[u8]) -> Result<usize, Fault> {
-    for room in 0..text.len() {
-        let written = room as u64;
-        hold_written(
-            alloc,
-            run,
-            input,
-            &text[..room],
-            Err(RunFault::Output { written }),
-        )?;
-    }
-    Ok(text.len())
-}
-
-/// A writer that has room for this text holds it behind the run, which ends so.
-fn hold_written(
-    alloc: Global,
-    run: Run,
-    input: &[u8],
-    text: &[u8],
-    ending: Result<Ending, RunFault>,
-) -> Result<(), Fault> {
-    for fails in [true, false] {
-        let mut output = Narrow {
-            held: Vec::new(alloc),
-            room: text.len(),
-            fails,
-        };
-        let mut reader = Slow {
-            left: input,
-            reads: 0,
-            fails_at: 0,
-        };
-        let outcome = run.of(alloc, &mut reader, &mut output);
-        if outcome != ending || output.held.as_slice() != text {
-            return Err(Fault::Differs("what is written octet by octet is answered otherwise"));
+impl Made<'_> {
+    /// What is printed where nothing fails, and how the run ends. A `Vec` fails to take octets for want of memory alone.
+    pub(crate) fn text(self) -> Result<(Vec<u8>, Ending), Fault> {
+        let mut left = self.input;
+        let mut output = Vec::new(self.alloc);
+        match self.run.of(self.alloc, &mut left, &mut output) {
+            Ok(ending) => Ok((output, ending)),
+            Err(RunFault::Memory | RunFault::Output { .. }) => Err(Fault::Memory),
+            Err(_) => Err(Fault::Differs("a run fails with nothing that fails")),
         }
     }
-    Ok(())
+
+    fn fail_each_read(self) -> Result<usize, Fault> {
+        let reads = self.input.len().saturating_add(1);
+        for place in 0..reads {
+            let mut output = Vec::new(self.alloc);
+            let mut reader = self.slow(place.saturating_add(1));
+            let outcome = self.run.of(self.alloc, &mut reader, &mut output);
+            if outcome != Err(RunFault::Input) || !output.is_empty() {
+                return Err(Fault::Differs("a failed read is answered otherwise"));
+            }
+        }
+        Ok(reads)
+    }
+
+    fn fail_each_write(self, text: &[u8]) -> Result<usize, Fault> {
+        for room in 0..text.len() {
+            let written = room as u64;
+            self.hold_written(&text[..room], Err(RunFault::Output { written }))?;
+        }
+        Ok(text.len())
+    }
+
+    /// A writer that has room for this text holds it behind the run, which ends so.
+    fn hold_written(self, text: &[u8], ending: Result<Ending, RunFault>) -> Result<(), Fault> {
+        for fails in [true, false] {
+            let mut output = Narrow {
+                held: Vec::new(self.alloc),
+                room: text.len(),
+                fails,
+            };
+            let outcome = self.run.of(self.alloc, &mut self.slow(0), &mut output);
+            if outcome != ending || output.held.as_slice() != text {
+                return Err(Fault::Differs("what goes octet by octet is answered otherwise"));
+            }
+        }
+        Ok(())
+    }
+
+    /// The input, octet by octet, of which one read fails.
+    fn slow(&self, fails_at: usize) -> Slow<'_> {
+        Slow {
+            left: self.input,
+            reads: 0,
+            fails_at,
+        }
+    }
 }

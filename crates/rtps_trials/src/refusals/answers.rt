@@ -12,6 +12,15 @@ use rtps_evidence::Evidence;
 use rtps_ids::{Guid, Memory};
 use std::alloc::Global;
 
+/// A call, and what it is made on.
+#[derive(Clone, Copy)]
+struct Call<'r, 'a> {
+    alloc: Global,
+    name: &'r str,
+    recording: &'r [&'a [u8]],
+    index: &'r Index<'a>,
+}
+
 /// What a call answers.
 #[derive(PartialEq, Drop)]
 enum Answer<'a> {
@@ -25,68 +34,66 @@ enum Answer<'a> {
 }
 
 /// Whether the call was refused memory; its answer is the first one when it is made again.
-pub(super) fn is_refused(alloc: Global, call: &str, recording: &[&[u8]]) -> Result<bool, Fault> {
+pub(super) fn is_refused(alloc: Global, name: &str, recording: &[&[u8]]) -> Result<bool, Fault> {
     let index = Index::build(alloc, recording)?;
-    let wanted = asked(alloc, call, recording, &index)?;
-    is_answer_refused(alloc, call, recording, &index, &wanted)
+    let call = Call {
+        alloc,
+        name,
+        recording,
+        index: &index,
+    };
+    let wanted = call.made()?;
+    call.is_refused(&wanted)
 }
 
-fn is_answer_refused<'a>(
-    alloc: Global,
-    call: &str,
-    recording: &[&'a [u8]],
-    index: &Index<'a>,
-    wanted: &Answer<'a>,
-) -> Result<bool, Fault> {
-    for refused in [false, true] {
-        mark(alloc);
-        let found = asked(alloc, call, recording, index);
-        mark(alloc);
-        match found {
-            Ok(found) if found == *wanted => return Ok(refused),
-            Ok(_) => return Err(Fault::Differs("the answer is another after a refusal")),
-            Err(Memory) => {}
+impl<'a> Call<'_, 'a> {
+    fn is_refused(self, wanted: &Answer<'a>) -> Result<bool, Fault> {
+        for refused in [false, true] {
+            mark(self.alloc);
+            let found = self.made();
+            mark(self.alloc);
+            match found {
+                Ok(found) if found == *wanted => return Ok(refused),
+                Ok(_) => return Err(Fault::Differs("the answer is another after a refusal")),
+                Err(Memory) => {}
+            }
+        }
+        Err(Fault::Memory)
+    }
+
+    fn made(self) -> Result<Answer<'a>, Memory> {
+        let directory = self.index.directory();
+        match self.name {
+            "participants" => Ok(Answer::Participants(directory.participants()?)),
+            "endpoints" => Ok(Answer::Endpoints(directory.endpoints()?)),
+            "matched" => Ok(Answer::Matches(directory.matched()?)),
+            "pairs" => Ok(Answer::Pairs(directory.pairs()?)),
+            "audit" => Ok(reported(audit(self.alloc, self.recording)?)),
+            "audit_from" => Ok(reported(audit_from(self.alloc, self.recording, second())?)),
+            "evidence" => Ok(Answer::Evidence(self.evidence()?)),
+            _ => Ok(Answer::Verdict(self.verdict()?)),
         }
     }
-    Err(Fault::Memory)
-}
 
-fn asked<'a>(
-    alloc: Global,
-    call: &str,
-    recording: &[&'a [u8]],
-    index: &Index<'a>,
-) -> Result<Answer<'a>, Memory> {
-    match call {
-        "participants" => Ok(Answer::Participants(index.directory().participants()?)),
-        "endpoints" => Ok(Answer::Endpoints(index.directory().endpoints()?)),
-        "matched" => Ok(Answer::Matches(index.directory().matched()?)),
-        "pairs" => Ok(Answer::Pairs(index.directory().pairs()?)),
-        "audit" => Ok(reported(audit(alloc, recording)?)),
-        "audit_from" => Ok(reported(audit_from(alloc, recording, second())?)),
-        "evidence" => Ok(Answer::Evidence(Evidence::of_from(alloc, index, PAIR, second())?)),
-        _ => Ok(Answer::Verdict(verdict(alloc, call, recording, index)?)),
+    fn evidence(self) -> Result<Evidence<'a>, Memory> {
+        Evidence::of_from(self.alloc, self.index, PAIR, second())
+    }
+
+    /// The verdict on the pair; by an index that is built anew where the call is none of the others.
+    fn verdict(self) -> Result<Verdict, Memory> {
+        let (alloc, recording) = (self.alloc, self.recording);
+        match self.name {
+            "judge" => judge(alloc, recording, PAIR),
+            "judge_by_plain" => judge_by::<PlainRanges>(alloc, recording, PAIR),
+            "judge_from_plain" => judge_from::<PlainRanges>(alloc, recording, PAIR, second()),
+            "judge_from_merged" => judge_from::<MergedRanges>(alloc, recording, PAIR, second()),
+            "index_judge" => self.index.judge(PAIR),
+            "index_judge_from" => self.index.judge_from(PAIR, second()),
+            _ => Index::build(alloc, recording)?.judge(PAIR),
+        }
     }
 }
 
 fn reported<'a>(report: Report) -> Answer<'a> {
     Answer::Report(report.rows, report.counts)
-}
-
-/// The verdict on the pair by a call; by an index that is built anew where it is none of the others.
-fn verdict(
-    alloc: Global,
-    call: &str,
-    recording: &[&[u8]],
-    index: &Index<'_>,
-) -> Result<Verdict, Memory> {
-    match call {
-        "judge" => judge(alloc, recording, PAIR),
-        "judge_by_plain" => judge_by::<PlainRanges>(alloc, recording, PAIR),
-        "judge_from_plain" => judge_from::<PlainRanges>(alloc, recording, PAIR, second()),
-        "judge_from_merged" => judge_from::<MergedRanges>(alloc, recording, PAIR, second()),
-        "index_judge" => index.judge(PAIR),
-        "index_judge_from" => index.judge_from(PAIR, second()),
-        _ => Index::build(alloc, recording)?.judge(PAIR),
-    }
 }

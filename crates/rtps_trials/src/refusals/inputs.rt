@@ -2,7 +2,7 @@
 
 use super::mark;
 use crate::fault::Fault;
-use crate::streams::{Run, text_of};
+use crate::streams::{Made, Run};
 use rtps_tool::{Choice, RecFault, Recording, RunFault, WordFault, read_recording, read_words};
 use std::alloc::{AllocError, Global};
 
@@ -20,7 +20,7 @@ pub(super) fn is_input_refused(alloc: Global, call: &str, input: &[u8]) -> Resul
             return is_recording_refused(alloc, input, &wanted);
         }
     };
-    is_run_refused(alloc, run, input)
+    is_run_refused(Made { alloc, run, input })
 }
 
 /// The same, beside a recording of ample memory. It is read a second time where it was refused.
@@ -43,8 +43,9 @@ fn is_same(one: &Recording, other: &Recording) -> bool {
 }
 
 /// The output has its room before the run. A run that is refused has written nothing, and is made again on a fresh input.
-fn is_run_refused(alloc: Global, run: Run, input: &[u8]) -> Result<bool, Fault> {
-    let (wanted, ending) = text_of(alloc, run, input)?;
+fn is_run_refused(made: Made<'_>) -> Result<bool, Fault> {
+    let (wanted, ending) = made.text()?;
+    let Made { alloc, run, input } = made;
     let mut output = Vec::with_capacity(alloc, wanted.len())?;
     for refused in [false, true] {
         mark(alloc);

@@ -7,6 +7,14 @@ use rtps_ids::Memory;
 use rtps_receiver::{Act, Walk};
 use std::alloc::Global;
 
+/// Two directories that note the same, of which one is refused memory.
+#[derive(Drop)]
+struct Directories<'a> {
+    alloc: Global,
+    wanted: Directory<'a>,
+    tried: Directory<'a>,
+}
+
 /// Whether a directory was refused memory for any datagram, by either way to note its acts.
 pub(super) fn is_note_refused(
     alloc: Global,
@@ -14,88 +22,87 @@ pub(super) fn is_note_refused(
     recording: &[&[u8]],
 ) -> Result<bool, Fault> {
     let mut walk = Walk::new(alloc);
-    let mut wanted = Directory::new(alloc);
-    let mut tried = Directory::new(alloc);
-    is_any_refused(alloc, call, recording, &mut walk, &mut wanted, &mut tried)
+    let mut two = Directories {
+        alloc,
+        wanted: Directory::new(alloc),
+        tried: Directory::new(alloc),
+    };
+    is_any_refused(call, recording, &mut walk, &mut two)
 }
 
 fn is_any_refused<'a>(
-    alloc: Global,
     call: &str,
     recording: &[&'a [u8]],
     walk: &mut Walk<'a>,
-    wanted: &mut Directory<'a>,
-    tried: &mut Directory<'a>,
+    two: &mut Directories<'a>,
 ) -> Result<bool, Fault> {
     let mut refused = false;
     for datagram in recording {
         let _ = walk.read(datagram)?;
-        refused |= match call {
-            "note" => is_each_refused(alloc, wanted, tried, walk.acts())?,
-            _ => are_all_refused(alloc, wanted, tried, walk.acts())?,
+        let some = match call {
+            "note" => two.is_each_refused(walk.acts())?,
+            _ => two.are_all_refused(walk.acts())?,
         };
+        refused = refused || some;
     }
-    hold_same(wanted, tried)?;
+    two.hold_same()?;
     Ok(refused)
 }
 
-/// Notes acts one by one. One that is refused leaves the directory as it was, and is noted once more.
-fn is_each_refused<'a>(
-    alloc: Global,
-    wanted: &mut Directory<'a>,
-    tried: &mut Directory<'a>,
-    acts: &[Act<'a>],
-) -> Result<bool, Fault> {
-    let mut refused = false;
-    for act in acts {
-        mark(alloc);
-        let first = tried.note(act);
-        mark(alloc);
-        let noted = match first {
-            Ok(noted) => noted,
+impl<'a> Directories<'a> {
+    fn is_each_refused(&mut self, acts: &[Act<'a>]) -> Result<bool, Fault> {
+        let mut refused = false;
+        for act in acts {
+            let one = self.is_one_refused(act)?;
+            refused = refused || one;
+        }
+        Ok(refused)
+    }
+
+    /// Notes an act. Where that is refused, the directory is as it was, and the act is noted once more.
+    fn is_one_refused(&mut self, act: &Act<'a>) -> Result<bool, Fault> {
+        mark(self.alloc);
+        let first = self.tried.note(act);
+        mark(self.alloc);
+        let (noted, refused) = match first {
+            Ok(noted) => (noted, false),
             Err(Memory) => {
-                refused = true;
-                hold_same(wanted, tried)?;
-                tried.note(act)?
+                self.hold_same()?;
+                (self.tried.note(act)?, true)
             }
         };
-        if noted != wanted.note(act)? {
+        if noted != self.wanted.note(act)? {
             return Err(Fault::Differs("an act is noted otherwise after a refusal"));
         }
+        Ok(refused)
     }
-    Ok(refused)
-}
 
-/// Notes acts at once, in the one directory a second time where they are refused.
-fn are_all_refused<'a>(
-    alloc: Global,
-    wanted: &mut Directory<'a>,
-    tried: &mut Directory<'a>,
-    acts: &[Act<'a>],
-) -> Result<bool, Fault> {
-    mark(alloc);
-    let first = tried.note_all(acts);
-    mark(alloc);
-    let (faults, refused) = match first {
-        Ok(faults) => (faults, false),
-        Err(Memory) => (tried.note_all(acts)?, true),
-    };
-    if faults != wanted.note_all(acts)? {
-        return Err(Fault::Differs("acts are noted otherwise after a refusal"));
+    /// Notes acts at once, a second time where they are refused.
+    fn are_all_refused(&mut self, acts: &[Act<'a>]) -> Result<bool, Fault> {
+        mark(self.alloc);
+        let first = self.tried.note_all(acts);
+        mark(self.alloc);
+        let (faults, refused) = match first {
+            Ok(faults) => (faults, false),
+            Err(Memory) => (self.tried.note_all(acts)?, true),
+        };
+        if faults != self.wanted.note_all(acts)? {
+            return Err(Fault::Differs("acts are noted otherwise after a refusal"));
+        }
+        Ok(refused)
     }
-    Ok(refused)
-}
 
-/// Two directories have to list the same.
-fn hold_same(one: &Directory<'_>, other: &Directory<'_>) -> Result<(), Fault> {
-    if one.participants()? == other.participants()?
-        && one.endpoints()? == other.endpoints()?
-        && one.pairs()? == other.pairs()?
-        && one.unsettled() == other.unsettled()
-    {
-        return Ok(());
+    /// Both have to list the same.
+    fn hold_same(&self) -> Result<(), Fault> {
+        if self.wanted.participants()? == self.tried.participants()?
+            && self.wanted.endpoints()? == self.tried.endpoints()?
+            && self.wanted.pairs()? == self.tried.pairs()?
+            && self.wanted.unsettled() == self.tried.unsettled()
+        {
+            return Ok(());
+        }
+        Err(Fault::Differs("a refusal changes the directory"))
     }
-    Err(Fault::Differs("a refusal changes the directory"))
 }
 
 /// Whether a walk was refused memory for any datagram. It has the same acts then as one that was not.
