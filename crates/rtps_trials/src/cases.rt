@@ -56,7 +56,7 @@ fn answer(alloc: Global, call: &str, words: &mut Words<'_>) -> Result<String, Fa
         "note" => announcements::note(alloc, words),
         "plain" | "merged" => ranges::ranges(alloc, call, words),
         "least_outside" => ranges::least_of_two(alloc, words),
-        "even_then_odd" => ranges::even_then_odd(alloc, words),
+        "even_then_odd" => ranges::even_then_odd(alloc),
         "rewrite" => messages::rewritten(alloc, words),
         "write_header" | "write_skipped" | "write_heartbeat" | "write_gap" | "write_data" => {
             messages::written(alloc, call, words)

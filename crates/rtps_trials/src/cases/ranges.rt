@@ -50,21 +50,20 @@ fn front_text<C: Coverage>(alloc: Global, set: &C, words: &mut Words<'_>) -> Res
     Ok(text)
 }
 
-/// NUMBER: how many ranges the even numbers up to it are, and then all of them
-pub(super) fn even_then_odd(alloc: Global, words: &mut Words<'_>) -> Result<String, Fault> {
-    let half = words.number()?.min(10_000) as i64 / 2;
+/// How many ranges the even numbers up to 1,000 are, and then all of them, each with the front of the set
+pub(super) fn even_then_odd(alloc: Global) -> Result<String, Fault> {
     let mut set = MergedRanges::empty(alloc);
-    add_each_second(&mut set, 2, half)?;
+    add_500(&mut set, true)?;
     let (ranges, front) = (set.len(), set.front());
-    add_each_second(&mut set, 1, half)?;
-    let text = format!(in alloc; "{ranges} {front} {} {}", set.len(), set.front())?;
-    Ok(text)
+    add_500(&mut set, false)?;
+    let (joined, end) = (set.len(), set.front());
+    Ok(format!(in alloc; "{ranges} {front} {joined} {end}")?)
 }
 
-/// Adds so many numbers, each second one, from the first or the second on.
-fn add_each_second(set: &mut MergedRanges, first: i64, count: i64) -> Result<(), Memory> {
-    for place in 0..count.min(5_000) {
-        let number = first.clamp(1, 2) + 2 * place;
+/// Adds 500 numbers, every second one, from 1 or from 2 on.
+fn add_500(set: &mut MergedRanges, is_even: bool) -> Result<(), Memory> {
+    for half in 0..500u16 {
+        let number = 1 + i64::from(is_even) + i64::from(2 * half);
         set.add(number, number + 1)?;
     }
     Ok(())
