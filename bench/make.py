@@ -9,8 +9,9 @@
                                                         ones, or RELIABLE ones whose readers ask for what is kept
     make.py named|unnamed FILE                          of a writer that says 100,000 things to 100 readers: some of them to one
                                                         reader alone, as resends, GAPs and to one that comes late; all to all
-    make.py crossed FILE [MEGABYTES]                    of a writer that tells participants even numbers and entity ids odd ones,
-                                                        so that each of many readers hears long rows from two audiences in turns
+    make.py in_turns|not_in_turns FILE [MEGABYTES]      of a writer that tells participants even numbers and entity ids odd ones,
+                                                        so that each of many readers hears its numbers from both in turns; that
+                                                        tells all readers all numbers
     make.py opened|disputed FILE [MEGABYTES]            of a writer whose readers each acknowledge up to another number; each hear
                                                         two payloads for another number
     make.py every_second|far_apart FILE [MEGABYTES]     of one pair: GAPs of every second one of 256 numbers each; of one number
@@ -137,8 +138,8 @@ def datagrams(kind, octets):
         return (*map(announcement, entities), *spoken)
     if kind in ('named', 'unnamed'):
         return of_named(kind == 'named')
-    if kind == 'crossed':
-        return of_crossed(octets)
+    if kind in ('in_turns', 'not_in_turns'):
+        return of_turns(kind, octets)
     if kind in ('every_second', 'far_apart'):
         return of_gaps(kind, octets)
     if kind in ('opened', 'disputed'):
@@ -204,19 +205,21 @@ def of_named(is_named):
     yield from (header(prefix) + to(A) + ack_nack(entity, WRITER, last + 1) for prefix, entity in readers)
 
 
-def of_crossed(octets):
-    """A writer, participants of which each has readers of the same entity ids, and what each of both is told."""
+def of_turns(kind, octets):
+    """A writer, participants of which each has readers of the same entity ids, and what each of both is told, or all are."""
     count = max(2, int((octets // 512) ** 0.5))
     prefixes = [b'\xbb' * 8 + i.to_bytes(4, 'big') for i in range(count)]
     entities = [(0x104 + 256 * i).to_bytes(4, 'big') for i in range(count)]
     pieces = max(1, octets // 4 // count // 136)
+    even, odd, everyone = [0x55555555] * 8, [0xaaaaaaaa] * 8, (bytes(12), bytes(4))
+    audiences = [*((prefix, bytes(4), even) for prefix in prefixes), *((bytes(12), entity, odd) for entity in entities)]
+    if kind == 'not_in_turns':
+        audiences = [(*everyone, [0xffffffff] * 8)] * (2 * count)
     yield announced(b'\0\0\3\xc2', A, WRITER, b'')
     for prefix in prefixes:
         yield from (announced(b'\0\0\4\xc2', prefix, entity, RELIABLE) for entity in entities)
-    for prefix in prefixes:
-        yield header(A) + to(prefix) + b''.join(gap(WRITER, 1 + 256 * i, 1 + 256 * i, [0x55555555] * 8) for i in range(pieces))
-    for entity in entities:
-        yield header(A) + b''.join(gap(WRITER, 1 + 256 * i, 1 + 256 * i, [0xaaaaaaaa] * 8, 256, entity) for i in range(pieces))
+    for prefix, entity, words in audiences:
+        yield header(A) + to(prefix) + b''.join(gap(WRITER, 1 + 256 * i, 1 + 256 * i, words, 256, entity) for i in range(pieces))
     yield header(A) + heartbeat(WRITER, 1, 256 * pieces)
     for prefix in prefixes:
         yield header(prefix) + to(A) + b''.join(ack_nack(entity, WRITER, 256 * pieces + 1) for entity in entities)

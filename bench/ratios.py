@@ -86,8 +86,8 @@ def writing(trials, paths, rounds=50000):
         print(f'{os.path.basename(path)}: reading {rounds} times {reading:.3f} s, writing {written:.3f} s, {written / reading:.2f} of it')
 
 
-KINDS = ['packed', 'answers', 'readers', 'writers', 'announced', 'announced_first', 'unnamed', 'named', 'crossed', 'opened',
-         'disputed', 'every_second', 'far_apart', *make.OF_ONE_TOPIC, 'hostile', 'one_data', 'pairs']
+KINDS = ['packed', 'answers', 'readers', 'writers', 'announced', 'announced_first', 'unnamed', 'named', 'not_in_turns', 'in_turns',
+         'opened', 'disputed', 'every_second', 'far_apart', *make.OF_ONE_TOPIC, 'hostile', 'one_data', 'pairs']
 
 
 def kinds(program, megabytes, other, view):
