@@ -2,9 +2,10 @@
 
 use crate::fault::Fault;
 use crate::recording::second;
+use rtps_ids::SeqNum;
 use rtps_tool::{
-    Ending, Limits, RunFault, Unwatched, run_audit, run_audit_from, run_json_within, run_list,
-    run_show, run_why,
+    Command, Ending, Options, RunFault, Unwatched, run, run_audit, run_audit_from, run_list,
+    run_show,
 };
 use std::alloc::Global;
 use std::io::{self, ErrorKind, Read, Write};
@@ -93,10 +94,13 @@ impl Run {
             Run::List => run_list(alloc, input, output),
             Run::Audit => run_audit(alloc, input, output),
             Run::AuditFrom => run_audit_from(alloc, input, output, second()),
-            Run::Why => run_why(alloc, input, output),
+            Run::Why => {
+                let options = Options::usual(Command::Why, SeqNum::first());
+                run(alloc, &options, input, output, &mut Unwatched)
+            }
             Run::Json => {
-                let watch = &mut Unwatched;
-                run_json_within(alloc, Limits::usual(), input, output, second(), watch)
+                let options = Options::usual(Command::Json, second());
+                run(alloc, &options, input, output, &mut Unwatched)
             }
         }
     }

@@ -6,6 +6,7 @@ use crate::words::{Words, octets_text};
 use rtps_discovery::NoticeFault;
 use rtps_ids::{EntityId, GuidPrefix, NumberSet, Order, SeqNum, SetFault, Vendor, Version};
 use rtps_params::{ListFault, ParamFault};
+use rtps_tool::{RecFault, RunFault};
 use rtps_wire::{
     Body, DataBody, GapBody, Header, HeartbeatBody, Item, Payload, WireFault, WriteFault,
     write_message,
@@ -126,6 +127,8 @@ pub(super) fn numbers(alloc: Global, words: &mut Words<'_>) -> Result<String, Fa
         "WireFault" => listed!(alloc, WIRE),
         "WriteFault" => listed!(alloc, WRITE),
         "NoticeFault" => listed!(alloc, NOTICE),
+        "RecFault" => listed!(alloc, RECORDING),
+        "RunFault" => listed!(alloc, RUN),
         _ => return Err(Fault::Words),
     })
 }
@@ -169,4 +172,20 @@ const NOTICE: [NoticeFault; 9] = [
     NoticeFault::BadText,
     NoticeFault::BadReliability,
     NoticeFault::BadDurability,
+];
+
+const RECORDING: [RecFault; 6] = [
+    RecFault::BadHex { line: 7 },
+    RecFault::TooLong { line: 7 },
+    RecFault::TooMany,
+    RecFault::Memory,
+    RecFault::BadCapture,
+    RecFault::CutCapture { frame: 7 },
+];
+
+const RUN: [RunFault; 4] = [
+    RunFault::Recording(RecFault::TooMany),
+    RunFault::Input,
+    RunFault::Output { written: 7 },
+    RunFault::Memory,
 ];
