@@ -4,7 +4,7 @@ use super::mark;
 use crate::fault::Fault;
 use crate::streams::{Made, Run};
 use rtps_tool::{Choice, RecFault, Recording, RunFault, WordFault, read_recording, read_words};
-use std::alloc::{AllocError, Global};
+use std::alloc::Global;
 
 /// Whether the call on an input was refused memory.
 pub(super) fn is_input_refused(alloc: Global, call: &str, input: &[u8]) -> Result<bool, Fault> {
@@ -86,26 +86,8 @@ pub(super) fn are_words_refused(alloc: Global, call: &str) -> Result<bool, Fault
 /// What words choose, or the text that answers them; None for want of memory.
 fn answer_of(alloc: Global, read: Result<Choice, WordFault>) -> Result<Option<String>, Fault> {
     match read {
-        Ok(choice) => Ok(Some(chosen(alloc, &choice)?)),
+        Ok(choice) => Ok(Some(format!(in alloc; "{choice:?}")?)),
         Err(WordFault::Memory) => Ok(None),
         Err(fault) => Ok(Some(format!(in alloc; "{fault}")?)),
-    }
-}
-
-/// What is chosen.
-fn chosen(alloc: Global, choice: &Choice) -> Result<String, AllocError> {
-    let file = choice.file().unwrap_or("");
-    match choice {
-        Choice::Show { .. } => format!(in alloc; "show {file}"),
-        Choice::List { .. } => format!(in alloc; "list {file}"),
-        Choice::Audit { from, json, .. } => {
-            let number = from.get();
-            format!(in alloc; "audit {file} from {number} json {json}")
-        }
-        Choice::Why { from, .. } => {
-            let number = from.get();
-            format!(in alloc; "why {file} from {number}")
-        }
-        Choice::Sample => format!(in alloc; "sample"),
     }
 }
