@@ -17,8 +17,8 @@
                                                 place, beside that of HEARTBEATs of one writer in as many octets, and
                                                 beside the same of another program
 
-    ratios.py writing REWRITE FILE..            writing messages beside reading the same ones, by the program of
-                                                crates/rtps_rewrite: each message of FILE many times, less what it takes
+    ratios.py writing TRIALS FILE..             writing messages beside reading the same ones, by the program of
+                                                crates/rtps_trials: each message of FILE many times, less what it takes
                                                 to read the recording and do neither
 
 Each figure is the best of some runs that take turns. Nothing here passes or fails.
@@ -78,17 +78,16 @@ def orders(program, n, other):
             print(f'{order}: {", ".join(ratios)}', flush=True)
 
 
-def writing(rewrite, paths, rounds=50000):
+def writing(trials, paths, rounds=50000):
     for path in paths:
         calls = [('read', 0), ('read', rounds), ('write', rounds)]
-        times, _ = best([['sh', '-c', '"$0" "$1" "$2" <"$3"', rewrite, call, str(count), path] for call, count in calls])
+        times, _ = best([['sh', '-c', '"$0" "$1" "$2" <"$3"', trials, call, str(count), path] for call, count in calls])
         reading, written = times[1] - times[0], times[2] - times[0]
         print(f'{os.path.basename(path)}: reading {rounds} times {reading:.3f} s, writing {written:.3f} s, {written / reading:.2f} of it')
 
 
-KINDS = ['packed', 'answers', 'readers', 'writers', 'announced', 'announced_first', 'named', 'named_too', 'named_last', 'named_between',
-         'named_hole', *make.CROSSED, 'named_breaks', 'entered_earlier', 'in_turns', 'opened', 'disputed', 'one_block', 'every_number',
-         'every_second', 'far_apart', 'far_apart_random', *make.OF_ONE_TOPIC, 'hostile', 'one_data', 'pairs']
+KINDS = ['packed', 'answers', 'readers', 'writers', 'announced', 'announced_first', 'unnamed', 'named', 'not_in_turns', 'in_turns',
+         'opened', 'disputed', 'every_second', 'far_apart', *make.OF_ONE_TOPIC, 'hostile', 'one_data', 'pairs']
 
 
 def kinds(program, megabytes, other, view):

@@ -12,7 +12,6 @@ import sys
 
 sys.dont_write_bytecode = True
 import program
-import captures
 import make
 import reference
 from program import ROOT, file_of, text_of
@@ -78,7 +77,8 @@ def audits_of_changed(tests):
     recording = dict(recordings())['complete']
     count, verdicts = 0, {}
     for place, datagram in enumerate(recording):
-        for one in changed(datagram):
+        # All of them are judged by crates/rtps_trials; some are compared with the second implementation.
+        for one in [*changed(datagram)][::11]:
             text = text_of(recording[:place] + [one] + recording[place + 1:])
             name = f'datagram {place + 1} is {one.hex()}'
             wanted = reference.answer('audit', text)
@@ -97,34 +97,16 @@ def announced_late(tests):
     for name, recording in recordings():
         if len(recording) > 40:
             continue
-        for first in range(1, min(6, len(recording))):
-            orders = [recording[first:] + recording[:first], recording[:first - 1] + recording[first:] + recording[first - 1:first]]
-            for order in orders:
-                text = text_of(order)
-                for view in ('audit', 'why'):
-                    tests.answers(f'{name} in another order', view, text, *reference.answer(view, text))
-                count += 1
+        for order in (recording[2:] + recording[:2], recording[1:] + recording[:1], recording[::-1]):
+            text = text_of(order)
+            tests.answers(f'{name} in another order', 'why', text, *reference.answer('why', text))
+            count += 1
     entities = [((0x103 + 256 * i).to_bytes(4, 'big'), (0x104 + 256 * i).to_bytes(4, 'big')) for i in range(60)]
     said = [datagram for writer, reader in entities for datagram in make.samples(range(1, 4), 3, writer, reader)]
     known = list(make.announcements(len(entities)))
     for place in (0, len(said) // 2, len(said)):
         tests.agrees(f'120 announcements behind {place} datagrams', text_of(said[:place] + known + said[place:]), ('audit', 'why'))
-    print(f'recordings whose first datagrams, or one of them, come last: {count}; 60 pairs that are announced behind what they say: 3')
-
-
-# ---- read and written octet by octet
-
-def octet_by_octet(tests):
-    announced, first = file_of('crates', 'rtps_hostile', 'stdin').split(b'\n\n')[:2]
-    text = announced + b'\n' + first
-    frames = [frame for datagram in reference.recording_of(text) for frame in (b'\x45', captures.packet(datagram))]
-    printed = file_of('crates', 'rtps_hostile', 'stdout').decode()
-    runs = [('show', 1), ('list', 1), ('audit', 1), ('audit', 2), ('why', 1), ('json', 2)]
-    for form, octets in (('a text', text), ('a capture', captures.capture(frames))):
-        texts = ''.join(reference.answer(view, octets, number)[0] for view, number in runs)
-        wanted = f'{form}, octets that were read and written one by one: {len(texts)}\n{texts}'
-        tests.holds(f'{form}, what is wanted of rtps_hostile', 1, printed.count(wanted))
-    print(f'runs whose octets are read and written one by one by rtps_hostile: {2 * len(runs)}')
+    print(f'recordings in another order: {count}; 60 pairs that are announced behind what they say: 3')
 
 
 # ---- large datagrams
@@ -199,7 +181,7 @@ def endpoints_that_disagree(tests):
 
 
 def endpoints_of_one_topic(tests):
-    count = 300
+    count = 100
     audited = f'pairs 0\ndatagrams {2 * count} refused 0 skipped 0 fragments 0 undirected 0 unsettled 0\n'
     for kind, matches in (('one_topic', count * count), ('one_topic_volatile', 0)):
         sent = list(make.of_one_topic(kind, count))
@@ -207,7 +189,7 @@ def endpoints_of_one_topic(tests):
         in_turn = [one for two in zip(writers, readers) for one in two]
         for order in (writers + readers, readers + writers, in_turn):
             tests.answers(kind, 'audit', text_of(order), audited)
-            tests.agrees(kind, text_of(order), ('list', 'audit', 'why', 'json'))
+            tests.agrees(kind, text_of(order), ('list', 'why'))
         listed = tests.run('list', text_of(sent))[0].splitlines()
         tests.holds(f'list: {kind}', matches, sum(line.startswith('pair ') for line in listed))
     print(f'endpoints of one topic: {count} writers and {count} readers of which no two are a pair, in 2 ways and 3 orders')
@@ -249,7 +231,7 @@ def answer_of(reader, base):
 
 
 def readers_that_are_named(tests):
-    count, rng, known = 500, random.Random(11), announced_readers()
+    count, rng, known = 80, random.Random(11), announced_readers()
     for place in range(count):
         most = (5, 40)[place % 2]
         sent = [some_said(rng, NAMED, most) for _ in range(rng.randrange(9))]
@@ -263,33 +245,16 @@ def readers_that_are_named(tests):
     print(f'readers that are named, or their participants, in some acts and not in others: {count} recordings of {len(NAMED)} readers')
 
 
-def rows_past_what_is_named(tests):
-    """numbers that all readers hear, but for the first and a later one, which some hear by name"""
-    last, hole, known = 700, 400, announced_readers()
-    sent = [make.header(A) + make.data(WRITER, number, bytes(8)) for number in range(2, last + 1) if number != hole]
-    for place, reader in enumerate(NAMED):
-        prefix, entity = reader
-        own = [make.data(WRITER, number, bytes(8), entity) for number in ((), (1,), (1, hole))[place % 3]]
-        sent += [make.header(A) + make.to(prefix) + b''.join(own), answer_of(reader, (1, hole, last + 1)[place % 3])]
-    count = 0
-    for lies in (None, *range(6)):
-        more = [] if lies is None else [answer_of(NAMED[lies], hole + 1 if lies % 3 < 2 else last + 2)]
-        for late in ([], [make.header(A) + make.data(WRITER, number, bytes(8)) for number in (1, hole)]):
-            tests.agrees('rows past what is named', text_of(known + sent + more + late), ('audit', 'why'))
-            count += 1
-    print(f'rows of {last} numbers with holes that some readers hear by name: {count} recordings of {len(NAMED)} readers')
-
-
 def numbers_in_turns(tests):
     """rows of numbers that readers are told in turns: by what is for all of them, for participants, for entity ids, and for each"""
-    count, rng, last = 12, random.Random(45), 2600
+    count, rng, last = 8, random.Random(45), 300
     for _ in range(count):
         said = {audience: b'' for group in AUDIENCES for audience in group}
         number = 1
         while number <= last:
             end = number + rng.choice((1, 1, 2, 70))
             # Now and then somebody is not told.
-            told = [audience for audience in rng.choice(AUDIENCES) if rng.random() > 0.004]
+            told = [audience for audience in rng.choice(AUDIENCES) if rng.random() > 0.01]
             for prefix, entity in told:
                 said[prefix, entity] += make.gap(WRITER, number, end, [], 0, entity)
             number = end
@@ -299,106 +264,13 @@ def numbers_in_turns(tests):
     print(f'rows of {last} numbers that readers hear in turns from all their audiences: {count} recordings of {len(NAMED)} readers')
 
 
-def lists_in_turns(tests):
-    """lists of 256 numbers that readers are told in turns, by two kinds of audiences, with long rows for all of them between"""
-    count, rng = 12, random.Random(46)
-    for place in range(count):
-        sent, number = [], 1
-        while number < 40000:
-            # In the last four all numbers are for everyone and for participants.
-            one, other = rng.sample(AUDIENCES, 2) if place < 8 else AUDIENCES[:2]
-            words = [rng.getrandbits(32) for _ in range(8)]
-            for group, bits in ((one, words), (other, [word ^ 0xffffffff for word in words])):
-                for prefix, entity in group:
-                    # Now and then somebody is not told.
-                    if place < 2 or rng.random() > 0.002:
-                        sent.append(make.header(A) + (make.to(prefix) if prefix else b'') + make.gap(WRITER, number, number, bits, 256, entity))
-            number += 256
-            if rng.random() < 0.1:
-                end = number + rng.choice((1, 700, 1100, 5000))
-                sent.append(make.header(A) + make.gap(WRITER, number, end, [], 0))
-                number = end
-        sent += [make.header(A) + make.heartbeat(WRITER, 1, number - 1), *(answer_of(reader, number) for reader in NAMED)]
-        tests.agrees('lists in turns', text_of(announced_readers() + sent), ('audit', 'why'))
-    print(f'lists of 256 numbers that readers hear in turns, up to 40,000: {count} recordings of {len(NAMED)} readers')
-
-
-def rows_in_turns(tests):
-    """rows that participants hear, and rows or numbers between them that readers of an entity id hear, by few and by many readers"""
-    count, rng = 12, random.Random(47)
-    for place in range(count):
-        most = (2, 7)[place % 2]
-        prefixes = [b'\xbb' * 11 + bytes([i]) for i in range(most)]
-        entities = [(0x104 + 256 * i).to_bytes(4, 'big') for i in range(most)]
-        readers = [(prefix, entity) for prefix in prefixes for entity in entities]
-        said = {audience: b'' for audience in [*((prefix, bytes(4)) for prefix in prefixes), *((None, entity) for entity in entities)]}
-        lengths = ((65, 129, 600, 9000), (1, 2, 66)) if place < 8 else ((200, 65, 70), (65, 64, 66))
-        number = 1
-        for i in range(240):
-            end = number + rng.choice(lengths[i % 2])
-            for prefix, entity in said:
-                # Now and then somebody is not told.
-                if (prefix is None) == (i % 2 == 1) and rng.random() > 0.004:
-                    said[prefix, entity] += make.gap(WRITER, number, end, [], 0, entity)
-            number = end
-        sent = [make.header(A) + (make.to(prefix) if prefix else b'') + octets for (prefix, _), octets in said.items()]
-        sent += [make.header(A) + make.heartbeat(WRITER, 1, number - 1), *(answer_of(reader, number) for reader in readers)]
-        tests.agrees('rows in turns', text_of(announced_readers(readers) + sent), ('audit', 'why'))
-    print(f'rows that readers hear in turns with what is between them: {count} recordings of 4 and 49 readers')
-
-
-def rows_entered_earlier(tests):
-    """lists that all readers and their participant hear in turns, which each reader enters at a lesser number than the one before"""
-    count, rng, last = 4, random.Random(48), 52000
-    readers = [(b'\xbb' * 12, (0x104 + 256 * i).to_bytes(4, 'big')) for i in range(5)]
-    for place in range(count):
-        # Of the first number each is told by name alone, and in half of the recordings nobody is told of another one.
-        holes = [1, rng.randrange(2, last)] if place % 2 else [1]
-        sent = []
-        for bits, to in ((0xaaaaaaaa, b''), (0x55555555, make.to(readers[0][0]))):
-            for number in range(1, last, 256):
-                words = [bits] * 8
-                for hole in holes:
-                    if number <= hole < number + 256:
-                        words[(hole - number) // 32] &= ~(1 << (31 - (hole - number) % 32))
-                sent.append(make.header(A) + to + make.gap(WRITER, number, number, words))
-        # Each reader is told by name of the numbers up to where it enters, further ahead than one goes before it asks what others share.
-        begun, enters = [], last
-        for prefix, entity in readers:
-            begun.append(make.header(A) + make.to(prefix) + make.gap(WRITER, 1, enters, [], 0, entity))
-            enters -= rng.randrange(7000, 12000)
-        end = 256 * ((last + 254) // 256) + 1
-        sent += [*begun, make.header(A) + make.heartbeat(WRITER, 1, end - 1), *(answer_of(reader, end) for reader in readers)]
-        tests.agrees('rows entered earlier', text_of(announced_readers(readers) + sent), ('audit', 'why'))
-    print(f'lists in turns that each reader enters earlier: {count} recordings of {len(readers)} readers')
-
-
-def numbers_of_few_blocks(tests):
-    """numbers of three blocks that 60 readers ask for, of which acts tell some and not the others"""
-    count, last, rng = 20, 191, random.Random(63)
-    readers = [(prefix * 12, (0x104 + 256 * i).to_bytes(4, 'big')) for prefix in (b'\xbb', b'\xcc', b'\xaa') for i in range(20)]
-    for _ in range(count):
-        sent = [some_said(rng, rng.sample(readers, 6), last) for _ in range(rng.randrange(6, 20))]
-        for _ in range(rng.randrange(3)):
-            # Of a row over several blocks many of the numbers are asked for.
-            number = rng.randrange(1, 90)
-            sent.append(make.header(A) + rng.choice([b'', make.to(readers[0][0])]) + make.gap(WRITER, number, number + 100, [], 0))
-        for prefix, entity in readers:
-            end = rng.randrange(1, last + 1)
-            sent.insert(rng.randrange(len(sent) + 1), make.header(A) + make.to(prefix) + make.gap(WRITER, 1, end, [], 0, entity))
-            sent.append(answer_of((prefix, entity), rng.choice((end, end + 1, last + 1))))
-        sent.append(make.header(A) + make.heartbeat(WRITER, 1, rng.choice((1, last))))
-        tests.agrees('numbers of few blocks', text_of(announced_readers(readers) + sent), ('audit', 'why'))
-    print(f'numbers of three blocks that readers ask for: {count} recordings of {len(readers)} readers')
-
-
-# Numbers about the ends of blocks of 64, up to the greatest one.
+# Numbers about powers of 2, up to the greatest one.
 EDGES = [middle + more for middle in (64, 128, 192, 512, 1 << 40, 1 << 62) for more in (-1, 0, 1)] + [1, 2, 300, (1 << 63) - 65, (1 << 63) - 2, (1 << 63) - 1]
 
 
-def ends_of_blocks(tests):
-    """ranges and lists of numbers that begin and end about the ends of blocks, for six readers and for some of them"""
-    count, rng, known = 80, random.Random(64), announced_readers()
+def great_numbers(tests):
+    """ranges and lists of numbers up to the greatest one, for six readers and for some of them"""
+    count, rng, known = 15, random.Random(64), announced_readers()
     for _ in range(count):
         sent = []
         for _ in range(rng.randrange(2, 14)):
@@ -416,10 +288,10 @@ def ends_of_blocks(tests):
         sent.append(make.header(A) + make.heartbeat(WRITER, 1, rng.choice(EDGES)))
         sent += [answer_of(reader, rng.choice(EDGES)) for reader in NAMED]
         text, first = text_of(known + sent), rng.choice(EDGES)
-        tests.agrees('ends of blocks', text, ('audit', 'why'))
+        tests.agrees('great numbers', text, ('audit', 'why'))
         for view in ('audit', 'why', 'json'):
-            tests.answers(f'ends of blocks, from {first} on', view, text, *reference.answer(view, text, first), ('--from', str(first)))
-    print(f'ranges and lists that end about multiples of 64, and up to 2^63 - 1: {count} recordings of {len(NAMED)} readers')
+            tests.answers(f'great numbers, from {first} on', view, text, *reference.answer(view, text, first), ('--from', str(first)))
+    print(f'ranges and lists up to 2^63 - 1: {count} recordings of {len(NAMED)} readers')
 
 
 def announcement(built_in, octets):
@@ -462,10 +334,10 @@ OF_MANY_RANGES = [(0xaaaaaaaa, 0x55555555), (0xcccccccc, 0x33333333), (0x6db6db6
 def gaps_of_many_ranges(tests):
     pair = f'{reference.guid_text(A + WRITER)} {reference.guid_text(B + READER)}'
     count = 0
-    for base in (1, 2, 33, 1000, (1 << 62) - 1, 1 << 62, (1 << 63) - 257):
+    for base in (1, (1 << 63) - 257):
         last = base + 255
         heartbeat = make.header(A) + make.heartbeat(WRITER, 1, last)
-        for words in OF_MANY_RANGES:
+        for words in OF_MANY_RANGES[:1 if base == 1 else 3]:
             one, other = (make.header(A) + make.gap(WRITER, 1, base, [word] * 8) for word in words)
             cut = make.header(A) + make.gap(WRITER, 1, base, [words[0]] * 8, 250)
             rest = [base + place for place in range(256) if words[1] >> (31 - place % 32) & 1]
@@ -487,7 +359,7 @@ def gaps_of_many_ranges(tests):
                 name = f'a GAP of words {words[0]:08x} from {base} on: {what}'
                 row = reference.answer('audit', text)[0].splitlines()[1]
                 tests.holds(f'{name}, worked out', f'{pair} {verdict}', row)
-                tests.agrees(name, text, ('audit', 'why', 'json'))
+                tests.agrees(name, text, ('why',))
                 count += 1
     print(f'GAPs whose lists have many ranges: {count} recordings')
 
@@ -508,8 +380,7 @@ def many_datagrams(tests):
 
 
 if __name__ == '__main__':
-    sys.exit(program.main(__doc__, (cut_by_table, cut_and_changed, audits_of_changed, announced_late, octet_by_octet,
-                                    empty_submessages, parameter_lists, endpoints_that_disagree, endpoints_of_one_topic,
-                                    readers_that_are_named, rows_past_what_is_named, numbers_in_turns, lists_in_turns, rows_in_turns,
-                                    rows_entered_earlier, numbers_of_few_blocks, ends_of_blocks, topics_of_every_octet,
-                                    acknowledgements, gaps_of_many_ranges, many_datagrams)))
+    sys.exit(program.main(__doc__, (cut_by_table, cut_and_changed, audits_of_changed, announced_late, empty_submessages,
+                                    parameter_lists, endpoints_that_disagree, endpoints_of_one_topic, readers_that_are_named,
+                                    numbers_in_turns, great_numbers, topics_of_every_octet, acknowledgements,
+                                    gaps_of_many_ranges, many_datagrams)))

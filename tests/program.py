@@ -72,16 +72,16 @@ class Tests(Counts):
     def answers(self, name, view, octets, wanted, status=0, words=()):
         self.holds(f'{view}: {name}', (wanted, '', status), self.run(view, octets, words))
 
-    def refuses(self, name, octets, fault, reason='', words=()):
-        """in each view, with the reason in front, if there is one"""
+    def refuses(self, name, octets, fault, reason='', words=(), views=VIEWS):
+        """in these views, with the reason in front, if there is one"""
         told = reason.replace('FILE', self.file.name)
-        for view in VIEWS:
+        for view in views:
             self.holds(f'{view}: {name}', ('', f'{told}rtps-audit: {fault}\n', 2), self.run(view, octets, words))
 
-    def passes(self, name, octets, most, what, words=()):
-        """in each view, the most octets or datagrams"""
+    def passes(self, name, octets, most, what, words=(), views=VIEWS):
+        """in these views, the most octets or datagrams"""
         told = f'rtps-audit: FILE: more than {most} {what}; --max-{what} N raises this limit\n'
-        self.refuses(name, octets, 'too many datagrams', told, words)
+        self.refuses(name, octets, 'too many datagrams', told, words, views)
 
     def agrees(self, name, octets, views=VIEWS):
         """each view is what the second implementation says; of standard error the last line is compared"""

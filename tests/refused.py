@@ -3,7 +3,7 @@
 
     tests/refused.py PROGRAM CALLS
 
-PROGRAM is rtps-audit, and CALLS the built program of crates/rtps_hostile. Each call that CALLS knows, and each subcommand
+PROGRAM is rtps-audit, and CALLS the built program of crates/rtps_trials. Each call that CALLS knows, and each subcommand
 of PROGRAM, is run once for each request for memory that it makes, and that request is refused. A call has to answer that
 memory was refused, and the same call after that as if it were the first; a subcommand has to end with status 3 and to
 have written nothing. Reading words may go on as with ample memory, and then has to answer the same. Each prints a line
@@ -22,15 +22,14 @@ from program import ROOT, VIEWS, Counts, file_of, text_of
 from reference import words_of
 import make
 
-# The calls on a recording, those that take a capture of it too, and those on words.
-CALLS = ['note', 'note_all', 'participants', 'endpoints', 'matched', 'pairs', 'walk', 'add_plain', 'add_merged', 'add_bits',
-         'add_bits_to_plain', 'add_bits_to_merged', 'add_bits_to_bits', 'past', 'judge', 'judge_by_plain', 'judge_from_plain',
-         'judge_from_merged', 'judge_from_bits', 'build', 'index_judge', 'index_judge_from', 'evidence', 'audit', 'audit_from',
-         'put_u16', 'put_u32', 'put_number', 'write_list', 'write_message']
-OF_INPUT = ['read_recording', 'show', 'list', 'audit_run', 'audit_from_run', 'why_run', 'json_run']
+# The calls on a recording that grow or list what is announced, and the other ones.
+OF_ENDPOINTS = ['note', 'note_all', 'participants', 'endpoints', 'matched', 'pairs', 'build', 'audit']
+CALLS = ['walk', 'add_plain', 'add_merged', 'judge', 'judge_by_plain', 'judge_from_plain', 'judge_from_merged', 'index_judge',
+         'index_judge_from', 'evidence', 'audit_from', 'put_u16', 'put_u32', 'put_number', 'write_list', 'write_message',
+         'read_recording', 'show_run', 'list_run', 'audit_run', 'audit_from_run', 'why_run', 'json_run',
+         'capture_read_recording', 'capture_show_run']
 # Those that hear what a writer says to readers that it names.
-OF_NAMED = ['build', 'index_judge', 'index_judge_from', 'evidence', 'audit', 'audit_from', 'audit_run', 'audit_from_run',
-            'why_run', 'json_run']
+OF_NAMED = ['build', 'judge', 'index_judge', 'evidence', 'audit', 'why_run']
 WORDS = ['read_words', 'read_words_from', 'read_help', 'read_refused_words']
 
 # Any request may go on.
@@ -87,9 +86,9 @@ def sweep(library, words, text, wanted, may_go_on, mark=0):
 
 
 def many_endpoints():
-    """a recording of 40 participants, writers and readers, of which one pair speaks"""
+    """a recording of 12 participants, writers and readers, of which one pair speaks"""
     datagrams = []
-    for i in range(40):
+    for i in range(12):
         prefixes = bytes([0xaa - i]) * 12, bytes([0xbb + i]) * 12
         for built_in, prefix, entity in ((b'\0\0\3\xc2', prefixes[0], make.WRITER), (b'\0\0\4\xc2', prefixes[1], make.READER)):
             datagrams.append(make.announced(built_in, prefix, entity, make.RELIABLE).replace(b'pose', b'po%02d' % (i % 7)))
@@ -125,33 +124,32 @@ def named_readers():
     return text_of(datagrams)
 
 
-def of_calls(calls, recordings):
+def of_calls(calls, recording):
     """what is tried of the library: a name, the words, the input, what is wanted, how many requests may go on, and the mark"""
-    of_capture = [f'capture_{call}' for call in OF_INPUT]
-    for call in CALLS + OF_INPUT + of_capture + WORDS:
+    def one(call, name, text):
         answer = f'{call}: Memory, and then as if it were the first\n', [], 0
-        for name, text in recordings.items():
-            yield f'{call}, {name}', [calls, call], text, answer, ALL if call in WORDS else 0, MARK
-        if call in OF_NAMED:
-            yield f'{call}, of readers that are named', [calls, call], named_readers(), answer, 0, MARK
+        return f'{call}{name}', [calls, 'refuse', call], text, answer, ALL if call in WORDS else 0, MARK
+    for call in OF_ENDPOINTS + CALLS + WORDS:
+        yield one(call, '', recording)
+    for call in OF_ENDPOINTS:
+        yield one(call, ' of 24 endpoints', many_endpoints())
+    for call in OF_NAMED:
+        yield one(call, ' of readers that are named', named_readers())
 
 
 def of_program(library, program, recording):
     """what is tried of the program: of a run on a recording, the requests may go on that are made until the FILE is opened"""
     nothing = '', ['rtps-audit: out of memory'], 3
-    views = [*map(words_of, VIEWS), ['audit', '--from', '3'], ['why', '--from', '3']]
     for words in (['--help'], ['audit', '--help'], ['--version'], ['audit'], []):
         yield f"rtps-audit {' '.join(words)}", [program, *words], recording, nothing, ALL
     for words in ['audit', 'absent.rec'], ['sample']:
         yield f"rtps-audit {' '.join(words)}", [program, *words], b'', nothing, ALL
-    runs = [('', [*view, '-'], recording) for view in views]
-    runs.append((' of a GAP whose list has 128 ranges', ['audit', '-'], many_ranges()))
     capture = file_of('examples', 'loopback.pcap')
-    limits = ['--max-datagrams', '6', '--max-octets', '100000']
-    for view in views:
-        runs.append((' with limits', [*view, *limits, '-'], recording))
-        runs.append((' of readers that are named', [*view, '-'], named_readers()))
-        runs.append((' of a capture', [*view, '-'], capture))
+    runs = [('', [*words_of(view), '-'], recording) for view in VIEWS]
+    runs.append((' from 3 on', ['why', '--from', '3', '-'], recording))
+    runs.append((' of a GAP whose list has 128 ranges', ['audit', '-'], many_ranges()))
+    runs.append((' of readers that are named', ['audit', '--json', '-'], named_readers()))
+    runs.append((' of a capture', ['audit', '--max-datagrams', '6', '--max-octets', '100000', '-'], capture))
     for name, words, text in runs:
         of_words = requests_of(library, [program, *words[:-1], 'absent.rec'])
         yield f"rtps-audit {' '.join(words)}{name}", [program, *words], text, nothing, of_words
@@ -161,11 +159,11 @@ def main():
     if len(sys.argv) != 3:
         raise SystemExit(__doc__)
     program, calls = map(os.path.realpath, sys.argv[1:])
-    recordings = {'of six datagrams': file_of('examples', 'pose.rec'), 'of 80 endpoints': many_endpoints()}
+    recording = file_of('examples', 'pose.rec')
     tests = Counts()
     with tempfile.TemporaryDirectory() as folder:
         library = built(folder)
-        for name, *one in (*of_calls(calls, recordings), *of_program(library, program, recordings['of six datagrams'])):
+        for name, *one in (*of_calls(calls, recording), *of_program(library, program, recording)):
             told, went_on, others = sweep(library, *one)
             tests.count(told, others + (told == 0))
             print(f'{name}: {told} requests refused' + (f', and {went_on} that changed nothing' if went_on else ''))

@@ -78,7 +78,7 @@ def agrees(tests, name, octets, first=None):
 def of_recordings(tests):
     count = 0
     for name, octets in recordings():
-        for first in (None, 1, 2, 3, 4, GREATEST):
+        for first in (None, 2):
             agrees(tests, name, octets, first)
             count += 1
     print(f'reports: {count} of recordings of the repository')
@@ -86,7 +86,8 @@ def of_recordings(tests):
 
 def of_names(tests):
     """topics and types of any octet, and of those that JSON writes otherwise"""
-    names = [bytes([octet]) for octet in range(1, 256)] + [b'', b'a"b\\c', b'\\u0041\\n', b'\xc3\xa9t\xc3\xa9', b'\xff\xfe', b'\0x', b'/' * 300]
+    octets = bytes(range(1, 256))
+    names = [octets[i:i + 16] for i in range(0, 255, 16)] + [b'', b'a"b\\c', b'\\u0041\\n', b'\xc3\xa9t\xc3\xa9', b'\xff\xfe', b'\0x', b'/' * 300]
     for name in names:
         octets = text_of([*pair(name, name[::-1]), data(1), heartbeat(1, 1), answer(2)])
         report = agrees(tests, f'the name {name[:20]}', octets)
@@ -127,6 +128,8 @@ def of_captures(tests):
 def of_junit(tests):
     """what examples/junit.py makes of a report"""
     for name, octets in recordings():
+        if not name.startswith('examples/'):
+            continue
         output, _, status = tests.run('json', octets)
         script = os.path.join(ROOT, 'examples', 'junit.py')
         made = subprocess.run([sys.executable, script], input=output.encode(), capture_output=True)
@@ -135,7 +138,7 @@ def of_junit(tests):
         failures = sum(row['verdict'] != 'complete' for row in report['pairs'])
         tests.holds(f'junit.py of {name}', (len(report['pairs']), failures, status),
                     (len(suite.findall('testcase')), len(suite.findall('testcase/failure')), made.returncode))
-    print('reports: those of the repository in the form of JUnit')
+    print('reports: those of examples/ in the form of JUnit')
 
 
 if __name__ == '__main__':

@@ -1,0 +1,71 @@
+//! The capture that gives a recording.
+
+use crate::fault::Fault;
+use rtps_tool::Recording;
+use std::alloc::Global;
+
+/// The header of a capture of raw IP packets.
+const HEADER: [u8; 24] = *b"\
+    \xd4\xc3\xb2\xa1\x02\x00\x04\x00\x00\x00\x00\x00\x00\x00\x00\x00\xff\xff\x00\x00\x65\x00\x00\x00";
+
+/// A frame of one octet, which gives no datagram.
+const IGNORED: [u8; 17] = *b"\x00\x00\x00\x00\x00\x00\x00\x00\x01\x00\x00\x00\x01\x00\x00\x00\x45";
+
+/// The header of an IP packet with its total length at places 2 and 3.
+const IP: [u8; 20] = *b"\
+    \x45\x00\x00\x00\x00\x00\x00\x00\x40\x11\x00\x00\x7f\x00\x00\x01\x7f\x00\x00\x01";
+
+/// The header of a UDP datagram with its length at places 4 and 5.
+const UDP: [u8; 8] = *b"\x1c\xe8\x1c\xe8\x00\x00\x00\x00";
+
+/// A capture with a frame for each datagram, and one that gives none before each.
+pub(crate) fn of(alloc: Global, recording: &Recording) -> Result<Vec<u8>, Fault> {
+    let mut octets = begun(alloc)?;
+    for datagram in recording.datagrams() {
+        push_ignored(&mut octets)?;
+        push_frame(&mut octets, datagram)?;
+    }
+    Ok(octets)
+}
+
+/// A capture without frames.
+fn begun(alloc: Global) -> Result<Vec<u8>, Fault> {
+    Ok(Vec::from_slice(alloc, &HEADER)?)
+}
+
+/// Appends a frame that gives no datagram.
+fn push_ignored(octets: &mut Vec<u8>) -> Result<(), Fault> {
+    octets.extend_from_slice(&IGNORED)?;
+    Ok(())
+}
+
+/// Appends the frame of a datagram.
+fn push_frame(octets: &mut Vec<u8>, datagram: &[u8]) -> Result<(), Fault> {
+    let Ok(size) = u16::try_from(datagram.len()) else {
+        return Err(Fault::Words);
+    };
+    let length = size.saturating_add(8);
+    let total = length.saturating_add(20);
+    let captured = u32::from(total).to_le_bytes();
+    octets.extend_from_slice(&[0; 8])?;
+    octets.extend_from_slice(&captured)?;
+    octets.extend_from_slice(&captured)?;
+    octets.extend_from_slice(&ip_of(total))?;
+    octets.extend_from_slice(&udp_of(length))?;
+    octets.extend_from_slice(datagram)?;
+    Ok(())
+}
+
+/// The header of an IP packet of so many octets.
+fn ip_of(total: u16) -> [u8; 20] {
+    let mut ip = IP;
+    ip[2..4].copy_from_slice(&total.to_be_bytes());
+    ip
+}
+
+/// The header of a UDP datagram of so many octets.
+fn udp_of(length: u16) -> [u8; 8] {
+    let mut udp = UDP;
+    udp[4..6].copy_from_slice(&length.to_be_bytes());
+    udp
+}

@@ -1,0 +1,105 @@
+use rtps_ids::Memory;
+use rtps_params::ListFault;
+use rtps_tool::RecFault;
+use rtps_wire::WriteFault;
+use std::alloc::{AllocError, AllocFailed};
+use std::{fmt, io};
+
+/// Why the program ends before its last line.
+#[derive(Debug, Drop)]
+pub(crate) enum Fault {
+    /// Memory is refused outside of the call that is tried.
+    Memory,
+    /// Standard input or output fails.
+    Stream,
+    /// Words, or those of a case, are none that are known; or the input is no such recording.
+    Words,
+    /// A call of a case answers otherwise: the case, and what is answered.
+    Case(String),
+    /// This is not as it should be.
+    Differs(&'static str),
+}
+
+impl Fault {
+    /// The status to end with.
+    pub(crate) fn status(&self) -> u8 {
+        match self {
+            Fault::Case(_) | Fault::Differs(_) => 1,
+            Fault::Words => 2,
+            Fault::Memory | Fault::Stream => 3,
+        }
+    }
+}
+
+impl fmt::Display for Fault {
+    fn fmt<W: fmt::Write>(&self, f: &mut fmt::Formatter<W>) -> fmt::Result {
+        match self {
+            Fault::Memory => write!(f, "out of memory"),
+            Fault::Stream => write!(f, "cannot read or write"),
+            Fault::Words => write!(f, "these words are not known, or this is no such recording"),
+            Fault::Case(text) => write!(f, "{text}"),
+            Fault::Differs(what) => write!(f, "{what}"),
+        }
+    }
+}
+
+impl From<AllocError> for Fault {
+    fn from(_error: AllocError) -> Fault {
+        Fault::Memory
+    }
+}
+
+impl<T: Drop> From<AllocFailed<T>> for Fault {
+    fn from(_failed: AllocFailed<T>) -> Fault {
+        Fault::Memory
+    }
+}
+
+impl From<Memory> for Fault {
+    fn from(_error: Memory) -> Fault {
+        Fault::Memory
+    }
+}
+
+/// A text in memory is written without fail where there is memory.
+impl From<fmt::Error> for Fault {
+    fn from(_error: fmt::Error) -> Fault {
+        Fault::Memory
+    }
+}
+
+impl From<RecFault> for Fault {
+    fn from(fault: RecFault) -> Fault {
+        match fault {
+            RecFault::Memory => Fault::Memory,
+            _ => Fault::Words,
+        }
+    }
+}
+
+impl From<WriteFault> for Fault {
+    fn from(fault: WriteFault) -> Fault {
+        match fault {
+            WriteFault::Memory => Fault::Memory,
+            _ => Fault::Differs("a message is not written"),
+        }
+    }
+}
+
+impl From<ListFault> for Fault {
+    fn from(fault: ListFault) -> Fault {
+        match fault {
+            ListFault::Memory => Fault::Memory,
+            _ => Fault::Differs("a list is not written"),
+        }
+    }
+}
+
+impl From<io::Error> for Fault {
+    fn from(error: io::Error) -> Fault {
+        match error.kind() {
+            io::ErrorKind::OutOfMemory => Fault::Memory,
+            _ => Fault::Stream,
+        }
+    }
+}
