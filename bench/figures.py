@@ -94,21 +94,6 @@ def sets(count=100000):
     yield header(make.B) + to(make.A) + b''.join(ack_nack(reader_at(k), WRITER, last + 1) for k in range(3))
 
 
-def resends(named, total=100000, readers=100):
-    """a writer whose samples all 100 readers acknowledge; with `named`, each reader is sent four of them again by its name"""
-    yield announcement('writer', make.A, WRITER)
-    for k in range(readers):
-        yield announcement('reader', make.B, reader_at(k))
-    for number in range(1, total + 1):
-        yield header(make.A) + data(WRITER, number, bytes(64))
-        if number % (total // (4 * readers)) == 0:
-            k = number // (total // (4 * readers)) % readers
-            yield header(make.A) + (to(make.B) + data(WRITER, number, bytes(64), reader_at(k)) if named else heartbeat(WRITER, 1, number))
-            yield header(make.B) + to(make.A) + ack_nack(reader_at(k), WRITER, number + 1)
-    yield header(make.A) + heartbeat(WRITER, 1, total)
-    yield header(make.B) + to(make.A) + b''.join(ack_nack(reader_at(k), WRITER, total + 1) for k in range(readers))
-
-
 def of_kind(kind, megabytes):
     return make.datagrams(kind, megabytes * 1000000)
 
@@ -122,11 +107,11 @@ RECORDINGS = {
     'pairs': ('pcap', pairs),
     'scatter': ('rec', lambda: one_pair('odd_then_even', 500000)),
     'sets': ('rec', sets),
-    'unnamed': ('rec', lambda: resends(False)),
-    'named': ('rec', lambda: resends(True)),
+    'unnamed': ('rec', lambda: of_kind('unnamed', 0)),
+    'named': ('rec', lambda: of_kind('named', 0)),
     'smallest': ('rec', lambda: of_kind('hostile', 200)),
-    'in_turns': ('rec', lambda: of_kind('named_crossed', 2)),
-    'not_in_turns': ('rec', lambda: of_kind('none_crossed', 2)),
+    'in_turns': ('rec', lambda: of_kind('in_turns', 2)),
+    'not_in_turns': ('rec', lambda: of_kind('not_in_turns', 2)),
 }
 
 
