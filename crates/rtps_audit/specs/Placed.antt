@@ -22,6 +22,7 @@ pub record PlacedValue : Type 0 where
   pub datagram : ℕ
   pub act : ActValue
 
+-- an act in its place, with lists of octets where the type holds parts of the caller's datagrams
 abbrev pub placed_value : Placed → PlacedValue
 placed_value placed = record { datagram = placed.datagram; act = act_value placed.act }
 
