@@ -3,17 +3,17 @@
 ghost use Rattle.std.specs.Prelude.{◌≡◌};
 ghost use Rattle.rtps_text.specs.SampleText.{sample as sample_lines};
 
-pub(crate) mod audit_text;
 mod audit_lines;
+pub(crate) mod audit_text;
 mod item_lines;
 mod json_members;
 pub(crate) mod json_object;
-pub(crate) mod list_text;
 mod list_lines;
+pub(crate) mod list_text;
 mod parts;
 pub(crate) mod show_text;
-pub(crate) mod why_text;
 mod why_lines;
+pub(crate) mod why_text;
 
 /// How a run ends that wrote its whole text.
 #[derive(Clone, Copy, Debug, PartialEq, Eq)]

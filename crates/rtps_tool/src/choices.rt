@@ -41,7 +41,10 @@ impl Choice {
                 limits: *limits,
             }),
             Choice::Audit {
-                from, limits, form, ..
+                from,
+                limits,
+                form,
+                ..
             } => Some(Options {
                 command: audit_command(*form),
                 from: *from,

@@ -4,8 +4,8 @@ ghost use Rattle.std.specs.String.{string_bytes};
 ghost use Rattle.rtps_audit.specs.Report.{IsReportFrom};
 ghost use Rattle.rtps_text.specs.AuditText.{IsAuditedFrom, ending_of as ending_of_rows, is_complete as completes, report_text as text_of_report, row_line};
 
-use crate::text::Ending;
 use crate::recording::Recording;
+use crate::text::Ending;
 use crate::text::audit_lines::{PairsLine, ReportCountsLine, RowLine};
 use rtps_audit::{Report, Row, Verdict, Watch};
 use rtps_ids::{Memory, SeqNum};

@@ -7,8 +7,8 @@ ghost use Rattle.json.specs.Tree.{json_tokens};
 ghost use Rattle.rtps_evidence.specs.Explanation.{evidence_value, explanation_value};
 ghost use Rattle.rtps_text.specs.JsonText.{IsJsonLine, IsJsonTextFrom, counts_members, ignored_members, pair_members, pairs_member, report_json, row_json, shown_members, tokens_of, tokens_of_member, verdict_members};
 
-use crate::text::Ending;
 use crate::recording::Recording;
+use crate::text::Ending;
 use crate::text::json_members::{
     push_claim, push_count, push_evidence, push_guid, push_name, push_number, push_sent,
     push_teller, push_text, push_total,

@@ -7,8 +7,8 @@ ghost use Rattle.rtps_receiver.specs.Acts.{acts_in};
 ghost use Rattle.rtps_discovery.specs.Notice.{faults_in};
 ghost use Rattle.rtps_text.specs.ListText.{IsListed, directory_text as directory_text_lem, endpoint_line, match_line, participant_line};
 
-use crate::text::Ending;
 use crate::recording::Recording;
+use crate::text::Ending;
 use crate::text::list_lines::{CountsLine, EndpointLine, MatchLine, ParticipantLine};
 use rtps_discovery::{Directory, Endpoint, Match};
 use rtps_ids::{Guid, Memory};

@@ -6,8 +6,8 @@ ghost use Rattle.rtps_wire.specs.Values.{body_value, item_value};
 ghost use Rattle.rtps_text.specs.ShowTail.{IsTailIn, says_of_state};
 ghost use Rattle.rtps_text.specs.ShowText.{IsShown, datagram_line, outcomes_text, reading_text, refusal_line, text_from};
 
-use crate::text::Ending;
 use crate::recording::Recording;
+use crate::text::Ending;
 use crate::text::item_lines::{push_item, push_origin, push_skipped};
 use crate::text::parts::push_field;
 use rtps_ids::Memory;

@@ -6,10 +6,10 @@ ghost use Rattle.rtps_evidence.specs.Locations.{sent_value};
 ghost use Rattle.rtps_evidence.specs.Explanation.{IsExplainedFrom, evidence_value, explanation_value};
 ghost use Rattle.rtps_text.specs.WhyText.{IsExplainedTextFrom, ending_of_rows, explained_text, explanation_text, sent_line, shown_by};
 
-use crate::text::Ending;
 use crate::recording::Recording;
-use crate::text::audit_text::{datagrams_of, is_complete};
+use crate::text::Ending;
 use crate::text::audit_lines::{PairsLine, ReportCountsLine};
+use crate::text::audit_text::{datagrams_of, is_complete};
 use crate::text::parts::{push_field, push_payload};
 use crate::text::why_lines::{
     AcknowledgedLine, AmountsLine, AnnouncedLine, ClaimedLine, NamesLine, PairLine, PlaceText,
