@@ -2,7 +2,7 @@
 -- own: a subcommand and one FILE; `sample` reads none. No option changes what a text means, but for that of `audit` and
 -- `why`, which says from which number on verdicts ask; two options say how large a recording may be, and a flag of `audit`
 -- asks for its report as JSON.
-use Rattle.std.specs.Prelude.{ℕ, ◌≡◌, ◌≢◌, ◌-◌, ◌^◌, codes, Bool, true, false, List, [], ◌∷◌, IfSome, Option, None, Some, unwrap_or}
+use Rattle.std.specs.Prelude.{ℕ, ◌≡◌, ◌≢◌, ◌-◌, ◌^◌, codes, true, List, [], ◌∷◌, IfSome, Option, None, Some, unwrap_or}
 use Rattle.std.specs.Option.{option_and_then}
 use Rattle.std.specs.Str.Parse.{digits_value, without_leading_plus}
 use Rattle.clap.specs.Words.{App, IsAmong, IsUnsignedIn, Kinds, Row, Rule, Text, fault_of, first_of, kind_of, one_of, new_app, new_rule, subcommand_of, with_rule, with_subcommand}
