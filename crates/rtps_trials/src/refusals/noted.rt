@@ -131,9 +131,14 @@ fn is_any_read_refused<'a>(
                 tried.read(datagram)?
             }
         };
-        if tally != wanted.read(datagram)? || tried.acts() != wanted.acts() {
+        let again = wanted.read(datagram)?;
+        if tally != again || !have_same_acts(tried, wanted) {
             return Err(Fault::Differs("a datagram is read otherwise after a refusal"));
         }
     }
     Ok(refused)
+}
+
+fn have_same_acts(one: &Walk<'_>, other: &Walk<'_>) -> bool {
+    one.acts() == other.acts()
 }
