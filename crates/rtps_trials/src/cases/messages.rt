@@ -25,6 +25,17 @@ const READER: EntityId = EntityId([0, 0, 0, 0]);
 
 const WRITER: EntityId = EntityId([0, 0, 1, 3]);
 
+// An item to be written; where it stands says nothing then.
+macro_rules! big {
+    ($body:expr) => {
+        Item {
+            at: 0,
+            order: Order::Big,
+            body: $body,
+        }
+    };
+}
+
 /// Writes a message that the words tell of.
 pub(super) fn written(alloc: Global, call: &str, words: &mut Words<'_>) -> Result<String, Fault> {
     match call {
@@ -32,17 +43,23 @@ pub(super) fn written(alloc: Global, call: &str, words: &mut Words<'_>) -> Resul
             let major = words.number()?.min(255) as u8;
             answered(alloc, major, &[])
         }
-        "write_skipped" => one(alloc, Body::Skipped { id: 0x80 }),
-        "write_heartbeat" => one(alloc, heartbeat(words)?),
-        "write_gap" => one(alloc, gap(words)?),
+        "write_skipped" => answered(alloc, 2, &[big!(Body::Skipped { id: 0x80 })]),
+        "write_heartbeat" => {
+            let body = heartbeat(words)?;
+            answered(alloc, 2, &[big!(Body::Heartbeat(body))])
+        }
+        "write_gap" => {
+            let body = gap(words)?;
+            answered(alloc, 2, &[big!(Body::Gap(body))])
+        }
         _ => data(alloc, words),
     }
 }
 
 /// FIRST LAST
-fn heartbeat<'a>(words: &mut Words<'_>) -> Result<Body<'a>, Fault> {
+fn heartbeat(words: &mut Words<'_>) -> Result<HeartbeatBody, Fault> {
     let first = SeqNum::new(words.signed()?).ok_or(Fault::Words)?;
-    Ok(Body::Heartbeat(HeartbeatBody {
+    Ok(HeartbeatBody {
         reader: READER,
         writer: WRITER,
         first,
@@ -50,24 +67,24 @@ fn heartbeat<'a>(words: &mut Words<'_>) -> Result<Body<'a>, Fault> {
         count: 1,
         is_final: false,
         live: false,
-    }))
+    })
 }
 
 /// BASE
-fn gap<'a>(words: &mut Words<'_>) -> Result<Body<'a>, Fault> {
+fn gap(words: &mut Words<'_>) -> Result<GapBody, Fault> {
     let list = NumberSet::new(words.signed()?, 0, [0; 8]).ok_or(Fault::Words)?;
-    Ok(Body::Gap(GapBody {
+    Ok(GapBody {
         reader: READER,
         writer: WRITER,
         start: SeqNum::first(),
         list,
-    }))
+    })
 }
 
 /// PAYLOAD `last` or `first`: as the last item, or before an INFO_TS
 fn data(alloc: Global, words: &mut Words<'_>) -> Result<String, Fault> {
     let payload = words.octets(alloc)?;
-    let data = big(Body::Data(DataBody {
+    let data = big!(Body::Data(DataBody {
         reader: READER,
         writer: WRITER,
         number: SeqNum::first(),
@@ -76,20 +93,7 @@ fn data(alloc: Global, words: &mut Words<'_>) -> Result<String, Fault> {
     }));
     match words.word() {
         "last" => answered(alloc, 2, &[data]),
-        _ => answered(alloc, 2, &[data, big(Body::InfoTs(None))]),
-    }
-}
-
-fn one(alloc: Global, body: Body<'_>) -> Result<String, Fault> {
-    answered(alloc, 2, &[big(body)])
-}
-
-/// An item to be written; where it stands says nothing then.
-fn big(body: Body<'_>) -> Item<'_> {
-    Item {
-        at: 0,
-        order: Order::Big,
-        body,
+        _ => answered(alloc, 2, &[data, big!(Body::InfoTs(None))]),
     }
 }
 

@@ -108,27 +108,38 @@ pub(super) fn is_set_refused(alloc: Global, call: &str) -> Result<bool, Fault> {
     }
 }
 
-/// Adds the same 40 ranges to both sets, the greatest first, to the one of them a second time where it is refused.
+/// Adds the same 40 ranges to both sets, the greatest first.
 fn is_join_refused<C: Coverage>(
     alloc: Global,
     wanted: &mut C,
     tried: &mut C,
 ) -> Result<bool, Fault> {
     let mut refused = false;
-    for place in 0..40i64 {
-        let lo = 1000 - 20 * place;
-        mark(alloc);
-        let first = tried.add(lo, lo + 10);
-        mark(alloc);
-        if first.is_err() {
-            refused = true;
-            hold_same_numbers(wanted, tried)?;
-            tried.add(lo, lo + 10)?;
-        }
-        wanted.add(lo, lo + 10)?;
-        hold_same_numbers(wanted, tried)?;
+    for place in 0..40u16 {
+        let some = is_range_refused(alloc, wanted, tried, 1000 - 20 * place)?;
+        refused = refused || some;
     }
     Ok(refused)
+}
+
+/// Adds a range of 11 numbers, which begins behind the one that is given, to the one set a second time where it is refused.
+fn is_range_refused<C: Coverage>(
+    alloc: Global,
+    wanted: &mut C,
+    tried: &mut C,
+    before: u16,
+) -> Result<bool, Fault> {
+    let lo = 1 + i64::from(before);
+    mark(alloc);
+    let first = tried.add(lo, lo + 10);
+    mark(alloc);
+    if first.is_err() {
+        hold_same_numbers(wanted, tried)?;
+        tried.add(lo, lo + 10)?;
+    }
+    wanted.add(lo, lo + 10)?;
+    hold_same_numbers(wanted, tried)?;
+    Ok(first.is_err())
 }
 
 /// Two sets have to have the same of the numbers below 1100.
