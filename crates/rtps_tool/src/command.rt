@@ -117,42 +117,42 @@ const VERSION: &str = "0.1.0";
 const FILE_HELP: &str =
     "A capture, or a text with one datagram a line in hexadecimal digits; - is standard input";
 
-const FROM_HELP: &str = "The first number that a reader is owed, 1 to 9223372036854775807; \
-    1 where it is not given";
+const FROM_HELP: &str = "The first number to ask for, 1 to 9223372036854775807; \
+    smaller numbers are left out; 1 if it is not given";
 
-const DATAGRAMS_HELP: &str = "The most datagrams of the recording, 1 to 9223372036854775807; \
-    1000000 where it is not given";
+const DATAGRAMS_HELP: &str =
+    "The most datagrams that the recording may have, 1 to 9223372036854775807; \
+    1000000 if it is not given";
 
-const OCTETS_HELP: &str = "The most octets of FILE, 1 to 9223372036854775807; \
-    1073741824 where it is not given";
+const OCTETS_HELP: &str = "The most octets that FILE may have, 1 to 9223372036854775807; \
+    1073741824 if it is not given";
 
 const JSON_HELP: &str = "Print one JSON object, with what each verdict rests on";
 
-const STATUSES: &str =
-    "Status: 0 clean, 1 not every pair is complete, 2 the arguments or the recording are refused, \
-    3 input, output or memory failed";
+const STATUSES: &str = "Status: 0 all is well, also if there is no pair; 1 a pair is not complete; \
+    2 the arguments or the recording are refused; 3 input, output or memory failed";
 
 const NEWCOMERS: &str = "A FILE is what was sent in a test: a capture, as tcpdump writes it, \
     or a text with one datagram a line in hexadecimal digits.
 
   tcpdump -i eth0 -w test.pcap udp          records a test, until it is interrupted
-  rtps-audit audit test.pcap                says whether each reader got all data
-  rtps-audit why test.pcap                  says what each of these verdicts rests on
+  rtps-audit audit test.pcap                says whether each reader acknowledged all samples
+  rtps-audit why test.pcap                  says which datagrams each of these verdicts rests on
   rtps-audit sample | rtps-audit audit -    tries this program
 
-Status: 0 clean, 1 not every pair is complete, 2 the arguments or the recording are refused, \
-    3 input, output or memory failed";
+Status: 0 all is well, also if there is no pair; 1 a pair is not complete; \
+    2 the arguments or the recording are refused; 3 input, output or memory failed";
 
 const SHOWS: &str = "Shows each datagram of a recording and its submessages";
 
 const LISTS: &str = "Lists participants, endpoints and pairs of writers and readers that match";
 
 const AUDITS: &str =
-    "Says for each reliable writer and reader that match whether the reader got all data";
+    "Says for each reliable writer and reader that match whether the reader acknowledged all samples";
 
-const EXPLAINS: &str = "Says of each verdict of audit what it rests on, place by place";
+const EXPLAINS: &str = "Prints the report of audit, with the datagrams that each row rests on";
 
-const SAMPLES: &str = "Writes a recording to try, which audit finds complete";
+const SAMPLES: &str = "Writes an example recording, which audit finds complete";
 
 /// An option of this name that takes a number from 1 to 2^63 - 1, which is called so.
 fn number_option<'a>(alloc: Global, called: &'a str, name: &'a str, help: &'a str) -> Arg<'a>
