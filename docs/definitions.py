@@ -1,5 +1,5 @@
 #!/usr/bin/env python3
-"""Makes docs/DEFINITIONS.md of the comments in crates/*/specs/*.antt and of the laws in crates/*/src/laws.rt.
+"""Makes docs/DEFINITIONS.md from the comments in crates/*/specs/*.antt and the laws in crates/*/src/laws.rt.
 
     docs/definitions.py >docs/DEFINITIONS.md     writes the map
     docs/definitions.py lacking                  lists files of specs/ with no head comment or no source in it, and
@@ -12,17 +12,16 @@ import sys
 ROOT = os.path.dirname(os.path.dirname(os.path.realpath(__file__)))
 HEAD = """# The map of definitions
 
-This file is made by `docs/definitions.py` of the comments in `specs/` and of the laws in `src/laws.rt`; change it there.
+`docs/definitions.py` makes this file from the comments in `specs/` and the laws in `src/laws.rt`. Change them there.
 
-A meaning lives in `specs/`, a contract in `src/` cites it, and a proof in `proofs/` shows it. A law is a function without
-effect in `src/laws.rt`: its contract states a fact over definitions. Crates stand in the order of `crates.txt`, each below
-those that stand on it, and files are below `crates/NAME/specs/`.
+A definition in `specs/` says what a word means, a contract in `src/` uses it, and a proof in `proofs/` shows that the
+contract holds. A law is a function in `src/laws.rt` that does nothing. Its contract states a fact about definitions alone.
+Each crate uses only crates that come before it. The files are in `crates/NAME/specs/`.
 
-Each file begins with what its comment says, with its source: a clause of OMG DDSI-RTPS 2.5 by number and title (one of DDS
-1.4, of the PCAP Capture File Format, of an RFC or of IEEE 802.3 says so), or `own:` and the reason where this project
-chooses. Then come its public definitions, each with the first
-sentence of its comment, if it has one, and behind the arrow the files of `src/` whose contracts name it. A definition that
-no contract names serves those that do.
+Each file begins with its own comment and its source. The source is a clause of OMG DDSI-RTPS 2.5 by number and title, or of
+another standard that is named; or it is `own:` and the reason, if this project made a choice. Then come its public
+definitions, each with the first sentence of its comment. After the arrow are the files of `src/` whose contracts use the
+definition. A definition without an arrow is used by other definitions.
 """
 DEFINES = re.compile(r"^(?:(?:abbrev|unfoldable|opaque)\s+)*pub\s+(?:(?:abbrev|unfoldable|opaque|record|data)\s+)*([^\s:(){}]+)")
 SOURCE = re.compile(r"\bDDSI-RTPS\b|\bDDS 1\.4\b|\bPCAP Capture File Format\b|\bRFC \d+\b|\bown:")

@@ -1,4 +1,5 @@
-//! Octets of hexadecimal digits and digits of octets, 32 digits at a time. What a digit is, and what digits stand for, is what `hex` says.
+//! Decodes hexadecimal digits to octets, and encodes octets as digits, 32 digits at a time. The crate `hex` defines
+//! what a digit is and what digits mean.
 #![tactic(auto)]
 
 ghost use Rattle.std.specs.Prelude.{bit_and, ◌≡◌, ◌-◌, ◌*◌, ◌/◌, ◌%◌, ◌≤◌, ◌&&◌, ◌++◌, length, map, take, drop, is_ok, IsTrue};
@@ -14,7 +15,7 @@ fn lane_values(digits: u8x32) -> u8x32
     ensures { result ≡ map lane_value digits }
 {
     let decimal = digits - u8x32::splat(b'0');
-    // The bit that tells lower case from upper case is cleared.
+    // The bit that makes a letter lower case is cleared.
     let letter = (digits & u8x32::splat(0xdf)) - u8x32::splat(b'A');
     decimal.simd_lt(u8x32::splat(10)).select(
         decimal,
@@ -48,7 +49,7 @@ fn are_low(values: u8x32) -> bool
     u8x32::splat(16).simd_le(values).to_bitmask() == 0
 }
 
-/// Decodes the digits that fill whole vectors from the first on, and answers whether all of them are digits.
+/// Decodes the digits that fill whole vectors, from the first on. Returns whether all of them are digits.
 fn decode_vectors(octets: &mut [u8], digits: &[u8]) -> bool
     requires { length digits.now ≡ 2 * length octets.old }
     ensures found { result ≡ list_all is_hex_digit (take (32 * (length octets.old / 16)) digits.now) }
@@ -64,7 +65,7 @@ fn decode_vectors(octets: &mut [u8], digits: &[u8]) -> bool
     are_low(worst)
 }
 
-/// Decodes the last 32 digits, and answers whether all of them are digits.
+/// Decodes the last 32 digits. Returns whether all of them are digits.
 fn decode_last(octets: &mut [u8], digits: &[u8]) -> bool
     requires size { length digits.now ≡ 2 * length octets.old }
     requires long { 16 ≤ length octets.old }
@@ -78,7 +79,7 @@ fn decode_last(octets: &mut [u8], digits: &[u8]) -> bool
     are_low(values)
 }
 
-/// Decodes digits that fill a vector or more: the last 32 once more, where the vectors leave some over.
+/// Decodes 32 digits or more. If whole vectors leave some digits over, the last 32 are decoded once more.
 fn decode_long(octets: &mut [u8], digits: &[u8]) -> bool
     requires size { length digits.now ≡ 2 * length octets.old }
     requires long { 16 ≤ length octets.old }
@@ -90,8 +91,8 @@ fn decode_long(octets: &mut [u8], digits: &[u8]) -> bool
     found && found_last
 }
 
-/// Writes the octets that these digits stand for, two digits each and of either case, and answers whether they stand
-/// for any. Where they do not, because one is no digit or their number is odd, what is written is of no use.
+/// Writes the octets that these digits stand for, two digits for each, of either case. Returns false if one is no digit
+/// or if their number is odd; then what was written means nothing.
 pub fn decode(octets: &mut [u8], digits: &[u8]) -> bool
     requires { length octets.old ≡ length digits.now / 2 }
     ensures found { result ≡ is_ok (decode_of digits.now) }

@@ -27,7 +27,7 @@ abbrev pub unless_fault : {X : Type 0} → List (NoticeFault × Bool) → X → 
 unless_fault [] value = Ok value
 unless_fault (row ∷ rows) value = if row.1 then Err row.0 else unless_fault rows value
 
--- what the value says, or the fault that comes before it
+-- what `says` makes of the value, or the fault if there is one
 abbrev pub or_fault : {X Y : Type 0} → Result X NoticeFault → (X → Result Y NoticeFault) → Result Y NoticeFault
 or_fault (Ok value) says = says value
 or_fault (Err fault) says = Err fault
@@ -41,16 +41,16 @@ pub record Fields : Type 0 where
 abbrev pub order_of_id : List ℕ → Option Order
 order_of_id id = if pointwise nat_eq id representation.PL_CDR_BE then Some Big else if pointwise nat_eq id representation.PL_CDR_LE then Some Little else None
 
--- the first octets are the id of the representation
+-- the order that a payload names: its first octets are the id of the representation
 abbrev pub order_of : List ℕ → Option Order
 order_of payload = order_of_id (take representation.ID_SIZE payload)
 
--- the order of a payload whose representation is read
+-- the order of a payload whose representation is read (Big for any other)
 abbrev pub payload_order : List ℕ → Order
 payload_order payload = unwrap_or (order_of payload) Big
 
--- the list begins behind the representation and two octets of options (own: these are ignored, since neither
--- representation has any)
+-- the octets from the list on: after the id of the representation and two octets of options (own: these are ignored,
+-- since neither representation has any)
 abbrev pub list_part : List ℕ → List ℕ
 list_part payload = drop representation.SIZE payload
 
@@ -64,7 +64,7 @@ fields_of payload =
     ∷ [])
     (record { order = payload_order payload; pairs = pairs_of (payload_order payload) (list_part payload) })
 
--- the value of the first parameter of this id (own: of two parameters of one id the first counts)
+-- the value of the first parameter with this id (own: if several have one id, the first one counts)
 abbrev pub field : ℕ → Fields → Option (List ℕ)
 field pid fields = first_value pid fields.pairs
 
@@ -76,12 +76,12 @@ guid_field pid fields = option_and_then guid_of (field pid fields)
 abbrev pub text_field : ℕ → Fields → Option (List ℕ)
 text_field pid fields = option_and_then (text_of fields.order) (field pid fields)
 
--- what the first four octets of a value tell, or the default where there is no such parameter
+-- the kind in the first four octets of a value, or the default if there is no value
 abbrev pub kind_in : {X : Type 0} → Order → (ℕ → Option X) → X → Option (List ℕ) → Option X
 kind_in order of_kind default None = Some default
 kind_in order of_kind default (Some value) = option_and_then of_kind (u32_of order value)
 
--- the kind in a field, or the default where there is no field
+-- the kind in a field, or the default if there is no field
 abbrev pub kind_field : {X : Type 0} → ℕ → (ℕ → Option X) → X → Fields → Option X
 kind_field pid of_kind default fields = kind_in fields.order of_kind default (field pid fields)
 
@@ -105,7 +105,7 @@ type_name_of = text_field TYPE_NAME
 abbrev pub reliability_of_kind : ℕ → Option Reliability
 reliability_of_kind kind = if kind == reliability.BEST_EFFORT then Some BestEffort else if kind == reliability.RELIABLE then Some Reliable else None
 
--- own: a reliability that is not told is the default of DDS, RELIABLE for a writer and BEST_EFFORT for a reader
+-- own: a reliability that is not announced is the default of DDS, RELIABLE for a writer and BEST_EFFORT for a reader
 abbrev pub default_reliability : Side → Reliability
 default_reliability Writer = Reliable
 default_reliability Reader = BestEffort
@@ -123,11 +123,11 @@ durability_of_kind kind =
     else if kind == durability.PERSISTENT then Some Persistent
     else None
 
--- own: a durability that is not told is the default of DDS, VOLATILE
+-- own: a durability that is not announced is the default of DDS, VOLATILE
 abbrev pub durability_of : Fields → Option Durability
 durability_of = kind_field DURABILITY durability_of_kind Volatile
 
--- GUID_UNKNOWN, which stands where a fault comes instead of the value
+-- GUID_UNKNOWN. It only fills a value that is not used, since there is a fault
 abbrev pub unknown_guid : Guid
 unknown_guid = record { prefix = record { 0 = replicate 12 0 }; entity = record { 0 = replicate 4 0 } }
 
@@ -163,7 +163,7 @@ endpoint_in side fields =
 abbrev pub endpoint_of : Side → List ℕ → Result EndpointValue NoticeFault
 endpoint_of side payload = or_fault (fields_of payload) (endpoint_in side)
 
--- a reader gives what is said, its value by way of `view`, or the fault that is said
+-- A function that reads returns the fault if there is one. Else it returns a value that `view` maps to the right one.
 abbrev pub ReadsOrFaults : {X Y : Type 0} → (X → Y) → Result X NoticeFault → Result Y NoticeFault → Type 0
 ReadsOrFaults view (Ok x) said = said ≡ Ok (view x)
 ReadsOrFaults view (Err fault) said = said ≡ Err fault

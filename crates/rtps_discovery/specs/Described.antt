@@ -1,11 +1,11 @@
--- What the parameters of a payload tell of an endpoint, field by field. DDSI-RTPS 2.5, 8.5.4 "The Simple Endpoint
+-- What the parameters of a payload say of an endpoint, field by field. DDSI-RTPS 2.5, 8.5.4 "The Simple Endpoint
 -- Discovery Protocol".
 use Rattle.std.specs.Prelude.{◌≡◌, Some}
 use Rattle.rtps_discovery.specs.Announcement.{Fields, durability_of, endpoint_guid, reliability_of, topic_of, type_name_of}
 use Rattle.rtps_discovery.specs.Endpoint.{EndpointValue}
 use Rattle.rtps_discovery.specs.declared.endpoint.Side.{Side}
 
--- the fields of an announcement say each thing that is known of the endpoint
+-- the parameters give each field of the endpoint
 pub record IsDescribedBy (side : Side) (fields : Fields) (endpoint : EndpointValue) : Type 0 where
   pub of_guid : endpoint_guid fields ≡ Some endpoint.guid
   pub of_side : endpoint.side ≡ side

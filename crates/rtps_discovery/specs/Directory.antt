@@ -1,6 +1,6 @@
--- The map of a list of acts. own: announcements of one GUID that disagree cannot all be true, and the order in which a
--- recording has them says nothing, so such a GUID stands as unsettled, and the map is the same in whatever order the
--- acts come.
+-- The map of a list of acts: what they announce. own: if announcements of one GUID disagree, the recording does not say
+-- which one holds. Such a GUID is unsettled, whatever the order of its announcements. So the order of the acts does not
+-- change the map.
 use Rattle.std.specs.Prelude.{ℕ, ◌≡◌, ◌≢◌, ◌<◌, ◌++◌, ◌↔◌, length, take, List, Contains, Option, Some, None}
 use Rattle.std.specs.List.Sorted.{IsStrictlySortedBy}
 use Rattle.std.specs.List.{filter, filter_map}
@@ -13,7 +13,7 @@ use Rattle.rtps_discovery.specs.Endpoint.{EndpointValue}
 use Rattle.rtps_discovery.specs.GuidOrder.{guid_cmp}
 use Rattle.rtps_discovery.specs.Notice.{endpoints_among, participants_among}
 
--- beside a GUID, its one announcement, or None where its announcements disagree
+-- for each GUID its announcement, or None if its announcements disagree
 abbrev pub Entries : Type 0
 Entries = List (Guid × Option EndpointValue)
 
@@ -22,11 +22,11 @@ pub record DirectoryValue : Type 0 where
   pub participants : List Guid
   pub endpoints : Entries
 
--- what is beside this GUID
+-- the entry of this GUID
 abbrev pub entry_at : Entries → Guid → Option (Option EndpointValue)
 entry_at entries guid = lookup (is_at (guid_cmp guid)) entries
 
--- an endpoint that is announced, and of whose GUID nothing else is: all its announcements are equal in the six fields
+-- an endpoint that is announced, and all announcements of its GUID are equal to it in the six fields
 pub record IsSettled (announced : List EndpointValue) (endpoint : EndpointValue) : Type 0 where
   pub is_announced : Contains announced endpoint
   pub alone : (other : EndpointValue) → Contains announced other → other.guid ≡ endpoint.guid → other ≡ endpoint
@@ -41,7 +41,7 @@ pub record IsUnsettled (announced : List EndpointValue) (guid : Guid) : Type 0 w
   pub other_of : other.guid ≡ guid
   pub differ : one ≢ other
 
--- what is beside a GUID: nothing where no announcement is of it
+-- the entry of a GUID; there is none if no announcement is of this GUID
 abbrev pub IsEntry : List EndpointValue → Guid → Option (Option EndpointValue) → Type 0
 IsEntry announced guid None = (endpoint : EndpointValue) → Contains announced endpoint → endpoint.guid ≢ guid
 IsEntry announced guid (Some (Some endpoint)) = (endpoint.guid ≡ guid) × IsSettled announced endpoint
@@ -62,7 +62,7 @@ pub record IsMapOf (acts : List ActValue) (map : DirectoryValue) : Type 0 where
   pub participants : AreParticipants (participants_among acts) map.participants
   pub endpoints : AreEntries (endpoints_among acts) map.endpoints
 
--- of these acts, the first ones and not all were noted behind those before
+-- some of these acts are noted after those before: the first k of them, and not all
 abbrev pub HasNotedSome : List ActValue → DirectoryValue → DirectoryValue → Type 0
 HasNotedSome acts old new = (k : ℕ) × (k < length acts) × ((before : List ActValue) → IsMapOf before old → IsMapOf (before ++ take k acts) new)
 
@@ -75,7 +75,7 @@ abbrev pub agreed : Option (Option EndpointValue) → Option EndpointValue
 agreed None = None
 agreed (Some entry) = entry
 
--- the endpoint of this GUID, where all that announced it agree
+-- the endpoint of this GUID, if all its announcements agree
 abbrev pub settled_at : Entries → Guid → Option EndpointValue
 settled_at entries guid = agreed (entry_at entries guid)
 

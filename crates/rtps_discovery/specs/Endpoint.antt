@@ -1,5 +1,4 @@
--- Endpoints. own: with lists of octets where the type holds parts of the caller's datagram, so that two are equal where
--- their octets are.
+-- Endpoints. own: with lists of octets in place of borrowed slices, so that two are equal if their octets are.
 use Rattle.std.specs.Prelude.{ℕ, List}
 use Rattle.rtps_ids.specs.declared.identity.Guid.{Guid}
 use Rattle.rtps_discovery.specs.declared.endpoint.Durability.{Durability}

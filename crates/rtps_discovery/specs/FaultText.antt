@@ -1,4 +1,4 @@
--- The names and the numbers of faults. own: both stay, since reports and programs name faults by them.
+-- The names and the numbers of faults. own: both stay the same, since reports and programs name faults by them.
 use Rattle.std.specs.Prelude.{ℕ, List, codes}
 use Rattle.rtps_discovery.specs.declared.fault.NoticeFault.{NoticeFault}
 use Rattle.rtps_discovery.specs.declared.fault.NoticeFault.TheVariants.{CutRepresentation, Representation, List as ListFault, NoGuid, NoTopic, NoType, BadText, BadReliability, BadDurability}
@@ -15,7 +15,7 @@ fault_name BadText = codes "BadText"
 fault_name BadReliability = codes "BadReliability"
 fault_name BadDurability = codes "BadDurability"
 
--- from 1 on, in the order in which they can be met
+-- the number of a fault, from 1 on
 abbrev pub fault_number : NoticeFault → ℕ
 fault_number CutRepresentation = 1
 fault_number Representation = 2

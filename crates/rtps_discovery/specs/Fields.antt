@@ -1,4 +1,4 @@
--- What a parameter list of the code says. own: its pairs and its order, so that two are equal where those are.
+-- What a parameter list of the code stands for. own: its pairs and its order, so that two are equal if those are.
 use Rattle.rtps_params.specs.Lists.{list_order, list_pairs}
 use Rattle.rtps_params.specs.declared.list.ParamList.{ParamList}
 use Rattle.rtps_discovery.specs.Announcement.{Fields}

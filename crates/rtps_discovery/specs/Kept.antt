@@ -1,4 +1,4 @@
--- What a directory's fields stand for.
+-- What the fields of a directory stand for.
 -- own: it keeps no copy of what was announced.
 use Rattle.std.specs.Prelude.{◌≡◌, ◌≢◌, ◌⊎◌, if◌then◌else◌, List, map, Option, Some, None}
 use Rattle.rtps_ids.specs.declared.identity.Guid.{Guid}
@@ -6,7 +6,7 @@ use Rattle.rtps_discovery.specs.Directory.{Entries}
 use Rattle.rtps_discovery.specs.Endpoint.{EndpointValue, endpoint_value}
 use Rattle.rtps_discovery.specs.declared.kept.Kept.{Kept}
 
--- the endpoint, or None where its announcements disagree
+-- the endpoint, or None if its announcements disagree
 abbrev pub kept_value : Kept → Option EndpointValue
 kept_value kept = if kept.settled then Some (endpoint_value kept.endpoint) else None
 
@@ -14,7 +14,7 @@ kept_value kept = if kept.settled then Some (endpoint_value kept.endpoint) else 
 abbrev pub entries_value : List (Guid × Kept) → Entries
 entries_value entries = map (λ entry. (entry.0, kept_value entry.1)) entries
 
--- what stands beside a GUID after one more announcement of it
+-- the entry of a GUID after one more announcement of it
 abbrev pub IsJoined : Option (Option EndpointValue) → EndpointValue → Option EndpointValue → Type 0
 IsJoined None endpoint joined = joined ≡ Some endpoint
 IsJoined (Some None) endpoint joined = joined ≡ None

@@ -1,6 +1,6 @@
--- What is read of a payload, by the list that stands in it (DDSI-RTPS 2.5, 10 "Serialized Payload Representation"), and
--- what leaves the map of a list of acts as it is. own: what is announced decides, and not which act announces it, since
--- an announcement is sent again to each participant that comes, and recorded wherever it passes.
+-- How a payload is read, by the parameter list in it (DDSI-RTPS 2.5, 10 "Serialized Payload Representation"), and which
+-- acts do not change the map. own: only what is announced matters, and not which act announces it: an announcement is
+-- sent again to each participant that joins, and can be recorded more than once.
 use Rattle.std.specs.Prelude.{ℕ, ◌≡◌, ◌↔◌, List, [], ◌∷◌, ◌++◌, Some, Ok, Err}
 use Rattle.rtps_ids.specs.declared.identity.Guid.{Guid}
 use Rattle.rtps_receiver.specs.Values.{ActValue}
@@ -22,22 +22,22 @@ RepetitionsChangeNothing =
 abbrev pub FieldsAreOfTheList : Type 0
 FieldsAreOfTheList = (payload : List ℕ) (fields : Fields) → (fields_of payload ≡ Ok fields) ↔ HoldsFields payload fields
 
--- no parameters are read where it holds none, and the fault says why
+-- no parameters are read if the payload holds no list, and the fault says why
 abbrev pub FaultsAreOfNoList : Type 0
 FaultsAreOfNoList = (payload : List ℕ) (fault : NoticeFault) → (fields_of payload ≡ Err fault) ↔ LacksList fault payload
 
--- a participant is read where the list that a payload holds tells its GUID
+-- a participant is read if and only if the list of the payload gives its GUID
 abbrev pub ListsTellParticipants : Type 0
 ListsTellParticipants =
     (payload : List ℕ) (guid : Guid) → (participant_of payload ≡ Ok guid) ↔ ((fields : Fields) × HoldsFields payload fields × (participant_guid fields ≡ Some guid))
 
--- an endpoint is read where the list that a payload holds tells each of its fields
+-- an endpoint is read if and only if the list of the payload gives each of its fields
 abbrev pub ListsTellEndpoints : Type 0
 ListsTellEndpoints =
     (side : Side) (payload : List ℕ) (endpoint : EndpointValue)
     → (endpoint_of side payload ≡ Ok endpoint) ↔ ((fields : Fields) × HoldsFields payload fields × IsDescribedBy side fields endpoint)
 
--- where a payload holds no list, nothing else is answered of it
+-- if a payload holds no list, that is the only fault
 abbrev pub NoListIsTheFault : Type 0
 NoListIsTheFault =
     (payload : List ℕ) (fault : NoticeFault) → LacksList fault payload → (participant_of payload ≡ Err fault) × ((side : Side) → endpoint_of side payload ≡ Err fault)

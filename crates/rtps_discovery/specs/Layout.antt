@@ -1,6 +1,6 @@
--- What announcements are told by, as the tables of the standard have it: each number stands here and in `layout` alone.
--- DDSI-RTPS 2.5, 9.3.1.3 "Predefined EntityIds", 9.3.2 "Mapping of the Types that Appear Within Submessages or Built-in
--- Topic Data", 9.6 "Mapping of the RTPS Protocol" and 10 "Serialized Payload Representation".
+-- The numbers of announcements, as the tables of the standard have them. Each value is written only here and in
+-- `layout`. DDSI-RTPS 2.5, 9.3.1.3 "Predefined EntityIds", 9.3.2 "Mapping of the Types that Appear Within Submessages
+-- or Built-in Topic Data", 9.6 "Mapping of the RTPS Protocol" and 10 "Serialized Payload Representation".
 use Rattle.std.specs.Prelude.{◌≡◌, [], ◌∷◌}
 use Rattle.rtps_discovery.specs.declared.layout.durability.TheConstants as durability
 use Rattle.rtps_discovery.specs.declared.layout.entity.TheConstants as entity

@@ -24,7 +24,8 @@ durability_rank TransientLocal = 1
 durability_rank Transient = 2
 durability_rank Persistent = 3
 
--- own: these four alone decide; partitions and the other policies take no part
+-- a writer and a reader match. own: topic, type, reliability and durability alone decide; partitions and other policies
+-- do not count
 pub record Matches (writer reader : EndpointValue) : Type 0 where
   pub is_writer : writer.side ≡ Writer
   pub is_reader : reader.side ≡ Reader
@@ -56,7 +57,7 @@ abbrev pub is_reliable : Reliability → Bool
 is_reliable BestEffort = false
 is_reliable Reliable = true
 
--- the match of this writer and this reader, reliable where both are
+-- the match of this writer and this reader; it is reliable if both are
 abbrev pub match_of : EndpointValue → EndpointValue → Match
 match_of writer reader =
     record {
@@ -68,10 +69,10 @@ match_of writer reader =
 abbrev pub matches_of : EndpointValue → List EndpointValue → List Match
 matches_of writer endpoints = map (match_of writer) (filter (is_match writer) endpoints)
 
--- the matches among endpoints: each of them beside each, in order
+-- the matches among endpoints: each writer with each reader, in order
 abbrev pub matches_among : List EndpointValue → List Match
 matches_among endpoints = flat_map (λ writer. matches_of writer endpoints) endpoints
 
--- the pairs of those in which both are reliable
+-- the pairs of the matches in which both are reliable
 abbrev pub reliable_pairs : List Match → List Pair
 reliable_pairs matches = map (λ found. found.pair) (filter (λ found. found.reliable) matches)

@@ -24,7 +24,7 @@ use Rattle.rtps_discovery.specs.declared.notice.Subject.TheVariants as subject
 abbrev pub is_entity : List ℕ → EntityId → Bool
 is_entity octets entity = pointwise nat_eq entity.0 octets
 
--- whom a built-in writer announces: there is one for participants, one for writers and one for readers
+-- what a built-in writer announces: there is one for participants, one for writers and one for readers
 abbrev pub subject_of : EntityId → Option Subject
 subject_of writer =
     if is_entity entity.PARTICIPANTS.0 writer then Some subject.Participant
@@ -32,7 +32,7 @@ subject_of writer =
     else if is_entity entity.SUBSCRIPTIONS.0 writer then Some (subject.Endpoint Reader)
     else None
 
--- a whole payload; a key, or none, announces nothing (own: disposals and unregistrations are not followed)
+-- a whole payload; a key or no payload announces nothing (own: disposals and unregistrations are not read)
 abbrev pub whole_payload : PayloadValue → Option (List ℕ)
 whole_payload (Whole octets) = Some octets
 whole_payload _ = None
@@ -42,7 +42,7 @@ abbrev pub notice_with : Option Subject → Option (List ℕ) → Option (Subjec
 notice_with (Some subject) (Some payload) = Some (subject, payload)
 notice_with _ _ = None
 
--- whom a DATA announces and by which payload, whatever its source and destination
+-- what a DATA announces, and the payload that does so, whatever its source and destination
 abbrev pub notice_in : ActBodyValue → Option (Subject × List ℕ)
 notice_in (Data value) = notice_with (subject_of value.writer) (whole_payload value.payload)
 notice_in _ = None
@@ -57,17 +57,17 @@ abbrev pub announced_by : Subject → List ℕ → Result Announced NoticeFault
 announced_by subject.Participant payload = or_fault (participant_of payload) (λ guid. Ok (Participant guid))
 announced_by (subject.Endpoint side) payload = or_fault (endpoint_of side payload) (λ endpoint. Ok (Endpoint endpoint))
 
--- what an act announces, or its fault; None where it is no announcement
+-- what an act announces, or its fault; None if it is no announcement
 abbrev pub announcement_of : ActValue → Option (Result Announced NoticeFault)
 announcement_of act = option_map (λ notice. announced_by notice.0 notice.1) (notice_in act.body)
 
--- an act whose announcement is that of one of these acts, whatever the sources and destinations of both
+-- an act that announces the same as one of these acts, whatever the sources and destinations of both
 pub record RepeatsOneOf (acts : List ActValue) (act : ActValue) : Type 0 where
   pub first : ActValue
   pub is_among : Contains acts first
   pub says_the_same : announcement_of act ≡ announcement_of first
 
--- what is answered of an act
+-- what `note` returns for an act
 abbrev pub answer_of : Option (Result Announced NoticeFault) → Noted
 answer_of None = noted.Nothing
 answer_of (Some (Ok announced)) = noted.Kept
@@ -79,16 +79,16 @@ is_fault noted.Nothing = false
 is_fault noted.Kept = false
 is_fault (noted.Fault fault) = true
 
--- how many acts are answered with a fault
+-- how many acts are announcements with a fault
 abbrev pub faults_in : List ActValue → ℕ
 faults_in acts = count_by (λ act. is_fault (answer_of (announcement_of act))) acts
 
--- the participant, where one is announced
+-- the participant, if one is announced
 abbrev pub participant_in : Option (Result Announced NoticeFault) → Option Guid
 participant_in (Some (Ok (Participant guid))) = Some guid
 participant_in _ = None
 
--- the endpoint, where one is announced
+-- the endpoint, if one is announced
 abbrev pub endpoint_in : Option (Result Announced NoticeFault) → Option EndpointValue
 endpoint_in (Some (Ok (Endpoint endpoint))) = Some endpoint
 endpoint_in _ = None

@@ -1,5 +1,5 @@
--- Where the parameters of a payload stand, by the grammar of lists. DDSI-RTPS 2.5, 10 "Serialized Payload Representation"
--- and 9.4.2.11 "ParameterList".
+-- The parameters of a payload, by the grammar of lists. DDSI-RTPS 2.5, 10 "Serialized Payload Representation" and
+-- 9.4.2.11 "ParameterList".
 use Rattle.std.specs.Prelude.{ℕ, ◌≡◌, ◌<◌, List, ◌++◌, length}
 use Rattle.rtps_ids.specs.declared.order.Order.{Order}
 use Rattle.rtps_ids.specs.declared.order.Order.TheVariants.{Big, Little}
@@ -14,7 +14,7 @@ abbrev pub id_in : Order → List ℕ
 id_in Big = PL_CDR_BE
 id_in Little = PL_CDR_LE
 
--- octets that are the representation of parameter lists in this order: its id, and options, which say nothing
+-- octets that are the representation of parameter lists in this order: its id, and options, which are ignored
 pub record NamesOrder (order : Order) (octets : List ℕ) : Type 0 where
   pub options : List ℕ
   pub size : length octets ≡ SIZE
@@ -29,7 +29,7 @@ pub record HoldsFields (payload : List ℕ) (fields : Fields) : Type 0 where
   pub names_order : NamesOrder fields.order front
   pub is_list : IsList fields.order fields.pairs list
 
--- a payload that begins with the octets of a representation, which name no order
+-- a payload whose first four octets are the representation of parameter lists in no order
 pub record NamesNone (payload : List ℕ) : Type 0 where
   pub front : List ℕ
   pub behind : List ℕ

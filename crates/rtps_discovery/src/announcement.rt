@@ -12,8 +12,8 @@ use crate::layout::{durability, reliability, representation};
 use rtps_ids::{Guid, Order};
 use rtps_params::{ParamList, read_guid, read_text, read_u32};
 
-/// The GUID of the participant that a payload announces, or the payload's first fault, one of the first four (DDSI-RTPS
-/// 2.5, 8.5.3 "The Simple Participant Discovery Protocol"). It takes no memory.
+/// The GUID of the participant that a payload announces, or the first fault of the payload: one of the first four
+/// (DDSI-RTPS 2.5, 8.5.3 "The Simple Participant Discovery Protocol"). It takes no memory.
 #[tactic(auto, unfolding(crate::specs::Announcement::participant_in))]
 pub fn read_participant(payload: &[u8]) -> Result<Guid, NoticeFault>
     ensures { ReadsOrFaults (λ guid. guid) result (participant_of payload.now) }
@@ -24,8 +24,8 @@ pub fn read_participant(payload: &[u8]) -> Result<Guid, NoticeFault>
     }
 }
 
-/// The endpoint of this side that a payload announces, or the payload's first fault (DDSI-RTPS 2.5, 8.5.4 "The Simple
-/// Endpoint Discovery Protocol"). Its names are parts of the payload. It takes no memory.
+/// The endpoint of this side that a payload announces, or the first fault of the payload (DDSI-RTPS 2.5, 8.5.4 "The
+/// Simple Endpoint Discovery Protocol"). Its names are parts of the payload. It takes no memory.
 pub fn read_endpoint(payload: &[u8], side: Side) -> Result<Endpoint<'_>, NoticeFault>
     ensures { ReadsOrFaults endpoint_value result (endpoint_of side payload.now) }
 {
@@ -35,8 +35,9 @@ pub fn read_endpoint(payload: &[u8], side: Side) -> Result<Endpoint<'_>, NoticeF
     }
 }
 
-/// The list of a payload: behind two octets of representation and two of options, in the order that the representation
-/// names (DDSI-RTPS 2.5, 10 "Serialized Payload Representation"). What follows its sentinel is ignored.
+/// The parameter list of a payload. It comes after two octets of representation and two of options. The representation
+/// gives the order of its numbers (DDSI-RTPS 2.5, 10 "Serialized Payload Representation"). What follows its sentinel is
+/// ignored.
 #[tactic(auto, unfolding(crate::specs::Announcement::fields_of))]
 fn fields_of(payload: &[u8]) -> Result<ParamList<'_>, NoticeFault>
     ensures { ReadsOrFaults fields_value result (fields_of_lem payload.now) }
@@ -53,7 +54,7 @@ fn fields_of(payload: &[u8]) -> Result<ParamList<'_>, NoticeFault>
     }
 }
 
-/// The order that a payload's representation names, if it is one of parameter lists.
+/// The order that the representation of a payload gives, if it is that of parameter lists.
 fn payload_order(payload: &[u8]) -> Option<Order>
     requires { 4 ≤ length payload.now }
     ensures { result ≡ order_of payload.now }
@@ -68,7 +69,7 @@ fn payload_order(payload: &[u8]) -> Option<Order>
     }
 }
 
-/// The endpoint that a list tells of.
+/// The endpoint that a parameter list describes.
 #[tactic(auto, unfolding(crate::specs::Announcement::endpoint_in))]
 fn endpoint_of<'a>(list: &ParamList<'a>, side: Side) -> Result<Endpoint<'a>, NoticeFault>
     ensures { ReadsOrFaults endpoint_value result (endpoint_in side (fields_value list.now)) }
@@ -104,7 +105,7 @@ fn endpoint_of<'a>(list: &ParamList<'a>, side: Side) -> Result<Endpoint<'a>, Not
     })
 }
 
-/// The GUID in a parameter's value, or None where that is absent or cut.
+/// The GUID in the value of a parameter, or None if there is no value or it is cut.
 fn guid_in(value: Option<&[u8]>) -> Option<Guid>
     ensures { result ≡ option_and_then guid_of (option_copied value.entry) }
 {
@@ -114,8 +115,8 @@ fn guid_in(value: Option<&[u8]>) -> Option<Guid>
     }
 }
 
-/// The reliability that a parameter's value tells of an endpoint of this side, the default where it is absent, or None
-/// where it is cut or of no known kind.
+/// The reliability in the value of a parameter, or the default of this side if there is no value. None if the value is
+/// cut or its kind is unknown.
 fn reliability_in(value: Option<&[u8]>, order: Order, side: Side) -> Option<Reliability>
     ensures { result
         ≡ kind_in order reliability_of_kind (default_reliability side) (option_copied value.entry) }
@@ -133,8 +134,8 @@ fn reliability_in(value: Option<&[u8]>, order: Order, side: Side) -> Option<Reli
     }
 }
 
-/// The durability that a parameter's value tells, the default where it is absent, or None where it is cut or of no
-/// known kind.
+/// The durability in the value of a parameter, or the default if there is no value. None if the value is cut or its
+/// kind is unknown.
 fn durability_in(value: Option<&[u8]>, order: Order) -> Option<Durability>
     ensures { result ≡ kind_in order durability_of_kind Durability.Volatile (option_copied value.entry) }
 {

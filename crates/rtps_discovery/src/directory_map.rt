@@ -19,9 +19,9 @@ use std::alloc::Global;
 use std::collections::{BTreeMap, BTreeSet};
 use std::marker::Model;
 
-/// The participants and endpoints that acts announced, whatever the order of the acts (DDSI-RTPS 2.5, 8.5 "Discovery
-/// Module"). Topics and types are parts of the caller's datagrams. Each listing is a new `Vec`, or `Memory` where that
-/// cannot grow.
+/// The participants and endpoints that acts announced; the order of the acts does not matter (DDSI-RTPS 2.5, 8.5
+/// "Discovery Module"). Topics and types are parts of the caller's datagrams. Each listing is a new `Vec`, or `Memory`
+/// if there is no memory for it.
 #[derive(Drop)]
 pub struct Directory<'a> {
     participants: BTreeSet<Guid>,
@@ -55,16 +55,16 @@ impl<'a> Directory<'a> {
         }
     }
 
-    /// Keeps what an act announces, from any source and to any destination. An act that announces nothing, one with a
-    /// fault, and one that announces what was noted before take no memory and change nothing; the last is answered as
-    /// before. After `Memory` the directory is the same.
+    /// Keeps what an act announces, whatever its source and destination. An act that announces nothing, that has a
+    /// fault, or that announces what is known already changes nothing and takes no memory. What is known already is
+    /// `Kept` too. After `Memory` the directory is as it was.
     pub fn note(&mut self, act: &Act<'a>) -> Result<Noted, Memory>
         ensures map { OnOk result ((acts : List ActValue)
             → IsMapOf acts self.old → IsMapOf (acts ++ act_value act.now ∷ []) self.new) }
         ensures noted { IfOk result (λ noted. noted ≡ answer_of (announcement_of (act_value act.now))) }
         ensures err { OnErr result (self.new ≡ self.old) }
 
-        // Without anything new to keep, it takes no memory.
+        // With nothing to keep, it does not fail.
         ensures unkept { let answer = answer_of (announcement_of (act_value act.now)) in
             answer ≢ Noted.Kept → (result ≡ Ok answer) × (self.new ≡ self.old) }
         ensures again { let answer = answer_of (announcement_of (act_value act.now)) in
@@ -109,14 +109,14 @@ impl<'a> Directory<'a> {
         settled(self.alloc, &self.endpoints)
     }
 
-    /// The endpoint of a GUID, where its announcements agree. None where there is none, or they disagree.
+    /// The endpoint of a GUID. None if there is none, or if its announcements disagree.
     pub fn endpoint(&self, guid: Guid) -> Option<Endpoint<'a>>
         ensures { option_map endpoint_value result ≡ settled_at self.now.endpoints guid }
     {
         settled_at(&self.endpoints, guid)
     }
 
-    /// The matches among those endpoints, sorted by writer and then by reader.
+    /// The matches among the endpoints whose announcements agree, sorted by writer and then by reader.
     pub fn matched(&self) -> Result<Vec<Match>, Memory>
         ensures { IfOk result (λ found. found.items ≡ matches_among (settled_in self.now.endpoints)) }
     {
@@ -124,13 +124,13 @@ impl<'a> Directory<'a> {
         matches_among(self.alloc, &endpoints)
     }
 
-    /// The pairs of those matches in which both are RELIABLE, in the same order. It takes no memory for other matches.
+    /// The pairs of the matches in which both are RELIABLE, in the same order. It takes no memory for other matches.
     #[tactic(auto, using(crate::proofs::ReliablePairs::of_the_reliable))]
     pub fn pairs(&self) -> Result<Vec<Pair>, Memory>
         ensures { IfOk result (λ pairs. pairs.items
             ≡ reliable_pairs (matches_among (settled_in self.now.endpoints))) }
     {
-        // Of the others there may be many matches, and no pair.
+        // There may be many matches of other endpoints, and none of them is such a pair.
         let reliable = reliable_among(self.alloc, &self.endpoints()?)?;
         reliable_pairs(self.alloc, &matches_among(self.alloc, &reliable)?)
     }
@@ -143,14 +143,15 @@ impl<'a> Directory<'a> {
         count_unsettled(&self.endpoints)
     }
 
-    /// Notes acts in their order, as [`Directory::note`] does, and says how many are announcements with a fault. Only DATA
-    /// are announcements, so the DATA among acts are enough. After `Memory` the directory has noted those before one of them.
+    /// Notes acts in their order, as [`Directory::note`] does, and says how many are announcements with a fault. Only
+    /// DATA can be announcements, so the DATA of a recording are enough. After `Memory` the acts before one of them are
+    /// noted.
     pub fn note_all(&mut self, acts: &[Act<'a>]) -> Result<u64, Memory>
         ensures map { OnOk result ((before : List ActValue)
             → IsMapOf before self.old → IsMapOf (before ++ map act_value acts.now) self.new) }
         ensures faults { IfOk result (λ faults. faults ≡ faults_in (map act_value acts.now)) }
 
-        // The same of all acts of which these are the DATA.
+        // The same, if these are the DATA among other acts.
         ensures data_map { OnOk result ((before all : List ActValue) → map act_value acts.now ≡ data_among all
             → IsMapOf before self.old → IsMapOf (before ++ all) self.new) }
         ensures data_faults { (all : List ActValue) → map act_value acts.now ≡ data_among all
@@ -177,7 +178,7 @@ impl<'a> Directory<'a> {
     }
 }
 
-/// One for an act that is answered with a fault, and else none.
+/// 1 for an act with a fault, and else 0.
 fn fault_count(noted: Noted) -> u64
     ensures { result ≡ (if is_fault noted then 1 else 0) }
 {

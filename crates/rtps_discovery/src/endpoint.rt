@@ -7,15 +7,15 @@ pub enum Side {
     Reader,
 }
 
-/// Whether samples are sent until they are acknowledged, the weaker first (DDSI-RTPS 2.5, 8.7.2 "DDS QoS Parameters",
-/// and DDS 1.4, 2.2.3.14 "RELIABILITY").
+/// Whether samples are sent until they are acknowledged. The weaker comes first (DDSI-RTPS 2.5, 8.7.2 "DDS QoS
+/// Parameters", and DDS 1.4, 2.2.3.14 "RELIABILITY").
 #[derive(Clone, Copy, PartialEq, Eq, PartialOrd, Ord, Debug)]
 pub enum Reliability {
     BestEffort,
     Reliable,
 }
 
-/// How long samples are kept for readers that come late, the shortest first (DDS 1.4, 2.2.3.4 "DURABILITY").
+/// How long samples are kept for readers that join late. The shortest comes first (DDS 1.4, 2.2.3.4 "DURABILITY").
 #[derive(Clone, Copy, PartialEq, Eq, PartialOrd, Ord, Debug)]
 pub enum Durability {
     Volatile,
@@ -24,8 +24,9 @@ pub enum Durability {
     Persistent,
 }
 
-/// What is announced of a writer or a reader. A writer offers its reliability and durability, a reader asks for them.
-/// The names are parts of the payload that announces it (DDSI-RTPS 2.5, 8.5.4 "The Simple Endpoint Discovery Protocol").
+/// A writer or a reader, as it is announced. A writer offers its reliability and durability, a reader asks for them.
+/// The names are parts of the payload that announces it (DDSI-RTPS 2.5, 8.5.4 "The Simple Endpoint Discovery
+/// Protocol").
 #[derive(Clone, Copy, PartialEq, Eq, Debug)]
 pub struct Endpoint<'a> {
     pub guid: Guid,

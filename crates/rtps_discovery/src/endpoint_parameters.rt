@@ -7,7 +7,7 @@ ghost use Rattle.rtps_discovery.specs.Fields.{fields_value};
 use crate::layout::pid::{DURABILITY, ENDPOINT_GUID, RELIABILITY, TOPIC_NAME, TYPE_NAME};
 use rtps_params::ParamList;
 
-/// The octets of the first value of each parameter that tells of an endpoint, where there is one.
+/// The first value of each parameter that describes an endpoint, if there is one.
 #[derive(Clone, Copy)]
 pub(crate) struct EndpointParameters<'a> {
     pub(crate) guid: Option<&'a [u8]>,
@@ -18,7 +18,7 @@ pub(crate) struct EndpointParameters<'a> {
 }
 
 impl<'a> EndpointParameters<'a> {
-    /// Those of a list, which is walked once.
+    /// Those of a list. It goes through the list once.
     pub(crate) fn of(list: &ParamList<'a>) -> EndpointParameters<'a>
         ensures guid { option_copied result.guid ≡ field ENDPOINT_GUID (fields_value list.now) }
         ensures topic { option_copied result.topic ≡ field TOPIC_NAME (fields_value list.now) }
@@ -39,7 +39,7 @@ impl<'a> EndpointParameters<'a> {
         found
     }
 
-    /// Adds a parameter behind those before it. One whose id has a value already changes nothing.
+    /// Adds the next parameter. If its id has a value already, nothing changes.
     fn add(&mut self, pid: u16, value: &'a [u8])
         ensures guid { option_copied self.new.guid
             ≡ option_or (option_copied self.old.guid) (first_value ENDPOINT_GUID ((pid, value.now) ∷ [])) }

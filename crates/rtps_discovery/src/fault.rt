@@ -5,16 +5,16 @@ use std::error::Error;
 use std::fmt;
 
 /// Why a payload announces nothing: the first of these, in this order, that holds (DDSI-RTPS 2.5, 10 "Serialized
-/// Payload Representation" and 9.6 "Mapping of the RTPS Protocol"). A participant has the first four alone.
+/// Payload Representation" and 9.6 "Mapping of the RTPS Protocol"). For a participant only the first four can be.
 #[derive(Clone, Copy, PartialEq, Eq, Debug)]
 pub enum NoticeFault {
-    /// Under four octets, which tell the representation.
+    /// Fewer than four octets: the representation is cut.
     CutRepresentation = 1,
     /// A representation other than PL_CDR_BE and PL_CDR_LE.
     Representation = 2,
-    /// No parameter list behind the representation.
+    /// No parameter list after the representation.
     List = 3,
-    /// No GUID, or one of under 16 octets.
+    /// No GUID, or one of fewer than 16 octets.
     NoGuid = 4,
     /// No topic name.
     NoTopic = 5,
@@ -22,14 +22,14 @@ pub enum NoticeFault {
     NoType = 6,
     /// A topic name or a type name that is no text.
     BadText = 7,
-    /// A reliability of under four octets, or of a kind that is none.
+    /// A reliability of fewer than four octets, or of an unknown kind.
     BadReliability = 8,
-    /// A durability of under four octets, or of a kind that is none.
+    /// A durability of fewer than four octets, or of an unknown kind.
     BadDurability = 9,
 }
 
 impl NoticeFault {
-    /// Its number, from 1 on, in the order in which faults can be met.
+    /// Its number, from 1 on.
     pub fn number(self) -> u8
         ensures { result ≡ fault_number self }
     {

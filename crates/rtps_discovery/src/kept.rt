@@ -104,7 +104,7 @@ fn push_settled<'a>(
     Ok(())
 }
 
-/// The endpoint of a GUID, where its announcements agree.
+/// The endpoint of a GUID, if its announcements agree.
 pub(crate) fn settled_at<'a>(
     endpoints: &BTreeMap<Guid, Kept<'a>>,
     guid: Guid,

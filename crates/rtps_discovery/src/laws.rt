@@ -1,4 +1,4 @@
-//! Laws of the definitions, each the contract of a function that does nothing.
+//! Laws of the definitions. Each is the contract of a function that does nothing.
 
 ghost use Rattle.std.specs.Prelude.{◌≡◌, ◌↔◌, ◌++◌, ◌∷◌, [], List, Some, Ok, Contains, map};
 ghost use Rattle.std.specs.List.Sorted.{IsPermutation, IsStrictlySortedBy};
@@ -20,7 +20,7 @@ ghost use Rattle.rtps_discovery.specs.declared.matching.Pair.{Pair};
 
 use rtps_params::laws::ends;
 
-/// An announcement is read of parameters exactly where they tell each of its fields.
+/// Parameters are read as an announcement if and only if they give each of its fields.
 pub fn told()
     ensures participant { (fields : Fields) (guid : Guid)
         → (participant_in fields ≡ Ok guid) ↔ (participant_guid fields ≡ Some guid) }
@@ -28,8 +28,8 @@ pub fn told()
         → (endpoint_in side fields ≡ Ok endpoint) ↔ IsDescribedBy side fields endpoint }
 {}
 
-/// What is read of a payload is read of the list that stands behind the four octets of its representation, whatever
-/// follows the list. Where no list stands there, the answer is the fault that says why.
+/// A payload is read as the parameter list after the four octets of its representation, whatever follows the list. If
+/// there is no list, the result is the fault that says why.
 pub fn read_of_the_list()
     ensures fields { FieldsAreOfTheList }
     ensures faults { FaultsAreOfNoList }
@@ -40,14 +40,14 @@ pub fn read_of_the_list()
     ends();
 }
 
-/// Each list of acts has one map.
+/// Each list of acts has exactly one map.
 pub fn one_map()
     ensures exists { (acts : List ActValue) → (map : DirectoryValue) × IsMapOf acts map }
     ensures unique { (acts : List ActValue) (map : DirectoryValue) (other : DirectoryValue)
         → IsMapOf acts map → IsMapOf acts other → map ≡ other }
 {}
 
-/// The map is the same in whatever order the acts come, and an act that comes again changes nothing.
+/// The order of the acts does not change the map, and neither does an act that comes again.
 pub fn any_order()
     ensures permutation { (acts : List ActValue) (others : List ActValue) (map : DirectoryValue)
         → IsPermutation acts others → IsMapOf acts map → IsMapOf others map }
@@ -55,14 +55,14 @@ pub fn any_order()
         → Contains acts act → IsMapOf acts map → IsMapOf (acts ++ act ∷ []) map }
 {}
 
-/// An act that announces what one of the acts before it announced changes nothing, from whichever participant it comes
-/// and to wherever: with it and without it, acts have one map.
+/// An act that announces the same as an act before it does not change the map, whatever the sources and destinations of
+/// both.
 pub fn repetitions_change_nothing()
     ensures { RepetitionsChangeNothing }
 {}
 
-/// What is listed as settled is announced, and nothing else is announced of its GUID; what is counted as unsettled are
-/// the GUIDs of which two announcements differ.
+/// An endpoint is listed as settled if and only if it is announced and all announcements of its GUID are the same. A
+/// GUID is listed as unsettled if and only if two announcements of it differ.
 pub fn settled_and_unsettled()
     ensures settled { (acts : List ActValue) (map : DirectoryValue) (endpoint : EndpointValue) → IsMapOf acts map
         → Contains (settled_in map.endpoints) endpoint ↔ IsSettled (endpoints_among acts) endpoint }
@@ -70,8 +70,8 @@ pub fn settled_and_unsettled()
         → Contains (unsettled_in map.endpoints) guid ↔ IsUnsettled (endpoints_among acts) guid }
 {}
 
-/// What is listed as a match is one of two settled endpoints that match, and what is listed as a pair is one in which
-/// both are RELIABLE.
+/// A match is listed if and only if it is of two settled endpoints that match; a pair, if and only if both are RELIABLE
+/// too.
 pub fn matches_and_pairs()
     ensures matches { (acts : List ActValue) (map : DirectoryValue) (found : Match) → IsMapOf acts map
         → Contains (matches_among (settled_in map.endpoints)) found ↔ IsMatchAmong (endpoints_among acts) found }

@@ -1,5 +1,5 @@
-//! What announcements are told by: ids of writers, of representations and of parameters, and kinds of reliability and
-//! durability, each named once for the readers and for the definitions.
+//! The numbers of announcements: ids of writers, of representations and of parameters, and kinds of reliability and
+//! durability. The code and the definitions use these names.
 
 /// The built-in writers that announce participants, writers and readers (DDSI-RTPS 2.5, 9.3.1.3 "Predefined
 /// EntityIds").
@@ -12,20 +12,20 @@ pub(crate) mod entity {
 
     pub(crate) const SUBSCRIPTIONS: EntityId = EntityId([0x00, 0x00, 0x04, 0xc2]);
 
-    /// The last octet of each, which tells that it is a built-in writer of samples with keys (9.3.1.2 "Mapping of the
-    /// EntityId_t").
+    /// The last octet of each. It says that the entity is a built-in writer of samples with keys (9.3.1.2 "Mapping of
+    /// the EntityId_t").
     pub(crate) const KIND: u8 = 0xc2;
 }
 
 /// The beginning of a payload (DDSI-RTPS 2.5, 10 "Serialized Payload Representation").
 pub(crate) mod representation {
-    /// The octets of a representation: its id, and two of options.
+    /// The size of a representation: its id, and two octets of options.
     pub(crate) const SIZE: usize = 4;
-    /// The octets of its id.
+    /// The size of its id.
     pub(crate) const ID_SIZE: usize = 2;
-    /// A parameter list whose numbers lie with the highest octet first.
+    /// A parameter list whose numbers have the highest octet first.
     pub(crate) const PL_CDR_BE: [u8; 2] = [0x00, 0x02];
-    /// A parameter list whose numbers lie with the lowest octet first.
+    /// A parameter list whose numbers have the lowest octet first.
     pub(crate) const PL_CDR_LE: [u8; 2] = [0x00, 0x03];
 }
 

@@ -6,7 +6,7 @@ use crate::endpoint::{Endpoint, Reliability, Side};
 use rtps_ids::{Guid, Memory};
 use std::alloc::Global;
 
-/// A writer and a reader, in the order of the writers' GUIDs and then of the readers'.
+/// A writer and a reader. Pairs are ordered by the writer's GUID, and then by the reader's.
 #[derive(Clone, Copy, PartialEq, Eq, PartialOrd, Ord, Debug)]
 pub struct Pair {
     pub writer: Guid,
@@ -31,7 +31,7 @@ pub fn matches(writer: &Endpoint<'_>, reader: &Endpoint<'_>) -> bool
     suits(writer, reader)
 }
 
-/// Whether they match, as the relation says it; [`matches`] says it as a test, too.
+/// Whether they match. [`matches`] has a second clause, with the test.
 fn suits(writer: &Endpoint<'_>, reader: &Endpoint<'_>) -> bool
     ensures { IsTrue result ↔ Matches (endpoint_value writer.now) (endpoint_value reader.now) }
 {
@@ -57,7 +57,7 @@ pub(crate) fn match_of(writer: &Endpoint<'_>, reader: &Endpoint<'_>) -> Match
     }
 }
 
-/// The endpoints that are RELIABLE, in the order that they had.
+/// The endpoints that are RELIABLE, in the same order.
 pub(crate) fn reliable_among<'a>(
     alloc: Global,
     endpoints: &[Endpoint<'a>],

@@ -10,7 +10,7 @@ use rtps_ids::EntityId;
 use rtps_receiver::{Act, ActBody};
 use rtps_wire::Payload;
 
-/// What a directory made of an act.
+/// What a directory did with an act.
 #[derive(Clone, Copy, PartialEq, Eq, Debug)]
 pub enum Noted {
     /// The act announces nothing.
@@ -21,14 +21,14 @@ pub enum Noted {
     Fault(NoticeFault),
 }
 
-/// Whom an announcement is of.
+/// What an announcement is about.
 #[derive(Clone, Copy)]
 pub(crate) enum Subject {
     Participant,
     Endpoint(Side),
 }
 
-/// Whom an act announces and by which payload, or None where it is no announcement.
+/// What an act announces, and the payload that does so. None if it is no announcement.
 pub(crate) fn notice<'a>(act: &Act<'a>) -> Option<(Subject, &'a [u8])>
     ensures { option_map (λ notice. (notice.0, notice.1.now)) result ≡ notice_in (act_value act.now).body }
 {
@@ -42,7 +42,7 @@ pub(crate) fn notice<'a>(act: &Act<'a>) -> Option<(Subject, &'a [u8])>
     Some((subject, *payload))
 }
 
-/// Whom this built-in writer announces. Most writers are of another kind, so one octet answers for them.
+/// What this built-in writer announces. The last octet is compared first, since most writers differ in it.
 #[tactic(auto, using(crate::proofs::OtherWriters::of_another_kind))]
 fn subject_of(writer: EntityId) -> Option<Subject>
     ensures { result ≡ subject_of_lem writer }

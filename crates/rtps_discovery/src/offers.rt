@@ -63,8 +63,8 @@ fn is_made(endpoints: &[Endpoint<'_>], offer: usize) -> bool
     endpoints.iter().any(|endpoint| is_made_by(endpoint, offer))
 }
 
-/// The readers that ask for no more than this offer, in the order that they had; none, where no writer among endpoints
-/// makes it.
+/// The readers that ask for no more than this offer, in the same order; no readers if no writer among the endpoints
+/// makes this offer.
 fn readers_within<'a>(
     alloc: Global,
     endpoints: &[Endpoint<'_>],
@@ -85,7 +85,7 @@ fn readers_within<'a>(
     Ok(list)
 }
 
-/// For each offer the readers that ask for no more, as of [`readers_within`].
+/// For each offer, the list that [`readers_within`] gives.
 pub(crate) fn readers_by_offer<'a>(
     alloc: Global,
     endpoints: &[Endpoint<'_>],

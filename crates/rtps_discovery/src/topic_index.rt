@@ -9,8 +9,8 @@ use crate::offers::{offer_of, readers_by_offer};
 use rtps_ids::Memory;
 use std::alloc::Global;
 
-/// The matches among endpoints, each writer's in turn. A writer is compared with the readers of its topic and its type
-/// alone that ask for no more than it offers.
+/// The matches among endpoints, writer by writer. A writer is compared only with the readers of its topic and its type
+/// that ask for no more than it offers.
 pub(crate) fn matches_among(alloc: Global, endpoints: &[Endpoint<'_>]) -> Result<Vec<Match>, Memory>
     ensures { IfOk result (λ found. found.items ≡ matches_among_lem (map endpoint_value endpoints.now)) }
 {
@@ -26,7 +26,8 @@ pub(crate) fn matches_among(alloc: Global, endpoints: &[Endpoint<'_>]) -> Result
     Ok(found)
 }
 
-/// The readers among endpoints, sorted by topic, those of one topic by type, and those of both in the order that they had.
+/// The readers among endpoints, sorted by topic and then by type. Readers of one topic and one type stay in their
+/// order.
 fn readers_by_topic<'a>(
     alloc: Global,
     endpoints: &[Endpoint<'a>],

@@ -1,5 +1,5 @@
--- Sets of sequence numbers. DDSI-RTPS 2.5, 8.3.5.5 "SequenceNumberSet" and 9.4.2.6 "SequenceNumberSet": a base, how
--- many numbers from the base on have a bit, and words of 32 bits, the bit of the base highest in the first.
+-- Sets of sequence numbers. DDSI-RTPS 2.5, 8.3.5.5 "SequenceNumberSet" and 9.4.2.6 "SequenceNumberSet": a base, a count
+-- of bits, and words of 32 bits. Bit i stands for the number base + i. The first bit is the highest of the first word.
 use Rattle.std.specs.Prelude.{ℕ, ℤ, pos, ◌+◌, ◌-◌, ◌*◌, ◌/◌, ◌%◌, ◌^◌, ◌+ℤ◌, ◌<◌, ◌≡◌, ◌||◌, ◌&&◌, ◌==◌, int_lt, nat_le, nat_lt, Bool, if◌then◌else◌, List, drop, length, map, min, slice_index, Option, Some, None}
 use Rattle.std.specs.Int.{bit_at}
 use Rattle.std.specs.Int.RustNames.{unsigned_abs}
@@ -10,7 +10,7 @@ use Rattle.rtps_ids.specs.declared.order.Order.{Order}
 use Rattle.rtps_ids.specs.declared.set_fault.SetFault.{SetFault}
 use Rattle.rtps_ids.specs.declared.set_fault.SetFault.TheVariants.{BadSet, CutWords}
 
--- a set as it is kept: the base, how many bits, and eight words, in which no bit past those is set
+-- a set as the code keeps it: the base, how many bits it has, and eight words in which no later bit is set
 pub record NumberSetValue : Type 0 where
   pub base : ℕ
   pub count : ℕ
@@ -27,7 +27,7 @@ pub record IsMember (set : NumberSetValue) (n : ℤ) : Type 0 where
   pub number : n ≡ pos (set.base + bit)
   pub is_set : bit_of set.words bit ≡ 1
 
--- the same as a test. That it says what the relation says is a law
+-- the same as a test. A law says that both agree
 abbrev pub is_member : NumberSetValue → ℕ → Bool
 is_member set n = nat_le set.base n && (nat_lt (n - set.base) set.count && (bit_of set.words (n - set.base) == 1))
 
@@ -39,12 +39,13 @@ kept_bits count i = min WORD_BITS (count - WORD_BITS * i)
 abbrev pub cleared : ℕ → ℕ → ℕ → ℕ
 cleared count word i = if nat_lt (WORD_BITS * i) count then word / 2 ^ (WORD_BITS - kept_bits count i) * 2 ^ (WORD_BITS - kept_bits count i) else 0
 
--- the eight words that `word` gives, cleared
+-- the eight words that `word` gives, without the bits that stand for no number
 unfoldable pub cleared_words : ℕ → (ℕ → ℕ) → List ℕ
 cleared_words count word = map (λ i. cleared count (word i) i) (range_with_len 0 8)
 
--- No set has such a base and count: a base below 0, more than 256 bits, bits at base 0, or a number past 2^63 - 1.
--- own: base 0 with no bit is a set, since readers send it before they have seen anything.
+-- Whether no set has this base and count: a base below 0, more than 256 bits, bits although the base is 0, or a number
+-- above 2^63 - 1.
+-- own: base 0 without bits is a set, since readers send it before they have received anything.
 unfoldable pub is_bad : ℤ → ℕ → Bool
 is_bad base count =
     int_lt base (pos 0) || nat_lt MOST_BITS count || (int_lt base (pos 1) && nat_lt 0 count)
@@ -54,23 +55,23 @@ is_bad base count =
 abbrev pub spelled_base : Order → List ℕ → ℤ
 spelled_base order octets = sequence_number_of order octets
 
--- the count, behind the base
+-- the count, after the base
 abbrev pub spelled_count : Order → List ℕ → ℕ
 spelled_count order octets = number_of order 4 (drop COUNT octets)
 
--- a word, by its place among the words
+-- word i
 abbrev pub spelled_word : Order → List ℕ → ℕ → ℕ
 spelled_word order octets i = number_of order 4 (drop (WORDS + WORD_SIZE * i) octets)
 
--- how many words hold so many bits
+-- how many words a set of `count` bits has
 abbrev pub words_of_count : ℕ → ℕ
 words_of_count count = (count + (WORD_BITS - 1)) / WORD_BITS
 
--- how many octets a set of so many bits takes: the base, the count, and as many words as hold the bits
+-- how many octets a set of `count` bits takes: the base, the count and the words
 abbrev pub octets_of_count : ℕ → ℕ
 octets_of_count count = WORDS + WORD_SIZE * words_of_count count
 
--- why octets begin with no set: they end before the count does, the set is bad, or they end before its words do
+-- why octets begin with no set: they end before the count does, else the set is bad, else they end before its words do
 unfoldable pub set_fault : Order → List ℕ → Option SetFault
 set_fault order octets =
     if nat_lt (length octets) WORDS then Some CutWords
@@ -87,7 +88,7 @@ spelled_set order octets =
       words = cleared_words (spelled_count order octets) (spelled_word order octets);
     }
 
--- what every set that is kept has
+-- what is true of every set of the code
 pub record IsKeptSet (set : NumberSetValue) : Type 0 where
   pub few : set.count < 257
   pub start : set.base ≡ 0 → set.count ≡ 0

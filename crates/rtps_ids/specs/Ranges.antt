@@ -1,15 +1,15 @@
--- The ranges of numbers in a set. own: numbers are taken range by range, so that a set of many numbers in few ranges costs few
--- ranges.
+-- The ranges of numbers in a set. own: numbers are taken range by range, so that many numbers in few ranges take few
+-- steps.
 use Rattle.std.specs.Prelude.{ℕ, Bool, true, false, ◌≤◌, ◌<◌, pos}
 use Rattle.rtps_ids.specs.NumberSet.{NumberSetValue, IsMember}
 
--- a bit that is set, or one that is clear
+-- the value of a bit that is set, or of one that is clear
 abbrev pub wanted_bit : Bool → ℕ
 wanted_bit true = 1
 wanted_bit false = 0
 
--- The first range of members from a number on: each number from lo on and below hi is a member, hi is none, and none
--- is one from `from` on and below lo.
+-- The first range of members from the number `from` on: each number from lo to hi - 1 is a member, hi is not, and no
+-- number from `from` to lo - 1 is.
 pub record IsRangeFrom (set : NumberSetValue) (from lo hi : ℕ) : Type 0 where
   pub onward : from ≤ lo
   pub some : lo < hi

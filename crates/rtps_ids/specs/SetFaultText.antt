@@ -1,4 +1,4 @@
--- The names and the numbers of faults. own: both stay, since reports and programs name faults by them.
+-- The names and the numbers of faults. own: both stay the same, since reports and programs name faults by them.
 use Rattle.std.specs.Prelude.{ℕ, List, codes}
 use Rattle.rtps_ids.specs.declared.set_fault.SetFault.{SetFault}
 use Rattle.rtps_ids.specs.declared.set_fault.SetFault.TheVariants.{BadSet, CutWords}
@@ -8,7 +8,7 @@ unfoldable pub fault_name : SetFault → List ℕ
 fault_name BadSet = codes "BadSet"
 fault_name CutWords = codes "CutWords"
 
--- from 1 on, in the order in which they can be met
+-- the number of a fault, from 1 on
 abbrev pub fault_number : SetFault → ℕ
 fault_number BadSet = 1
 fault_number CutWords = 2

@@ -6,7 +6,7 @@ ghost use Rattle.rtps_ids.specs.declared.layout.set.TheConstants.{MOST_BITS, WOR
 
 use crate::layout::set;
 
-/// The first bit from `from` on that is set, counted from the highest, or `WORD_BITS`.
+/// The first bit from `from` on that is set, or `WORD_BITS` if there is none. Bits are counted from the highest.
 fn first_one(word: u32, from: u32) -> u32
     requires { from < WORD_BITS }
     ensures onward { from ≤ result }
@@ -18,7 +18,8 @@ fn first_one(word: u32, from: u32) -> u32
     rest.leading_zeros() - set::WORD_BITS
 }
 
-/// The first bit from `from` on that is set, or clear where not `wanted`, counted from the highest, or `WORD_BITS`.
+/// The first bit from `from` on that is set if `wanted`, and clear if not; `WORD_BITS` if there is none. Bits are
+/// counted from the highest.
 fn first_in_word(word: u32, from: u32, wanted: bool) -> u32
     requires { from < WORD_BITS }
     ensures onward { from ≤ result }
@@ -33,8 +34,8 @@ fn first_in_word(word: u32, from: u32, wanted: bool) -> u32
     }
 }
 
-/// The first bit from `from` on that is set, or clear where not `wanted`, counted from the highest of the first word,
-/// or `MOST_BITS`.
+/// The first bit from `from` on that is set if `wanted`, and clear if not; `MOST_BITS` if there is none. Bits are
+/// counted from the highest of the first word.
 pub(crate) fn first_bit(words: &[u32], from: usize, wanted: bool) -> usize
     requires eight { length words.now ≡ 8 }
     requires from { from ≤ MOST_BITS }

@@ -12,7 +12,7 @@ use std::cmp::Ordering;
 use std::fmt;
 
 /// The prefix of a GUID, which all endpoints of one participant share (DDSI-RTPS 2.5, 8.2.4.1 "Identifying RTPS
-/// entities: The GUID"). Prefixes compare octet by octet. It prints 24 lower-case hexadecimal digits.
+/// entities: The GUID"). Prefixes are ordered octet by octet. It is printed as 24 lower-case hexadecimal digits.
 #[derive(Clone, Copy, Debug)]
 pub struct GuidPrefix(pub [u8; 12]);
 
@@ -21,7 +21,7 @@ impl PartialEq for GuidPrefix {
 
     ghost laws = { on_per (λ prefix. prefix.0) (partial_equiv_from_equiv nat_list_eq_equiv) };
 
-    // As numbers, as their order: an equality of arrays takes octet by octet.
+    // Compares numbers, as `cmp` does. The equality of arrays compares octet by octet.
     #[inline]
     fn eq(&self, other: &GuidPrefix) -> bool {
         self.cmp(other).is_eq()
@@ -68,8 +68,8 @@ impl fmt::Display for GuidPrefix {
     }
 }
 
-/// Which entity of its participant a GUID names (DDSI-RTPS 2.5, 8.2.4.1 "Identifying RTPS entities: The GUID"). It prints 8
-/// lower-case hexadecimal digits.
+/// The part of a GUID that names one entity of a participant (DDSI-RTPS 2.5, 8.2.4.1 "Identifying RTPS entities: The
+/// GUID"). It is printed as 8 lower-case hexadecimal digits.
 #[derive(Clone, Copy, Debug)]
 pub struct EntityId(pub [u8; 4]);
 
@@ -78,7 +78,7 @@ impl PartialEq for EntityId {
 
     ghost laws = { on_per (λ entity. entity.0) (partial_equiv_from_equiv nat_list_eq_equiv) };
 
-    // By their order, which is one comparison of numbers.
+    // Compares numbers, as `cmp` does.
     #[inline]
     fn eq(&self, other: &EntityId) -> bool {
         self.cmp(other).is_eq()
@@ -124,8 +124,9 @@ impl fmt::Display for EntityId {
     }
 }
 
-/// The identity of an entity: prefixes are compared first, and then entity ids (DDSI-RTPS 2.5, 8.2.4.1 "Identifying RTPS
-/// entities: The GUID"). It prints the digits of the prefix, a dot and the digits of the entity id.
+/// The name of an entity: the prefix of its participant and its entity id (DDSI-RTPS 2.5, 8.2.4.1 "Identifying RTPS
+/// entities: The GUID"). GUIDs are ordered by prefix, and then by entity id. It is printed as the digits of the prefix,
+/// a dot and the digits of the entity id.
 #[derive(Clone, Copy, Debug)]
 pub struct Guid {
     pub prefix: GuidPrefix,
@@ -138,7 +139,7 @@ impl PartialEq for Guid {
     ghost laws = { and_per (on_per (λ guid. guid.prefix.0) (partial_equiv_from_equiv nat_list_eq_equiv))
         (on_per (λ guid. guid.entity.0) (partial_equiv_from_equiv nat_list_eq_equiv)) };
 
-    // By their order, which is one comparison of numbers.
+    // Compares numbers, as `cmp` does.
     #[inline]
     fn eq(&self, other: &Guid) -> bool {
         self.cmp(other).is_eq()
@@ -188,8 +189,8 @@ impl fmt::Display for Guid {
     }
 }
 
-/// Who made the implementation that sent a message (DDSI-RTPS 2.5, 8.3.3.1.3 "vendorId"). It prints 4 lower-case
-/// hexadecimal digits.
+/// The vendor of the implementation that sent a message (DDSI-RTPS 2.5, 8.3.3.1.3 "vendorId"). It is printed as 4
+/// lower-case hexadecimal digits.
 #[derive(Clone, Copy, PartialEq, Eq, Debug)]
 pub struct Vendor(pub [u8; 2]);
 
@@ -217,7 +218,7 @@ pub struct Stamp {
     pub fraction: u32,
 }
 
-/// The order of four octets: that of the numbers that they spell, the highest first, which is one comparison.
+/// The order of four octets, octet by octet. They are compared as one number, the highest octet first.
 #[inline(always)]
 fn four_octets_order(one: &[u8], other: &[u8]) -> Ordering
     requires one { length one.now ≡ 4 }
@@ -227,7 +228,7 @@ fn four_octets_order(one: &[u8], other: &[u8]) -> Ordering
     BigEndian::read_u32(one).cmp(&BigEndian::read_u32(other))
 }
 
-/// The order of eight octets: that of the numbers that they spell, the highest first, which is one comparison.
+/// The order of eight octets, octet by octet. They are compared as one number, the highest octet first.
 #[inline(always)]
 fn eight_octets_order(one: &[u8], other: &[u8]) -> Ordering
     requires one { length one.now ≡ 8 }
@@ -237,7 +238,7 @@ fn eight_octets_order(one: &[u8], other: &[u8]) -> Ordering
     BigEndian::read_u64(one).cmp(&BigEndian::read_u64(other))
 }
 
-/// The number that twelve octets and four more spell, the highest first.
+/// The number of 16 octets, the highest first: the twelve of a prefix, and then the four of an entity id.
 #[inline(always)]
 fn identity_number(prefix: &[u8], entity: &[u8]) -> u128
     requires prefix { length prefix.now ≡ 12 }
@@ -251,7 +252,7 @@ fn identity_number(prefix: &[u8], entity: &[u8]) -> u128
     high + middle + u128::from(BigEndian::read_u32(entity))
 }
 
-/// The order of twelve octets, and then of four more: that of the numbers that all spell, which is one comparison.
+/// The order of two GUIDs: by prefix, and then by entity id. They are compared as numbers of 16 octets.
 #[inline(always)]
 fn identity_order(
     prefix: &[u8],
@@ -269,7 +270,7 @@ fn identity_order(
     number.cmp(&identity_number(other_prefix, other_entity))
 }
 
-/// Writes octets in lower-case hexadecimal, by way of `digits`, of which there are two for each octet.
+/// Writes octets in lower-case hexadecimal. `digits` is the memory for the digits, two for each octet.
 fn write_digits<W: fmt::Write>(
     octets: &[u8],
     digits: &mut [u8],

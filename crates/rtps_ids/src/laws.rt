@@ -8,22 +8,21 @@ ghost use Rattle.rtps_ids.specs.Octets.{number_of, octets_of, sequence_number_oc
 ghost use Rattle.rtps_ids.specs.declared.layout.set.TheConstants.{MOST_BITS, WORD_BITS};
 ghost use Rattle.rtps_ids.specs.declared.order.Order.{Order};
 
-/// The bits of a set that is kept are those of the words that it was made from, up to its count; later ones are
-/// clear.
+/// Up to its count, a set has the bits of the words that it was made from. Later bits are clear.
 #[tactic(auto, using(crate::proofs::SetBits::kept_bit, crate::proofs::SetBits::clear_bit))]
 pub fn bits_up_to_the_count_are_kept()
     ensures kept { (count i : ℕ) (word : ℕ → ℕ) → i < count → i < MOST_BITS → bit_of (cleared_words count word) i ≡ bit_at (word (i / WORD_BITS)) (WORD_BITS - 1 - i % WORD_BITS) }
     ensures clear { (count i : ℕ) (word : ℕ → ℕ) → i < MOST_BITS → (i < count → ⊥) → bit_of (cleared_words count word) i ≡ 0 }
 {}
 
-/// The test of what is in a set says what the relation says.
+/// `is_member` is true if and only if `IsMember` holds.
 #[tactic(auto, using(crate::proofs::Offered::member_decides))]
 pub fn test_of_members_says_what_the_relation_says()
     ensures { (set : NumberSetValue) (n : ℕ) → (is_member set n ≡ true) ↔ IsMember set (pos n) }
 {}
 
-/// Of octets that spell a set: the number at bit i is in the set exactly where the bit is below the count and is set,
-/// counted from the highest bit of the first word.
+/// If octets spell a set, the number base + i is in the set if and only if i is below the count and bit i is set. Bits
+/// are counted from the highest of the first word.
 #[tactic(auto, using(crate::proofs::SetBits::member_of_bit))]
 pub fn members_are_the_bits_that_are_set()
     ensures { (order : Order) (octets : List ℕ) (i : ℕ) → set_fault order octets ≡ None
@@ -31,7 +30,7 @@ pub fn members_are_the_bits_that_are_set()
         ↔ ((i < spelled_count order octets) × (bit_at (spelled_word order octets (i / WORD_BITS)) (WORD_BITS - 1 - i % WORD_BITS) ≡ 1)) }
 {}
 
-/// The octets of a number, as many as were asked for, are read as that number, whatever follows.
+/// `octets_of` gives as many octets as were asked for. They are read as the same number, whatever follows them.
 #[tactic(auto, using(crate::proofs::Offered::octets_read_back))]
 pub fn octets_of_a_number_are_read_as_it()
     ensures length { (order : Order) (width value : ℕ) → length (octets_of order width value) ≡ width }
@@ -39,7 +38,7 @@ pub fn octets_of_a_number_are_read_as_it()
         → number_of order width (octets_of order width value ++ rest) ≡ value }
 {}
 
-/// The eight octets of a sequence number are read as that number, whatever follows.
+/// `sequence_number_octets` gives eight octets. They are read as the same number, whatever follows them.
 #[tactic(auto, using(crate::proofs::Offered::octets_read_back))]
 pub fn octets_of_a_sequence_number_are_read_as_it()
     ensures length { (order : Order) (value : ℤ) → length (sequence_number_octets order value) ≡ 8 }
@@ -47,7 +46,7 @@ pub fn octets_of_a_sequence_number_are_read_as_it()
         → sequence_number_of order (sequence_number_octets order value ++ rest) ≡ value }
 {}
 
-/// The sizes and places that readers, writers and definitions name are those of the standard.
+/// The sizes and offsets that the code and the definitions use are those of the standard.
 pub fn layout_is_that_of_the_standard()
     ensures { set_is }
 {}

@@ -1,17 +1,17 @@
-//! How a set of sequence numbers lies in octets: sizes and places, each named once for the readers, for the writers and for
-//! the definitions.
+//! The layout of a set of sequence numbers: sizes and offsets. The code that reads, the code that writes and the
+//! definitions all use these names.
 
-/// A set of sequence numbers (DDSI-RTPS 2.5, 9.4.2.6 "SequenceNumberSet"). Its base stands at place 0, and its words stand
+/// A set of sequence numbers (DDSI-RTPS 2.5, 9.4.2.6 "SequenceNumberSet"). Its base is at offset 0, and its words come
 /// last.
 pub mod set {
-    /// Where how many bits it has stands, behind the base.
+    /// The offset of the number of its bits, after the base.
     pub const COUNT: usize = 8;
-    /// Where its words stand, which is the size of a set that has none.
+    /// The offset of its words. It is also the size of a set that has no words.
     pub const WORDS: usize = 12;
-    /// The octets of a word.
+    /// The size of a word, in octets.
     pub const WORD_SIZE: usize = 4;
-    /// The bits of a word.
+    /// The number of bits in a word.
     pub const WORD_BITS: u32 = 32;
-    /// The most bits that it has.
+    /// The most bits that a set can have.
     pub const MOST_BITS: u32 = 256;
 }

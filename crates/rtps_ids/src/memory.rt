@@ -2,7 +2,7 @@ use std::alloc::{AllocError, AllocFailed};
 use std::error::Error;
 use std::fmt;
 
-/// The refusal for want of memory. It is answered only where a growth was refused.
+/// The error that memory could not be had. It is returned only if a request for memory was refused.
 #[derive(Clone, Copy, PartialEq, Eq, Debug)]
 pub struct Memory;
 

@@ -28,7 +28,7 @@ impl SeqNum {
         SeqNum { value: 1 }
     }
 
-    /// The sequence number of this value, or None where the value is below 1.
+    /// The sequence number of this value, or None if the value is below 1.
     pub fn new(value: i64) -> Option<SeqNum>
         ensures exists { IsSome result ↔ (pos 0 <ℤ value) }
         ensures value { IfSome result (λ number. pos number ≡ value) }

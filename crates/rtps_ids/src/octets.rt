@@ -5,7 +5,7 @@ use crate::memory::Memory;
 use crate::order::Order;
 use byteorder::{BigEndian, ByteOrder, LittleEndian};
 
-/// The number of two octets at the place `at`, or None where the octets do not reach.
+/// The number that the two octets at offset `at` spell, or None if there are too few octets.
 #[tactic(auto, unfolding(crate::specs::Octets::number_of))]
 #[inline]
 pub fn u16_at(order: Order, bytes: &[u8], at: usize) -> Option<u16>
@@ -21,7 +21,7 @@ pub fn u16_at(order: Order, bytes: &[u8], at: usize) -> Option<u16>
     })
 }
 
-/// The number of four octets at the place `at`, or None where the octets do not reach.
+/// The number that the four octets at offset `at` spell, or None if there are too few octets.
 #[tactic(auto, unfolding(crate::specs::Octets::number_of))]
 #[inline]
 pub fn u32_at(order: Order, bytes: &[u8], at: usize) -> Option<u32>
@@ -37,8 +37,8 @@ pub fn u32_at(order: Order, bytes: &[u8], at: usize) -> Option<u32>
     })
 }
 
-/// The sequence number of eight octets at the place `at`, a signed high part and then an unsigned low part, or None
-/// where the octets do not reach.
+/// The sequence number that the eight octets at offset `at` spell, or None if there are too few octets. Its high part
+/// has a sign and comes first; its low part has none.
 #[tactic(auto, unfolding(crate::specs::Octets::number_of, crate::specs::Octets::sequence_number_of))]
 #[inline]
 pub fn number_at(order: Order, bytes: &[u8], at: usize) -> Option<i64>
@@ -53,8 +53,8 @@ pub fn number_at(order: Order, bytes: &[u8], at: usize) -> Option<i64>
     Some(((u64::from(high) << 32) | u64::from(low)).cast_signed())
 }
 
-/// Appends the two octets of a number. `Memory` is answered only where the octets have no room, and leaves what stands
-/// in `out`.
+/// Appends the two octets of a number. It returns `Memory` only if `out` has no room for them; then `out` keeps what it
+/// had.
 #[tactic(auto, unfolding(crate::specs::Octets::octets_of))]
 pub fn put_u16(order: Order, value: u16, out: &mut Vec<u8>) -> Result<(), Memory>
     ensures ok { OnOk result (out.new.items ≡ out.old.items ++ octets_of order 2 value) }
@@ -71,8 +71,8 @@ pub fn put_u16(order: Order, value: u16, out: &mut Vec<u8>) -> Result<(), Memory
     Ok(())
 }
 
-/// Appends the four octets of a number. `Memory` is answered only where the octets have no room, and leaves what stands
-/// in `out`.
+/// Appends the four octets of a number. It returns `Memory` only if `out` has no room for them; then `out` keeps what
+/// it had.
 pub fn put_u32(order: Order, value: u32, out: &mut Vec<u8>) -> Result<(), Memory>
     ensures ok { OnOk result (out.new.items ≡ out.old.items ++ octets_of order 4 value) }
     ensures err { OnErr result (out.new.items ≡ out.old.items) }
@@ -85,8 +85,8 @@ pub fn put_u32(order: Order, value: u32, out: &mut Vec<u8>) -> Result<(), Memory
     Ok(())
 }
 
-/// Appends the eight octets of a sequence number, a signed high part and then an unsigned low part. `Memory` is answered
-/// only where the octets have no room, and leaves what stands in `out`.
+/// Appends the eight octets of a sequence number. Its high part has a sign and comes first; its low part has none. It
+/// returns `Memory` only if `out` has no room for them; then `out` keeps what it had.
 pub fn put_number(order: Order, value: i64, out: &mut Vec<u8>) -> Result<(), Memory>
     ensures ok { OnOk result (out.new.items ≡ out.old.items ++ sequence_number_octets order value) }
     ensures err { OnErr result (out.new.items ≡ out.old.items) }
@@ -101,7 +101,7 @@ pub fn put_number(order: Order, value: i64, out: &mut Vec<u8>) -> Result<(), Mem
     Ok(())
 }
 
-/// Writes the four octets of a number over the first four.
+/// Writes the four octets of a number in place of the first four.
 #[tactic(auto, unfolding(crate::specs::Octets::octets_of))]
 fn write_u32(order: Order, value: u32, octets: &mut [u8])
     requires { 4 ≤ length octets.old }

@@ -1,4 +1,4 @@
-/// The order of the octets of a number: the flag E of a submessage tells it.
+/// The order of the octets of a number. Flag E of a submessage gives it.
 #[derive(Clone, Copy, PartialEq, Eq, Debug)]
 pub enum Order {
     /// The highest octet first.

@@ -11,8 +11,8 @@ use crate::set_fault::SetFault;
 use std::marker::Model;
 use std::ops::Range;
 
-/// A set of sequence numbers: those of 0 to 256 numbers from a base on whose bit is set (DDSI-RTPS 2.5, 8.3.5.5
-/// "SequenceNumberSet" and 9.4.2.6 "SequenceNumberSet").
+/// A set of sequence numbers. It has a bit for each of up to 256 numbers from a base on, and a number is in the set if
+/// its bit is set (DDSI-RTPS 2.5, 8.3.5.5 "SequenceNumberSet" and 9.4.2.6 "SequenceNumberSet").
 #[derive(Clone, Copy, PartialEq, Eq, Debug)]
 pub struct NumberSet {
     base: u64,
@@ -33,9 +33,9 @@ impl Model for NumberSet {
 }
 
 impl NumberSet {
-    /// The set of this base whose bits are the first `count` of the words, the bit of the base highest in the first
-    /// word; later bits are cleared. None where the base is below 0, the count above 256, the base 0 and the count
-    /// not, or the last number past 2^63 - 1.
+    /// The set with this base whose bits are the first `count` bits of the words. The bit of the base is the highest of
+    /// the first word. Later bits are cleared. None if the base is below 0, if the count is above 256, if the base is 0
+    /// and the count is not, or if the last number is above 2^63 - 1.
     pub fn new(base: i64, count: u32, words: [u32; 8]) -> Option<NumberSet>
         ensures exists { MatchOption result (is_bad_lem base count ≡ true) (λ set. is_bad_lem base count ≡ false) }
         ensures base { IfSome result (λ set. pos set.base ≡ base) }
@@ -52,9 +52,9 @@ impl NumberSet {
         Some(set_of(base, count, cleared_words))
     }
 
-    /// Reads the set at the beginning of the octets, and says how many octets it takes. The fault is `CutWords` where
-    /// the octets end before the count does, then `BadSet` where `new` gives None, then `CutWords` where they end
-    /// before the words do.
+    /// Reads the set at the beginning of the octets, and says how many octets it takes. The fault is `CutWords` if the
+    /// octets end before the count does; else `BadSet` if `new` gives None; else `CutWords` if the octets end before
+    /// the words do.
     #[tactic(auto, unfolding(crate::specs::NumberSet::set_fault))]
     pub fn read(order: Order, bytes: &[u8]) -> Result<(NumberSet, usize), SetFault>
         ensures { MatchResult result
@@ -78,7 +78,7 @@ impl NumberSet {
         Ok((set_of(base, count, words), used))
     }
 
-    /// The number that the first bit stands for, from 0 on.
+    /// The number of the first bit, 0 or above.
     pub fn base(&self) -> i64
         ensures { result ≡ pos self.now.base }
     {
@@ -88,7 +88,7 @@ impl NumberSet {
     /// How many numbers have a bit, 0 to 256.
     pub fn count(&self) -> u32
         ensures count { result ≡ self.now.count }
-        // What every set that is kept has.
+        // What is true of every set.
         ensures kept { IsKeptSet self.now }
         ensures words { All (λ word. word < 2 ^ 32) self.now.words }
     {
@@ -96,14 +96,14 @@ impl NumberSet {
         self.count
     }
 
-    /// The word of 32 bits at this place, 0 from 8 on.
+    /// Word `i` of 32 bits, counted from 0. It is 0 if `i` is 8 or more.
     pub fn word(&self, i: usize) -> u32
         ensures { result ≡ slice_index self.now.words i }
     {
         if i < 8 { self.words[i] } else { 0 }
     }
 
-    /// Whether this number is in the set. Every number that is lies from 1 to 2^63 - 1.
+    /// Whether this number is in the set. Only numbers from 1 to 2^63 - 1 can be.
     pub fn contains(&self, n: i64) -> bool
         ensures member { IsTrue result ↔ IsMember self.now n }
         ensures range { (number : ℤ) → IsMember self.now number → (pos 0 <ℤ number) × (number <ℤ pos (2 ^ 63)) }
@@ -115,8 +115,9 @@ impl NumberSet {
         is_set(&self.words, (n - self.base) as usize)
     }
 
-    /// The first range of numbers of the set from `from` on: from its first number up to the one past its last, which may be
-    /// 2^63. None where no number from `from` on is in the set. Asked again from the end of each range, it gives all of them.
+    /// The first range of numbers of the set from `from` on. The end of the range is the number after its last, so it
+    /// may be 2^63. None if the set has no number from `from` on. To get all ranges, call it again with the end of
+    /// each.
     pub fn range_from(&self, from: u64) -> Option<Range<u64>>
         ensures range { MatchOption result (HasNoneFrom self.now from) (λ range. IsRangeFrom self.now from range.start range.end) }
         ensures in_range { IfSome result (λ range. (1 ≤ range.start) × (range.end ≤ 2 ^ 63)) }
@@ -177,7 +178,7 @@ fn cleared(count: u32, word: u32, i: usize) -> u32
     ((u64::from(word) >> dropped) << dropped) as u32
 }
 
-/// The set of this base and count, whose words are cleared already.
+/// The set of this base and count. Its words have no bit past the count.
 #[tactic(auto, unfolding(crate::specs::NumberSet::is_bad))]
 fn set_of(base: i64, count: u32, words: [u32; 8]) -> NumberSet
     requires good { is_bad_lem base count ≡ false }
@@ -193,7 +194,7 @@ fn set_of(base: i64, count: u32, words: [u32; 8]) -> NumberSet
     }
 }
 
-/// Word `i` of the set at the beginning of the octets, cleared past its count.
+/// Word `i` of the set at the beginning of the octets, without the bits past the count.
 fn word_at(order: Order, bytes: &[u8], count: u32, i: usize) -> u32
     requires place { i < 8 }
     requires whole { octets_of_count count ≤ length bytes.now }
@@ -205,7 +206,7 @@ fn word_at(order: Order, bytes: &[u8], count: u32, i: usize) -> u32
     cleared(count, word, i)
 }
 
-/// The words of a set of so many bits, cleared past its count.
+/// The words of a set of `count` bits at the beginning of the octets, without the bits past the count.
 fn read_words(order: Order, bytes: &[u8], count: u32) -> [u32; 8]
     requires { octets_of_count count ≤ length bytes.now }
     ensures { result ≡ cleared_words count (λ i. spelled_word order bytes.now i) }

@@ -7,14 +7,14 @@ use std::fmt;
 /// Why octets begin with no set of sequence numbers.
 #[derive(Clone, Copy, PartialEq, Eq, Debug)]
 pub enum SetFault {
-    /// A base below 0, more than 256 bits, bits at base 0, or a number past 2^63 - 1.
+    /// A base below 0, more than 256 bits, bits although the base is 0, or a number above 2^63 - 1.
     BadSet = 1,
     /// The octets end before the set does.
     CutWords = 2,
 }
 
 impl SetFault {
-    /// Its number, from 1 on, in the order in which faults can be met.
+    /// Its number, from 1 on.
     pub fn number(self) -> u8
         ensures { result ≡ fault_number self }
     {

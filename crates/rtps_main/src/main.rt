@@ -1,4 +1,4 @@
-//! The program `rtps-audit`: opens what its words name, runs, and ends with the status of the run.
+//! The program `rtps-audit`: opens the file that the command line names, runs the command, and ends with its status.
 #![tactic(auto)]
 
 mod progress;
@@ -14,13 +14,14 @@ use std::io::{Read, Write};
 use std::process::ExitCode;
 use std::{env, io};
 
-/// How many octets of an input tell why it is refused: those of a capture's header.
+/// How many octets are kept from the beginning of an input, to say why it is refused: as many as the header of a
+/// capture has.
 const START: usize = CAPTURE_HEADER_SIZE;
 
 /// The octets that a pcapng file begins with.
 const PCAPNG: &[u8] = b"\x0a\x0d\x0d\x0a";
 
-/// What is known of an input: how it began, how many octets were read of it, and why its last read failed.
+/// What is known of an input: its first octets, how many octets were read, and why its last read failed.
 #[derive(Drop)]
 struct Seen {
     start: [u8; START],
@@ -30,7 +31,7 @@ struct Seen {
 }
 
 impl Seen {
-    /// Of an input that was not read yet.
+    /// For an input of which nothing was read yet.
     fn nothing() -> Seen {
         Seen {
             start: [0; START],
@@ -40,19 +41,19 @@ impl Seen {
         }
     }
 
-    /// These octets came.
+    /// Notes that these octets were read.
     fn take(&mut self, octets: &[u8]) {
         self.known = remember(&mut self.start, self.known, octets);
         self.octets = self.octets.saturating_add(octets.len() as u64);
     }
 
-    /// The first octets, as many as a capture's header has or fewer.
+    /// The first octets of the input: no more than the header of a capture has.
     fn front(&self) -> &[u8] {
         self.start.get(..self.known).unwrap_or(&[])
     }
 }
 
-/// An input that remembers what was seen of it, and tells of what was read.
+/// An input that notes what was read of it, and shows progress.
 #[derive(Drop)]
 struct Remembering<'a, R> {
     input: R,
@@ -74,7 +75,7 @@ impl<R: Read> Read for Remembering<'_, R> {
     }
 }
 
-/// Writes octets behind those that are known, as many as there is room for, and answers how many are known then.
+/// Appends octets to those that are known, as many as there is room for. Returns how many are known then.
 fn remember(start: &mut [u8], known: usize, octets: &[u8]) -> usize {
     let mut known = known;
     for octet in octets {
@@ -87,7 +88,7 @@ fn remember(start: &mut [u8], known: usize, octets: &[u8]) -> usize {
     known
 }
 
-/// The error again, with the reason that the system gave.
+/// A copy of the error, with the reason that the system gave.
 fn same_error(error: &io::Error) -> io::Error {
     match error.raw_os_error() {
         Some(code) => io::Error::from_raw_os_error(code),
@@ -99,7 +100,7 @@ fn main(rt: HostRuntime) -> ExitCode {
     ExitCode::from(run(&rt))
 }
 
-/// Runs what the words of the command line ask for, and answers the status to end with.
+/// Runs what the command line asks for, and returns the status to end with.
 fn run(rt: &HostRuntime) -> u8 {
     let args = match env::args(rt) {
         Ok(args) => args,
@@ -114,7 +115,7 @@ fn run(rt: &HostRuntime) -> u8 {
     }
 }
 
-/// Where the words cannot be had: one is not text, or there is no memory for them.
+/// If the arguments cannot be read: one is not UTF-8, or there is no memory for them.
 fn refuse_args(rt: &HostRuntime, error: &io::Error) -> u8 {
     if error.kind() == io::ErrorKind::OutOfMemory {
         return finish(rt, &Err(RunFault::Memory));
@@ -123,7 +124,7 @@ fn refuse_args(rt: &HostRuntime, error: &io::Error) -> u8 {
     2
 }
 
-/// Runs what these words ask for, behind the program's name.
+/// Puts the name of the program before these arguments, and runs what they ask for.
 fn run_args(rt: &HostRuntime, args: &[String]) -> Result<u8, AllocError> {
     let mut words = Vec::new(rt.alloc());
     words.push("rtps-audit")?;
@@ -133,7 +134,7 @@ fn run_args(rt: &HostRuntime, args: &[String]) -> Result<u8, AllocError> {
     Ok(run_words(rt, &words))
 }
 
-/// Runs what these words ask for, and answers the status to end with.
+/// Runs what these words ask for, and returns the status to end with.
 fn run_words(rt: &HostRuntime, words: &[&str]) -> u8 {
     match read_words(rt.alloc(), words) {
         Ok(choice) => finish(rt, &run_on_file(rt, &choice)),
@@ -141,7 +142,7 @@ fn run_words(rt: &HostRuntime, words: &[&str]) -> u8 {
     }
 }
 
-/// Tells why the words ask for nothing that can be run, and answers the status to end with.
+/// Prints why nothing is run, or the help or the version. Returns the status to end with.
 fn refuse_words(rt: &HostRuntime, fault: &WordFault) -> u8 {
     match fault {
         WordFault::Refused(refusal) => {
@@ -156,7 +157,8 @@ fn refuse_words(rt: &HostRuntime, fault: &WordFault) -> u8 {
     }
 }
 
-/// Runs what was chosen on its FILE, if it has one. Where that cannot be opened or read, it is named with the reason.
+/// Runs what was chosen on its FILE, if it has one. If the file cannot be opened or read, prints its name and the
+/// reason.
 fn run_on_file(rt: &HostRuntime, choice: &Choice) -> Result<Ending, RunFault> {
     let Some(file) = choice.file() else {
         let mut watch = Unwatched;
@@ -180,7 +182,7 @@ fn run_on_file(rt: &HostRuntime, choice: &Choice) -> Result<Ending, RunFault> {
     }
 }
 
-/// Runs what was chosen on what its FILE holds.
+/// Runs what was chosen on the content of its FILE.
 fn run_on_input<R: Read + Drop>(
     rt: &HostRuntime,
     choice: &Choice,
@@ -199,7 +201,7 @@ fn run_on_input<R: Read + Drop>(
     outcome
 }
 
-/// Tells of an input what the line of the run's fault leaves out: its name, and why it is not read or refused.
+/// Prints what the line of a fault does not say: the name of the input, and why it cannot be read or is refused.
 fn tell_of_input(
     rt: &HostRuntime,
     choice: &Choice,
@@ -220,8 +222,8 @@ fn tell_of_input(
     }
 }
 
-/// Says which of the limits an input passes of which so many octets were read, and what raises it. Octets are looked at
-/// before datagrams.
+/// Prints the limit that an input is above, and the option that raises it. So many octets were read; the limit of
+/// octets comes first.
 fn tell_limit(rt: &HostRuntime, choice: &Choice, file: &str, octets: u64) {
     let Some(options) = choice.options() else {
         return;
@@ -238,8 +240,8 @@ fn tell_limit(rt: &HostRuntime, choice: &Choice, file: &str, octets: u64) {
     );
 }
 
-/// Says of an input that is refused what it is, by its first octets, where it is a capture of a kind that is not read, and
-/// what makes one of it that is.
+/// If an input is refused and its first octets are those of a capture that is not read, prints its kind and a command
+/// that converts it.
 fn tell_form(rt: &HostRuntime, file: &str, start: &[u8]) {
     if start.starts_with(PCAPNG) {
         let _ = writeln!(
@@ -255,8 +257,8 @@ fn tell_form(rt: &HostRuntime, file: &str, start: &[u8]) {
     }
 }
 
-/// Names a file that cannot be opened or read, with the reason but without the number that the system gives it. It takes
-/// no memory: a reason has 256 octets at most, and 24 are room for the number.
+/// Prints the name of a file that cannot be opened or read, and the reason, but not the system's number of it. It takes
+/// no memory: a reason has at most 256 octets, and 24 are room for the number.
 fn tell_reason(rt: &HostRuntime, file: &str, error: &io::Error) {
     let mut room = [0u8; 280];
     let mut left = room.as_mut_slice();
@@ -268,7 +270,7 @@ fn tell_reason(rt: &HostRuntime, file: &str, error: &io::Error) {
     let _ = writeln!(rt.stderr(), "rtps-audit: {file}: {reason}");
 }
 
-/// Tells of a fault, if there is one, and answers the status to end with.
+/// Prints a fault, if there is one, and returns the status to end with.
 fn finish(rt: &HostRuntime, outcome: &Result<Ending, RunFault>) -> u8 {
     if let Err(fault) = outcome {
         let _ = write_fault(fault, &mut rt.stderr());

@@ -1,30 +1,30 @@
-//! What is told on a terminal of a run that takes long.
+//! The progress of a run that takes long, on a terminal.
 
 use rtps_tool::Watch;
 use std::io::{self, IsTerminal, Write};
 use std::time::Instant;
 
-/// How many milliseconds a run is silent.
+/// After how many milliseconds progress is shown first.
 const SILENCE: u128 = 1000;
 
-/// How many milliseconds lie between two tellings.
+/// The least number of milliseconds between one line of progress and the next.
 const PAUSE: u128 = 200;
 
-/// Goes back to the start of a terminal's line and wipes it.
+/// Goes to the start of the line of a terminal and clears it.
 const WIPE: &str = "\r\x1b[K";
 
-/// Tells on standard error how far a run is, where that is a terminal and the run takes longer than a second.
+/// Shows on standard error how far a run is, if that is a terminal and the run takes longer than a second.
 #[derive(Clone, Copy, Drop)]
 pub struct Progress<'a> {
     rt: &'a HostRuntime,
-    // When the run began. None where standard error is no terminal, or the time is not known.
+    // When the run began. None if standard error is no terminal, or if the time is not known.
     begin: Option<Instant>,
-    // How many milliseconds after that it is told of next.
+    // After how many milliseconds progress is shown next.
     next: u128,
 }
 
 impl<'a> Progress<'a> {
-    /// A run begins.
+    /// For a run that begins now.
     pub fn new(rt: &'a HostRuntime) -> Progress<'a> {
         let begin = if rt.stderr().is_terminal() {
             Instant::now(rt).ok()
@@ -38,13 +38,13 @@ impl<'a> Progress<'a> {
         }
     }
 
-    /// How many milliseconds the run took so far.
+    /// How many milliseconds the run has taken so far.
     fn elapsed(&self) -> Option<u128> {
         let elapsed = self.begin?.elapsed(self.rt).ok()?;
         Some(elapsed.as_millis())
     }
 
-    /// Whether it is time to tell.
+    /// Whether it is time to show progress.
     fn is_due(&mut self) -> bool {
         let Some(elapsed) = self.elapsed() else {
             return false;
@@ -56,7 +56,7 @@ impl<'a> Progress<'a> {
         true
     }
 
-    /// So many octets of the input are read.
+    /// Shows that so many octets of the input are read.
     pub fn read(&mut self, octets: u64) {
         if self.is_due() {
             let _ = write!(
@@ -67,7 +67,7 @@ impl<'a> Progress<'a> {
         }
     }
 
-    /// Wipes what was told.
+    /// Clears what was shown.
     fn wipe(&self) {
         if self.elapsed().is_some_and(|elapsed| elapsed >= SILENCE) {
             let _ = write!(self.rt.stderr(), "{WIPE}");
@@ -86,7 +86,7 @@ impl Watch for Progress<'_> {
     }
 }
 
-/// An output in front of which is wiped what was told.
+/// An output that clears what was shown before its first write.
 #[derive(Drop)]
 pub struct Wiping<'a, W> {
     output: W,
@@ -95,7 +95,7 @@ pub struct Wiping<'a, W> {
 }
 
 impl<'a, W: Drop> Wiping<'a, W> {
-    /// Nothing was written yet.
+    /// For an output to which nothing was written yet.
     pub fn new(output: W, progress: Progress<'a>) -> Wiping<'a, W> {
         Wiping {
             output,
@@ -104,7 +104,7 @@ impl<'a, W: Drop> Wiping<'a, W> {
         }
     }
 
-    /// Wipes what was told, once.
+    /// Clears what was shown, once.
     pub fn wipe(&mut self) {
         if !self.is_wiped {
             self.progress.wipe();

@@ -1,9 +1,8 @@
 -- Which octets are a parameter list, and why others are none. DDSI-RTPS 2.5, 9.4.2.11 "ParameterList".
 --
--- A parameter is an id of two octets, a length of two octets and a value of that many octets. The sentinel, id 1,
--- closes the list; its length says nothing. A parameter of id 0 is a pad. own: the standard has lengths that are
--- multiples of 4; any other is taken as it stands, and the next parameter follows at once, so that each length has one
--- reading.
+-- A parameter is an id of two octets, a length of two octets and a value of that many octets. The sentinel, id 1, ends
+-- the list; its length is ignored. A parameter of id 0 is a pad. own: in the standard a length is a multiple of 4. Here
+-- any length is allowed, and the next parameter follows at once, so that each length has one reading.
 use Rattle.std.specs.Prelude.{◌≡◌, ◌≢◌, ◌==◌, ℕ, ◌+◌, ◌<◌, ◌≤◌, not, List, [], ◌∷◌, ◌++◌, length, drop, filter}
 use Rattle.rtps_ids.specs.Octets.{number_of}
 use Rattle.rtps_ids.specs.declared.order.Order.{Order}
@@ -63,7 +62,7 @@ pub record BeginsWithList (order : Order) (octets : List ℕ) : Type 0 where
   pub whole : octets ≡ list ++ rest
   pub is_list : IsList order pairs list
 
--- octets that begin with less than a header, or with a parameter's header and less than its value
+-- octets that are cut: fewer than a header, or the header of a parameter and less than its value
 abbrev pub IsCut : Order → ParamFault → List ℕ → Type 0
 IsCut order CutHeader octets = length octets < HEADER
 IsCut order CutValue octets = (HEADER ≤ length octets) × (pid_of order octets ≢ SENTINEL) × (length octets < HEADER + length_of order octets)

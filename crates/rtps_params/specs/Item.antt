@@ -1,5 +1,5 @@
--- What an item of `Params` shows. own: a list of octets in place of a part of the caller's octets, so that two are
--- equal where their octets are.
+-- What an item of `Params` stands for. own: a list of octets in place of a borrowed slice, so that two items are equal
+-- if their octets are.
 use Rattle.std.specs.Prelude.{ℕ, List}
 use Rattle.std.specs.Borrow.{Bor}
 

@@ -1,5 +1,5 @@
--- What a list shows. own: a list of octets in place of a part of the caller's octets, so that two are equal where their
--- octets are.
+-- What a list stands for. own: a list of octets in place of a borrowed slice, so that two parameter lists are equal if
+-- their octets are.
 use Rattle.std.specs.Prelude.{ℕ, nat_eq, Bool, true, false, ◌&&◌, List}
 use Rattle.std.specs.Cmp.Lexicographic.{pointwise}
 use Rattle.rtps_ids.specs.declared.order.Order.{Order}
@@ -25,16 +25,16 @@ pub record ListValue : Type 0 where
   pub order : Order
   pub octets : List ℕ
 
--- what a list stands for: two lists are equal where these are
+-- what a parameter list stands for: two are equal if these are
 abbrev pub list_value : ParamList → ListValue
 list_value list = record { order = list.order; octets = list.octets.now }
 
--- the same as tests: of orders
+-- whether two orders are the same
 abbrev pub is_same_order : Order → Order → Bool
 is_same_order Big Big = true
 is_same_order Little Little = true
 is_same_order _ _ = false
 
--- of lists
+-- whether two parameter lists are the same
 abbrev pub is_same_list : ParamList → ParamList → Bool
 is_same_list one other = is_same_order one.order other.order && pointwise nat_eq one.octets.now other.octets.now

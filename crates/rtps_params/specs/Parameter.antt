@@ -1,4 +1,4 @@
--- A parameter that was read from the front of octets. DDSI-RTPS 2.5, 9.4.2.11 "ParameterList".
+-- A parameter that was read from the beginning of octets. DDSI-RTPS 2.5, 9.4.2.11 "ParameterList".
 use Rattle.std.specs.Prelude.{◌≡◌, ◌≢◌, ◌≤◌, ℕ, List, length, take, drop}
 use Rattle.rtps_ids.specs.declared.order.Order.{Order}
 use Rattle.rtps_params.specs.Grammar.{pid_of, length_of}

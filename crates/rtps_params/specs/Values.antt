@@ -1,14 +1,14 @@
--- Values of parameters: a text, a GUID and a number, each at the front of a value whose further octets say nothing.
--- DDSI-RTPS 2.5, 9.3.2 "Mapping of the Types that Appear Within Submessages or Built-in Topic Data".
+-- Values of parameters: a text, a GUID and a number. Each is at the beginning of a value, and octets after it are
+-- ignored. DDSI-RTPS 2.5, 9.3.2 "Mapping of the Types that Appear Within Submessages or Built-in Topic Data".
 use Rattle.std.specs.Prelude.{◌≡◌, ◌==◌, ◌⊎◌, ℕ, ◌+◌, ◌-◌, nat_le, ◌&&◌, if◌then◌else◌, List, [], ◌∷◌, ◌++◌, length, take, drop, slice_index, Option, Some, None}
 use Rattle.rtps_ids.specs.Octets.{number_of}
 use Rattle.rtps_ids.specs.declared.identity.Guid.{Guid}
 use Rattle.rtps_ids.specs.declared.order.Order.{Order}
 use Rattle.rtps_params.specs.declared.layout.value.TheConstants.{ENTITY_SIZE, NAME, NUMBER_SIZE, PREFIX_SIZE}
 
--- a value that spells this name: a length of four octets, which counts the name and the NUL that closes it, then the
--- name and the NUL. What stands behind it says nothing. own: a length of 0, which has no room for the NUL, spells the
--- empty name too. own: a name may be any octets, NULs among them, since names are compared and never taken apart.
+-- a value that spells this name: a length of four octets, the name and a NUL; the length counts the NUL too. Octets
+-- after that are ignored. own: a length of 0 spells the empty name too, although there is no NUL. own: a name may have
+-- any octets, also NULs, since names are only compared.
 pub record SpellsText (order : Order) (name value : List ℕ) : Type 0 where
   pub size : List ℕ
   pub behind : List ℕ
@@ -17,7 +17,7 @@ pub record SpellsText (order : Order) (name value : List ℕ) : Type 0 where
   pub named :
       ((number_of order 4 size ≡ length name + 1) × ((ignored : List ℕ) × (behind ≡ name ++ 0 ∷ ignored))) ⊎ ((number_of order 4 size ≡ 0) × (name ≡ []))
 
--- the length that a text says of itself
+-- the length at the beginning of a text
 abbrev pub text_size : Order → List ℕ → ℕ
 text_size order value = number_of order 4 value
 

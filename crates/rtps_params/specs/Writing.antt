@@ -1,6 +1,6 @@
--- Parameter lists as they are written, and which are not written. DDSI-RTPS 2.5, 9.4.2.11 "ParameterList": an id, a
--- length that is a multiple of 4, and a value of that length; a sentinel closes the list. own: the sentinel's length,
--- which says nothing, is 0.
+-- Parameter lists as they are written, and why others are not written. DDSI-RTPS 2.5, 9.4.2.11 "ParameterList": an id,
+-- a length that is a multiple of 4, and a value of that length; a sentinel ends the list. own: the length of the
+-- sentinel, which is ignored, is 0.
 use Rattle.std.specs.Prelude.{ℕ, ◌%◌, ◌==◌, ◌||◌, not, nat_lt, if◌then◌else◌, List, [], ◌∷◌, ◌++◌, length, Option, Some, None}
 use Rattle.std.specs.List.{flat_map}
 use Rattle.std.specs.Option.{option_or}

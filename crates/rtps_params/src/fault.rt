@@ -7,14 +7,14 @@ use std::fmt;
 /// Why octets begin with no parameter list (DDSI-RTPS 2.5, 9.4.2.11 "ParameterList").
 #[derive(Clone, Copy, PartialEq, Eq, Debug)]
 pub enum ParamFault {
-    /// Under four octets are left, and no sentinel came before them.
+    /// Fewer than four octets are left, and there was no sentinel before.
     CutHeader = 1,
-    /// The length of a parameter passes the octets left.
+    /// The length of a parameter is more than the octets that are left.
     CutValue = 2,
 }
 
 impl ParamFault {
-    /// Its number, from 1 on, in the order in which faults can be met.
+    /// Its number, from 1 on.
     pub fn number(self) -> u8
         ensures { result ≡ fault_number self }
     {

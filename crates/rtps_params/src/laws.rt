@@ -1,4 +1,4 @@
-//! Laws of the definitions that the contracts cite, each the contract of a function that does nothing.
+//! Laws of the definitions. Each is the contract of a function that does nothing.
 
 ghost use Rattle.std.specs.Prelude.{◌≡◌, ◌<◌, ◌≤◌, ◌⊎◌, ◌↔◌, ◌^◌, ◌++◌, ℕ, List, All, Some, None, Ok, Err, length, take};
 ghost use Rattle.rtps_ids.specs.declared.order.Order.{Order};
@@ -9,8 +9,8 @@ ghost use Rattle.rtps_params.specs.Values.{SpellsText, text_of};
 ghost use Rattle.rtps_params.specs.Writing.{list_fault, written_list};
 ghost use Rattle.rtps_params.specs.declared.fault.ParamFault.{ParamFault};
 
-/// No octets have two beginnings that are lists in one order, and a list has one list of pairs: so nothing that follows
-/// a list changes it.
+/// At most one beginning of the octets is a list, and a list has one list of pairs. So what follows a list does not
+/// change how it is read.
 pub fn one_beginning()
     ensures { (order : Order) (pairs : Pairs) (others : Pairs)
         (list : List ℕ) (other : List ℕ) (rest : List ℕ) (more : List ℕ)
@@ -18,7 +18,7 @@ pub fn one_beginning()
         → (list ≡ other) × (pairs ≡ others) × (rest ≡ more) }
 {}
 
-/// In each order, octets begin with a list or have a fault, not both, and not two faults.
+/// In each order, octets begin with a list or have exactly one fault, and not both.
 pub fn list_or_fault()
     ensures some { (order : Order) (octets : List ℕ)
         → BeginsWithList order octets ⊎ ((fault : ParamFault) × HasFault order fault octets) }
@@ -28,7 +28,8 @@ pub fn list_or_fault()
         → HasFault order fault octets → HasFault order other octets → fault ≡ other }
 {}
 
-/// `list_end` says how long the list is that octets begin with, or the fault that they have, and `pairs_of` its pairs.
+/// `list_end` gives the length of the list at the beginning of octets, or their fault. `pairs_of` gives the pairs of
+/// the list.
 pub fn ends()
     ensures list { (order : Order) (octets : List ℕ) (used : ℕ) → (list_end order octets ≡ Ok used)
         ↔ ((used ≤ length octets) × ((pairs : Pairs) × IsList order pairs (take used octets))) }
@@ -44,8 +45,8 @@ pub fn texts()
         → (text_of order value ≡ Some name) ↔ SpellsText order name value }
 {}
 
-/// What is written of parameters that have no fault is the list of them: it is read as the same parameters in the same
-/// order, whatever follows it, and takes all its octets. An id is a number of two octets.
+/// If parameters have no fault, their written octets are a list. It is read as the same parameters in the same order,
+/// whatever follows it. Ids are numbers of two octets.
 pub fn written_lists_are_read_as_they_are()
     ensures list { (order : Order) (pairs : Pairs) → list_fault pairs ≡ None → All (λ pair. pair.0 < 2 ^ 16) pairs
         → IsList order pairs (written_list order pairs) }
@@ -55,7 +56,7 @@ pub fn written_lists_are_read_as_they_are()
         → list_end order (written_list order pairs ++ rest) ≡ Ok (length (written_list order pairs)) }
 {}
 
-/// The ids, sizes and places that readers, writers and definitions name are those of the standard.
+/// The ids, sizes and offsets that the code and the definitions use are those of the standard.
 pub fn layout_is_that_of_the_standard()
     ensures pid { pid_is }
     ensures parameter { parameter_is }

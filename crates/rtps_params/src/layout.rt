@@ -1,35 +1,35 @@
-//! How parameters lie in octets: ids, sizes and places, each named once for the readers, for the writers and for the
-//! definitions.
+//! The layout of parameters: ids, sizes and offsets. The code that reads, the code that writes and the definitions all
+//! use these names.
 
-/// The ids of parameters that are no pairs of a list (DDSI-RTPS 2.5, 9.4.2.11 "ParameterList").
+/// The ids of the parameters that are not among the pairs of a list (DDSI-RTPS 2.5, 9.4.2.11 "ParameterList").
 pub(crate) mod pid {
-    /// Of a parameter that only fills octets: PID_PAD.
+    /// PID_PAD: a parameter that only fills octets.
     pub(crate) const PAD: u16 = 0;
-    /// Of the parameter that closes a list: PID_SENTINEL.
+    /// PID_SENTINEL: the parameter that ends a list.
     pub(crate) const SENTINEL: u16 = 1;
 }
 
-/// A parameter (DDSI-RTPS 2.5, 9.4.2.11 "ParameterList"). Its id stands at place 0.
+/// A parameter (DDSI-RTPS 2.5, 9.4.2.11 "ParameterList"). Its id is at offset 0.
 pub(crate) mod parameter {
-    /// Where the length of its value stands.
+    /// The offset of the length of its value.
     pub(crate) const LENGTH: usize = 2;
-    /// The octets of its id and length, which stand before its value.
+    /// The size of its id and length, which come before its value.
     pub(crate) const HEADER: usize = 4;
-    /// The octets of a value that is written are a multiple of this.
+    /// The size of a value that is written is a multiple of this.
     pub(crate) const ALIGNMENT: usize = 4;
-    /// The most octets of a value that is written: the greatest such multiple that a length can spell.
+    /// The largest size of a value that is written: the greatest such multiple that a length of two octets can have.
     pub(crate) const LONGEST_VALUE: usize = 65_532;
 }
 
-/// Values, each at the front of the octets of a value (DDSI-RTPS 2.5, 9.3.1 "The Globally Unique Identifier (GUID)" and
-/// 9.3.2 "Mapping of the Types that Appear Within Submessages or Built-in Topic Data").
+/// Numbers, texts and GUIDs at the beginning of a value (DDSI-RTPS 2.5, 9.3.1 "The Globally Unique Identifier (GUID)"
+/// and 9.3.2 "Mapping of the Types that Appear Within Submessages or Built-in Topic Data").
 pub(crate) mod value {
-    /// The octets of a number.
+    /// The size of a number.
     pub(crate) const NUMBER_SIZE: usize = 4;
-    /// Where the name of a text stands, behind its length.
+    /// The offset of the name of a text, after its length.
     pub(crate) const NAME: usize = 4;
-    /// The octets of a GUID's prefix, behind which the entity id stands.
+    /// The size of a GUID's prefix. The entity id comes after it.
     pub(crate) const PREFIX_SIZE: usize = 12;
-    /// The octets of an entity id.
+    /// The size of an entity id.
     pub(crate) const ENTITY_SIZE: usize = 4;
 }

@@ -7,7 +7,7 @@ use crate::parameter::list_size;
 use rtps_ids::Order;
 
 /// A parameter list: its octets, sentinel included, and the order of its numbers (DDSI-RTPS 2.5, 9.4.2.11
-/// "ParameterList"). It can only hold octets that are a list. Two lists are equal when order and octets are.
+/// "ParameterList"). Its octets are always a list. Two lists are equal if their orders and octets are.
 #[derive(Clone, Copy, Eq, Debug)]
 pub struct ParamList<'a> {
     octets: &'a [u8],
@@ -41,8 +41,8 @@ impl<'a> ParamList<'a> {
     ghost use Rattle.rtps_params.specs.Lists.{list_octets, list_order, list_pairs};
 
     /// Reads the list at the beginning of the octets, and says how many octets it takes, sentinel included. What
-    /// follows them is not looked at. A length that is no multiple of 4 is taken as it stands, and the sentinel's says
-    /// nothing. The fault says why no beginning of the octets is a list.
+    /// follows is ignored, and so is the length of the sentinel. A length that is no multiple of 4 is allowed. The
+    /// fault says why no beginning of the octets is a list.
     pub fn read(bytes: &'a [u8], order: Order) -> Result<(ParamList<'a>, usize), ParamFault>
         // It is the list that the octets begin with.
         ensures list { IfOk result (λ found. IsList order (pairs_of order bytes.now) (take found.1 bytes.now)) }
@@ -53,7 +53,7 @@ impl<'a> ParamList<'a> {
         ensures none { OnErr result ((pairs : Pairs) (used : ℕ)
             → IsList order pairs (take used bytes.now) → ⊥) }
         ensures fault { IfErr result (λ fault. HasFault order fault bytes.now) }
-        // Both as functions of the octets.
+        // The same two, as functions of the octets.
         ensures found { IfOk result (λ found. list_end order bytes.now ≡ Ok found.1) }
         ensures refused { IfErr result (λ fault. list_end order bytes.now ≡ Err fault) }
     {
@@ -62,7 +62,7 @@ impl<'a> ParamList<'a> {
         Ok((ParamList { octets, order }, used))
     }
 
-    /// All octets that it takes, the four of the sentinel included.
+    /// All its octets, the four of the sentinel included.
     pub fn octets(&self) -> &'a [u8]
         ensures octets { result.now ≡ list_octets self.now }
         ensures list { IsList (list_order self.now) (list_pairs self.now) (list_octets self.now) }
@@ -84,8 +84,8 @@ impl<'a> ParamList<'a> {
         Params::new(self.octets, self.order)
     }
 
-    /// The octets of the value of the first parameter of this id, since of two parameters of one id the first counts.
-    /// None for the ids of a pad and of the sentinel, 0 and 1.
+    /// The value of the first parameter with this id, or None if there is none. If several parameters have one id, the
+    /// first one counts. Always None for id 0, a pad, and id 1, the sentinel.
     #[tactic(auto, using(crate::proofs::Agreement::no_reserved_value))]
     pub fn first(&self, pid: u16) -> Option<&'a [u8]>
         ensures value { option_copied result ≡ first_value pid (list_pairs self.now) }

@@ -9,16 +9,16 @@ use std::fmt;
 pub enum ListFault {
     /// A value has more than 65,532 octets, the greatest multiple of 4 that a length can spell.
     ValueTooLong = 3,
-    /// The octets of a value are no multiple of 4.
+    /// The size of a value is no multiple of 4.
     ValueUnaligned = 4,
     /// An id is that of a pad or of the sentinel.
     PidReserved = 5,
-    /// The octets have no room.
+    /// There is no room for the octets.
     Memory = 6,
 }
 
 impl ListFault {
-    /// Its number, from 3 on, behind those of `ParamFault`, in the order in which faults can be met.
+    /// Its number, from 3 on, after those of `ParamFault`.
     pub fn number(self) -> u8
         ensures { result ≡ list_fault_number self }
     {

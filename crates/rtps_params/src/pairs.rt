@@ -6,8 +6,8 @@ use crate::parameter::front;
 use rtps_ids::Order;
 use std::marker::Model;
 
-/// The parameters of a list, ids and values in order, without pads (PID_PAD: DDSI-RTPS 2.5, 9.4.2.11
-/// "ParameterList"). After the last it gives None for good.
+/// The parameters of a list, ids and values in order, without pads (PID_PAD: DDSI-RTPS 2.5, 9.4.2.11 "ParameterList").
+/// After the last one it always gives None.
 #[derive(Clone, Debug, Drop)]
 pub struct Params<'a> {
     rest: &'a [u8],
@@ -25,7 +25,7 @@ impl<'a> Model for Params<'a> {
 }
 
 impl<'a> Params<'a> {
-    /// The parameters that octets begin with, up to a sentinel or a fault.
+    /// The parameters at the beginning of octets, up to a sentinel or a fault.
     pub(crate) fn new(octets: &'a [u8], order: Order) -> Params<'a>
         ensures { result ≡ pairs_of order octets.now }
     {

@@ -8,7 +8,7 @@ use crate::layout::parameter::{HEADER, LENGTH};
 use crate::layout::pid::SENTINEL;
 use rtps_ids::{Order, u16_at};
 
-/// A parameter, and the octets behind it.
+/// A parameter, and the octets after it.
 #[derive(Clone, Copy)]
 pub(crate) struct Parameter<'a> {
     pub(crate) pid: u16,
@@ -16,7 +16,7 @@ pub(crate) struct Parameter<'a> {
     pub(crate) rest: &'a [u8],
 }
 
-/// The parameter in front, or None where a sentinel stands there.
+/// The parameter at the beginning of the octets, or None if a sentinel is there.
 pub(crate) fn front(octets: &[u8], order: Order) -> Result<Option<Parameter<'_>>, ParamFault>
     ensures { MatchResult result
         (λ found. MatchOption found (BeginsWithSentinel order octets.now)
@@ -38,7 +38,7 @@ pub(crate) fn front(octets: &[u8], order: Order) -> Result<Option<Parameter<'_>>
     Ok(Some(Parameter { pid, value, rest }))
 }
 
-/// How many octets the list in front takes, sentinel included.
+/// How many octets the list at the beginning takes, sentinel included.
 pub(crate) fn list_size(octets: &[u8], order: Order) -> Result<usize, ParamFault>
     ensures { result ≡ list_end order octets.now }
 {

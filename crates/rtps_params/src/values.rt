@@ -4,10 +4,10 @@ ghost use Rattle.rtps_params.specs.Values.{SpellsText, guid_of, text_of, u32_of}
 use crate::layout::value::{ENTITY_SIZE, NAME, PREFIX_SIZE};
 use rtps_ids::{EntityId, Guid, GuidPrefix, Order, u32_at};
 
-/// The name that a value spells: a length of four octets, which counts the NUL that closes the name, then the name and
-/// the NUL (DDSI-RTPS 2.5, 9.3.2 "Mapping of the Types that Appear Within Submessages or Built-in Topic Data"). A length
-/// of 0 is the empty name. Octets behind it say nothing. The name may be any octets, NULs among them. None where the
-/// octets do not reach or where no NUL closes the name.
+/// The name in a value. The value begins with a length of four octets, the name and a NUL; the length counts the NUL
+/// too (DDSI-RTPS 2.5, 9.3.2 "Mapping of the Types that Appear Within Submessages or Built-in Topic Data"). A length of
+/// 0 is the empty name. Octets after that are ignored. The name may have any octets, also NULs. None if there are too
+/// few octets, or if the name does not end with a NUL.
 pub fn read_text(value: &[u8], order: Order) -> Option<&[u8]>
     ensures spelled { IfSome result (λ name. SpellsText order name.now value.now) }
     ensures none { IfNone result ((name : List ℕ) → SpellsText order name value.now → ⊥) }
@@ -16,7 +16,7 @@ pub fn read_text(value: &[u8], order: Order) -> Option<&[u8]>
     name_in(value, order)
 }
 
-/// The name that `text_of` gives, for [`read_text`], which says of it what it spells.
+/// The name that `text_of` gives.
 fn name_in(value: &[u8], order: Order) -> Option<&[u8]>
     ensures { option_copied result ≡ text_of order value.now }
 {
@@ -31,7 +31,7 @@ fn name_in(value: &[u8], order: Order) -> Option<&[u8]>
 }
 
 /// The GUID in the first 16 octets of a value, 12 of the prefix and 4 of the entity id (DDSI-RTPS 2.5, 9.3.1 "The
-/// Globally Unique Identifier (GUID)"), or None where there are fewer.
+/// Globally Unique Identifier (GUID)"), or None if there are fewer.
 pub fn read_guid(value: &[u8]) -> Option<Guid>
     ensures { result ≡ guid_of value.now }
 {
@@ -43,7 +43,7 @@ pub fn read_guid(value: &[u8]) -> Option<Guid>
     })
 }
 
-/// The number in the first four octets of a value, or None where there are fewer.
+/// The number in the first four octets of a value, or None if there are fewer.
 pub fn read_u32(value: &[u8], order: Order) -> Option<u32>
     ensures { result ≡ u32_of order value.now }
 {

@@ -10,11 +10,12 @@ use crate::layout::pid::{PAD, SENTINEL};
 use crate::list_fault::ListFault;
 use rtps_ids::{Memory, Order, put_u16};
 
-/// Appends the list of these parameters, ids and values: each with its length, one after another, and then a sentinel
-/// of length 0 (DDSI-RTPS 2.5, 9.4.2.11 "ParameterList"). The first parameter that is not written decides the fault:
-/// `ValueTooLong` where its value has more than 65,532 octets, then `ValueUnaligned` where they are no multiple of 4,
-/// then `PidReserved` where its id is 0 or 1. `Memory` is answered only where no parameter has a fault and the octets
-/// have no room. What stands in `out` stays, and after a fault nothing is added to it.
+/// Appends the list of these parameters: for each its id, the length of its value and its value, and then a sentinel of
+/// length 0 (DDSI-RTPS 2.5, 9.4.2.11 "ParameterList").
+/// A parameter cannot be written if its value has more than 65,532 octets (`ValueTooLong`), else if they are no
+/// multiple of 4 (`ValueUnaligned`), else if its id is 0 or 1 (`PidReserved`). The first parameter that cannot be
+/// written gives the fault. `Memory` is returned only if all can be written and there is no room for the octets. After
+/// a fault `out` is as it was.
 pub fn write_list(params: &[(u16, &[u8])], order: Order, out: &mut Vec<u8>) -> Result<(), ListFault>
     ensures refused { (fault : Fault) → list_fault (map pair_of params.now) ≡ Some fault → result ≡ Err fault }
     ensures written { list_fault (map pair_of params.now) ≡ None → MatchResult result
@@ -62,7 +63,7 @@ fn check_param(pid: u16, value: &[u8]) -> Result<(), ListFault>
     Ok(())
 }
 
-/// Appends parameters, and then the sentinel. Where the octets have no room, some of them may be added.
+/// Appends parameters, and then the sentinel. If there is no room for all, some octets may be appended.
 fn put_params(params: &[(u16, &[u8])], order: Order, out: &mut Vec<u8>) -> Result<(), Memory>
     requires { list_fault (map pair_of params.now) ≡ None }
     ensures ok { OnOk result (out.new.items ≡ out.old.items ++ written_list order (map pair_of params.now)) }
@@ -77,7 +78,7 @@ fn put_params(params: &[(u16, &[u8])], order: Order, out: &mut Vec<u8>) -> Resul
     put_u16(order, 0, out)
 }
 
-/// Appends a parameter. Where its octets have no room, some of them may be added.
+/// Appends a parameter. If there is no room for all, some octets may be appended.
 #[tactic(auto, using(crate::proofs::Written::lengths))]
 fn put_param(pid: u16, value: &[u8], order: Order, out: &mut Vec<u8>) -> Result<(), Memory>
     requires { length value.now ≤ longest_value }

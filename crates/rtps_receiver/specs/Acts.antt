@@ -16,28 +16,28 @@ use Rattle.rtps_receiver.specs.declared.state.State.{State}
 use Rattle.rtps_receiver.specs.Values.{ActBodyValue, ActValue, act_value}
 use Rattle.rtps_receiver.specs.Values.ActBodyValue.{Data as DataAct, Heartbeat as HeartbeatAct, AckNack as AckNackAct, Gap as GapAct}
 
--- the later of two, where it is there
+-- the later of two values, or the earlier one if there is no later
 abbrev pub later : {X : Type 0} → Option X → Option X → Option X
 later (Some x) earlier = Some x
 later None earlier = earlier
 
--- what the last of these items that says something says
+-- what `says` gives for the last of these items for which it gives something
 abbrev pub last_said : {X : Type 0} → (BodyValue → Option X) → List ItemValue → Option X
 last_said says [] = None
 last_said says (item ∷ items) = later (last_said says items) (says item.body)
 
--- an INFO_SRC says the source: version, vendor and prefix (own: any version is taken)
+-- the source that an INFO_SRC gives: version, vendor and prefix (own: any version is taken)
 abbrev pub says_source : BodyValue → Option Header
 says_source (InfoSrc version vendor prefix) = Some (record { version = version; vendor = vendor; prefix = prefix })
 says_source _ = None
 
--- an INFO_DST says the destination; the prefix of zeros is everyone
+-- the destination that an INFO_DST gives; a prefix of zeros is everyone
 abbrev pub says_destination : BodyValue → Option (Option GuidPrefix)
 says_destination (InfoDst prefix) = Some (if is_unknown prefix then None else Some prefix)
 says_destination _ = None
 
--- an INFO_TS says the time, or that there is none (own: so does an INFO_SRC, since a time is that of its source; it
--- leaves the destination as it is)
+-- the time that an INFO_TS gives, or that there is none (own: after an INFO_SRC there is no time, since a time is that
+-- of its source; the destination stays)
 abbrev pub says_time : BodyValue → Option (Option Stamp)
 says_time (InfoTs time) = Some time
 says_time (InfoSrc version vendor prefix) = Some None
@@ -47,7 +47,8 @@ says_time _ = None
 abbrev pub state_at_start : Header → State
 state_at_start header = record { source = header; dest = None; stamp = None }
 
--- the receiver's state behind these items: what the last of them said, and what it was at the start where none did
+-- the receiver's state after these items: what the last of them gives, or what it was at the start if none gives
+-- anything
 abbrev pub state_behind : State → List ItemValue → State
 state_behind start items =
     record {
@@ -64,7 +65,7 @@ act_body (AckNack value) = Some (AckNackAct value)
 act_body (Gap value) = Some (GapAct value)
 act_body _ = None
 
--- an act in a state
+-- the act with this body in this state
 abbrev pub act_at : State → ℕ → Order → ActBodyValue → ActValue
 act_at state at order body =
     record {
@@ -87,12 +88,12 @@ abbrev pub acts_of_item : State → ItemValue → Option ActBodyValue → List A
 acts_of_item state item (Some body) = act_at state item.at item.order body ∷ []
 acts_of_item state item None = []
 
--- what `gives` makes of each item in the state behind all items before it, one after another
+-- what `gives` makes of each item in the state after all items before it, one after another
 abbrev pub gathered : {X : Type 0} → (State → ItemValue → List X) → State → List ItemValue → List ItemValue → List X
 gathered gives start before [] = []
 gathered gives start before (item ∷ items) = gives (state_behind start before) item ++ gathered gives start (before ++ item ∷ []) items
 
--- the acts among items, each in the state behind all items before it
+-- the acts among items, each in the state after all items before it
 abbrev pub acts_behind : State → List ItemValue → List ItemValue → List ActValue
 acts_behind start before items = gathered (λ state item. acts_of_item state item (act_body item.body)) start before items
 
@@ -118,7 +119,7 @@ is_data _ = false
 abbrev pub data_among : List ActValue → List ActValue
 data_among acts = filter (λ act. is_data act.body) acts
 
--- what is still to come of a message
+-- the unread part of a message, and the receiver's state before it
 pub record Awaited : Type 0 where
   pub state : State
   pub unread : Unread
@@ -127,7 +128,7 @@ pub record Awaited : Type 0 where
 abbrev pub ActOutcome : Type 0
 ActOutcome = Result ActValue Refusal
 
--- acts, and then the refusal where there is one
+-- acts, and then the refusal if there is one
 abbrev pub acts_then : List ActValue → Option Refusal → List ActOutcome
 acts_then acts ending = map Ok acts ++ map Err (option_to_list ending)
 

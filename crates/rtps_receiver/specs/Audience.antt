@@ -1,5 +1,5 @@
--- Whom a writer's act is for, and the order of audiences. DDSI-RTPS 2.5, 8.3.4 "The RTPS Message Receiver". own: the standard
--- gives audiences no order, and a map has one.
+-- To which readers an act of a writer is sent, and the order of audiences. DDSI-RTPS 2.5, 8.3.4 "The RTPS Message
+-- Receiver". own: the standard gives audiences no order, and a map needs one.
 use Rattle.std.specs.Option.{option_cmp}
 use Rattle.std.specs.Prelude.{Option, Some, None}
 use Rattle.std.specs.Cmp.Lexicographic.{slice_cmp}
@@ -11,15 +11,15 @@ use Rattle.rtps_receiver.specs.Speech.{reader_named}
 use Rattle.rtps_receiver.specs.Values.{ActValue}
 use Rattle.rtps_receiver.specs.declared.speech.Audience.{Audience}
 
--- how one audience stands to another: by the destinations, everyone first, and then by the readers
+-- the order of two audiences: by destination, everyone first, and then by reader
 abbrev pub audience_cmp : Audience → Audience → Ordering
 audience_cmp a b = ordering_then (option_cmp (λ x y. slice_cmp nat_cmp x.0 y.0) a.dest b.dest) (slice_cmp nat_cmp a.reader.0 b.reader.0)
 
--- the audience of a destination and the reader that is named, if one is
+-- the audience with this destination and this reader; None if no reader is named
 abbrev pub audience_at : Option GuidPrefix → Option EntityId → Option Audience
 audience_at dest (Some reader) = Some (record { dest = dest; reader = reader })
 audience_at dest None = None
 
--- whom an act of a writer is for
+-- the readers that an act of a writer is sent to; an ACKNACK has no audience
 abbrev pub audience_of : ActValue → Option Audience
 audience_of act = audience_at act.dest (reader_named act.body)

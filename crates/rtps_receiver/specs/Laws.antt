@@ -10,11 +10,11 @@ use Rattle.rtps_receiver.specs.Speech.{IsSpokenBy, is_ack_nack, origin_of}
 use Rattle.rtps_receiver.specs.Values.{ActBodyValue, ActValue}
 use Rattle.rtps_receiver.specs.declared.state.State.{State}
 
--- none of these items says anything
+-- `says` gives nothing for any of these items
 abbrev pub IsSilent : {X : Type 0} → (BodyValue → Option X) → List ItemValue → Type 0
 IsSilent says items = All (λ item. says item.body ≡ None) items
 
--- an item says x, and none behind it says anything
+-- `says` gives x for an item, and nothing for any item after it
 pub record IsLastSaid {X : Type 0} (says : BodyValue → Option X) (items : List ItemValue) (x : X) : Type 0 where
   pub before : List ItemValue
   pub item : ItemValue
@@ -23,17 +23,17 @@ pub record IsLastSaid {X : Type 0} (says : BodyValue → Option X) (items : List
   pub said : says item.body ≡ Some x
   pub silent : IsSilent says behind
 
--- it is what was said last, or what it was at the start where nothing was said
+-- it is what the last item gives, or what it was at the start if no item gives anything
 abbrev pub Stands : {X : Type 0} → (BodyValue → Option X) → List ItemValue → X → X → Type 0
 Stands says items start x = IsLastSaid says items x ⊎ (IsSilent says items × (x ≡ start))
 
--- the state behind items is what stands of the source, of the destination and of the time
+-- each part of the state after these items is what the last item gives, or what it was at the start
 pub record StandsBehind (start : State) (items : List ItemValue) (state : State) : Type 0 where
   pub source : Stands says_source items start.source state.source
   pub destination : Stands says_destination items start.dest state.dest
   pub time : Stands says_time items start.stamp state.stamp
 
--- an act of a message with this header: one of its items, which is an act, with the state behind all items before it
+-- an act of a message with this header: one of its items, which is an act, with the state after all items before it
 pub record IsActOf (header : Header) (items : List ItemValue) (act : ActValue) : Type 0 where
   pub before : List ItemValue
   pub item : ItemValue
@@ -43,14 +43,14 @@ pub record IsActOf (header : Header) (items : List ItemValue) (act : ActValue) :
   pub is_act : act_body item.body ≡ Some body
   pub value : act ≡ act_at (state_behind (state_at_start header) before) item.at item.order body
 
--- the state behind any items is what stands there
+-- `state_behind` gives this state, after any items
 abbrev pub TheStateIsWhatStands : Type 0
 TheStateIsWhatStands = (start : State) (items : List ItemValue) → StandsBehind start items (state_behind start items)
 
--- an act of a datagram is one that an item of it makes, and each such is one
+-- the acts of a datagram are exactly those that its items make
 abbrev pub ActsAreOfItems : Type 0
 ActsAreOfItems = (reading : Reading) (header : Header) (act : ActValue) → reading.header ≡ Some header → Contains (acts_of reading) act ↔ IsActOf header reading.items act
 
--- a writer speaks exactly the acts from it that are no ACKNACK
+-- the acts that a writer speaks are exactly those from it that are no ACKNACK
 abbrev pub SpeakersAreOrigins : Type 0
 SpeakersAreOrigins = (act : ActValue) (writer : Guid) → IsSpokenBy act writer ↔ ((is_ack_nack act.body ≡ false) × (origin_of act ≡ writer))

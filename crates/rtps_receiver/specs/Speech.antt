@@ -1,5 +1,6 @@
--- Who speaks an act, who hears it, and whom an ACKNACK answers. DDSI-RTPS 2.5, 8.3.4 "The RTPS Message Receiver",
--- 8.3.8.1 "AckNack", 8.3.8.2 "Data", 8.3.8.4 "Gap" and 8.3.8.6 "Heartbeat".
+-- Which writer speaks an act (it sends it), which readers hear it (it is sent to them), and which writer an ACKNACK
+-- answers. DDSI-RTPS 2.5, 8.3.4 "The RTPS Message Receiver", 8.3.8.1 "AckNack", 8.3.8.2 "Data", 8.3.8.4 "Gap" and
+-- 8.3.8.6 "Heartbeat".
 use Rattle.std.specs.Prelude.{◌≡◌, ◌⊎◌, ◌&&◌, ◌||◌, ◌∷◌, [], Bool, true, false, Option, Some, None}
 use Rattle.std.specs.Str.{bytes_eq}
 use Rattle.rtps_ids.specs.declared.identity.EntityId.{EntityId}
@@ -22,21 +23,21 @@ reader_named (Heartbeat value) = Some value.reader
 reader_named (Gap value) = Some value.reader
 reader_named (AckNack value) = None
 
--- an ACKNACK, which a reader sends and no writer
+-- whether it is an ACKNACK, which a reader sends and no writer
 abbrev pub is_ack_nack : ActBodyValue → Bool
 is_ack_nack (AckNack value) = true
 is_ack_nack (Data value) = false
 is_ack_nack (Heartbeat value) = false
 is_ack_nack (Gap value) = false
 
--- an act is from the writer that it names, and an ACKNACK from the reader
+-- the entity that an act is from: the reader of an ACKNACK, the writer of any other act
 abbrev pub entity_from : ActBodyValue → EntityId
 entity_from (AckNack value) = value.reader
 entity_from (Data value) = value.writer
 entity_from (Heartbeat value) = value.writer
 entity_from (Gap value) = value.writer
 
--- the GUID that an act is from: that entity of its source
+-- the GUID that an act is from: this entity of its source
 abbrev pub origin_of : ActValue → Guid
 origin_of act = record { prefix = act.source; entity = entity_from act.body }
 
@@ -44,40 +45,42 @@ origin_of act = record { prefix = act.source; entity = entity_from act.body }
 abbrev pub unknown_entity : EntityId
 unknown_entity = record { 0 = 0 ∷ 0 ∷ 0 ∷ 0 ∷ [] }
 
--- A writer speaks the DATA, HEARTBEAT and GAP of its participant that name it.
+-- A writer speaks the DATA, HEARTBEAT and GAP from its participant that name it.
 pub record IsSpokenBy (act : ActValue) (writer : Guid) : Type 0 where
   pub source : act.source ≡ writer.prefix
   pub entity : writer_named act.body ≡ Some writer.entity
 
--- A reader hears what is for everyone or for its participant, and names it or every reader.
+-- A reader hears the DATA, HEARTBEAT and GAP that are sent to everyone or to its participant, and that name it or every
+-- reader. Whether it received them is not said.
 pub record IsHeardBy (act : ActValue) (reader : Guid) : Type 0 where
   pub dest : (act.dest ≡ None) ⊎ (act.dest ≡ Some reader.prefix)
   pub entity : (reader_named act.body ≡ Some unknown_entity) ⊎ (reader_named act.body ≡ Some reader.entity)
 
--- An ACKNACK of the reader that names the writer, and its participant as the destination, answers the writer. One
--- for everyone answers nobody.
+-- an ACKNACK that names this reader and this writer
 abbrev pub NamesPair : ActBodyValue → EntityId → EntityId → Type 0
 NamesPair (AckNack value) reader writer = (value.reader ≡ reader) × (value.writer ≡ writer)
 NamesPair (Data value) reader writer = ⊥
 NamesPair (Heartbeat value) reader writer = ⊥
 NamesPair (Gap value) reader writer = ⊥
 
--- an act of this reader that answers this writer
+-- An ACKNACK of the reader answers the writer if it names the writer and its destination is the writer's participant.
+-- An ACKNACK to everyone answers nobody.
 pub record IsAnswer (act : ActValue) (reader writer : Guid) : Type 0 where
   pub source : act.source ≡ reader.prefix
   pub dest : act.dest ≡ Some writer.prefix
   pub entities : NamesPair act.body reader.entity writer.entity
 
--- the writer that an ACKNACK names, of the participant that it is for by name
+-- the writer that an ACKNACK names, of the participant that is its destination
 abbrev pub answered_at : Option GuidPrefix → ActBodyValue → Option Guid
 answered_at (Some dest) (AckNack value) = Some (record { prefix = dest; entity = value.writer })
 answered_at _ _ = None
 
--- Whom an act answers, if it answers anybody. It is an answer of its origin, to just this writer: `Act::answered` promises so.
+-- The writer that an act answers, if it answers one. The contract of `Act::answered` says that the act is an answer of
+-- its origin to this writer and to no other.
 abbrev pub writer_answered : ActValue → Option Guid
 writer_answered act = answered_at act.dest act.body
 
--- Two GUID prefixes are the same. That each test from here on says what its relation says is a law.
+-- Two GUID prefixes are the same. Laws say that each test from here on agrees with its relation.
 abbrev pub is_prefix : GuidPrefix → GuidPrefix → Bool
 is_prefix one other = bytes_eq one.0 other.0
 
@@ -90,12 +93,12 @@ abbrev pub names : Option EntityId → EntityId → Bool
 names (Some named) entity = is_entity named entity
 names None entity = false
 
--- by name, and not as one of everyone
+-- the destination is this participant, and not everyone
 abbrev pub is_for : Option GuidPrefix → GuidPrefix → Bool
 is_for (Some dest) prefix = is_prefix dest prefix
 is_for None prefix = false
 
--- for everyone, with no participant named
+-- the destination is everyone
 abbrev pub is_for_all : Option GuidPrefix → Bool
 is_for_all (Some dest) = false
 is_for_all None = true
@@ -104,7 +107,7 @@ is_for_all None = true
 abbrev pub is_spoken_by : ActValue → Guid → Bool
 is_spoken_by act writer = is_prefix act.source writer.prefix && names (writer_named act.body) writer.entity
 
--- whether what is for this destination and names this reader is for a reader
+-- whether an act with this destination that names this reader is sent to `reader`
 abbrev pub is_among : Option GuidPrefix → Option EntityId → Guid → Bool
 is_among dest named reader = (is_for_all dest || is_for dest reader.prefix) && (names named unknown_entity || names named reader.entity)
 

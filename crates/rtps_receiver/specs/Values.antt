@@ -1,5 +1,5 @@
--- Acts with lists of octets where the types hold a part of the caller's datagram.
--- own: so that two are equal where they say the same, wherever their octets lie.
+-- Acts with lists of octets in place of borrowed slices. own: so that two are equal if they say the same, wherever
+-- their octets are.
 use Rattle.std.specs.Prelude.{ℕ, Option, Result, Ok, Err}
 use Rattle.rtps_ids.specs.declared.identity.GuidPrefix.{GuidPrefix}
 use Rattle.rtps_ids.specs.declared.identity.Stamp.{Stamp}

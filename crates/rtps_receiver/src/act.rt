@@ -16,15 +16,15 @@ pub enum ActBody<'a> {
 pub struct Act<'a> {
     /// The place of its first octet in the datagram, from 0.
     pub at: usize,
-    /// Whose participant it is from.
+    /// The participant that it is from.
     pub source: GuidPrefix,
-    /// The version of the protocol that its source speaks.
+    /// The version of the protocol that its source uses.
     pub version: Version,
-    /// Who made its source.
+    /// The vendor of its source.
     pub vendor: Vendor,
-    /// The participant that it is for, or None for everyone.
+    /// The participant that it is sent to, or None for everyone.
     pub dest: Option<GuidPrefix>,
-    /// When it was sent, where its source says so.
+    /// When it was sent, if its source says so.
     pub stamp: Option<Stamp>,
     /// The order of the octets of its numbers.
     pub order: Order,

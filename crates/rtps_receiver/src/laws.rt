@@ -6,7 +6,7 @@ ghost use Rattle.rtps_receiver.specs.Laws.{ActsAreOfItems, SpeakersAreOrigins, T
 ghost use Rattle.rtps_receiver.specs.Speech.{IsAnswer, IsHeardBy, IsSpokenBy, is_answer, is_heard_by, is_spoken_by};
 ghost use Rattle.rtps_receiver.specs.Values.{ActValue};
 
-/// The tests of who speaks, who hears and who answers say what the relations say.
+/// `is_spoken_by`, `is_heard_by` and `is_answer` are true if and only if the relations of these names hold.
 #[tactic(auto, using(crate::proofs::SpeechTests::spoken_decides, crate::proofs::SpeechTests::heard_decides, crate::proofs::SpeechTests::answer_decides))]
 pub fn tests_say_what_relations_say()
     ensures spoken { (act : ActValue) (writer : Guid) → (is_spoken_by act writer ≡ true) ↔ IsSpokenBy act writer }
@@ -14,18 +14,19 @@ pub fn tests_say_what_relations_say()
     ensures answers { (act : ActValue) (reader : Guid) (writer : Guid) → (is_answer act reader writer ≡ true) ↔ IsAnswer act reader writer }
 {}
 
-/// The receiver's state at a place: the source is what the last item before it said that says one, and none behind that
-/// one does, or the header's where no item said any; so are the destination and the time.
+/// The receiver's state at a place: the source is that of the last INFO_SRC before it, or of the header if there is
+/// none. The destination is that of the last INFO_DST, or everyone. The time is that of the last INFO_TS or INFO_SRC
+/// (which has none), or none.
 pub fn the_state_is_what_stands()
     ensures { TheStateIsWhatStands }
 {}
 
-/// The acts of a message are exactly its items that are acts, each with the state behind all items before it.
+/// The acts of a message are exactly its items that are acts, each with the state after all items before it.
 pub fn acts_are_of_items()
     ensures { ActsAreOfItems }
 {}
 
-/// A writer speaks exactly the acts whose origin it is and that are no ACKNACK.
+/// The acts that a writer speaks are exactly those that have its GUID as origin and are no ACKNACK.
 pub fn speakers_are_origins()
     ensures { SpeakersAreOrigins }
 {}

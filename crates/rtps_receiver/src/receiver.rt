@@ -9,8 +9,8 @@ use crate::state::State;
 use rtps_wire::{Items, Refusal};
 use std::marker::Model;
 
-/// What is still to come of a datagram: its acts in order, each with the receiver's state at its place, and then the
-/// refusal that ends it, if one does (DDSI-RTPS 2.5, 8.3.4 "The RTPS Message Receiver").
+/// The unread acts of a datagram in order, each with the receiver's state at its place, and then the refusal of the
+/// datagram, if there is one (DDSI-RTPS 2.5, 8.3.4 "The RTPS Message Receiver").
 #[derive(Drop)]
 pub struct Acts<'a> {
     items: Items<'a>,
@@ -26,8 +26,8 @@ impl<'a> Model for Acts<'a> {
 }
 
 impl<'a> Acts<'a> {
-    /// Reads the header of a datagram, of any length, and leaves its acts to be read, no more than it has octets. The
-    /// refusal, at place 0, is `Short`, `NotRtps` or `BadVersion`, and then there are no acts.
+    /// Reads the header of a datagram of any length, and leaves its acts to be read: no more than it has octets. The
+    /// refusal is `Short`, `NotRtps` or `BadVersion`, at place 0.
     #[inline(always)]
     pub fn open(bytes: &'a [u8]) -> Result<Acts<'a>, Refusal>
         ensures { MatchResult result
@@ -52,7 +52,7 @@ impl<'a> Iterator for Acts<'a> {
 
     ghost remaining = { item_count acts_left };
 
-    /// The next act, or the refusal that ends the message. After a refusal or the end it answers None for good.
+    /// The next act, or the refusal that ends the message. After a refusal or the end it always gives None.
     #[inline(always)]
     fn next(&mut self) -> Option<Result<Act<'a>, Refusal>> {
         while let Some(outcome) = self.items.next() {

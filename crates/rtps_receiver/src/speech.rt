@@ -4,9 +4,9 @@ use rtps_ids::{EntityId, Guid, GuidPrefix};
 /// The entity id that names every reader.
 const UNKNOWN: EntityId = EntityId([0; 4]);
 
-/// Whom it is for that a writer says something: of everyone or of one participant, each reader or one (DDSI-RTPS 2.5,
-/// 8.3.4 "The RTPS Message Receiver"). Audiences compare by their destinations, everyone first, and then by the reader,
-/// octet by octet.
+/// The readers that an act of a writer is sent to: of everyone or of one participant, every reader or one (DDSI-RTPS
+/// 2.5, 8.3.4 "The RTPS Message Receiver"). Audiences are ordered by destination, everyone first, and then by the
+/// reader, octet by octet.
 #[derive(Clone, Copy, PartialEq, Eq, PartialOrd, Ord, Debug)]
 pub struct Audience {
     /// The participant, or None for everyone.
@@ -19,8 +19,8 @@ impl Audience {
     ghost use Rattle.std.specs.Prelude.{◌≡◌, Some};
     ghost use Rattle.rtps_receiver.specs.Speech.{is_among};
 
-    /// Whether this reader is among them: it is for everyone or for the reader's participant, and names the reader or
-    /// every reader.
+    /// Whether this reader is among them: the destination is everyone or the reader's participant, and the reader that
+    /// is named is this one, or none is.
     #[inline]
     pub fn has(&self, reader: Guid) -> bool
         ensures { result ≡ is_among self.now.dest (Some self.now.reader) reader }
@@ -40,7 +40,8 @@ impl<'a> Act<'a> {
     ghost use Rattle.rtps_receiver.specs.Speech.{IsAnswer, IsHeardBy, IsSpokenBy, is_answer, is_heard_by, is_spoken_by, origin_of, reader_named, writer_answered, writer_named};
     ghost use Rattle.rtps_receiver.specs.Values.{act_value};
 
-    /// Whom the act is from: of its source, the reader that an ACKNACK names, or the writer that anything else names.
+    /// The GUID that the act is from: its source, and the reader that an ACKNACK names or the writer that any other act
+    /// names.
     pub fn origin(&self) -> Guid
         ensures { result ≡ origin_of (act_value self.now) }
     {
@@ -56,8 +57,8 @@ impl<'a> Act<'a> {
         }
     }
 
-    /// Whether this writer speaks the act: it is a DATA, HEARTBEAT or GAP of its participant that names it. False of
-    /// an ACKNACK.
+    /// Whether this writer sent the act: a DATA, HEARTBEAT or GAP from its participant that names it. False for an
+    /// ACKNACK.
     pub fn spoken_by(&self, writer: Guid) -> bool
         ensures relation { IsTrue result ↔ IsSpokenBy (act_value self.now) writer }
         ensures test { result ≡ is_spoken_by (act_value self.now) writer }
@@ -65,8 +66,8 @@ impl<'a> Act<'a> {
         self.source == writer.prefix && self.writer_named() == Some(writer.entity)
     }
 
-    /// Whether this reader hears the act: it is a DATA, HEARTBEAT or GAP for everyone or for its participant, and
-    /// names the reader or every reader. False of an ACKNACK.
+    /// Whether the act is sent to this reader: a DATA, HEARTBEAT or GAP to everyone or to its participant that names
+    /// this reader or every reader. False for an ACKNACK. It does not say whether the reader received it.
     pub fn heard_by(&self, reader: Guid) -> bool
         ensures relation { IsTrue result ↔ IsHeardBy (act_value self.now) reader }
         ensures test { result ≡ is_heard_by (act_value self.now) reader }
@@ -77,7 +78,7 @@ impl<'a> Act<'a> {
         }
     }
 
-    /// Whom a DATA, HEARTBEAT or GAP is for. None of an ACKNACK.
+    /// The readers that a DATA, HEARTBEAT or GAP is sent to. None for an ACKNACK.
     pub fn audience(&self) -> Option<Audience>
         ensures { result ≡ audience_of (act_value self.now) }
     {
@@ -88,7 +89,7 @@ impl<'a> Act<'a> {
     }
 
     /// Whether the act is an ACKNACK of this reader that answers this writer: its destination is the writer's
-    /// participant by name. False of anything else, and of an ACKNACK for everyone.
+    /// participant. False for any other act, and for an ACKNACK to everyone.
     pub fn answers(&self, reader: Guid, writer: Guid) -> bool
         ensures relation { IsTrue result ↔ IsAnswer (act_value self.now) reader writer }
         ensures test { result ≡ is_answer (act_value self.now) reader writer }
@@ -96,8 +97,8 @@ impl<'a> Act<'a> {
         self.answered() == Some(writer) && self.origin() == reader
     }
 
-    /// Whom the act answers: the writer that an ACKNACK names, of the participant that it is for by name. None of anything
-    /// else, and of an ACKNACK for everyone. It is its origin that answers.
+    /// The writer that the act answers: the writer that an ACKNACK names, of the participant that is its destination.
+    /// None for any other act, and for an ACKNACK to everyone. The answer is that of the act's origin.
     pub fn answered(&self) -> Option<Guid>
         ensures relation { (reader writer : GuidValue)
             → IsAnswer (act_value self.now) reader writer ↔ ((origin_of (act_value self.now) ≡ reader) × (result ≡ Some writer)) }

@@ -9,7 +9,8 @@ use crate::act::{Act, ActBody};
 use rtps_ids::{GuidPrefix, Stamp};
 use rtps_wire::{Body, DataBody, Header, Item};
 
-/// What the receiver knows at a place of a message: from whom, for whom (None is everyone), and when it was sent.
+/// The receiver's state at a place of a message: the source, the destination (None is everyone) and the time of what
+/// follows.
 #[derive(Clone, Copy, Debug)]
 pub struct State {
     pub source: Header,
@@ -33,7 +34,7 @@ impl State {
         }
     }
 
-    /// The act that this item is in this state, or None where it is none.
+    /// The act that this item is in this state, or None if it is no act.
     #[inline(always)]
     pub fn act<'a>(&self, item: &Item<'a>) -> Option<Act<'a>>
         ensures { MatchOption result (act_body (item_value item.now).body ≡ None) (IsActIn self.now (item_value item.now)) }
@@ -53,7 +54,7 @@ impl State {
         })
     }
 
-    /// Takes what this item says of the state of what follows it.
+    /// Changes the state as this item says.
     #[inline(always)]
     pub fn interpret(&mut self, item: &Item<'_>)
         ensures { self.new ≡ state_behind self.old (item_value item.now ∷ []) }
@@ -78,7 +79,7 @@ impl State {
     }
 }
 
-/// What an act with this body says, or None where the body is none of an act.
+/// The body of an act, or None if a submessage with this body is no act.
 #[inline(always)]
 fn body_of_act<'a>(body: &Body<'a>) -> Option<ActBody<'a>>
     ensures { option_map act_body_value result ≡ act_body (body_value body.now) }
@@ -98,7 +99,7 @@ fn body_of_act<'a>(body: &Body<'a>) -> Option<ActBody<'a>>
     }
 }
 
-/// The participant that this prefix names, or None for everyone where all its octets are zero.
+/// The participant that this prefix names. None, which is everyone, if all its octets are zero.
 fn destination(prefix: GuidPrefix) -> Option<GuidPrefix>
     ensures { result ≡ (if is_unknown prefix then None else Some prefix) }
 {

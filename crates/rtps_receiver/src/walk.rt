@@ -12,8 +12,8 @@ use std::alloc::Global;
 use std::marker::Model;
 use std::slice;
 
-/// Reads the datagrams of a recording, one after another and each of them once: the acts of the datagram that was read
-/// last stand side by side until the next one is read. It takes room for the acts of one datagram.
+/// Reads the datagrams of a recording, one after another, each once. It keeps the acts of the last datagram until the
+/// next one is read, so it takes memory for the acts of one datagram.
 #[derive(Drop)]
 pub struct Walk<'a> {
     acts: Vec<Act<'a>>,
@@ -38,8 +38,8 @@ impl<'a> Walk<'a> {
         }
     }
 
-    /// Reads a datagram, of any length, up to its refusal if one ends it: its acts take the place of those of the last
-    /// one, and its tally is answered. After `Memory` the acts are of no use.
+    /// Reads a datagram of any length, up to its refusal, if it has one. Its acts replace those of the datagram before.
+    /// Returns its tally. After `Memory` the acts mean nothing.
     pub fn read(&mut self, datagram: &'a [u8]) -> Result<Tally, Memory>
         ensures acts { OnOk result (self.new ≡ acts_of (reading_of datagram.now)) }
         ensures tally { IfOk result (λ tally. tally ≡ tally_of (reading_of datagram.now)) }
@@ -55,8 +55,8 @@ impl<'a> Walk<'a> {
         }
     }
 
-    /// Reads a datagram as [`Walk::read`] does, but keeps its DATA alone. It is faster for whom the rest says nothing.
-    /// After `Memory` the acts are of no use.
+    /// Reads a datagram as [`Walk::read`] does, but keeps only its DATA. It is faster if only DATA are wanted. After
+    /// `Memory` the acts mean nothing.
     pub fn read_data(&mut self, datagram: &'a [u8]) -> Result<(), Memory>
         ensures { OnOk result (self.new ≡ data_among (acts_of (reading_of datagram.now))) }
     {
@@ -75,7 +75,7 @@ impl<'a> Walk<'a> {
     }
 }
 
-/// Appends the acts of what is unread of a datagram, from this state on, and counts its items.
+/// Appends the acts of the unread part of a datagram, from this state on, and counts its items.
 fn push_acts<'a>(acts: &mut Vec<Act<'a>>, start: State, items: Items<'a>) -> Result<Tally, Memory>
     requires empty { acts.old.items ≡ [] }
     requires few { length (outcomes_left items) < 2 ^ 64 }
@@ -110,7 +110,7 @@ fn push_acts<'a>(acts: &mut Vec<Act<'a>>, start: State, items: Items<'a>) -> Res
     }
 }
 
-/// Appends the DATA of what is unread of a datagram, from this state on.
+/// Appends the DATA of the unread part of a datagram, from this state on.
 fn push_data<'a>(acts: &mut Vec<Act<'a>>, start: State, items: Items<'a>) -> Result<(), Memory>
     requires { acts.old.items ≡ [] }
     ensures { OnOk result (map act_value acts.new.items
@@ -137,7 +137,7 @@ fn push_data<'a>(acts: &mut Vec<Act<'a>>, start: State, items: Items<'a>) -> Res
     }
 }
 
-/// 1 where the test holds, and else 0.
+/// 1 if the test holds, and else 0.
 #[inline(always)]
 fn one_if(test: bool) -> u64
     ensures { result ≡ (if test then 1 else 0) }

@@ -1,4 +1,4 @@
-//! The capture that gives a recording.
+//! A capture that has the datagrams of a recording.
 
 use crate::fault::Fault;
 use rtps_tool::Recording;
@@ -11,14 +11,14 @@ const HEADER: [u8; 24] = *b"\
 /// A frame of one octet, which gives no datagram.
 const IGNORED: [u8; 17] = *b"\x00\x00\x00\x00\x00\x00\x00\x00\x01\x00\x00\x00\x01\x00\x00\x00\x45";
 
-/// The header of an IP packet with its total length at places 2 and 3.
+/// The header of an IP packet. Its total length is at offsets 2 and 3.
 const IP: [u8; 20] = *b"\
     \x45\x00\x00\x00\x00\x00\x00\x00\x40\x11\x00\x00\x7f\x00\x00\x01\x7f\x00\x00\x01";
 
-/// The header of a UDP datagram with its length at places 4 and 5.
+/// The header of a UDP datagram. Its length is at offsets 4 and 5.
 const UDP: [u8; 8] = *b"\x1c\xe8\x1c\xe8\x00\x00\x00\x00";
 
-/// A capture with a frame for each datagram, and one that gives none before each.
+/// A capture with a frame for each datagram, and before each of these a frame that gives no datagram.
 pub(crate) fn of(alloc: Global, recording: &Recording) -> Result<Vec<u8>, Fault> {
     let mut octets = begun(alloc)?;
     for datagram in recording.datagrams() {

@@ -1,5 +1,6 @@
-//! Cases are lines `CALL WORD.. -> ANSWER`: a public call of a library, what it is given, and what it answers. A line that
-//! is empty or begins with # is none. Answers come from the standard, from the rules of the library, or from other programs.
+//! Cases are lines `CALL WORD.. -> ANSWER`: a public call of a library, its arguments, and what it returns. Empty lines
+//! and lines that begin with # are skipped. The answers come from the standard, from the rules of the library, or from
+//! other programs.
 
 mod announcements;
 mod integers;
@@ -11,7 +12,7 @@ use crate::fault::Fault;
 use crate::words::Words;
 use std::alloc::Global;
 
-/// Counts the cases of a text, each of which is answered as it says.
+/// Counts the cases of a text. Each call has to return what its line says.
 pub(crate) fn count(alloc: Global, text: &str) -> Result<usize, Fault> {
     let mut count = 0usize;
     for line in text.split("\n") {
@@ -35,7 +36,7 @@ fn try_case(alloc: Global, line: &str) -> Result<(), Fault> {
     Err(Fault::Case(told))
 }
 
-/// What a call answers to words, as a text.
+/// What a call returns for these arguments, as a text.
 fn answer(alloc: Global, call: &str, words: &mut Words<'_>) -> Result<String, Fault> {
     match call {
         "u16_at" | "u32_at" | "number_at" => integers::read_at(alloc, call, words),

@@ -1,5 +1,5 @@
-//! Each octet of each datagram of a recording is set to 00, to ff and has its lowest bit turned, where that changes it, and
-//! what is changed is judged in every way.
+//! Changes each octet of each datagram of a recording: to 00, to ff, and in its lowest bit. Each changed recording is
+//! judged in every way.
 
 use crate::fault::Fault;
 use crate::judged::judge_alike;
@@ -10,9 +10,9 @@ use std::alloc::Global;
 /// What is counted.
 #[derive(Clone, Copy)]
 pub(crate) struct Counted {
-    /// Settings of an octet that change it.
+    /// How many times an octet was changed.
     pub settings: usize,
-    /// Rows of the audits of what is changed.
+    /// How many rows the audits of the changed recordings have.
     pub rows: usize,
 }
 
@@ -28,7 +28,7 @@ pub(crate) fn count(alloc: Global, recording: &Recording) -> Result<Counted, Fau
     Ok(counted)
 }
 
-/// Changes each octet of one datagram, which stands at a place.
+/// Changes each octet of the datagram at a place.
 fn change_each(
     alloc: Global,
     recording: &[&[u8]],
@@ -46,7 +46,7 @@ fn change_each(
     Ok(())
 }
 
-/// Where an octet stands in a recording.
+/// The place of an octet in a recording.
 #[derive(Clone, Copy)]
 struct Place {
     datagram: usize,
@@ -83,7 +83,7 @@ fn judge_set(alloc: Global, recording: &[&[u8]], place: Place) -> Result<usize, 
     judge_changed(alloc, recording, place.datagram, &changed)
 }
 
-/// Judges a recording in which this datagram stands in the place of another.
+/// Judges a recording with this datagram in the place of another.
 fn judge_changed(
     alloc: Global,
     recording: &[&[u8]],

@@ -8,13 +8,13 @@ use std::{fmt, io};
 /// Why the program ends before its last line.
 #[derive(Debug, Drop)]
 pub(crate) enum Fault {
-    /// Memory is refused outside of the call that is tried.
+    /// Memory is refused, and not to the call that is tried.
     Memory,
     /// Standard input or output fails.
     Stream,
-    /// Words, or those of a case, are none that are known; or the input is no such recording.
+    /// The arguments, or those of a case, are not known; or the input is no such recording.
     Words,
-    /// A call of a case answers otherwise: the case, and what is answered.
+    /// A call of a case returns something else: the case, and what was returned.
     Case(String),
     /// This is not as it should be.
     Differs(&'static str),
@@ -61,7 +61,7 @@ impl From<Memory> for Fault {
     }
 }
 
-/// A text in memory is written without fail where there is memory.
+/// Writing a text to memory fails only if there is no memory.
 impl From<fmt::Error> for Fault {
     fn from(_error: fmt::Error) -> Fault {
         Fault::Memory

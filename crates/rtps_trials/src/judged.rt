@@ -1,5 +1,5 @@
 //! A recording is judged in every way that the libraries have: by `audit` and the index, by the judge with each kind of
-//! set, and in the evidence. All have to say the same, of all numbers and of those from 2 on.
+//! set, and with the evidence. All have to give the same, for all numbers and for those from 2 on.
 
 use crate::fault::Fault;
 use crate::recording::{PAIR, datagrams, second};
@@ -31,7 +31,7 @@ pub(crate) fn count_rows(alloc: Global, recording: &Recording) -> Result<usize, 
     judges.count_rows()
 }
 
-/// Counts the rows of the audit of datagrams. Each verdict is the same in every way, and so is that of the pair, which
+/// Counts the rows of the audit of datagrams. Each verdict has to be the same in every way, also that of `PAIR`, which
 /// need not match.
 pub(crate) fn judge_alike(alloc: Global, recording: &[&[u8]]) -> Result<usize, Fault> {
     let index = Index::build(alloc, recording)?;
@@ -63,7 +63,7 @@ impl Judges<'_, '_> {
         Ok(report.rows.len())
     }
 
-    /// The verdict on a pair by the index, which is that of the judge with each kind of set.
+    /// The verdict on a pair by the index. It has to be that of the judge with each kind of set.
     fn verdict(self, pair: Pair) -> Result<Verdict, Fault> {
         let verdict = self.index.judge(pair)?;
         let plain = judge_by::<PlainRanges>(self.alloc, self.recording, pair)?;
@@ -74,7 +74,8 @@ impl Judges<'_, '_> {
         Ok(verdict)
     }
 
-    /// The audit of the numbers from one on, that of the index, and what is explained have the same rows.
+    /// The audit of the numbers from `from` on, the report of the index and the explained report have to have the same
+    /// rows.
     fn hold_reports(self, from: SeqNum) -> Result<(), Fault> {
         let report = audit_from(self.alloc, self.recording, from)?;
         let other = self.index.report_from(from, &mut Unwatched)?;
@@ -88,7 +89,7 @@ impl Judges<'_, '_> {
         Ok(())
     }
 
-    /// What is explained has the counts and the verdicts of a report.
+    /// The explained report has to have the counts and the verdicts of a report.
     fn hold_explained(self, report: &Report, from: SeqNum) -> Result<(), Fault> {
         let explained = explain_from(self.alloc, self.recording, from, &mut Unwatched)?;
         if explained.counts != report.counts || explained.rows.len() != report.rows.len() {
@@ -102,7 +103,7 @@ impl Judges<'_, '_> {
         Ok(())
     }
 
-    /// A row of a report is what each judge says of the numbers from one on.
+    /// A row of a report has to be what each judge says of the numbers from `from` on.
     fn hold_row(self, row: Row, from: SeqNum) -> Result<(), Fault> {
         let plain = judge_from::<PlainRanges>(self.alloc, self.recording, row.pair, from)?;
         let merged = judge_from::<MergedRanges>(self.alloc, self.recording, row.pair, from)?;
@@ -118,7 +119,7 @@ impl Judges<'_, '_> {
     }
 }
 
-/// The directory gives each endpoint that it lists, and its pairs are its RELIABLE matches.
+/// The directory has to give each endpoint that it lists, and its pairs have to be its RELIABLE matches.
 fn hold_directory(index: &Index<'_>, directory: &Directory<'_>) -> Result<(), Fault> {
     for endpoint in &directory.endpoints()? {
         if directory.endpoint(endpoint.guid) != Some(*endpoint) {
@@ -140,7 +141,7 @@ fn hold_pairs(index: &Index<'_>, directory: &Directory<'_>) -> Result<(), Fault>
     Ok(())
 }
 
-/// The endpoints of a pair match, and what the index has of them is theirs.
+/// The endpoints of a pair have to match, and what the index has of them has to be theirs.
 fn hold_pair(index: &Index<'_>, directory: &Directory<'_>, pair: Pair) -> Result<(), Fault> {
     let (Some(writer), Some(reader)) = (
         directory.endpoint(pair.writer),
@@ -163,7 +164,7 @@ fn hold_pair(index: &Index<'_>, directory: &Directory<'_>, pair: Pair) -> Result
     Ok(())
 }
 
-/// A walk counts of each datagram what is counted of it alone, and a walk for DATA keeps the DATA.
+/// A walk has to count for each datagram what `tally` counts, and a walk for DATA has to keep the DATA.
 fn hold_walks(alloc: Global, recording: &[&[u8]]) -> Result<(), Fault> {
     let mut walk = Walk::new(alloc);
     let mut of_data = Walk::new(alloc);

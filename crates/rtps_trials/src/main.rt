@@ -1,14 +1,14 @@
-//! The libraries, tried where no clause says and no run of the program shows what they answer.
+//! Tries the libraries: what no contract says and no run of the program shows.
 //!
-//!     rtps_trials               tries all of standard input: cases, each a line, an empty line, and a recording
-//!     rtps_trials judge         judges the recording that is standard input in every way
+//!     rtps_trials               tries all of standard input: cases, one in each line, an empty line, and a recording
+//!     rtps_trials judge         judges the recording on standard input in every way
 //!     rtps_trials change        judges it with each octet changed
-//!     rtps_trials refuse CALL   makes this call on it, once more where it is refused memory
-//!     rtps_trials rewrite       writes each of its messages again from its items, and prints what becomes of them
+//!     rtps_trials refuse CALL   makes this call on it, and once more if it is refused memory
+//!     rtps_trials rewrite       writes each of its messages again from its items, and prints the results
 //!     rtps_trials read N        reads each of its messages N times
-//!     rtps_trials write N       reads each of them once and writes it N times, where it can be written
+//!     rtps_trials write N       reads each of them once and writes it N times, if it can be written
 //!
-//! The status is 1 where something is not as it should be, 2 where words or input are refused, and 3 where memory,
+//! The status is 1 if something is not as it should be, 2 if the arguments or the input are refused, and 3 if memory,
 //! reading or writing fails.
 #![tactic(auto)]
 
@@ -49,7 +49,7 @@ fn run(rt: &HostRuntime) -> Result<(), Fault> {
     }
 }
 
-/// Tries the cases and the recording that stand on standard input, and prints what was counted.
+/// Tries the cases and the recording on standard input, and prints what was counted.
 fn try_all(rt: &HostRuntime) -> Result<(), Fault> {
     let text = io::read_to_string(rt.alloc(), rt.stdin())?;
     let (cases, text) = text.as_str().split_once("\n\n").ok_or(Fault::Words)?;
@@ -77,7 +77,7 @@ fn try_judges(rt: &HostRuntime, recording: &Recording) -> Result<(), Fault> {
     Ok(())
 }
 
-/// Breaks readers and writers off, of a recording in one form.
+/// Lets reads and writes of a run fail, with a recording in one form.
 fn try_streams(rt: &HostRuntime, form: &str, input: &[u8]) -> Result<(), Fault> {
     let reads = streams::count_reads(rt.alloc(), input)?;
     let writes = streams::count_writes(rt.alloc(), input)?;
@@ -94,7 +94,7 @@ fn try_refused(rt: &HostRuntime, call: &str, text: &str) -> Result<(), Fault> {
     Ok(())
 }
 
-/// A mode of one word, on the recording that is standard input.
+/// Runs a mode of one word on the recording on standard input.
 fn try_recording(rt: &HostRuntime, mode: &str) -> Result<(), Fault> {
     let text = io::read_to_string(rt.alloc(), rt.stdin())?;
     let recording = recording::read(rt.alloc(), text.as_str())?;
@@ -121,7 +121,7 @@ fn print_rewritten(rt: &HostRuntime, recording: &Recording) -> Result<(), Fault>
     Ok(())
 }
 
-/// A mode and a word, on the recording that is standard input.
+/// Runs a mode and its argument on the recording on standard input.
 fn try_word(rt: &HostRuntime, mode: &str, word: &str) -> Result<(), Fault> {
     let text = io::read_to_string(rt.alloc(), rt.stdin())?;
     if mode == "refuse" {

@@ -16,12 +16,12 @@ pub(crate) const PAIR: Pair = Pair {
     },
 };
 
-/// The number from which on is asked.
+/// The number from which on reports are made.
 pub(crate) fn second() -> SeqNum {
     SeqNum::new(2).unwrap_or(SeqNum::first())
 }
 
-/// The recording that is a text.
+/// The recording that a text spells.
 pub(crate) fn read(alloc: Global, text: &str) -> Result<Recording, Fault> {
     Ok(read_recording(alloc, text.as_bytes())?)
 }

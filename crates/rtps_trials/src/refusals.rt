@@ -1,5 +1,6 @@
-//! Calls that may be refused memory. Each is made with ample memory first, then once more with its requests counted, and where
-//! that is refused a third time: its answer has to be the first one then, and what it grows unchanged by the refusal.
+//! Calls that may be refused memory. Each is made once with enough memory. Then it is made with its requests for memory
+//! counted, and one of them may be refused. If one is refused, the call is made a third time: it has to return what it
+//! returned first, and the refusal must have changed nothing.
 
 mod answers;
 mod grown;
@@ -11,7 +12,7 @@ use crate::fault::Fault;
 use crate::recording::{datagrams, read};
 use std::alloc::{AllocError, Global};
 
-/// All calls that can be tried. One whose name begins with `capture_` is given a capture of the recording.
+/// All calls that can be tried. A call whose name begins with `capture_` gets the recording as a capture.
 pub(crate) const CALLS: &[&str] = &[
     "note",
     "note_all",
@@ -52,16 +53,17 @@ pub(crate) const CALLS: &[&str] = &[
     "capture_show_run",
 ];
 
-/// Requests between one of this size and the next are counted by `tests/refuse_requests.c`. Nothing else asks for so much.
+/// `tests/refuse_requests.c` counts the requests between a request of this size and the next one of this size. Nothing
+/// else asks for so much.
 const MARK: usize = 7_654_321;
 
-/// Begins or ends a count of requests: asking is enough.
+/// Begins or ends the counting of requests: it is enough to ask for so much.
 fn mark(alloc: Global) {
     let _room: Result<Vec<u8>, AllocError> = Vec::with_capacity(alloc, MARK);
 }
 
-/// Whether the call was refused memory on the recording that is the text. An `Err` tells of another fault, or of an
-/// answer that differs.
+/// Whether the call was refused memory. The recording is the text. An `Err` is another fault, or says that what the
+/// call returned differs.
 pub(crate) fn try_call(alloc: Global, call: &str, text: &str) -> Result<bool, Fault> {
     if let Some(call) = call.strip_prefix("capture_") {
         return try_capture(alloc, call, text);

@@ -1,4 +1,4 @@
-//! Reading and writing many times, to be measured beside each other.
+//! Reads and writes many times, so that the time can be measured.
 
 use crate::fault::Fault;
 use crate::rewriting::{Unwritten, items_of};
@@ -6,8 +6,7 @@ use rtps_tool::Recording;
 use rtps_wire::{Items, write_message};
 use std::alloc::Global;
 
-/// Reads each message that has no refusal so many times, and answers how many octets were in front of the last item of
-/// each, in all.
+/// Reads each message that has no refusal so many times. Returns the sum of the places of their last items.
 pub(crate) fn read(alloc: Global, recording: &Recording, times: u32) -> Result<u64, Fault> {
     let mut octets = 0u64;
     for datagram in recording.datagrams() {
@@ -26,7 +25,7 @@ fn read_many(datagram: &[u8], times: u32) -> u64 {
     octets
 }
 
-/// The octets in front of the last item of a datagram.
+/// The place of the last item of a datagram.
 fn place_of_last(datagram: &[u8]) -> u64 {
     let Ok((_header, items)) = Items::open(datagram) else {
         return 0;
@@ -40,7 +39,7 @@ fn place_of_last(datagram: &[u8]) -> u64 {
     last
 }
 
-/// Writes each message that can be written so many times, and answers how many octets that were.
+/// Writes each message that can be written so many times. Returns how many octets were written.
 pub(crate) fn write(alloc: Global, recording: &Recording, times: u32) -> Result<u64, Fault> {
     let mut octets = 0u64;
     let mut written = Vec::new(alloc);

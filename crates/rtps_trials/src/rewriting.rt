@@ -22,7 +22,7 @@ impl From<AllocError> for Unwritten {
 pub(crate) enum Outcome {
     /// It is written with the same octets.
     Same,
-    /// It is written with other octets, which read back as the same header and items.
+    /// It is written with other octets. They read back as the same header and items.
     Otherwise,
     /// It is written, and does not read back.
     Differs,
@@ -87,7 +87,7 @@ fn compare(read: &[u8], written: &[u8]) -> Outcome {
     }
 }
 
-/// Whether two datagrams have the same header and the same items, wherever these stand, and no refusal.
+/// Whether two datagrams have the same header and the same items, at any places, and no refusal.
 fn have_same_items(one: &[u8], other: &[u8]) -> bool {
     let (Ok((header, items)), Ok((other_header, mut others))) = (
         Items::open(one),

@@ -1,4 +1,4 @@
-//! Readers and writers that give and take octet by octet, and that fail at each place.
+//! Readers and writers that move one octet at a time, and that fail at each place.
 
 use crate::fault::Fault;
 use crate::recording::second;
@@ -10,7 +10,7 @@ use rtps_tool::{
 use std::alloc::Global;
 use std::io::{self, ErrorKind, Read, Write};
 
-/// Gives one octet a read. One of its reads fails, counted from 1, and those behind it go on.
+/// Gives one octet for each read. One read, counted from 1, fails; the reads after it succeed.
 #[derive(Drop)]
 struct Slow<'a> {
     left: &'a [u8],
@@ -36,7 +36,7 @@ impl Read for Slow<'_> {
     }
 }
 
-/// Takes one octet a write while there is room, and then fails, or takes none.
+/// Takes one octet for each write while there is room. Then it fails, or takes none.
 #[derive(Drop)]
 struct Narrow {
     held: Vec<u8>,
@@ -106,7 +106,7 @@ impl Run {
     }
 }
 
-/// A run that is made of an input.
+/// A run on an input.
 #[derive(Clone, Copy)]
 pub(crate) struct Made<'a> {
     pub alloc: Global,
@@ -114,7 +114,8 @@ pub(crate) struct Made<'a> {
     pub input: &'a [u8],
 }
 
-/// Counts reads that fail: each of them, also the one that would find the end. Nothing is written.
+/// Counts reads that fail. Each read of the input fails once, also the one that would find the end. Nothing may be
+/// written.
 pub(crate) fn count_reads(alloc: Global, input: &[u8]) -> Result<usize, Fault> {
     let mut count = 0usize;
     for run in RUNS {
@@ -124,8 +125,8 @@ pub(crate) fn count_reads(alloc: Global, input: &[u8]) -> Result<usize, Fault> {
     Ok(count)
 }
 
-/// Counts writers that have room for fewer octets than the text has, each number of them, and then fail or take none. The
-/// text that comes and goes octet by octet is the one that comes and goes at once.
+/// Counts writers. Each has room for fewer octets than the text has, and then fails or takes none; each such number of
+/// octets is tried. Octet by octet, the text has to be the same as at once.
 pub(crate) fn count_writes(alloc: Global, input: &[u8]) -> Result<usize, Fault> {
     let mut count = 0usize;
     for run in RUNS {
@@ -138,7 +139,7 @@ pub(crate) fn count_writes(alloc: Global, input: &[u8]) -> Result<usize, Fault> 
 }
 
 impl Made<'_> {
-    /// What is printed where nothing fails, and how the run ends. A `Vec` fails to take octets for want of memory alone.
+    /// What is printed if nothing fails, and how the run ends. Writing to a `Vec` fails only if there is no memory.
     pub(crate) fn text(self) -> Result<(Vec<u8>, Ending), Fault> {
         let mut left = self.input;
         let mut output = Vec::new(self.alloc);
@@ -170,7 +171,7 @@ impl Made<'_> {
         Ok(text.len())
     }
 
-    /// A writer that has room for this text holds it behind the run, which ends so.
+    /// After the run a writer that has room for so much has to have this text, and the run has to end so.
     fn hold_written(self, text: &[u8], ending: Result<Ending, RunFault>) -> Result<(), Fault> {
         for fails in [true, false] {
             let mut output = Narrow {
@@ -186,7 +187,7 @@ impl Made<'_> {
         Ok(())
     }
 
-    /// The input, octet by octet, of which one read fails.
+    /// The input, octet by octet. One of its reads fails.
     fn slow(&self, fails_at: usize) -> Slow<'_> {
         Slow {
             left: self.input,

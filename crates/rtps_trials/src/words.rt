@@ -1,4 +1,4 @@
-//! The words of a case, which stand with one space between them.
+//! The words of a case, with one space between them.
 
 use crate::fault::Fault;
 use rtps_ids::Order;
@@ -19,7 +19,7 @@ impl<'a> Words<'a> {
         self.left.is_empty()
     }
 
-    /// The next word; an empty one behind the last.
+    /// The next word, or an empty one after the last.
     pub(crate) fn word(&mut self) -> &'a str {
         let left = self.left;
         let (word, rest) = match left.split_once(" ") {
@@ -80,7 +80,7 @@ fn sevens(alloc: Global, count: u64) -> Result<Vec<u8>, Fault> {
     Ok(octets)
 }
 
-/// Octets as digits, or how many they are where they are more than 100.
+/// Octets as digits, or only their number if there are more than 100.
 pub(crate) fn octets_text(alloc: Global, octets: &[u8]) -> Result<String, AllocError> {
     if octets.len() > 100 {
         return format!(in alloc; "{} octets", octets.len());

@@ -12,7 +12,7 @@ use Rattle.rtps_wire.specs.declared.fault.WireFault.{WireFault}
 use Rattle.rtps_wire.specs.declared.fault.WireFault.TheVariants.{ShortBody, BadSet}
 use Rattle.rtps_wire.specs.declared.layout.ack_nack.TheConstants.{FINAL, LEAST, READER, SET, WRITER}
 
--- where the count stands, behind readerId, writerId and the set
+-- the offset of the count, after readerId, writerId and the set
 abbrev pub count_place : Order → List ℕ → ℕ
 count_place order body = SET + octets_of_count (spelled_count order (drop SET body))
 

@@ -14,19 +14,19 @@ use Rattle.rtps_wire.specs.declared.fault.WireFault.{WireFault}
 use Rattle.rtps_wire.specs.declared.fault.WireFault.TheVariants.{ShortBody, BadFlags, BadOffset, BadNumber, BadInlineQos}
 use Rattle.rtps_wire.specs.declared.layout.data.TheConstants.{D, K, NUMBER, OCTETS_TO_QOS, Q, QOS_FROM, READER, SIZE, WRITER}
 
--- Inline QoS stands in front of the payload. Flag N has no effect.
+-- flag Q: inline QoS comes before the payload. Flag N has no effect
 abbrev pub has_qos : ℕ → Bool
 has_qos flags = bit_and flags Q == Q
 
--- a whole sample is its payload
+-- flag D: the payload is a whole sample
 abbrev pub has_data : ℕ → Bool
 has_data flags = bit_and flags D == D
 
--- the key of a sample is its payload
+-- flag K: the payload is the key of a sample
 abbrev pub has_key : ℕ → Bool
 has_key flags = bit_and flags K == K
 
--- how many octets lie between octetsToInlineQos, which stands behind extraFlags, and the inline QoS
+-- octetsToInlineQos, after extraFlags: how many octets are between it and the inline QoS
 abbrev pub octets_to_inline_qos : Order → List ℕ → ℕ
 octets_to_inline_qos order body = number_of order 2 (drop OCTETS_TO_QOS body)
 
@@ -34,11 +34,12 @@ octets_to_inline_qos order body = number_of order 2 (drop OCTETS_TO_QOS body)
 abbrev pub data_number : Order → List ℕ → ℤ
 data_number order body = sequence_number_of order (drop NUMBER body)
 
--- octetsToInlineQos counts from the octet behind it
+-- the octets from the inline QoS on; octetsToInlineQos counts from the octet after it
 abbrev pub behind_fields : Order → List ℕ → List ℕ
 behind_fields order body = drop (QOS_FROM + octets_to_inline_qos order body) body
 
--- own: an offset into the named fields is bad, since what it would name is read already
+-- why a body is no DATA. own: an octetsToInlineQos that points into the fields is bad, since these octets have a
+-- meaning already
 abbrev pub data_fault : Order → ℕ → List ℕ → Option WireFault
 data_fault order flags body = first_fault (
     (ShortBody, nat_lt (length body) SIZE)
@@ -48,19 +49,19 @@ data_fault order flags body = first_fault (
     ∷ (BadInlineQos, has_qos flags && is_err (list_end order (behind_fields order body)))
     ∷ [])
 
--- how many octets the inline QoS takes, and what they are; the list goes by the order of the submessage
+-- how many octets the inline QoS takes. Its numbers have the order of the submessage
 abbrev pub qos_length : Order → ℕ → List ℕ → ℕ
 qos_length order flags octets = if has_qos flags then result_unwrap_or (list_end order octets) 0 else 0
 
--- the inline QoS, where there is one
+-- the inline QoS, if there is one
 abbrev pub qos_of : Order → ℕ → List ℕ → Option ListValue
 qos_of order flags octets = if has_qos flags then Some (record { order = order; octets = take (qos_length order flags octets) octets }) else None
 
--- own: without D and K, octets that are left over are ignored
+-- the payload. own: without D and K, octets that are left over are ignored
 abbrev pub payload_of : ℕ → List ℕ → PayloadValue
 payload_of flags octets = if has_data flags then Whole octets else if has_key flags then Key octets else Absent
 
--- the payload is all that is behind the inline QoS
+-- the octets after the inline QoS: all of them are the payload
 abbrev pub behind_qos : Order → ℕ → List ℕ → List ℕ
 behind_qos order flags octets = drop (qos_length order flags octets) octets
 
@@ -75,12 +76,12 @@ data_of order flags body =
       payload = payload_of flags (behind_qos order flags (behind_fields order body));
     }
 
--- an inline list of another order than the submessage's
+-- whether there is an inline QoS in another order than the submessage
 abbrev pub is_other_order : Order → Option ListValue → Bool
 is_other_order order None = false
 is_other_order order (Some list) = not (is_same_order order list.order)
 
--- the flag that tells that there is an inline QoS
+-- the flag for an inline QoS
 abbrev pub qos_flag : Option ListValue → ℕ
 qos_flag None = 0
 qos_flag (Some list) = Q
@@ -90,7 +91,7 @@ abbrev pub qos_octets : Option ListValue → List ℕ
 qos_octets None = []
 qos_octets (Some list) = list.octets
 
--- the flag that tells the kind of a payload
+-- the flag for the kind of a payload
 abbrev pub payload_flag : PayloadValue → ℕ
 payload_flag Absent = 0
 payload_flag (Whole octets) = D
@@ -102,17 +103,16 @@ payload_octets Absent = []
 payload_octets (Whole octets) = octets
 payload_octets (Key octets) = octets
 
--- the flags and the octets of a DATA that is written
+-- the flags of a DATA that is written
 abbrev pub data_flags : DataValue → ℕ
 data_flags body = bit_or (qos_flag body.qos) (payload_flag body.payload)
 
--- the fields of a DATA that is written. own: extraFlags are written as 0, and octetsToInlineQos counts to right behind
--- the fields
+-- the fields of a DATA that is written. own: extraFlags are 0, and the inline QoS comes right after the fields
 abbrev pub field_octets : Order → DataValue → List ℕ
 field_octets order body =
     0 ∷ 0 ∷ (octets_of order 2 (SIZE - QOS_FROM) ++ (body.reader.0 ++ (body.writer.0 ++ sequence_number_octets order (pos body.number))))
 
--- own: extraFlags are written as 0, and what octetsToInlineQos tells stands right behind the fields
+-- the octets of a DATA that is written: its fields, its inline QoS and its payload
 abbrev pub data_octets : Order → DataValue → List ℕ
 data_octets order body =
     0 ∷ 0 ∷ (octets_of order 2 (SIZE - QOS_FROM) ++ (body.reader.0 ++ (body.writer.0 ++ (sequence_number_octets order (pos body.number) ++ (qos_octets body.qos ++ payload_octets body.payload)))))

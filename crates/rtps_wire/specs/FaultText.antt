@@ -1,4 +1,4 @@
--- The names and the numbers of faults. own: both stay, since reports and programs name faults by them.
+-- The names and the numbers of faults. own: both stay the same, since reports and programs name faults by them.
 use Rattle.std.specs.Prelude.{ℕ, List, codes}
 use Rattle.rtps_wire.specs.declared.fault.WireFault.{WireFault}
 use Rattle.rtps_wire.specs.declared.fault.WireFault.TheVariants.{Short, NotRtps, BadVersion, CutHeader, Overrun, ShortBody, BadFlags, BadOffset, BadNumber, BadRange, BadSet, BadInlineQos}
@@ -20,7 +20,7 @@ fault_name BadRange = codes "BadRange"
 fault_name BadSet = codes "BadSet"
 fault_name BadInlineQos = codes "BadInlineQos"
 
--- from 1 on, in the order in which they can be met
+-- the number of a fault, from 1 on
 abbrev pub fault_number : WireFault → ℕ
 fault_number Short = 1
 fault_number NotRtps = 2
@@ -35,14 +35,14 @@ fault_number BadRange = 10
 fault_number BadSet = 11
 fault_number BadInlineQos = 12
 
--- the name of what keeps a message from being written
+-- the name of a reason why a message is not written
 unfoldable pub write_fault_name : WriteFault → List ℕ
 write_fault_name NotWritable = codes "NotWritable"
 write_fault_name TooLong = codes "TooLong"
 write_fault_name Unaligned = codes "Unaligned"
 write_fault_name Memory = codes "Memory"
 
--- from 13 on, behind those of a refusal
+-- the number of such a reason, after the numbers of the faults above
 abbrev pub write_fault_number : WriteFault → ℕ
 write_fault_number NotWritable = 13
 write_fault_number TooLong = 14

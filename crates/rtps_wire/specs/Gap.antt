@@ -12,18 +12,19 @@ use Rattle.rtps_wire.specs.declared.fault.WireFault.{WireFault}
 use Rattle.rtps_wire.specs.declared.fault.WireFault.TheVariants.{ShortBody, BadNumber, BadSet}
 use Rattle.rtps_wire.specs.declared.layout.gap.TheConstants.{LEAST, LIST, READER, START, WRITER}
 
--- readerId, writerId, gapStart, gapList
+-- gapStart, after readerId and writerId
 abbrev pub start_number : Order → List ℕ → ℤ
 start_number order body = sequence_number_of order (drop START body)
 
--- own: a gapList of base 0 is bad also without a bit, since only a reader that has seen nothing sends such a set
+-- the faults of a gapList. own: base 0 is bad here also without bits: an ACKNACK has it if the reader has received
+-- nothing yet, but a GAP has no use for it
 abbrev pub list_faults : Order → List ℕ → List (WireFault × Bool)
 list_faults order body =
     (BadSet, is_bad (spelled_base order (drop LIST body)) (spelled_count order (drop LIST body)) || int_le (spelled_base order (drop LIST body)) (pos 0))
     ∷ (ShortBody, nat_lt (length body) (LIST + octets_of_count (spelled_count order (drop LIST body))))
     ∷ []
 
--- why the list of a body is none
+-- the fault of a gapList, if it has one
 abbrev pub list_fault : Order → List ℕ → Option WireFault
 list_fault order body = first_fault (list_faults order body)
 

@@ -7,8 +7,9 @@ use Rattle.rtps_wire.specs.declared.fault.WireFault.TheVariants.{Short, NotRtps,
 use Rattle.rtps_wire.specs.declared.header.Header.{Header}
 use Rattle.rtps_wire.specs.declared.layout.header.TheConstants.{MAJOR, MINOR, PREFIX, PROTOCOL, SIZE, VENDOR, VERSION}
 
--- octets 0 to 3 are `RTPS` (`PROTOCOL`), then come the version, the vendor id and the prefix
--- own: of the versions before 2, too, no message is read, since theirs are laid out otherwise; every minor version is taken
+-- why octets begin with no header. Octets 0 to 3 are `RTPS` (`PROTOCOL`); then come the version, the vendor id and the
+-- prefix
+-- own: messages of versions below 2 are not read, since they have another layout. Every minor version is read
 unfoldable pub header_fault : List ℕ → Option WireFault
 header_fault octets = first_fault (
     (Short, nat_lt (length octets) SIZE)

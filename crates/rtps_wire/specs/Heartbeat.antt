@@ -11,11 +11,11 @@ use Rattle.rtps_wire.specs.declared.fault.WireFault.{WireFault}
 use Rattle.rtps_wire.specs.declared.fault.WireFault.TheVariants.{ShortBody, BadNumber, BadRange}
 use Rattle.rtps_wire.specs.declared.layout.heartbeat.TheConstants.{COUNT, FINAL, FIRST, LAST, LIVELINESS, READER, SIZE, WRITER}
 
--- readerId, writerId, firstSN, lastSN, count
+-- firstSN, after readerId and writerId
 abbrev pub first_number : Order → List ℕ → ℤ
 first_number order body = sequence_number_of order (drop FIRST body)
 
--- the number that the writer names as its last
+-- lastSN
 abbrev pub last_number : Order → List ℕ → ℤ
 last_number order body = sequence_number_of order (drop LAST body)
 
@@ -27,7 +27,8 @@ heartbeat_fault order body = first_fault (
     ∷ (BadRange, int_lt (last_number order body) (first_number order body -ℤ pos 1))
     ∷ [])
 
--- the heartbeat that a body without a fault spells; flag F says that it is final, and flag L that it tells liveliness
+-- the HEARTBEAT that a body without a fault spells. Flag F says that it is final, and flag L that it shows that the
+-- writer is alive
 abbrev pub heartbeat_of : Order → ℕ → List ℕ → HeartbeatBody
 heartbeat_of order flags body =
     record {
@@ -40,7 +41,7 @@ heartbeat_of order flags body =
       live = not (bit_and flags LIVELINESS == 0);
     }
 
--- no heartbeat says such numbers: its last is below 0, or below its first less one
+-- whether no HEARTBEAT can have these numbers: last is below 0, or below first - 1
 abbrev pub is_bad_range : HeartbeatBody → Bool
 is_bad_range body = int_lt body.last (pos 0) || int_lt body.last (pos body.first -ℤ pos 1)
 

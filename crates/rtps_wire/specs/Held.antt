@@ -1,5 +1,5 @@
--- What every item holds. own: the types of the code say it of all their values: numbers in the range of their types,
--- arrays of their lengths, sets that are kept, and inline QoS that is a parameter list.
+-- What is true of every item of the code. own: the types of the code ensure it: numbers are in the range of their
+-- types, arrays have their lengths, sets are sets of the code, and an inline QoS is a parameter list.
 use Rattle.std.specs.Prelude.{ℕ, ◌+◌, ◌≡◌, ◌<◌, ◌≤◌, ◌<ℤ◌, ◌^◌, pos, length, All, Option, Some, None}
 use Rattle.rtps_ids.specs.NumberSet.{IsKeptSet, NumberSetValue}
 use Rattle.rtps_ids.specs.declared.identity.EntityId.{EntityId}
@@ -27,7 +27,7 @@ IsHeldEntity entity = length entity.0 ≡ 4
 abbrev pub IsHeldNumber : ℕ → Type 0
 IsHeldNumber number = (0 < number) × (number < 2 ^ 63)
 
--- a set that is kept, in words of 32 bits
+-- a set of the code, in words of 32 bits
 pub record IsHeldSet (set : NumberSetValue) : Type 0 where
   pub kept : IsKeptSet set
   pub words : All (λ word. word < 2 ^ 32) set.words
@@ -44,7 +44,7 @@ pub record IsHeldData (body : DataValue) : Type 0 where
   pub number : IsHeldNumber body.number
   pub qos : IsHeldQos body.qos
 
--- a HEARTBEAT whose fields hold what their types can
+-- a HEARTBEAT whose fields are in the range of their types
 pub record IsHeldHeartbeat (body : HeartbeatBody) : Type 0 where
   pub reader : IsHeldEntity body.reader
   pub writer : IsHeldEntity body.writer
@@ -52,14 +52,14 @@ pub record IsHeldHeartbeat (body : HeartbeatBody) : Type 0 where
   pub last : body.last <ℤ pos (2 ^ 63)
   pub count : body.count < 2 ^ 32
 
--- an ACKNACK whose fields hold what their types can
+-- an ACKNACK whose fields are in the range of their types
 pub record IsHeldAckNack (body : AckNackBody) : Type 0 where
   pub reader : IsHeldEntity body.reader
   pub writer : IsHeldEntity body.writer
   pub set : IsHeldSet body.set
   pub count : body.count < 2 ^ 32
 
--- a GAP whose fields hold what their types can
+-- a GAP whose fields are in the range of their types
 pub record IsHeldGap (body : GapBody) : Type 0 where
   pub reader : IsHeldEntity body.reader
   pub writer : IsHeldEntity body.writer
@@ -71,7 +71,7 @@ abbrev pub IsHeldTime : Option Stamp → Type 0
 IsHeldTime None = Unit {0}
 IsHeldTime (Some stamp) = (stamp.seconds < 2 ^ 32) × (stamp.fraction < 2 ^ 32)
 
--- a body whose fields hold what their types can
+-- a body whose fields are in the range of their types
 abbrev pub IsHeldBody : BodyValue → Type 0
 IsHeldBody (Data body) = IsHeldData body
 IsHeldBody (Heartbeat body) = IsHeldHeartbeat body
@@ -82,7 +82,7 @@ IsHeldBody (InfoDst prefix) = length prefix.0 ≡ 12
 IsHeldBody (InfoSrc version vendor prefix) = (length vendor.0 ≡ 2) × (length prefix.0 ≡ 12)
 IsHeldBody (Skipped id) = Unit {0}
 
--- an item whose body holds what its types can
+-- an item whose body is in the range of its types
 abbrev pub IsHeldItem : ItemValue → Type 0
 IsHeldItem item = IsHeldBody item.body
 
@@ -93,6 +93,7 @@ IsOfNumbers (Heartbeat body) = body.first < 2 ^ 63
 IsOfNumbers (Gap body) = body.list.base + body.list.count ≤ 2 ^ 63
 IsOfNumbers _ = Unit {0}
 
--- an item that tells of sequence numbers alone. That each item of octets does is offered to the crates above
+-- an item whose numbers are sequence numbers. `items_tell_of_numbers` in proofs/Offered says so of each item that is
+-- read
 abbrev pub TellsOfNumbers : ItemValue → Type 0
 TellsOfNumbers item = IsOfNumbers item.body

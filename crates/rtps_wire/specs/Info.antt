@@ -18,11 +18,11 @@ use Rattle.rtps_wire.specs.declared.layout.info_dst.TheConstants as destination
 use Rattle.rtps_wire.specs.declared.layout.info_ts.TheConstants as time
 use Rattle.rtps_wire.specs.declared.layout.info_ts.TheConstants.{FRACTION, INVALIDATE, SECONDS}
 
--- INFO_TS: flag I says that there is no time, and then no octet of the body is looked at
+-- why a body is no INFO_TS. Flag I says that there is no time; then the body is ignored
 abbrev pub info_ts_fault : ℕ → List ℕ → Option WireFault
 info_ts_fault flags body = first_fault ((ShortBody, (bit_and flags INVALIDATE == 0) && nat_lt (length body) time.SIZE) ∷ [])
 
--- seconds, fraction
+-- the time of an INFO_TS: seconds, fraction
 abbrev pub info_ts_of : Order → ℕ → List ℕ → Option Stamp
 info_ts_of order flags body =
     if bit_and flags INVALIDATE == 0 then Some (record { seconds = number_of order 4 (drop SECONDS body); fraction = number_of order 4 (drop FRACTION body) }) else None
@@ -31,7 +31,7 @@ info_ts_of order flags body =
 abbrev pub info_dst_fault : List ℕ → Option WireFault
 info_dst_fault body = first_fault ((ShortBody, nat_lt (length body) destination.SIZE) ∷ [])
 
--- the prefix of whom what follows is for
+-- the destination of an INFO_DST: the prefix of a participant
 abbrev pub info_dst_of : List ℕ → GuidPrefix
 info_dst_of body = prefix_at destination.PREFIX body
 
@@ -39,7 +39,7 @@ info_dst_of body = prefix_at destination.PREFIX body
 abbrev pub info_src_fault : List ℕ → Option WireFault
 info_src_fault body = first_fault ((ShortBody, nat_lt (length body) header.SIZE) ∷ [])
 
--- four unused octets, and then the version, the vendor id and the prefix as in a header
+-- the source of an INFO_SRC: four unused octets, and then the version, the vendor id and the prefix as in a header
 abbrev pub info_src_of : List ℕ → Header
 info_src_of body =
     record {
@@ -48,7 +48,7 @@ info_src_of body =
       prefix = prefix_at header.PREFIX body;
     }
 
--- the flags of an INFO_TS that is written: I where there is no time
+-- the flags of an INFO_TS that is written: I if there is no time
 abbrev pub info_ts_flags : Option Stamp → ℕ
 info_ts_flags None = INVALIDATE
 info_ts_flags (Some stamp) = 0

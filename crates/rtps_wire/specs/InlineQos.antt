@@ -1,4 +1,4 @@
--- Inline QoS behind the fields of a DATA. DDSI-RTPS 2.5, 8.7.2 "DDS QoS Parameters".
+-- Inline QoS after the fields of a DATA. DDSI-RTPS 2.5, 8.7.2 "DDS QoS Parameters".
 use Rattle.std.specs.Prelude.{◌≡◌, ℕ, List, Option, is_err, true, false, ◌&&◌}
 use Rattle.std.specs.Borrow.{Bor}
 use Rattle.std.specs.Option.{option_map}
@@ -10,13 +10,13 @@ use Rattle.rtps_wire.specs.Data.{behind_qos, has_qos, qos_of}
 use Rattle.rtps_wire.specs.declared.fault.WireFault.{WireFault}
 use Rattle.rtps_wire.specs.declared.fault.WireFault.TheVariants.{BadInlineQos}
 
--- the list that the octets begin with, where there is to be one, and what is behind it
+-- what was found: the list at the beginning of the octets, if the flags say that there is one, and the octets after it
 pub record HasQos (order : Order) (flags : ℕ) (octets : List ℕ) (found : Option ParamList × Bor (List ℕ)) : Type 0 where
   pub good : (has_qos flags && is_err (list_end order octets)) ≡ false
   pub list : option_map list_value found.0 ≡ qos_of order flags octets
   pub behind : found.1.now ≡ behind_qos order flags octets
 
--- there is to be a list, and the octets begin with none
+-- the flags say that there is a list, and the octets do not begin with one
 pub record LacksQos (order : Order) (flags : ℕ) (octets : List ℕ) (fault : WireFault) : Type 0 where
   pub bad : (has_qos flags && is_err (list_end order octets)) ≡ true
   pub fault_is : fault ≡ BadInlineQos

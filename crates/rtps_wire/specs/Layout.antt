@@ -1,5 +1,5 @@
--- The numbers of the layout, as the tables of the standard have them: each stands here and in `layout` alone. DDSI-RTPS 2.5,
--- 9.4.4 "Mapping of the RTPS Header" and 9.4.5 "Mapping of the RTPS Submessages".
+-- The ids, flags, sizes and offsets of messages, as the standard has them. Each value is written only here and in
+-- `layout`. DDSI-RTPS 2.5, 9.4.4 "Mapping of the RTPS Header" and 9.4.5 "Mapping of the RTPS Submessages".
 use Rattle.std.specs.Prelude.{◌≡◌, [], ◌∷◌}
 use Rattle.rtps_wire.specs.declared.layout.header.TheConstants as header
 use Rattle.rtps_wire.specs.declared.layout.submessage.TheConstants as submessage
@@ -11,8 +11,8 @@ use Rattle.rtps_wire.specs.declared.layout.heartbeat.TheConstants as heartbeat
 use Rattle.rtps_wire.specs.declared.layout.info_ts.TheConstants as info_ts
 use Rattle.rtps_wire.specs.declared.layout.info_dst.TheConstants as info_dst
 
--- The header of a message (DDSI-RTPS 2.5, 9.4.4 "Mapping of the RTPS Header"), which begins with `RTPS`, and the version
--- of those that are read.
+-- The header of a message (DDSI-RTPS 2.5, 9.4.4 "Mapping of the RTPS Header"), which begins with `RTPS`, and the
+-- version of the messages that are read.
 abbrev pub header_is : Type 0
 header_is = (header.SIZE ≡ 20) × (header.PROTOCOL ≡ 82 ∷ 84 ∷ 80 ∷ 83 ∷ []) × (header.MAJOR ≡ 4) × (header.MINOR ≡ 5) × (header.VENDOR ≡ 6) × (header.PREFIX ≡ 8) × (header.VERSION ≡ 2)
 
@@ -24,7 +24,7 @@ submessage_is = (submessage.SIZE ≡ 4) × (submessage.ID ≡ 0) × (submessage.
 abbrev pub id_is : Type 0
 id_is = (id.PAD ≡ 0x01) × (id.ACKNACK ≡ 0x06) × (id.HEARTBEAT ≡ 0x07) × (id.GAP ≡ 0x08) × (id.INFO_TS ≡ 0x09) × (id.INFO_SRC ≡ 0x0c) × (id.INFO_DST ≡ 0x0e) × (id.NACK_FRAG ≡ 0x12) × (id.HEARTBEAT_FRAG ≡ 0x13) × (id.DATA ≡ 0x15) × (id.DATA_FRAG ≡ 0x16)
 
--- ACKNACK (DDSI-RTPS 2.5, 9.4.5.3 "AckNack Submessage"). Its count lies behind the set.
+-- ACKNACK (DDSI-RTPS 2.5, 9.4.5.3 "AckNack Submessage"). Its count comes after the set.
 abbrev pub ack_nack_is : Type 0
 ack_nack_is = (ack_nack.READER ≡ 0) × (ack_nack.WRITER ≡ 4) × (ack_nack.SET ≡ 8) × (ack_nack.LEAST ≡ 24) × (ack_nack.FINAL ≡ 2)
 

@@ -21,8 +21,8 @@ use Rattle.rtps_wire.specs.declared.layout.id.TheConstants.{ACKNACK, DATA, GAP, 
 use Rattle.rtps_wire.specs.declared.layout.submessage.TheConstants as submessage
 use Rattle.rtps_wire.specs.declared.layout.submessage.TheConstants.{E, OCTETS_TO_NEXT}
 
--- A submessage header is submessageId, flags and octetsToNextHeader. In what follows, `rest` are the octets from the
--- first of a submessage on.
+-- A submessage header is submessageId, flags and octetsToNextHeader. Below, `rest` is the octets from the first octet
+-- of a submessage on.
 abbrev pub id_of : List ℕ → ℕ
 id_of rest = slice_index rest submessage.ID
 
@@ -30,16 +30,16 @@ id_of rest = slice_index rest submessage.ID
 abbrev pub flags_of : List ℕ → ℕ
 flags_of rest = slice_index rest submessage.FLAGS
 
--- flag E tells the order of the submessage, and that of its octetsToNextHeader too
+-- flag E gives the order of all numbers of the submessage, also of octetsToNextHeader
 abbrev pub order_of : ℕ → Order
 order_of flags = if bit_and flags E == E then Little else Big
 
--- how many octets the header declares behind itself
+-- octetsToNextHeader
 abbrev pub octets_to_next_header : List ℕ → ℕ
 octets_to_next_header rest = number_of (order_of (flags_of rest)) 2 (drop OCTETS_TO_NEXT rest)
 
--- A submessage's extent comes from octetsToNextHeader alone: 0 is an empty body of PAD and of INFO_TS,
--- and of any other id all octets that are left.
+-- The size of a body, by octetsToNextHeader. If that is 0, the body of a PAD or an INFO_TS is empty, and any other body
+-- is all octets that are left.
 abbrev pub extent_of : ℕ → ℕ → ℕ → ℕ
 extent_of id declared left = if declared == 0 then (if id == PAD || id == INFO_TS then 0 else left) else declared
 
@@ -90,11 +90,11 @@ fault_at rest =
     else if nat_lt (length (drop submessage.SIZE rest)) (octets_to_next_header rest) then Some Overrun
     else body_fault (id_of rest) (flags_of rest) (body_octets rest)
 
--- the first submessage, at this place, where it has no fault
+-- the first submessage, which is at this place, if it has no fault
 unfoldable pub item_at : List ℕ → ℕ → ItemValue
 item_at rest at = record { at = at; order = order_of (flags_of rest); body = body_of (id_of rest) (flags_of rest) (body_octets rest) }
 
--- These octets, of which the first is at this place, are these items, and then no octet or a refusal.
+-- These octets begin at this place. They are these items, and then nothing or a refusal.
 abbrev pub ReadsFrom : List ℕ → ℕ → List ItemValue → Option Refusal → Type 0
 ReadsFrom rest at [] None = rest ≡ []
 ReadsFrom rest at [] (Some refusal) = (0 < length rest) × (refusal.at ≡ at) × (fault_at rest ≡ Some refusal.fault)

@@ -1,5 +1,5 @@
--- The one reading of a datagram, as a function. DDSI-RTPS 2.5, 8.3.4.1 "Rules Followed By The Message Receiver". That
--- it is what `Reads` of specs/Message says, and that nothing else is, are laws.
+-- The reading of a datagram, as a function. DDSI-RTPS 2.5, 8.3.4.1 "Rules Followed By The Message Receiver". Laws say
+-- that it is a reading as `Reads` of specs/Message describes it, and that there is no other.
 use Rattle.std.specs.Prelude.{ℕ, zero, suc, ◌+◌, List, [], ◌∷◌, length, drop, Option, Some, None, Result, Ok, Err}
 use Rattle.rtps_wire.specs.Header.{header_fault, header_of}
 use Rattle.rtps_wire.specs.Message.{Reading, body_length, fault_at, item_at, next_rest}
@@ -20,27 +20,27 @@ abbrev pub outcome_value : Result Item Refusal → Outcome
 outcome_value (Ok item) = Ok (item_value item)
 outcome_value (Err refusal) = Err refusal
 
--- what is still unread of a datagram: its octets, and the place of the first of them
+-- the unread part of a datagram: its octets, and the place of the first of them
 pub record Unread : Type 0 where
   pub rest : List ℕ
   pub at : ℕ
 
--- an item and what `more` reads behind it, or a refusal and nothing more
+-- an item and what `more` reads after it, or a refusal and nothing more
 abbrev pub outcomes_with : (List ℕ → ℕ → List Outcome) → Option WireFault → List ℕ → ℕ → List Outcome
 outcomes_with more (Some fault) rest at = Err (record { at = at; fault = fault }) ∷ []
 outcomes_with more None rest at = Ok (item_at rest at) ∷ more (next_rest rest) (at + submessage.SIZE + body_length rest)
 
--- at most so many of them
+-- the items of octets, and their refusal: at most so many
 unfoldable pub outcomes_within : ℕ → List ℕ → ℕ → List Outcome
 outcomes_within zero rest at = []
 outcomes_within (suc n) [] at = []
 outcomes_within (suc n) (octet ∷ octets) at = outcomes_with (outcomes_within n) (fault_at (octet ∷ octets)) (octet ∷ octets) at
 
--- all of them: a submessage has at least one octet
+-- all items of octets, and their refusal: no more than octets, since a submessage has at least one
 unfoldable pub outcomes : List ℕ → ℕ → List Outcome
 outcomes rest at = outcomes_within (length rest) rest at
 
--- all that is still to come
+-- all that is still unread
 abbrev pub outcomes_left : Unread → List Outcome
 outcomes_left unread = outcomes unread.rest unread.at
 
@@ -56,15 +56,15 @@ refusal_among [] = None
 refusal_among (Ok item ∷ rest) = refusal_among rest
 refusal_among (Err refusal ∷ rest) = Some refusal
 
--- what a datagram says whose header is refused
+-- the reading of a datagram whose header is refused
 abbrev pub refused_with : WireFault → Reading
 refused_with fault = record { header = None; items = []; ending = Some (record { at = 0; fault = fault }) }
 
--- a datagram of this header, behind which this is read
+-- the reading of a datagram with this header, if this is read after the header
 abbrev pub read_as : Header → List Outcome → Reading
 read_as header read = record { header = Some header; items = items_among read; ending = refusal_among read }
 
--- a datagram by the fault of its header, if it has one
+-- the reading of a datagram, by the fault of its header
 abbrev pub reading_with : Option WireFault → List ℕ → Reading
 reading_with (Some fault) datagram = refused_with fault
 reading_with None datagram = read_as (header_of datagram) (outcomes (drop header.SIZE datagram) header.SIZE)

@@ -15,7 +15,7 @@ pub record HasSet (order : Order) (octets : List ℕ) (found : NumberSetValue ×
   pub set : found.0 ≡ spelled_set order octets
   pub used : found.1 ≡ octets_of_count (spelled_count order octets)
 
--- the octets, which hold a base and a count, begin with no set: a bad one is found before one that is cut
+-- the octets have a base and a count, but do not begin with a set. A bad set is named before one that is cut
 abbrev pub LacksSet : Order → List ℕ → WireFault → Type 0
 LacksSet order octets fault = first_fault (
     (BadSet, is_bad (spelled_base order octets) (spelled_count order octets))

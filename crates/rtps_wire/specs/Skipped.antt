@@ -1,5 +1,5 @@
--- What is skipped: submessages that are not read. DDSI-RTPS 2.5, 8.3.4.1 "Rules Followed By The Message Receiver", by
--- which a submessage of an unknown id is ignored. own: so are those that specs/Message does not read.
+-- What is skipped: submessages that are not read. DDSI-RTPS 2.5, 8.3.4.1 "Rules Followed By The Message Receiver": a
+-- submessage of an unknown id is ignored. own: so are those that specs/Message does not read.
 use Rattle.std.specs.Prelude.{ℕ, ◌==◌, ◌||◌, Bool, List, [], ◌∷◌, Option, Some, None, Ok, Err}
 use Rattle.rtps_wire.specs.Reading.{Outcome}
 use Rattle.rtps_wire.specs.Values.{BodyValue}
@@ -15,7 +15,7 @@ abbrev pub skipped_id : BodyValue → Option ℕ
 skipped_id (Skipped id) = Some id
 skipped_id _ = None
 
--- the id of what is read next, where it is skipped
+-- the id of what is read next, if it is skipped
 abbrev pub skipped_next : List Outcome → Option ℕ
 skipped_next [] = None
 skipped_next (Ok item ∷ later) = skipped_id item.body

@@ -1,8 +1,8 @@
--- How a message is spelled: its parts, one behind another, and between them the octets at which no reader looks.
--- DDSI-RTPS 2.5, 8.3.3 "The Overall Structure of an RTPS Message" and 9.4.5 "Mapping of the RTPS Submessages". own: a
--- relation beside reading and writing, against which both are held; a law says that a message is read as what it spells,
--- and as nothing else. What is ignored may be anything: flags that have no name here, bits of a set past its count, and
--- what is called `ignored`, `unused`, `extra_flags` and `skipped` below.
+-- A grammar of messages: their parts, one after another, and between them the octets that are ignored. DDSI-RTPS 2.5,
+-- 8.3.3 "The Overall Structure of an RTPS Message" and 9.4.5 "Mapping of the RTPS Submessages". own: a relation of its
+-- own, to check reading and writing against. Laws: a message is read as what it spells, and as nothing else; what is
+-- written spells its items. What is ignored may be anything: flags that have no name here, bits of a set past its
+-- count, and the parts with the names `ignored`, `unused`, `extra_flags` and `skipped` below.
 use Rattle.std.specs.Prelude.{ℕ, pos, ◌+◌, ◌-◌, ◌^◌, ◌≡◌, ◌<◌, ◌==◌, bit_and, bit_or, false, List, [], ◌∷◌, ◌++◌, All, length, map, slice_index, Option, Some, None, ⊤}
 use Rattle.std.specs.List.{flat_map}
 use Rattle.rtps_ids.specs.NumberSet.{NumberSetValue, cleared_words, is_bad, words_of_count}
@@ -32,8 +32,8 @@ use Rattle.rtps_wire.specs.declared.layout.header.TheConstants.{VERSION}
 use Rattle.rtps_wire.specs.declared.layout.info_ts.TheConstants.{INVALIDATE}
 use Rattle.rtps_wire.specs.declared.layout.submessage.TheConstants.{E}
 
--- a good set: its base, how many bits it has, and as many words as hold them (9.4.2.6 "SequenceNumberSet"). Bits past
--- those are ignored: the words of the set have them cleared
+-- a good set: its base, how many bits it has, and the words that have these bits (9.4.2.6 "SequenceNumberSet"). Later
+-- bits of the words are ignored: they are cleared in the set
 pub record SpellsSet (order : Order) (set : NumberSetValue) (octets : List ℕ) : Type 0 where
   pub words : List ℕ
   pub many : length words ≡ words_of_count set.count
@@ -64,14 +64,14 @@ pub record SpellsGap (order : Order) (body : GapBody) (octets : List ℕ) : Type
   pub spelled : SpellsSet order body.list list
   pub positive : (body.list.base == 0) ≡ false
 
--- a payload is all that is left; where there is none, what is left is ignored
+-- a payload is all that is left; without one, what is left is ignored
 abbrev pub SpellsPayload : PayloadValue → List ℕ → Type 0
 SpellsPayload Absent ignored = ⊤
 SpellsPayload (Whole payload) octets = octets ≡ payload
 SpellsPayload (Key payload) octets = octets ≡ payload
 
--- 9.4.5.4 "Data Submessage": extraFlags, octetsToInlineQos, readerId, writerId, writerSN, the inline QoS in the order of
--- the submessage, and the payload. Octets that octetsToInlineQos skips stand in front of the inline QoS
+-- 9.4.5.4 "Data Submessage": extraFlags, octetsToInlineQos, readerId, writerId, writerSN, the inline QoS in the order
+-- of the submessage, and the payload. Octets that octetsToInlineQos skips come before the inline QoS
 pub record SpellsData (order : Order) (body : DataValue) (octets : List ℕ) : Type 0 where
   pub extra_flags : List ℕ
   pub skipped : List ℕ
@@ -82,7 +82,7 @@ pub record SpellsData (order : Order) (body : DataValue) (octets : List ℕ) : T
   pub same_order : is_other_order order body.qos ≡ false
   pub spelled : SpellsPayload body.payload payload
 
--- 9.4.5.12 "InfoTimestamp Submessage": seconds and fraction; under flag I no octet is looked at
+-- 9.4.5.12 "InfoTimestamp Submessage": seconds and fraction; with flag I the body is ignored
 abbrev pub SpellsTime : Order → Option Stamp → List ℕ → Type 0
 SpellsTime order None ignored = ⊤
 SpellsTime order (Some stamp) octets = (ignored : List ℕ) × (octets ≡ octets_of order 4 stamp.seconds ++ (octets_of order 4 stamp.fraction ++ ignored))
@@ -98,7 +98,7 @@ pub record SpellsSource (version : Version) (vendor : Vendor) (prefix : GuidPref
   pub four : length unused ≡ 4
   pub parts : octets ≡ unused ++ (version.major ∷ version.minor ∷ (vendor.0 ++ (prefix.0 ++ ignored)))
 
--- a body, by its kind; of one that is not read nothing is known but its id
+-- a body, by its kind; a body that is not read may be any octets
 abbrev pub SpellsBody : Order → BodyValue → List ℕ → Type 0
 SpellsBody order (Data body) octets = SpellsData order body octets
 SpellsBody order (Heartbeat body) octets = SpellsHeartbeat order body octets
@@ -117,8 +117,8 @@ named_flags (AckNack body) = bit_or E ack_nack.FINAL
 named_flags (InfoTs time) = bit_or E INVALIDATE
 named_flags _ = E
 
--- a submessage, behind which these octets stand: submessageId, flags, octetsToNextHeader, and the body. Its extent comes
--- from octetsToNextHeader alone: it is the length of the body, or 0 where the body is all that is left
+-- a submessage that is followed by the octets `later`: submessageId, flags, octetsToNextHeader, and the body.
+-- octetsToNextHeader is the length of the body, or 0 if the body is all that is left
 pub record SpellsSubmessage (order : Order) (value : BodyValue) (octets later : List ℕ) : Type 0 where
   pub flags : ℕ
   pub declared : ℕ
@@ -129,30 +129,29 @@ pub record SpellsSubmessage (order : Order) (value : BodyValue) (octets later : 
   pub extent : length body ≡ extent_of (written_id value) declared (length body + length later)
   pub spelled : SpellsBody order value body
 
--- items, one behind another, wherever they were read
+-- items, one after another; their places do not matter
 abbrev pub SpellsItems : List ItemValue → List ℕ → Type 0
 SpellsItems [] octets = octets ≡ []
 SpellsItems (item ∷ items) octets = (first : List ℕ) × (later : List ℕ) × (octets ≡ first ++ later) × SpellsSubmessage item.order item.body first later × SpellsItems items later
 
--- a message: its header, of which each octet says something, and its items
+-- a message: its header, of which no octet is ignored, and its items
 pub record Spells (header : Header) (items : List ItemValue) (message : List ℕ) : Type 0 where
   pub rest : List ℕ
   pub version : header.version.major ≡ VERSION
   pub parts : message ≡ header_octets header ++ rest
   pub spelled : SpellsItems items rest
 
--- an item, wherever it was read
+-- an item without its place
 abbrev pub unplaced : ItemValue → ItemValue
 unplaced item = record item { at = 0 }
 
--- what was read is this header and these items, wherever they stand, and has a clean end
+-- the reading has this header and these items, at any places, and no refusal
 pub record IsReadAs (header : Header) (items : List ItemValue) (reading : Reading) : Type 0 where
   pub header_is : reading.header ≡ Some header
   pub items_are : map unplaced reading.items ≡ map unplaced items
   pub clean : reading.ending ≡ None
 
--- two messages are alike where one header and the same items are spelled by both: they differ in nothing but what is
--- ignored
+-- two messages are alike if both spell the same header and items: they differ only in what is ignored
 pub record AreAlike (message other : List ℕ) : Type 0 where
   pub header : Header
   pub items : List ItemValue

@@ -1,5 +1,5 @@
--- What a datagram adds to the counts of a recording. own: fragments are not put together, so they are counted apart,
--- for a count above 0 warns that numbers may have been told that no item tells.
+-- What a datagram adds to the counts of a recording. own: fragments are not put together. They have a count of their
+-- own, since samples may have been sent in them that no item shows.
 use Rattle.std.specs.Prelude.{ℕ, ◌==◌, ◌||◌, not, Bool, false, count_by, is_some, List}
 use Rattle.rtps_wire.specs.Message.{Reading}
 use Rattle.rtps_wire.specs.Reading.{Outcome, items_among, refusal_among}

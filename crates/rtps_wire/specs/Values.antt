@@ -1,5 +1,5 @@
--- Items, bodies and payloads. own: with lists of octets where the types hold a part of the caller's datagram, so that
--- two are equal where their octets are.
+-- Items, bodies and payloads. own: with lists of octets in place of borrowed slices, so that two are equal if their
+-- octets are.
 use Rattle.std.specs.Prelude.{ℕ, List, Option}
 use Rattle.std.specs.Option.{option_map}
 use Rattle.rtps_ids.specs.declared.identity.EntityId.{EntityId}

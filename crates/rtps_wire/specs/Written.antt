@@ -1,6 +1,6 @@
--- The written form of a message. DDSI-RTPS 2.5, 8.3.3 "The Overall Structure of an RTPS Message", 9.4.4 "Mapping of
--- the RTPS Header" and 9.4.5 "Mapping of the RTPS Submessages". own: octetsToNextHeader is always the length of the
--- body, also where the standard lets it be 0, so that no submessage takes what stands behind it.
+-- The written form of a message. DDSI-RTPS 2.5, 8.3.3 "The Overall Structure of an RTPS Message", 9.4.4 "Mapping of the
+-- RTPS Header" and 9.4.5 "Mapping of the RTPS Submessages". own: octetsToNextHeader is always the length of the body,
+-- also if the standard allows 0, so that no submessage takes octets of the next one.
 use Rattle.std.specs.Prelude.{ℕ, ◌+◌, bit_or, List, [], ◌∷◌, ◌++◌, length, Some, None}
 use Rattle.std.specs.List.{flat_map}
 use Rattle.rtps_ids.specs.Octets.{octets_of}
@@ -19,7 +19,7 @@ use Rattle.rtps_wire.specs.declared.header.Header.{Header}
 use Rattle.rtps_wire.specs.declared.layout.header.TheConstants.{SIZE}
 use Rattle.rtps_wire.specs.declared.layout.id.TheConstants.{ACKNACK, DATA, GAP, HEARTBEAT, INFO_DST, INFO_SRC, INFO_TS}
 
--- the id of the submessage of a body. What was skipped has no written form: its id, flags and octets say nothing here
+-- the id of the submessage of a body. One that was skipped cannot be written: its id, flags and octets are not used
 abbrev pub written_id : BodyValue → ℕ
 written_id (Data body) = DATA
 written_id (Heartbeat body) = HEARTBEAT
@@ -58,7 +58,7 @@ abbrev pub submessage_octets : Order → BodyValue → List ℕ
 submessage_octets order body =
     written_id body ∷ written_flags order body ∷ (octets_of order 2 (length (written_body order body)) ++ written_body order body)
 
--- the octets of an item, wherever it was read
+-- the octets of an item; its place is not used
 abbrev pub item_octets : ItemValue → List ℕ
 item_octets item = submessage_octets item.order item.body
 
@@ -66,11 +66,11 @@ item_octets item = submessage_octets item.order item.body
 abbrev pub message_octets : Header → List ItemValue → List ℕ
 message_octets header items = header_octets header ++ flat_map item_octets items
 
--- the items where a message has them that is written: each behind the one before it
+-- the items at their places in a written message: each after the one before it
 abbrev pub placed : ℕ → List ItemValue → List ItemValue
 placed at [] = []
 placed at (item ∷ items) = record item { at = at } ∷ placed (at + length (item_octets item)) items
 
--- what such a message says: its header, these items, and no refusal
+-- the reading of such a message: its header, these items, and no refusal
 abbrev pub clean_reading : Header → List ItemValue → Reading
 clean_reading header items = record { header = Some header; items = placed SIZE items; ending = None }

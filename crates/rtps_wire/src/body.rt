@@ -1,8 +1,8 @@
 use rtps_ids::{EntityId, GuidPrefix, NumberSet, Order, SeqNum, Stamp, Vendor, Version};
 use rtps_params::ParamList;
 
-/// What a DATA carries: nothing, a whole sample, or the key of one (DDSI-RTPS 2.5, 9.4.5.4 "Data Submessage", flags
-/// D and K).
+/// What a DATA carries: nothing, a whole sample, or only the key of a sample (DDSI-RTPS 2.5, 9.4.5.4 "Data Submessage",
+/// flags D and K).
 #[derive(Clone, Copy, PartialEq, Eq, Debug)]
 pub enum Payload<'a> {
     Absent,
@@ -10,45 +10,45 @@ pub enum Payload<'a> {
     Key(&'a [u8]),
 }
 
-/// A change of a writer, whole or by its key (DDSI-RTPS 2.5, 8.3.8.2 "Data").
+/// What a DATA says: a sample of a writer, or only its key (DDSI-RTPS 2.5, 8.3.8.2 "Data").
 #[derive(Clone, Copy, PartialEq, Eq, Debug)]
 pub struct DataBody<'a> {
     pub reader: EntityId,
     pub writer: EntityId,
     pub number: SeqNum,
-    /// The parameters that go with this change alone (DDSI-RTPS 2.5, 8.7.2 "DDS QoS Parameters").
+    /// The parameters of this sample alone (DDSI-RTPS 2.5, 8.7.2 "DDS QoS Parameters").
     pub qos: Option<ParamList<'a>>,
     pub payload: Payload<'a>,
 }
 
-/// Which numbers a writer has: `first` to `last`, none where `last` is `first` - 1 (DDSI-RTPS 2.5, 8.3.8.6
-/// "Heartbeat").
+/// What a HEARTBEAT says: the writer has the numbers from `first` to `last`, or none if `last` is `first` - 1
+/// (DDSI-RTPS 2.5, 8.3.8.6 "Heartbeat").
 #[derive(Clone, Copy, PartialEq, Eq, Debug)]
 pub struct HeartbeatBody {
     pub reader: EntityId,
     pub writer: EntityId,
     pub first: SeqNum,
     pub last: i64,
-    /// own: read as a number without a sign; nothing rests on it.
+    /// own: read as a number without a sign. No verdict depends on it.
     pub count: u32,
     pub is_final: bool,
     pub live: bool,
 }
 
-/// Which numbers a reader has, all below the base of the set, and which it asks for, the set (DDSI-RTPS 2.5, 8.3.8.1
-/// "AckNack").
+/// What an ACKNACK says: the reader has all numbers below the base of the set, and asks for the numbers in the set
+/// (DDSI-RTPS 2.5, 8.3.8.1 "AckNack").
 #[derive(Clone, Copy, PartialEq, Eq, Debug)]
 pub struct AckNackBody {
     pub reader: EntityId,
     pub writer: EntityId,
     pub set: NumberSet,
-    /// own: read as a number without a sign; nothing rests on it.
+    /// own: read as a number without a sign. No verdict depends on it.
     pub count: u32,
     pub is_final: bool,
 }
 
-/// Which numbers will not come: those from `start` on and below the base of `list`, and the list (DDSI-RTPS 2.5, 8.3.8.4
-/// "Gap").
+/// What a GAP says: these numbers will not come: those from `start` to below the base of `list`, and those in `list`
+/// (DDSI-RTPS 2.5, 8.3.8.4 "Gap").
 #[derive(Clone, Copy, PartialEq, Eq, Debug)]
 pub struct GapBody {
     pub reader: EntityId,
@@ -64,17 +64,17 @@ pub enum Body<'a> {
     Heartbeat(HeartbeatBody),
     AckNack(AckNackBody),
     Gap(GapBody),
-    /// The time of what follows, or none (DDSI-RTPS 2.5, 8.3.8.11 "InfoTimestamp").
+    /// The time of the submessages that follow, or none (DDSI-RTPS 2.5, 8.3.8.11 "InfoTimestamp").
     InfoTs(Option<Stamp>),
-    /// For whom what follows is (DDSI-RTPS 2.5, 8.3.8.8 "InfoDestination").
+    /// The destination of the submessages that follow (DDSI-RTPS 2.5, 8.3.8.8 "InfoDestination").
     InfoDst(GuidPrefix),
-    /// From whom what follows is (DDSI-RTPS 2.5, 8.3.8.10 "InfoSource").
+    /// The source of the submessages that follow (DDSI-RTPS 2.5, 8.3.8.10 "InfoSource").
     InfoSrc {
         version: Version,
         vendor: Vendor,
         prefix: GuidPrefix,
     },
-    /// A submessage that is not read: PAD, INFO_REPLY, those of fragments and of security, and unknown ids.
+    /// A submessage that is not read: PAD, INFO_REPLY, the kinds of fragments and of security, and unknown ids.
     Skipped {
         id: u8,
     },

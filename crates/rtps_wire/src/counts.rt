@@ -7,9 +7,9 @@ use crate::layout::id;
 /// What is counted of one datagram.
 #[derive(Clone, Copy, PartialEq, Eq, Debug)]
 pub struct Tally {
-    /// Whether it is refused at any place.
+    /// Whether it is malformed: its header, or a submessage, is refused.
     pub refused: bool,
-    /// How many of its items are skipped and are no fragments, PAD included.
+    /// How many of its items are skipped and are no fragments. A PAD counts too.
     pub skipped: u64,
     /// How many of its items are NACK_FRAG, HEARTBEAT_FRAG or DATA_FRAG.
     pub fragments: u64,
@@ -32,7 +32,7 @@ impl<'a> Body<'a> {
         }
     }
 
-    /// Whether it is skipped and is no fragment. PAD is.
+    /// Whether it is skipped and is no fragment. A PAD is such an item.
     #[inline(always)]
     pub fn is_skipped(&self) -> bool
         ensures { result ≡ is_skipped_lem (body_value self.now) }

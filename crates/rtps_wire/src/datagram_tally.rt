@@ -5,7 +5,7 @@ ghost use Rattle.rtps_wire.specs.Tally.{tally_of, tally_of_outcomes};
 use crate::counts::Tally;
 use crate::message::Items;
 
-/// Counts one datagram, of any length. Items before a refusal count.
+/// Counts one datagram of any length. Items before a refusal count.
 pub fn tally(bytes: &[u8]) -> Tally
     ensures { result ≡ tally_of (reading_of bytes.now) }
 {
@@ -19,7 +19,7 @@ pub fn tally(bytes: &[u8]) -> Tally
     }
 }
 
-/// Counts what is unread of a datagram.
+/// Counts the unread part of a datagram.
 fn tally_items(items: Items<'_>) -> Tally
     requires { length (outcomes_left items) < 2 ^ 64 }
     ensures { result ≡ tally_of_outcomes (outcomes_left items.entry) }

@@ -4,8 +4,8 @@ ghost use Rattle.rtps_wire.specs.FaultText.{fault_name, fault_number};
 use std::error::Error;
 use std::fmt;
 
-/// Why a datagram, or a submessage and all that follows it, is refused. The conditions of one submessage are looked
-/// at in a fixed order, and the first that holds is named.
+/// Why a datagram is refused, or a submessage and all that follows it. If several of these hold of one submessage, one
+/// is named: their order is fixed, and the first is named.
 #[derive(Clone, Copy, PartialEq, Eq, Debug)]
 pub enum WireFault {
     /// Fewer octets than a header has.
@@ -16,26 +16,26 @@ pub enum WireFault {
     BadVersion = 3,
     /// One to three octets where a submessage header begins.
     CutHeader = 4,
-    /// octetsToNextHeader passes the octets that are left.
+    /// octetsToNextHeader is more than the octets that are left.
     Overrun = 5,
     /// The body ends before its fields do.
     ShortBody = 6,
-    /// A DATA that says that it has data and that it has a key.
+    /// A DATA with both flag D, which says that it has data, and flag K, which says that it has a key.
     BadFlags = 7,
-    /// A DATA whose octetsToInlineQos points into its fields or past its body.
+    /// A DATA whose octetsToInlineQos points into its fields or past the end of its body.
     BadOffset = 8,
     /// A sequence number below 1, or a lastSN below 0.
     BadNumber = 9,
     /// A lastSN below firstSN - 1.
     BadRange = 10,
-    /// A set that no numbers make, or the list of a GAP of base 0.
+    /// A set with a base and a count that no set has, or a GAP whose list has base 0.
     BadSet = 11,
     /// An inline QoS that is no parameter list.
     BadInlineQos = 12,
 }
 
 impl WireFault {
-    /// Its number, from 1 on, in the order in which faults can be met.
+    /// Its number, from 1 on.
     pub fn number(self) -> u8
         ensures { result ≡ fault_number self }
     {

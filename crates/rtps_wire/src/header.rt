@@ -8,7 +8,8 @@ use crate::layout::header;
 use crate::read::fields::{prefix_at, vendor_at};
 use rtps_ids::{GuidPrefix, Vendor, Version};
 
-/// The header of a message: who sent it, and by which protocol (DDSI-RTPS 2.5, 8.3.6 "The RTPS Header").
+/// The header of a message: the version of the protocol, and who sent the message (DDSI-RTPS 2.5, 8.3.6 "The RTPS
+/// Header").
 #[derive(Clone, Copy, PartialEq, Eq, Debug)]
 pub struct Header {
     pub version: Version,

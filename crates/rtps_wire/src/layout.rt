@@ -1,12 +1,11 @@
-//! How messages lie in octets: ids, flags, sizes and places, each named once for the readers, for the writers and for the
-//! definitions.
-//! Places count from 0 at the first octet of a header or of a submessage's body.
+//! The layout of messages: ids, flags, sizes and offsets. The code that reads, the code that writes and the definitions
+//! all use these names. Offsets count from 0 at the first octet of a header, or of the body of a submessage.
 
-/// The header of a message (DDSI-RTPS 2.5, 9.4.4 "Mapping of the RTPS Header"). An INFO_SRC's body has its version,
-/// vendor id and prefix at the same places.
+/// The header of a message (DDSI-RTPS 2.5, 9.4.4 "Mapping of the RTPS Header"). The body of an INFO_SRC has its
+/// version, vendor id and prefix at the same offsets.
 pub(crate) mod header {
     pub(crate) const SIZE: usize = 20;
-    /// The octets that stand first, from place 0 on.
+    /// The first octets, from offset 0 on.
     pub(crate) const PROTOCOL: [u8; 4] = [b'R', b'T', b'P', b'S'];
 
     pub(crate) const MAJOR: usize = 4;
@@ -29,9 +28,9 @@ pub(crate) mod submessage {
     pub(crate) const FLAGS: usize = 1;
 
     pub(crate) const OCTETS_TO_NEXT: usize = 2;
-    /// A submessage begins at a multiple of this many octets behind the header of the message.
+    /// A submessage begins at a multiple of this many octets after the header of the message.
     pub(crate) const ALIGNMENT: u16 = 4;
-    /// Flag E: numbers lie with the lowest octet first.
+    /// Flag E: numbers have the lowest octet first.
     pub(crate) const E: u8 = 1;
 }
 
@@ -60,7 +59,7 @@ pub(crate) mod id {
     pub(crate) const DATA_FRAG: u8 = 0x16;
 }
 
-/// ACKNACK (DDSI-RTPS 2.5, 9.4.5.3 "AckNack Submessage"). Its count lies behind the set.
+/// ACKNACK (DDSI-RTPS 2.5, 9.4.5.3 "AckNack Submessage"). Its count comes after the set.
 pub(crate) mod ack_nack {
     pub(crate) const READER: usize = 0;
 
@@ -76,7 +75,7 @@ pub(crate) mod ack_nack {
 /// DATA (DDSI-RTPS 2.5, 9.4.5.4 "Data Submessage").
 pub(crate) mod data {
     pub(crate) const OCTETS_TO_QOS: usize = 2;
-    /// Where octetsToInlineQos counts from.
+    /// The offset from which octetsToInlineQos counts.
     pub(crate) const QOS_FROM: usize = 4;
 
     pub(crate) const READER: usize = 4;
@@ -92,7 +91,7 @@ pub(crate) mod data {
     pub(crate) const D: u8 = 0x04;
     /// Flag K: the payload is a key.
     pub(crate) const K: u8 = 0x08;
-    /// Flag N: the payload goes by no standard representation.
+    /// Flag N: the payload is in no standard representation.
     pub(crate) const N: u8 = 0x10;
 }
 

@@ -17,9 +17,9 @@ use crate::read::fields::rest_at;
 use rtps_ids::{Order, u16_at};
 use std::marker::Model;
 
-/// What is still unread of a datagram: its items in order, and then the refusal that ends it, if one does
-/// (DDSI-RTPS 2.5, 8.3.4.1 "Rules Followed By The Message Receiver"). A refused submessage makes the rest of the
-/// message invalid; what stood before it stays.
+/// The unread part of a datagram: its items in order, and then its refusal, if there is one (DDSI-RTPS 2.5, 8.3.4.1
+/// "Rules Followed By The Message Receiver"). A refused submessage makes the rest of the message invalid; the items
+/// before it stay.
 #[derive(Drop)]
 pub struct Items<'a> {
     rest: &'a [u8],
@@ -38,8 +38,8 @@ impl<'a> Model for Items<'a> {
 }
 
 impl<'a> Items<'a> {
-    /// Reads the header of a datagram, of any length, and leaves all behind it to be read, in no more items than there
-    /// are octets. The refusal, at place 0, is `Short`, `NotRtps` or `BadVersion`, and then there is nothing to read.
+    /// Reads the header of a datagram of any length. What follows the header is left to be read: no more items than
+    /// there are octets. The refusal is `Short`, `NotRtps` or `BadVersion`, at place 0.
     #[inline(always)]
     pub fn open(bytes: &'a [u8]) -> Result<(Header, Items<'a>), Refusal>
         ensures { MatchResult result
@@ -56,16 +56,16 @@ impl<'a> Items<'a> {
         }
     }
 
-    /// The place of the first octet that is unread, which is that of the next item, or of the refusal; of no use where
-    /// nothing is left.
+    /// The place of the first unread octet: that of the next item or of the refusal. It means nothing if nothing is
+    /// left.
     pub fn at(&self) -> usize
         ensures { result ≡ self.now.at }
     {
         self.at
     }
 
-    /// Takes the next item where it is one that is skipped, and answers its id. Else it takes nothing: the next item is
-    /// another, or there is a refusal, or nothing is left. It is faster than the iterator, which makes an `Item`.
+    /// Takes the next item if it is skipped, and returns its id. Takes nothing if the next item is another, if there is
+    /// a refusal, or if nothing is left. It is faster than the iterator, which makes an `Item`.
     #[inline(always)]
     pub fn take_skipped(&mut self) -> Option<u8>
         ensures id { result ≡ skipped_next (outcomes_left self.old) }
@@ -89,9 +89,9 @@ impl<'a> Items<'a> {
         Some(id)
     }
 
-    /// Takes the next item where it is no DATA and says nothing of the receiver's state: an ACKNACK, a HEARTBEAT, a GAP, or
-    /// one that is skipped. Answers whether it did; else it takes nothing, as [`Items::take_skipped`]. It is faster than the
-    /// iterator for whom such items say nothing.
+    /// Takes the next item if it is no DATA and does not change the receiver's state: if it is an ACKNACK, a HEARTBEAT,
+    /// a GAP, or skipped. Returns whether it did. If not, nothing is taken, as in [`Items::take_skipped`]. It is faster
+    /// than the iterator if only DATA are wanted.
     #[inline(always)]
     pub fn take_dataless(&mut self) -> bool
         ensures taken { result ≡ dataless_next (outcomes_left self.old) }
@@ -113,7 +113,7 @@ impl<'a> Iterator for Items<'a> {
 
     ghost remaining = { item_count outcomes_left };
 
-    /// The next item, or the refusal that ends the message. After a refusal or the end it answers None for good.
+    /// The next item, or the refusal that ends the message. After a refusal or the end it always gives None.
     #[inline(always)]
     fn next(&mut self) -> Option<Result<Item<'a>, Refusal>> {
         if self.rest.is_empty() {
@@ -161,8 +161,7 @@ fn is_read(id: u8) -> bool
     }
 }
 
-/// How many octets the submessage at the front has, where it has no fault, is no DATA and says nothing of the receiver's
-/// state.
+/// The size of the submessage at the front, if it has no fault, is no DATA and does not change the receiver's state.
 #[inline(always)]
 fn dataless_size(rest: &[u8]) -> Option<usize>
     ensures { MatchOption result (is_dataless_at rest.now ≡ false)
@@ -189,7 +188,7 @@ fn dataless_size(rest: &[u8]) -> Option<usize>
     }
 }
 
-/// Whether the body of a submessage has no fault, is that of no DATA and says nothing of the receiver's state.
+/// Whether the body of a submessage has no fault, is not that of a DATA and does not change the receiver's state.
 #[inline(always)]
 fn is_dataless(id: u8, flags: u8, octets: &[u8]) -> bool
     ensures { result ≡ is_dataless_with (body_fault id flags octets.now) (body_of id flags octets.now) }
@@ -204,7 +203,7 @@ fn is_dataless(id: u8, flags: u8, octets: &[u8]) -> bool
     }
 }
 
-/// Reads the submessage at the front, whose place this is, and says how many octets it has.
+/// Reads the submessage at the front, which begins at place `at`, and says how many octets it has.
 #[tactic(auto, unfolding(crate::specs::Message::fault_at, crate::specs::Message::item_at))]
 #[inline(always)]
 fn read_item(rest: &[u8], at: usize) -> Result<(Item<'_>, usize), WireFault>
@@ -232,7 +231,7 @@ fn read_item(rest: &[u8], at: usize) -> Result<(Item<'_>, usize), WireFault>
     }
 }
 
-/// How many octets the body of a submessage has, where so many are left behind its header.
+/// The size of the body of a submessage, if `left` octets come after its header.
 #[inline(always)]
 fn extent(id: u8, declared: usize, left: usize) -> usize
     ensures { result ≡ extent_of id declared left }
@@ -244,7 +243,7 @@ fn extent(id: u8, declared: usize, left: usize) -> usize
     }
 }
 
-/// The order that the flags tell.
+/// The order that flag E gives.
 #[inline(always)]
 fn order_of(flags: u8) -> Order
     ensures { result ≡ order_of_lem flags }

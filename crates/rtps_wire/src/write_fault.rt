@@ -4,12 +4,12 @@ ghost use Rattle.rtps_wire.specs.FaultText.{write_fault_name, write_fault_number
 use std::error::Error;
 use std::fmt;
 
-/// Why a message is not written. Its header is looked at first, and then its items, first to last; the first condition
-/// that holds is named.
+/// Why a message is not written. The header comes first, and then the items in order; the first fault of these is
+/// named.
 #[derive(Clone, Copy, PartialEq, Eq, Debug)]
 pub enum WriteFault {
-    /// A header whose major version is not 2. A submessage that was skipped, a heartbeat whose last is below 0 or below
-    /// its first less one, a GAP whose list has base 0, or an inline QoS in another order than its submessage's.
+    /// A header whose major version is not 2; a submessage that was skipped; a HEARTBEAT whose last is below 0 or below
+    /// its first - 1; a GAP whose list has base 0; or an inline QoS in another order than its submessage's.
     NotWritable = 13,
     /// A body of more than 65,535 octets.
     TooLong = 14,
@@ -20,7 +20,7 @@ pub enum WriteFault {
 }
 
 impl WriteFault {
-    /// Its number, from 13 on, behind those of [`crate::WireFault`].
+    /// Its number, from 13 on, after those of [`crate::WireFault`].
     pub fn number(self) -> u8
         ensures { result ≡ write_fault_number self }
     {

@@ -1,4 +1,4 @@
-//! What is announced, read from payloads and noted from datagrams.
+//! Announcements, read from payloads and noted from datagrams.
 
 use crate::fault::Fault;
 use crate::words::{Words, octets_text};

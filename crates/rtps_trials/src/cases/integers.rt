@@ -23,7 +23,7 @@ pub(super) fn read_at(alloc: Global, call: &str, words: &mut Words<'_>) -> Resul
     Ok(text)
 }
 
-/// ORDER NUMBER: what is put behind an octet of ff
+/// ORDER NUMBER: what is appended to an octet of ff
 pub(super) fn put(alloc: Global, call: &str, words: &mut Words<'_>) -> Result<String, Fault> {
     let order = words.order()?;
     let number = words.signed()?;
@@ -42,7 +42,7 @@ pub(super) fn seq_num(alloc: Global, words: &mut Words<'_>) -> Result<String, Fa
     Ok(format!(in alloc; "{number:?}")?)
 }
 
-/// BASE COUNT WORDS, of which those that lack are 0
+/// BASE COUNT WORDS. Words that are left out are 0
 pub(super) fn set(alloc: Global, words: &mut Words<'_>) -> Result<String, Fault> {
     let base = words.signed()?;
     let count = words.number()?.min(1000) as u32;

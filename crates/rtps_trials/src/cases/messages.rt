@@ -1,4 +1,4 @@
-//! Messages that are written: from the items of others, and such as cannot be read, or cannot be written.
+//! Messages that are written: from the items of other messages, and some that cannot be read or written.
 
 use crate::fault::Fault;
 use crate::rewriting::rewrite;
@@ -25,7 +25,7 @@ const READER: EntityId = EntityId([0, 0, 0, 0]);
 
 const WRITER: EntityId = EntityId([0, 0, 1, 3]);
 
-// An item to be written; where it stands says nothing then.
+// An item to be written. Its place is not used.
 macro_rules! big {
     ($body:expr) => {
         Item {
@@ -36,7 +36,7 @@ macro_rules! big {
     };
 }
 
-/// Writes a message that the words tell of.
+/// Writes the message that the words describe.
 pub(super) fn written(alloc: Global, call: &str, words: &mut Words<'_>) -> Result<String, Fault> {
     match call {
         "write_header" => {
@@ -97,7 +97,7 @@ fn data(alloc: Global, words: &mut Words<'_>) -> Result<String, Fault> {
     }
 }
 
-/// What is answered, the length field of the first submessage, and what is written.
+/// What the call returns, the length field of the first submessage, and what is written.
 fn answered(alloc: Global, major: u8, items: &[Item<'_>]) -> Result<String, Fault> {
     let header = Header {
         version: Version { major, minor: 5 },
@@ -111,7 +111,7 @@ fn answered(alloc: Global, major: u8, items: &[Item<'_>]) -> Result<String, Faul
     Ok(format!(in alloc; "{outcome:?} [{length}] [{text}]")?)
 }
 
-// The numbers of faults, one behind the other, as a text.
+// The numbers of faults, one after another, as a text.
 macro_rules! listed {
     ($alloc:expr, $faults:expr) => {{
         let mut text = String::new($alloc);

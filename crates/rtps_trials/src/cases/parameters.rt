@@ -6,7 +6,7 @@ use rtps_params::{ParamList, read_guid, read_text, read_u32, write_list};
 use std::alloc::Global;
 use std::fmt::Write;
 
-/// ORDER OCTETS: how many octets a list at their begin has, and its pairs
+/// ORDER OCTETS: how many octets the list at their beginning has, and its pairs
 pub(super) fn list(alloc: Global, words: &mut Words<'_>) -> Result<String, Fault> {
     let order = words.order()?;
     let octets = words.octets(alloc)?;
@@ -75,7 +75,7 @@ pub(super) fn value(alloc: Global, call: &str, words: &mut Words<'_>) -> Result<
     }
 }
 
-/// ORDER PID OCTETS: what is written behind an octet of ff of this parameter and one of no octets
+/// ORDER PID OCTETS: what is written after an octet of ff, for this parameter and one without octets
 pub(super) fn write(alloc: Global, words: &mut Words<'_>) -> Result<String, Fault> {
     let order = words.order()?;
     let pid = words.number()?.min(0xffff) as u16;

@@ -22,7 +22,7 @@ pub(super) fn ranges(alloc: Global, call: &str, words: &mut Words<'_>) -> Result
     }
 }
 
-/// The set of these ranges. Those that no set takes are left out.
+/// The set of these ranges. Ranges that no set takes are left out.
 fn joined<C: Coverage>(alloc: Global, ranges: &str) -> Result<C, Fault> {
     let mut set = C::empty(alloc);
     for range in ranges.split(",") {
@@ -50,7 +50,8 @@ fn front_text<C: Coverage>(alloc: Global, set: &C, words: &mut Words<'_>) -> Res
     Ok(text)
 }
 
-/// How many ranges the even numbers up to 1,000 are, and then all of them, each with the front of the set
+/// How many ranges a set of the even numbers up to 1,000 has, and then a set of all of them; with each, the front of
+/// the set
 pub(super) fn even_then_odd(alloc: Global) -> Result<String, Fault> {
     let mut set = MergedRanges::empty(alloc);
     add_500(&mut set, true)?;
@@ -69,7 +70,7 @@ fn add_500(set: &mut MergedRanges, is_even: bool) -> Result<(), Memory> {
     Ok(())
 }
 
-/// NUMBER RANGES RANGES: the least number from there on that neither set has
+/// NUMBER RANGES RANGES: the least number from NUMBER on that neither set has
 pub(super) fn least_of_two(alloc: Global, words: &mut Words<'_>) -> Result<String, Fault> {
     let from = words.number()?.clamp(1, i64::MAX as u64);
     let one: MergedRanges = joined(alloc, words.word())?;

@@ -1,4 +1,4 @@
-//! Calls that answer a value and grow nothing.
+//! Calls that return a value and change nothing.
 
 use super::mark;
 use crate::fault::Fault;
@@ -12,7 +12,7 @@ use rtps_evidence::Evidence;
 use rtps_ids::{Guid, Memory};
 use std::alloc::Global;
 
-/// A call, and what it is made on.
+/// A call, and its arguments.
 #[derive(Clone, Copy)]
 struct Call<'r, 'a> {
     alloc: Global,
@@ -21,7 +21,7 @@ struct Call<'r, 'a> {
     index: &'r Index<'a>,
 }
 
-/// What a call answers.
+/// What a call returns.
 #[derive(PartialEq, Drop)]
 enum Answer<'a> {
     Verdict(Verdict),
@@ -33,7 +33,7 @@ enum Answer<'a> {
     Pairs(Vec<Pair>),
 }
 
-/// Whether the call was refused memory; its answer is the first one when it is made again.
+/// Whether the call was refused memory. If it was, it has to return the first result when it is made again.
 pub(super) fn is_refused(alloc: Global, name: &str, recording: &[&[u8]]) -> Result<bool, Fault> {
     let index = Index::build(alloc, recording)?;
     let call = Call {
@@ -79,7 +79,7 @@ impl<'a> Call<'_, 'a> {
         Evidence::of_from(self.alloc, self.index, PAIR, second())
     }
 
-    /// The verdict on the pair; by an index that is built anew where the call is none of the others.
+    /// The verdict on the pair. If the call is none of the others, it is found by an index that is built anew.
     fn verdict(self) -> Result<Verdict, Memory> {
         let (alloc, recording) = (self.alloc, self.recording);
         match self.name {

@@ -1,4 +1,4 @@
-//! Calls that append to octets, and those that join numbers to a set.
+//! Calls that append to octets, and calls that add numbers to a set.
 
 use super::mark;
 use crate::fault::Fault;
@@ -9,10 +9,10 @@ use rtps_params::{ListFault, write_list};
 use rtps_wire::{Header, Item, WriteFault, write_message};
 use std::alloc::Global;
 
-/// What stands in the octets before the call.
+/// The octets before the call.
 const BEFORE: &[u8] = b"before";
 
-/// Parameters of values that grow.
+/// Parameters with values of several sizes.
 const PARAMETERS: [(u16, &[u8]); 4] = [
     (0x0005, b"pose"),
     (0x0007, b"\x05\0\0\0Pose\0\0\0\0"),
@@ -31,7 +31,7 @@ enum Appended<'a> {
 }
 
 impl Appended<'_> {
-    /// Appends it, and answers whether memory was refused.
+    /// Appends it. Returns whether memory was refused.
     fn append_to(self, out: &mut Vec<u8>) -> Result<bool, Fault> {
         match self {
             Appended::Short(value) => Ok(put_u16(Order::Little, value, out).is_err()),
@@ -71,7 +71,8 @@ pub(super) fn is_message_refused(alloc: Global, recording: &[&[u8]]) -> Result<b
     Ok(refused)
 }
 
-/// A call that is refused leaves the octets as they were, and appends what it is to append when it is made again.
+/// If the call is refused, it has to leave the octets as they were. When it is made again, it has to append what is to
+/// be appended.
 fn is_append_refused(alloc: Global, appended: Appended<'_>) -> Result<bool, Fault> {
     let mut wanted = Vec::from_slice(alloc, BEFORE)?;
     let mut tried = Vec::from_slice(alloc, BEFORE)?;
@@ -122,7 +123,8 @@ fn is_join_refused<C: Coverage>(
     Ok(refused)
 }
 
-/// Adds a range of 11 numbers, which begins behind the one that is given, to the one set a second time where it is refused.
+/// Adds a range of 11 numbers to both sets, from the number after `before` on. If `tried` is refused memory, it has to
+/// be as it was, and the range is added once more.
 fn is_range_refused<C: Coverage>(
     alloc: Global,
     wanted: &mut C,

@@ -1,4 +1,4 @@
-//! The calls of the tool, on a recording in either form and on words.
+//! Calls of `rtps_tool`, on a recording in either form and on arguments.
 
 use super::mark;
 use crate::fault::Fault;
@@ -23,7 +23,8 @@ pub(super) fn is_input_refused(alloc: Global, call: &str, input: &[u8]) -> Resul
     is_run_refused(Made { alloc, run, input })
 }
 
-/// The same, beside a recording of ample memory. It is read a second time where it was refused.
+/// The same for reading a recording, compared with one that was read with enough memory. If it was refused, it is read
+/// once more.
 fn is_recording_refused(alloc: Global, input: &[u8], wanted: &Recording) -> Result<bool, Fault> {
     for refused in [false, true] {
         mark(alloc);
@@ -42,7 +43,8 @@ fn is_same(one: &Recording, other: &Recording) -> bool {
     one.datagrams().eq(other.datagrams()) && one.ignored() == other.ignored()
 }
 
-/// The output has its room before the run. A run that is refused has written nothing, and is made again on a fresh input.
+/// The output has enough memory before the run. If the run is refused, it must have written nothing, and it is made
+/// again on a fresh input.
 fn is_run_refused(made: Made<'_>) -> Result<bool, Fault> {
     let (wanted, ending) = made.text()?;
     let Made { alloc, run, input } = made;
@@ -61,7 +63,7 @@ fn is_run_refused(made: Made<'_>) -> Result<bool, Fault> {
     Err(Fault::Memory)
 }
 
-/// Whether reading words was refused memory. They may be read as with ample memory although a request was refused.
+/// Whether reading arguments was refused memory. They may be read as with enough memory although a request was refused.
 pub(super) fn are_words_refused(alloc: Global, call: &str) -> Result<bool, Fault> {
     let words: &[&str] = match call {
         "read_words" => &["rtps-audit", "audit", "--", "a file.rec"],
@@ -83,7 +85,7 @@ pub(super) fn are_words_refused(alloc: Global, call: &str) -> Result<bool, Fault
     Err(Fault::Memory)
 }
 
-/// What words choose, or the text that answers them; None for want of memory.
+/// What arguments choose, or the text that is printed for them; None if there was no memory.
 fn answer_of(alloc: Global, read: Result<Choice, WordFault>) -> Result<Option<String>, Fault> {
     match read {
         Ok(choice) => Ok(Some(format!(in alloc; "{choice:?}")?)),

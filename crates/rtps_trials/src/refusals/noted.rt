@@ -1,4 +1,4 @@
-//! Walks and directories, which grow by the datagrams of a recording.
+//! Walks and directories. They grow with the datagrams of a recording.
 
 use super::mark;
 use crate::fault::Fault;
@@ -7,7 +7,7 @@ use rtps_ids::Memory;
 use rtps_receiver::{Act, Walk};
 use std::alloc::Global;
 
-/// Two directories that note the same, of which one is refused memory.
+/// Two directories that note the same acts. One of them is refused memory.
 #[derive(Drop)]
 struct Directories<'a> {
     alloc: Global,
@@ -15,7 +15,7 @@ struct Directories<'a> {
     tried: Directory<'a>,
 }
 
-/// Whether a directory was refused memory for any datagram, by either way to note its acts.
+/// Whether a directory was refused memory for any datagram, by either of the ways to note its acts.
 pub(super) fn is_note_refused(
     alloc: Global,
     call: &str,
@@ -59,7 +59,7 @@ impl<'a> Directories<'a> {
         Ok(refused)
     }
 
-    /// Notes an act. Where that is refused, the directory is as it was, and the act is noted once more.
+    /// Notes an act. If that is refused, the directory has to be as it was, and the act is noted once more.
     fn is_one_refused(&mut self, act: &Act<'a>) -> Result<bool, Fault> {
         mark(self.alloc);
         let first = self.tried.note(act);
@@ -77,7 +77,7 @@ impl<'a> Directories<'a> {
         Ok(refused)
     }
 
-    /// Notes acts at once, a second time where they are refused.
+    /// Notes several acts in one call; once more if that is refused.
     fn are_all_refused(&mut self, acts: &[Act<'a>]) -> Result<bool, Fault> {
         mark(self.alloc);
         let first = self.tried.note_all(acts);
@@ -105,14 +105,15 @@ impl<'a> Directories<'a> {
     }
 }
 
-/// Whether a walk was refused memory for any datagram. It has the same acts then as one that was not.
+/// Whether a walk was refused memory for any datagram. After that it has to have the same acts as one that was not
+/// refused.
 pub(super) fn is_walk_refused(alloc: Global, recording: &[&[u8]]) -> Result<bool, Fault> {
     let mut wanted = Walk::new(alloc);
     let mut tried = Walk::new(alloc);
     is_any_read_refused(alloc, recording, &mut wanted, &mut tried)
 }
 
-/// The same, of two walks. A datagram that is refused is read once more.
+/// The same, for two walks. If a datagram is refused, it is read once more.
 fn is_any_read_refused<'a>(
     alloc: Global,
     recording: &[&'a [u8]],

@@ -48,7 +48,7 @@ pub(crate) fn data(order: Order, flags: u8, body: &[u8]) -> Result<DataBody<'_>,
     })
 }
 
-/// The inline QoS that these octets begin with, where the flags say that there is one, and the octets behind it.
+/// The inline QoS at the beginning of these octets, if the flags say that there is one, and the octets after it.
 #[inline(always)]
 fn inline_qos(
     flags: DataFlags,
@@ -66,7 +66,7 @@ fn inline_qos(
     }
 }
 
-/// The payload that these octets are.
+/// The payload, which is all of these octets.
 #[inline(always)]
 fn payload(flags: DataFlags, octets: &[u8]) -> Payload<'_>
     ensures { payload_value result ≡ payload_of_lem flags.0 octets.now }

@@ -4,7 +4,7 @@ ghost use Rattle.rtps_wire.specs.SetField.{HasSet, LacksSet};
 use crate::fault::WireFault;
 use rtps_ids::{EntityId, GuidPrefix, NumberSet, Order, SetFault, Vendor};
 
-/// The octets from this place on.
+/// The octets from offset `at` on.
 #[inline(always)]
 pub(crate) fn rest_at(octets: &[u8], at: usize) -> &[u8]
     requires { at ≤ length octets.now }
@@ -14,7 +14,7 @@ pub(crate) fn rest_at(octets: &[u8], at: usize) -> &[u8]
     rest
 }
 
-/// The entity id at this place.
+/// The entity id at offset `at`.
 #[inline(always)]
 pub(crate) fn entity_at(octets: &[u8], at: usize) -> EntityId
     requires { at + 4 ≤ length octets.now }
@@ -25,7 +25,7 @@ pub(crate) fn entity_at(octets: &[u8], at: usize) -> EntityId
     EntityId(entity)
 }
 
-/// The GUID prefix at this place.
+/// The GUID prefix at offset `at`.
 #[inline(always)]
 pub(crate) fn prefix_at(octets: &[u8], at: usize) -> GuidPrefix
     requires { at + 12 ≤ length octets.now }
@@ -36,7 +36,7 @@ pub(crate) fn prefix_at(octets: &[u8], at: usize) -> GuidPrefix
     GuidPrefix(prefix)
 }
 
-/// The vendor id at this place.
+/// The vendor id at offset `at`.
 pub(crate) fn vendor_at(octets: &[u8], at: usize) -> Vendor
     requires { at + 2 ≤ length octets.now }
     ensures { result.0 ≡ take 2 (drop at octets.now) }
@@ -44,7 +44,8 @@ pub(crate) fn vendor_at(octets: &[u8], at: usize) -> Vendor
     Vendor([octets[at], octets[at + 1]])
 }
 
-/// The sequence number set at this place, and how many octets it takes. Its base and its count are known to be there.
+/// The sequence number set at offset `at`, and how many octets it takes. There are enough octets for its base and its
+/// count.
 #[tactic(auto, using(rtps_ids::proofs::Offered::bad_set_found, rtps_ids::proofs::Offered::cut_words_found, rtps_ids::proofs::Offered::good_set_found))]
 pub(crate) fn set_at(
     order: Order,

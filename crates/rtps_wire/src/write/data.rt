@@ -30,7 +30,7 @@ pub(crate) fn flags(body: &DataBody<'_>) -> u8
     qos | payload_flag(&body.payload)
 }
 
-/// The flag that tells a payload's kind.
+/// The flag for a payload's kind.
 fn payload_flag(payload: &Payload<'_>) -> u8
     ensures { result ≡ payload_flag_lem (payload_value payload.now) }
 {
@@ -51,7 +51,7 @@ fn payload_octets<'a>(payload: &Payload<'a>) -> &'a [u8]
     }
 }
 
-/// How many octets the body of a DATA has, where octetsToNextHeader can say so.
+/// The size of the body of a DATA, or None if it is too large for octetsToNextHeader.
 pub(crate) fn size(body: &DataBody<'_>) -> Option<u16>
     ensures held { IsHeldData (data_value body.now) }
     ensures size { (order : Order) → MatchOption result (2 ^ 16 ≤ length (data_octets order (data_value body.now))) (λ size. length (data_octets order (data_value body.now)) ≡ size) }
@@ -84,7 +84,7 @@ pub(crate) fn data(order: Order, body: &DataBody<'_>, out: &mut Vec<u8>) -> Resu
     Ok(())
 }
 
-/// Appends the fields of a DATA, behind which its inline QoS begins.
+/// Appends the fields of a DATA. Its inline QoS comes right after them.
 #[tactic(auto, using(crate::proofs::WrittenFields::lengths))]
 fn put_fields(order: Order, body: &DataBody<'_>, out: &mut Vec<u8>) -> Result<(), Memory>
     ensures written { OnOk result (out.new.items ≡ out.old.items ++ field_octets order (data_value body.now)) }

@@ -10,7 +10,7 @@ use crate::layout::submessage;
 use rtps_ids::layout::set::{WORD_BITS, WORD_SIZE, WORDS};
 use rtps_ids::{EntityId, Memory, NumberSet, Order, SeqNum, put_number, put_u32};
 
-/// A flag, where it is set.
+/// The flag if it is set, and else 0.
 #[inline(always)]
 pub(crate) fn flag(is_set: bool, flag: u8) -> u8
     ensures { result ≡ flag_if is_set flag }
@@ -18,7 +18,7 @@ pub(crate) fn flag(is_set: bool, flag: u8) -> u8
     if is_set { flag } else { 0 }
 }
 
-/// The flag that tells the order.
+/// The flag for an order.
 #[inline(always)]
 pub(crate) fn order_flag(order: Order) -> u8
     ensures { result ≡ order_flag_lem order }
@@ -42,7 +42,7 @@ pub(crate) fn number_size(number: SeqNum) -> usize
     ensures held { IsHeldNumber number }
     ensures size { result ≡ 8 }
 {
-    // Read for its range.
+    // Called only because its contract gives the range of the number.
     let _value = number.get();
     8
 }

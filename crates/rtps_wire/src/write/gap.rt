@@ -8,7 +8,7 @@ use crate::body::GapBody;
 use crate::layout::gap;
 use rtps_ids::{Memory, Order, put_number};
 
-/// Whether a list is that of no GAP.
+/// Whether no GAP can have this list.
 pub(crate) fn is_bad_list(body: &GapBody) -> bool
     ensures { result ≡ (body.now.list.base == 0) }
 {
@@ -21,7 +21,7 @@ pub(crate) fn size(body: GapBody) -> u16
     ensures held { IsHeldGap body }
     ensures size { (order : Order) → length (gap_octets order body) ≡ result }
 {
-    // Read for its range.
+    // Called only because its contract gives the range of the number.
     let _start = body.start.get();
     gap::LIST as u16 + set_size(body.list)
 }

@@ -8,7 +8,7 @@ use crate::body::HeartbeatBody;
 use crate::layout::heartbeat;
 use rtps_ids::{Memory, Order, put_number, put_u32};
 
-/// Whether no heartbeat says these numbers.
+/// Whether no HEARTBEAT can have these numbers.
 pub(crate) fn is_bad_range(body: &HeartbeatBody) -> bool
     ensures { result ≡ is_bad_range_lem body.now }
 {
@@ -28,7 +28,7 @@ pub(crate) fn size(body: HeartbeatBody) -> u16
     ensures held { IsHeldHeartbeat body }
     ensures size { (order : Order) → length (heartbeat_octets order body) ≡ result }
 {
-    // Read for its range.
+    // Called only because its contract gives the range of the number.
     let _first = body.first.get();
     heartbeat::SIZE as u16
 }

@@ -12,7 +12,7 @@ use crate::layout::{id, submessage};
 use crate::write_fault::WriteFault;
 use rtps_ids::{Memory, Order, put_u16};
 
-/// Whether no submessage of this order says this body.
+/// Whether no submessage of this order can have this body.
 fn is_not_writable(order: Order, body: &Body<'_>) -> bool
     ensures { result ≡ is_not_writable_lem order (body_value body.now) }
 {
@@ -25,7 +25,7 @@ fn is_not_writable(order: Order, body: &Body<'_>) -> bool
     }
 }
 
-/// How many octets a body has, where octetsToNextHeader can say so.
+/// The size of a body, or None if it is too large for octetsToNextHeader.
 pub(crate) fn size(body: &Body<'_>) -> Option<u16>
     ensures held { IsHeldBody (body_value body.now) }
     ensures size { (order : Order) → MatchOption result (2 ^ 16 ≤ length (written_body order (body_value body.now))) (λ size. length (written_body order (body_value body.now)) ≡ size) }
@@ -46,7 +46,7 @@ pub(crate) fn size(body: &Body<'_>) -> Option<u16>
     }
 }
 
-/// Why an item, the last one or not, is not written.
+/// Why an item is not written, if it is not. It matters whether it is the last one.
 pub(crate) fn refusal(item: &Item<'_>, is_last: bool) -> Option<WriteFault>
     ensures fault { result ≡ item_fault is_last (item_value item.now) }
     ensures held { IsHeldItem (item_value item.now) }
@@ -80,7 +80,7 @@ fn id_of(body: &Body<'_>) -> u8
     }
 }
 
-/// The flags of a body, but for the one that tells the order.
+/// The flags of a body, except flag E.
 fn own_flags(body: &Body<'_>) -> u8
     ensures { result ≡ own_flags_lem (body_value body.now) }
 {

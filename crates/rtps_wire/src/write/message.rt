@@ -15,14 +15,14 @@ use crate::layout::{header, submessage};
 use crate::write_fault::WriteFault;
 use rtps_ids::Memory;
 
-/// Appends a message: the header, and the items in order, wherever they were read. `Items` over what was appended gives
-/// the header and the items back, each at its place, and no refusal (DDSI-RTPS 2.5, 8.3.3 "The Overall Structure of an
-/// RTPS Message", 9.4.4 "Mapping of the RTPS Header" and 9.4.5 "Mapping of the RTPS Submessages"). Flags that have no field
-/// here, and parts that readers ignore, are written as 0, octetsToInlineQos as 16, and octetsToNextHeader as the length of
-/// the body.
+/// Appends a message: the header, and the items in order. The places of the items are not used. `Items` reads the
+/// header and the items back from what was appended, each item at its new place, without a refusal (DDSI-RTPS 2.5,
+/// 8.3.3 "The Overall Structure of an RTPS Message", 9.4.4 "Mapping of the RTPS Header" and 9.4.5 "Mapping of the RTPS
+/// Submessages"). Flags that have no field here, and parts that are ignored, are written as 0, octetsToInlineQos as 16,
+/// and octetsToNextHeader as the length of the body.
 ///
-/// The error is the first reason against the header and then against the items, first to last: `NotWritable`, then
-/// `TooLong`, then `Unaligned` of each. Where nothing is against them, it is `Memory`. Each leaves `out` as it was.
+/// The error is the first fault of the header and then of the items in order: of each `NotWritable`, else `TooLong`,
+/// else `Unaligned`. If there is no such fault, it is `Memory`. After any error `out` is as it was.
 pub fn write_message(
     header: &Header,
     items: &[Item<'_>],
@@ -51,7 +51,7 @@ pub fn write_message(
     }
 }
 
-/// The first reason against a message.
+/// The first fault of a message, if it has one.
 fn refusal(header: &Header, items: &[Item<'_>]) -> Option<WriteFault>
     ensures fault { result ≡ write_fault_lem header.now (map item_value items.now) }
     ensures header { IsHeldHeader header.now }
@@ -72,7 +72,7 @@ fn has_version(header: Header) -> bool
     header.version.major == header::VERSION
 }
 
-/// The first reason against items.
+/// The first fault of items, if they have one.
 fn items_refusal(items: &[Item<'_>]) -> Option<WriteFault>
     ensures fault { result ≡ items_fault (map item_value items.now) }
     ensures held { IfNone result (All IsHeldItem (map item_value items.now)) }
@@ -85,7 +85,7 @@ fn items_refusal(items: &[Item<'_>]) -> Option<WriteFault>
     None
 }
 
-/// Appends a message against which there is no reason.
+/// Appends a message that has no fault.
 fn put_message(header: &Header, items: &[Item<'_>], out: &mut Vec<u8>) -> Result<(), Memory>
     requires held { IsHeldHeader header.now }
     requires good { items_fault (map item_value items.now) ≡ None }
@@ -99,7 +99,7 @@ fn put_message(header: &Header, items: &[Item<'_>], out: &mut Vec<u8>) -> Result
     put_items(items, out)
 }
 
-/// How many octets a message of these items has.
+/// How many octets to reserve for a message of these items: no more than it has.
 fn room_for(items: &[Item<'_>]) -> usize
     ensures { result ≤ SIZE + length (flat_map item_octets (map item_value items.now)) }
 {
@@ -126,7 +126,7 @@ fn put_header(header: &Header, out: &mut Vec<u8>) -> Result<(), Memory>
     Ok(())
 }
 
-/// Appends items against which there is no reason.
+/// Appends items that have no fault.
 fn put_items(items: &[Item<'_>], out: &mut Vec<u8>) -> Result<(), Memory>
     requires { items_fault (map item_value items.now) ≡ None }
     ensures written { OnOk result (out.new.items ≡ out.old.items ++ flat_map item_octets (map item_value items.now)) }
