@@ -1,21 +1,22 @@
 #!/usr/bin/env python3
-"""Measures the figures of docs/PERFORMANCE.md, and prints them as rows of a table.
+"""Measures the figures of docs/PERFORMANCE.md and of the README, and prints their tables, ready to paste.
 
-    figures.py [--program PROGRAM] [--beside OTHER] [--runs RUNS] [NAME ..]
+    figures.py [--program PROGRAM] [--beside PLAIN] [--runs RUNS] [NAME ..]
 
-A NAME is a recording, or a recording and a command, as robot or robot_why; without a command it is `audit`. Without a NAME
-all are measured. PROGRAM is the built program of this repository where none is given. OTHER is another program with the
-commands show, list and audit. Beside them, on the same file: `cat`; `tshark` of a capture, where it is installed; `xxd -r -p`
-of a text; and `audit` where the command is another.
+A NAME is that of a row: a recording, or a recording and a command, as robot or robot_why; without a command it is `audit`.
+Without a NAME all rows are measured, which takes some minutes. PROGRAM is the built program of this repository if none is
+given. PLAIN is another program with the commands show, list and audit; without it, its column is empty.
 
-Recordings are made in the folder RTPS_BENCH_DIR, where that is set, and stay there; else in a folder that is removed. Each
-figure is the least wall time of RUNS runs that take turns (3 where none is given), and the greatest memory of the program.
-Nothing here passes or fails.
+Other programs are run on the same file: `cat`; `tshark` on a capture, if it is installed; `xxd -r -p` on a text. Recordings
+are made in the folder RTPS_BENCH_DIR, if that is set, and stay there; else in a folder that is removed. A time is the least
+wall time of RUNS runs that take turns (3 if none is given). Memory is the greatest that a run took. Nothing here passes or
+fails.
 """
 import os
 import shutil
 import sys
 import tempfile
+from dataclasses import dataclass
 
 import make
 from make import READER, WRITER, ack_nack, announced, data, gap, header, heartbeat, to
@@ -24,7 +25,8 @@ from measure import run
 ROOT = os.path.dirname(os.path.dirname(os.path.realpath(__file__)))
 PROGRAM = os.path.join(ROOT, 'crates', 'rtps_main', 'out', 'rtps_main')
 COMMANDS = {'show': ['show'], 'list': ['list'], 'audit': ['audit'], 'why': ['why'], 'json': ['audit', '--json']}
-MIB = 1 << 20
+PLAIN_COMMANDS = 'show', 'list', 'audit'
+KIB, MIB, GIB = 1 << 10, 1 << 20, 1 << 30
 
 
 def prefix(place):
@@ -112,6 +114,62 @@ RECORDINGS = {
     'smallest': ('rec', lambda: of_kind('hostile', 200)),
     'in_turns': ('rec', lambda: of_kind('in_turns', 2)),
     'not_in_turns': ('rec', lambda: of_kind('not_in_turns', 2)),
+    'opened': ('rec', lambda: of_kind('opened', 2)),
+    'one_topic': ('rec', lambda: of_kind('one_topic', 2)),
+    'every_second': ('rec', lambda: of_kind('every_second', 8)),
+    'answers': ('rec', lambda: of_kind('answers', 20)),
+}
+
+
+@dataclass
+class Row:
+    """a row of a table: its name, what its first columns say, and whether other programs, `audit` of the same recording, or
+    the same command on another recording are run beside it"""
+    name: str
+    said: str
+    others: bool = False
+    audit: bool = False
+    recording: str = ''
+
+
+# The tables of docs/PERFORMANCE.md: heading, first columns, the heading of the last but one column, rows.
+TABLES = [
+    ('`audit`', 'Recording', '`tshark`, `cat`, `xxd`', [
+        Row('small', 'one pair, 1,000 samples, a capture', others=True),
+        Row('robot', 'a robot: 60 writers, 180 readers, 300,000 datagrams, a capture of {size}', others=True),
+        Row('robot_text', 'the same as a text of {size}', others=True),
+        Row('limit', '1,000,000 datagrams, the default limit, a capture of {size}', others=True),
+        Row('pairs', '300 writers and 300 readers of one topic: 90,000 pairs', others=True),
+        Row('scatter', '500,000 samples of one writer, the odd numbers first', others=True),
+        Row('sets', '25.6 million numbers, said to be gone by sets of 256 bits', others=True),
+        Row('unnamed', '100,000 samples to 100 readers', others=True),
+        Row('named', 'the same, and each reader is sent four of them again by its name', others=True),
+        Row('smallest', 'the smallest submessages, a text of {size}', others=True),
+    ]),
+    ('Other commands', 'Command', '`audit`', [
+        Row('robot_list', "`list` of the robot's capture", audit=True),
+        Row('robot_show', "`show` of the robot's capture", audit=True),
+        Row('robot_why', "`why` of the robot's capture", audit=True),
+        Row('robot_json', "`audit --json` of the robot's capture", audit=True),
+        Row('pairs_why', '`why` of 90,000 pairs', audit=True),
+    ]),
+    ('Slow inputs', 'Input | What is slow', 'Compared with', [
+        Row('in_turns', '3,844 readers that are sent numbers in turns, in {size} | `audit`: readers times submessages', recording='not_in_turns'),
+        Row('opened_why', 'one writer with many submessages and many rows that are not `complete`, in {size} | `why`, `audit --json`: rows times submessages', audit=True),
+        Row('smallest_show', 'the smallest submessages, in {size} | `show`: a line for each submessage, so six octets of text for each octet read', audit=True),
+        Row('one_topic_list', 'many writers and many readers of one topic, in {size} | `list`: a line for each two that match, best-effort ones too', audit=True),
+        Row('every_second', 'sets of 256 bits with every second bit set, in {size} | `audit`: each set is added range by range'),
+        Row('answers', 'nearly all ACKNACKs, in {size} | memory of `audit`: an ACKNACK is kept whole'),
+    ]),
+]
+
+# The rows of the table of the README: by name, what the first column says.
+README = {
+    'robot': "`audit` of a robot's capture: 300,000 datagrams, 180 pairs",
+    'robot_text': '`audit` of the same as a text',
+    'limit': '`audit` of a capture of 1,000,000 datagrams, the default limit',
+    'pairs': '`audit` of 90,000 pairs of one topic',
+    'robot_why': "`why` of the robot's capture, in another run",
 }
 
 
@@ -131,54 +189,120 @@ def write(path, datagrams):
         f.writelines(map(frame, datagrams))
 
 
-def beside_of(path, view, program, other):
-    """the commands beside the program's: the name of each, and its words"""
-    if view != 'audit':
-        yield 'audit', [program, 'audit', path]
-    if other and view in ('show', 'list', 'audit'):
-        yield os.path.basename(other), [other, *COMMANDS[view], path]
-    yield 'cat', ['cat', path]
-    if path.endswith('.rec'):
-        yield 'xxd -r -p', ['xxd', '-r', '-p', path]
-    elif shutil.which('tshark'):
-        yield 'tshark', ['tshark', '-r', path, '-T', 'fields', '-e', 'rtps.sm.id']
-
-
-def measured(name, program, other, runs, folder):
-    recording, _, view = (name, '', 'audit') if name in RECORDINGS else name.rpartition('_')
-    if recording not in RECORDINGS or view not in COMMANDS:
-        raise SystemExit(__doc__)
+def path_of(recording, folder):
+    """the file of a recording, which is made if it is not there"""
     ending, datagrams = RECORDINGS[recording]
     path = os.path.join(folder, f'{recording}.{ending}')
     if not os.path.exists(path):
         write(path + '.part.' + ending, datagrams())
         os.rename(path + '.part.' + ending, path)
-    beside = dict(beside_of(path, view, program, other))
-    times, peak = {}, 0
+    return path
+
+
+def split(name):
+    """the recording and the command that a name says"""
+    recording, _, view = (name, '', 'audit') if name in RECORDINGS else name.rpartition('_')
+    if recording not in RECORDINGS or view not in COMMANDS:
+        raise SystemExit(__doc__)
+    return recording, view
+
+
+def beside_of(row, path, view, program, folder):
+    """what is run beside a row: the name of each, and its words"""
+    if row.audit:
+        yield '`audit`', [program, 'audit', path]
+    if row.recording:
+        yield f'`{row.recording}`', [program, *COMMANDS[view], path_of(row.recording, folder)]
+    if row.others and path.endswith('.rec'):
+        yield '`xxd`', ['xxd', '-r', '-p', path]
+    elif row.others and shutil.which('tshark'):
+        yield '`tshark`', ['tshark', '-r', path, '-T', 'fields', '-e', 'rtps.sm.id']
+    if row.others:
+        yield '`cat`', ['cat', path]
+
+
+def time_text(seconds):
+    if seconds < 0.005:
+        return 'under 0.01 s'
+    return f'{seconds:.2f} s' if seconds < 10 else f'{seconds:.1f} s'
+
+
+def size_text(octets):
+    for unit, name in ((GIB, 'GiB'), (MIB, 'MiB')):
+        if octets >= unit:
+            return f'{octets / unit:.1f} {name}' if octets < 10 * unit else f'{octets / unit:.0f} {name}'
+    return f'{octets / KIB:.0f} KiB'
+
+
+def measured(row, program, plain, runs, folder):
+    """what a row says first; its time and memory; those of the plain program, or nothing; and what is compared, by name"""
+    recording, view = split(row.name)
+    path = path_of(recording, folder)
+    commands = {'': [program, *COMMANDS[view], path]}
+    if plain and view in PLAIN_COMMANDS:
+        commands['plain'] = [plain, *COMMANDS[view], path]
+    commands |= beside_of(row, path, view, program, folder)
+    times, peaks = {}, {}
     for _ in range(runs):
-        for label, words in [('', [program, *COMMANDS[view], path]), *beside.items()]:
+        for label, words in commands.items():
             seconds, memory, status = run(words)
             if status > 1:
                 raise SystemExit(f'figures.py: {" ".join(words)} ends with status {status}')
             times[label] = min(seconds, times.get(label, seconds))
-            peak = max(peak, memory * 1024 if label == '' else 0)
-    compared = ', '.join(f'`{label}` {times[label]:.2f} s' for label in beside)
-    size = os.path.getsize(path) / MIB
-    return f'| {name} | {size:.0f} MiB | {times[""]:.2f} s, {peak / MIB:.0f} MiB | {compared} |'
+            peaks[label] = max(memory * KIB, peaks.get(label, 0))
+    texts = {label: f'{time_text(times[label])}, {size_text(peaks[label])}' for label in commands if label in ('', 'plain')}
+    compared = {label: time_text(times[label]) for label in commands if label not in ('', 'plain')}
+    said = row.said.format(size=size_text(os.path.getsize(path)))
+    return said, texts[''], texts.get('plain', ''), compared
+
+
+def print_table(table, names, results, measure):
+    """prints the rows of a table that are wanted, each as soon as it is measured"""
+    heading, first, compared_heading, rows = table
+    wanted = [row for row in rows if not names or row.name in names]
+    if not wanted:
+        return
+    columns = f'{first} | Time, memory | Plain program | {compared_heading} | Measured by'
+    print(f'\n## {heading}\n\n| {columns} |\n{"|---" * (columns.count("|") + 1)}|')
+    for row in wanted:
+        said, own, plain, compared = results[row.name] = measure(row)
+        is_one = heading == 'Other commands'
+        text = ', '.join(time if is_one else f'{label} {time}' for label, time in compared.items())
+        print(f'| {said} | {own} | {plain} | {text} | `bench/figures.py {row.name}` |', flush=True)
+
+
+def print_readme(results):
+    """prints the rows of the README of what was measured"""
+    shown = [name for name in README if name in results]
+    if shown:
+        print('\n## README.md\n\n| Run | Time | Compared with | Command |\n|---|---|---|---|')
+    for name in shown:
+        own, compared = results[name][1], results[name][3]
+        text = next((f'{label} {time}' for label, time in compared.items() if label != '`cat`'), '')
+        print(f'| {README[name]} | {own.split(",")[0]} | {text} | `bench/figures.py {name}` |')
 
 
 def main():
     words, options = sys.argv[1:], {'--program': PROGRAM, '--beside': None, '--runs': '3'}
-    while words and words[0] in options:
+    while len(words) > 1 and words[0] in options:
         options[words[0]] = words[1]
         words = words[2:]
+    listed = [row.name for table in TABLES for row in table[3]]
     if any(word.startswith('-') for word in words):
         raise SystemExit(__doc__)
-    print('| Recording | Its size | Time and memory | Beside it |\n|---|---|---|---|')
+    if not os.path.exists(options['--program']):
+        raise SystemExit(f'figures.py: there is no program {options["--program"]}: bin/rtps-audit --help builds it')
+    more = [Row(name, f'`{name}`', others=True) for name in words if split(name) and name not in listed]
+    results = {}
     with tempfile.TemporaryDirectory() as room:
         folder = os.environ.get('RTPS_BENCH_DIR', room)
-        for name in words or RECORDINGS:
-            print(measured(name, options['--program'], options['--beside'], int(options['--runs']), folder), flush=True)
+
+        def measure(row):
+            return measured(row, options['--program'], options['--beside'], int(options['--runs']), folder)
+
+        for table in [*TABLES, ('Others', 'Recording and command', 'Compared with', more)]:
+            print_table(table, words, results, measure)
+        print_readme(results)
 
 
 if __name__ == '__main__':
