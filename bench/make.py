@@ -2,21 +2,28 @@
 """Writes recordings to measure with.
 
     make.py heartbeats|packed|large|hostile|one_data|pairs FILE [MEGABYTES]
-    make.py answers|readers|writers FILE [MEGABYTES]    of ACKNACKs of one reader; each of another; HEARTBEATs, each of another writer
-    make.py announced|announced_first FILE [MEGABYTES]  of writers, each announced and with a HEARTBEAT behind that, in the
-                                                        same datagram or when all are announced
-    make.py one_topic|one_topic_volatile FILE [MEGABYTES]   of writers and readers of one topic, as many of each: BEST_EFFORT
-                                                        ones, or RELIABLE ones whose readers ask for what is kept
-    make.py named|unnamed FILE                          of a writer that says 100,000 things to 100 readers: some of them to one
-                                                        reader alone, as resends, GAPs and to one that comes late; all to all
-    make.py in_turns|not_in_turns FILE [MEGABYTES]      of a writer that tells participants even numbers and entity ids odd ones,
-                                                        so that each of many readers hears its numbers from both in turns; that
-                                                        tells all readers all numbers
-    make.py opened|disputed FILE [MEGABYTES]            of a writer whose readers each acknowledge up to another number; each hear
-                                                        two payloads for another number
-    make.py every_second|far_apart FILE [MEGABYTES]     of one pair: GAPs of every second one of 256 numbers each; of one number
-                                                        each, 1,000 apart, in no order
-    make.py in_order|odd_then_even|random|descending|inside_out FILE [THOUSANDS]    of numbers, each in a sample
+    make.py answers|readers|writers FILE [MEGABYTES]
+                answers: ACKNACKs of one reader; readers: each ACKNACK of another reader; writers: HEARTBEATs, each of another
+                writer
+    make.py announced|announced_first FILE [MEGABYTES]
+                writers that are announced, and a HEARTBEAT of each: in the same datagram, or after all announcements
+    make.py one_topic|one_topic_volatile FILE [MEGABYTES]
+                writers and as many readers of one topic, of which none is a pair: they are BEST_EFFORT, or the readers ask for
+                more durability than the writers offer
+    make.py named|unnamed FILE
+                a writer with about 100,000 samples and 100 readers. Resends, GAPs and what a late reader needs are sent to one
+                reader alone, or all to all readers
+    make.py in_turns|not_in_turns FILE [MEGABYTES]
+                a writer that sends even numbers to participants and odd numbers to entity ids, so that each of many readers
+                hears its numbers from both in turns; or one that sends all numbers to all readers
+    make.py opened|disputed FILE [MEGABYTES]
+                a writer whose readers each acknowledge up to another number; or whose readers each are sent two payloads for
+                another number
+    make.py every_second|far_apart FILE [MEGABYTES]
+                one pair: GAPs that each have every second one of 256 numbers; or GAPs of one number each, 1,000 apart, in no
+                order
+    make.py in_order|odd_then_even|random|descending|inside_out FILE [THOUSANDS]
+                samples of one pair, in this order of their numbers
 """
 import random
 import sys

@@ -1,6 +1,6 @@
 #!/usr/bin/env python3
-"""Reads what `rtps-audit audit --json FILE` prints, and writes it as JUnit does: a test for each pair, which fails where
-the pair is not complete. The status is 1 where one fails.
+"""Reads what `rtps-audit audit --json FILE` prints, and writes a JUnit file: a test for each pair, which fails if the pair
+is not complete. The status is 1 if one fails.
 
     rtps-audit audit --json test.pcap | junit.py > delivery.xml
 """

@@ -3,12 +3,12 @@
 
     tests/documents.py PROGRAM
 
-Each command of a page that names a recording of examples/ is run, in the order of the page, and so are `audit`, `why` and
-`audit --json` of each of these recordings. A block of a page that shows lines of an answer has to stand so in what one of
-them printed; JSON may be broken into lines. A block whose writer is in no recording of examples/ is of another recording,
-and is counted alone. Code of a page has to stand in the program of crates/rtps_example, line by line, in this order; `..`
-stands for lines that are left out. A page or a folder that a page links to or names has to be there, and pages have at most
-so many lines. The last line is 'N passed, M failed'.
+The commands of a page that name a recording of examples/ are run, in the order of the page. So are `audit`, `why` and
+`audit --json` of each recording of examples/. If a block of a page shows output, one of these has to have printed it; JSON
+may be broken into lines. If the writer of a block is in no recording of examples/, the block is about another recording, and
+is only counted. The lines of code of a page have to be in the program of crates/rtps_example, in this order; `..` is for
+lines that are left out. The files and folders that a page links to or names have to exist. The pages of PAGES have a limit
+of lines. The last line is 'N passed, M failed'.
 """
 import os
 import re

@@ -1,10 +1,10 @@
 #!/usr/bin/env python3
-"""Tests the verdicts of the program on small recordings, against every event that could have been.
+"""Tests the verdicts of the program on small recordings, by trying everything that can have happened.
 
     tests/events.py PROGRAM
 
-What is said of a pair is of the numbers 1 to 3, in at most four datagrams of at most three acts; each recording is asked
-for from each of the numbers 1 to 5 on. What is wanted is found by trying what the reader may take between two sends.
+Each recording is about one pair and the numbers 1 to 3. It has at most four datagrams of at most three acts. It is audited
+from each of the numbers 1 to 5 on. The right verdict is found by trying all that the reader can receive between two sends.
 It prints a line with what was counted. The last line is 'N passed, M failed'.
 """
 import random

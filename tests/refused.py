@@ -1,13 +1,13 @@
 #!/usr/bin/env python3
-"""Tests that memory which is refused is told, and leaves nothing behind.
+"""Tests that refused memory is reported, and that a refusal changes nothing.
 
     tests/refused.py PROGRAM CALLS
 
 PROGRAM is rtps-audit, and CALLS the built program of crates/rtps_trials. Each call that CALLS knows, and each subcommand
-of PROGRAM, is run once for each request for memory that it makes, and that request is refused. A call has to answer that
-memory was refused, and the same call after that as if it were the first; a subcommand has to end with status 3 and to
-have written nothing. Reading words may go on as with ample memory, and then has to answer the same. Each prints a line
-with how many requests were refused. The last line is 'N passed, M failed'.
+of PROGRAM, is run once for each request for memory that it makes, and this request is refused. A call has to return that
+memory was refused. When it is made again, it has to return what it returns without a refusal. A subcommand has to end with
+status 3, and must not have written anything. Reading the command line may succeed all the same; then it has to choose the same.
+Each prints a line with how many requests were refused. The last line is 'N passed, M failed'.
 
 One request is refused by tests/refuse_requests.c, which is built with the compiler of the toolchain.
 """

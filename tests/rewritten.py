@@ -3,11 +3,11 @@
 
     tests/rewritten.py TRIALS RECORDING..     TRIALS is the built program of crates/rtps_trials
 
-It is run on each recording, some message of which has to be written with the same octets, and then on 1,000 random
-messages, which are the same in each run: all seven submessages in both orders, with fields, sets and inline lists at
-random, some with flags and octets that a reader ignores. Each prints a line with what was counted. What has to become of
-each random message is worked out here: it is written with the same octets where a reader ignores nothing in it, and is
-not written where a body that is not the last is no multiple of 4 octets. The last line is 'N passed, M failed'.
+It is run on each recording: at least one message of it has to be written with the same octets. Then it is run on 1,000
+random messages, which are the same in each run: all seven submessages in both orders, with random fields, sets and inline
+lists, some with flags and octets that are ignored. Each prints a line with what was counted. The result for each random
+message is worked out here: it is written with the same octets if nothing in it is ignored, and it is not written if a body
+that is not the last is no multiple of 4 octets. The last line is 'N passed, M failed'.
 """
 import collections
 import os

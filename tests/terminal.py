@@ -1,5 +1,5 @@
 #!/usr/bin/env python3
-"""Tests what the program tells on a terminal of a run that takes longer than a second, and that it wipes it.
+"""Tests what the program shows on a terminal if a run takes longer than a second, and that it clears this at the end.
 
     tests/terminal.py PROGRAM
 
