@@ -3,6 +3,7 @@ use Rattle.std.proofs.Common.{◌≡◌, ℕ, zero, suc, ℤ, pos, Bool, true, f
 use Rattle.std.specs.Cmp.{IsTotalOrder, both_ways}
 use Rattle.std.specs.Prelude.{if◌then◌else◌}
 use Rattle.std.specs.List.{All, AllWithin, cons_option, slice_range}
+use Rattle.std.specs.Option.{unwrap_or}
 use Rattle.std.specs.Ordering.{is_eq, ordering_then}
 use Rattle.std.specs.Str.{bytes_eq}
 use Rattle.std.specs.declared.cmp.Ordering.{Ordering}
@@ -22,9 +23,11 @@ use Rattle.rtps_receiver.specs.declared.act.Act.{Act}
 use Rattle.rtps_discovery.specs.GuidOrder.{guid_cmp}
 use Rattle.rtps_discovery.specs.Listings.{pair_cmp}
 use Rattle.rtps_discovery.specs.declared.matching.Pair.{Pair}
-use Rattle.rtps_audit.specs.Placed.{PlacedValue, answer_at, answer_of, answers_among, is_from, is_guid, placed_at}
+use Rattle.rtps_audit.specs.Groups.{values_at}
+use Rattle.rtps_audit.specs.Placed.{PlacedValue, answer_at, answer_of, answers_among, answers_to, is_from, is_guid, placed_at}
 use Rattle.rtps_audit.specs.Speech.{base_of_body}
 use Rattle.rtps_audit.specs.declared.answer.Answer.{Answer}
+use Rattle.rtps_audit.specs.declared.groups.Groups.{Groups}
 
 is_eq-then : (a b : Ordering) → is_eq (ordering_then a b) ≡ is_eq a && is_eq b
 is_eq-then Less b = refl
@@ -97,17 +100,20 @@ answer_read datagram act ack_nack writer reader pair number body answered from i
         subst (λ (w : Guid). answer_of pair (record { datagram = datagram; act = act }) ≡ cond (is_eq (pair_cmp pair (record { writer = w; reader = origin_of act }))) (Some (record { datagram = datagram; at = act.at; base = number })) None) same
         (answer_for datagram act ack_nack dest pair number body e is)
 
--- two orders are equal together, whichever is looked at first
-pub swapped_alike : (one other : Ordering) → is_eq (ordering_then one other) ≡ is_eq (ordering_then other one)
-swapped_alike Less Less = refl
-swapped_alike Less Equal = refl
-swapped_alike Less Greater = refl
-swapped_alike Equal Less = refl
-swapped_alike Equal Equal = refl
-swapped_alike Equal Greater = refl
-swapped_alike Greater Less = refl
-swapped_alike Greater Equal = refl
-swapped_alike Greater Greater = refl
+-- what is added where two orders are equal
+pub both_equal : {X : Type 0} (one other : Ordering) (xs : List X) → cond (is_eq other) (cond (is_eq one) xs []) [] ≡ cond (is_eq (ordering_then one other)) xs []
+both_equal one other xs = by_test (is_eq one) (is_eq other) ∙ sym (ap (λ b. cond b xs []) (is_eq-then one other))
+  where
+    by_test : (a b : Bool) → cond b (cond a xs []) [] ≡ cond (a && b) xs []
+    by_test true true = refl
+    by_test true false = refl
+    by_test false true = refl
+    by_test false false = refl
+
+-- the answers of the reader that an entry lends
+pub lent_answers : (writer : Guid) (found value : Option (Groups Guid Answer)) (empty lent : Groups Guid Answer) → values_at guid_cmp empty.map writer ≡ [] → value ≡ found → lent ≡ unwrap_or value empty → values_at guid_cmp lent.map writer ≡ answers_to found writer
+lent_answers writer found None empty lent none same is = ap (λ (g : Groups Guid Answer). values_at guid_cmp g.map writer) is ∙ none ∙ ap (λ f. answers_to f writer) same
+lent_answers writer found (Some held) empty lent none same is = ap (λ (g : Groups Guid Answer). values_at guid_cmp g.map writer) is ∙ ap (λ f. answers_to f writer) same
 
 -- one answer more, where there is one
 pub answer_added : (found : Option Answer) (is_its : Bool) (answer : Answer) → found ≡ cond is_its (Some answer) None → cond is_its (answer ∷ []) [] ≡ cons_option found []

@@ -13,6 +13,6 @@ use Rattle.rtps_audit.specs.declared.index.Index.{Index}
 -- the index is of this recording, which is the octets of its datagrams in the order of sending
 pub record IsIndexOf (recording : List (List ℕ)) (index : Index) : Type 0 where
   pub acts : (origin : Guid) → map placed_value (values_at guid_cmp index.acts.map origin) ≡ filter (is_from origin) (placed_in recording)
-  pub answers : (pair : Pair) → answers_kept index.answers.map pair ≡ answers_among pair (placed_in recording)
+  pub answers : (pair : Pair) → answers_kept index.answers.readers pair ≡ answers_among pair (placed_in recording)
   pub directory : IsMapOf (acts_in recording) index.directory
   pub counts : index.counts ≡ counts_of recording (length (unsettled_in index.directory.endpoints))

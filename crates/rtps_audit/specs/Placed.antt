@@ -1,11 +1,9 @@
 -- The acts of a recording, each with the datagram that it stands in. own: what one GUID said stands together, so that a
 -- pair costs no more than what its two said.
 use Rattle.std.specs.Prelude.{ℕ, pos, Bool, ◌+◌, ◌≡◌, ◌&&◌, List, [], ◌∷◌, ◌++◌, filter, map, Option, Some, None}
-use Rattle.std.specs.BTreeMap.{BTreeMap}
+use Rattle.std.specs.BTreeMap.{BTreeMap, get}
 use Rattle.std.specs.Global.{Vec}
 use Rattle.std.specs.List.{filter_map}
-use Rattle.std.specs.Ordering.{ordering_then}
-use Rattle.std.specs.declared.cmp.Ordering.{Ordering}
 use Rattle.rtps_ids.specs.declared.identity.Guid.{Guid}
 use Rattle.rtps_wire.specs.Reading.{reading_of}
 use Rattle.rtps_receiver.specs.Acts.{acts_of}
@@ -16,7 +14,7 @@ use Rattle.rtps_discovery.specs.declared.matching.Pair.{Pair}
 use Rattle.rtps_audit.specs.Groups.{values_at}
 use Rattle.rtps_audit.specs.Speech.{base_for}
 use Rattle.rtps_audit.specs.declared.answer.Answer.{Answer}
-use Rattle.rtps_audit.specs.declared.answer.AnswerKey.{AnswerKey}
+use Rattle.rtps_audit.specs.declared.groups.Groups.{Groups}
 use Rattle.rtps_audit.specs.declared.placed.Placed.{Placed}
 
 -- an act, and the datagram that it stands in, counted from 1
@@ -66,18 +64,15 @@ answers_among pair placed = filter_map (answer_of pair) placed
 abbrev pub AddsActs : BTreeMap Guid (Vec Placed) → BTreeMap Guid (Vec Placed) → List PlacedValue → Type 0
 AddsActs old new placed = (origin : Guid) → map placed_value (values_at guid_cmp new origin) ≡ map placed_value (values_at guid_cmp old origin) ++ filter (is_from origin) placed
 
--- the key of a pair's answers
-abbrev pub key_of : Pair → AnswerKey
-key_of pair = record { reader = pair.reader; writer = pair.writer }
-
--- by reader, and then by writer
-abbrev pub key_cmp : AnswerKey → AnswerKey → Ordering
-key_cmp a b = ordering_then (guid_cmp a.reader b.reader) (guid_cmp a.writer b.writer)
+-- the answers of a reader to this writer that are kept, where there are some
+abbrev pub answers_to : Option (Groups Guid Answer) → Guid → List Answer
+answers_to (Some answers) writer = values_at guid_cmp answers.map writer
+answers_to None writer = []
 
 -- the answers that are kept of a pair
-abbrev pub answers_kept : BTreeMap AnswerKey (Vec Answer) → Pair → List Answer
-answers_kept map pair = values_at key_cmp map (key_of pair)
+abbrev pub answers_kept : BTreeMap Guid (Groups Guid Answer) → Pair → List Answer
+answers_kept readers pair = answers_to (get guid_cmp readers pair.reader) pair.writer
 
 -- and so the answers
-abbrev pub AddsAnswers : BTreeMap AnswerKey (Vec Answer) → BTreeMap AnswerKey (Vec Answer) → List PlacedValue → Type 0
+abbrev pub AddsAnswers : BTreeMap Guid (Groups Guid Answer) → BTreeMap Guid (Groups Guid Answer) → List PlacedValue → Type 0
 AddsAnswers old new placed = (pair : Pair) → answers_kept new pair ≡ answers_kept old pair ++ answers_among pair placed

@@ -9,6 +9,8 @@ use crate::groups::Groups;
 use rtps_discovery::Pair;
 use rtps_ids::{Guid, Memory};
 use rtps_receiver::{Act, ActBody};
+use std::alloc::Global;
+use std::collections::BTreeMap;
 
 /// An answer of a reader to a writer: the datagram that it stands in, counted from 1, the place of its first octet there,
 /// from 0, and its base, by which the reader claims each number below it.
@@ -32,24 +34,51 @@ impl Answer {
     }
 }
 
-/// A pair, in the order of the readers' GUIDs and then of the writers'. A reader answers many writers in one datagram, so
-/// its answers stand near one another.
-#[derive(Clone, Copy, PartialEq, Eq, PartialOrd, Ord)]
-pub(crate) struct AnswerKey {
-    reader: Guid,
-    writer: Guid,
+/// Answers by pair: of each reader those to each writer. A reader answers many writers in one datagram, so its answers
+/// stand near one another.
+#[derive(Drop)]
+pub(crate) struct Answers {
+    pub(crate) readers: BTreeMap<Guid, Groups<Guid, Answer>>,
+    alloc: Global,
 }
 
-impl AnswerKey {
-    ghost use Rattle.rtps_audit.specs.Placed.{key_of};
+impl Answers {
+    ghost use Rattle.std.specs.Prelude.{◌≡◌, ◌++◌, ◌∷◌, [], cond, OnOk};
+    ghost use Rattle.std.specs.Ordering.{is_eq};
+    ghost use Rattle.rtps_discovery.specs.Listings.{pair_cmp};
+    ghost use Rattle.rtps_discovery.specs.declared.matching.Pair.{Pair as PairValue};
+    ghost use Rattle.rtps_audit.specs.Placed.{answers_kept};
 
-    /// The key of a pair's answers.
-    pub(crate) fn of(pair: Pair) -> Self
-        ensures { result ≡ key_of pair }
+    /// No answers.
+    pub(crate) fn new(alloc: Global) -> Self
+        ensures { (pair : PairValue) → answers_kept result.readers pair ≡ [] }
     {
-        AnswerKey {
-            reader: pair.reader,
-            writer: pair.writer,
+        Answers {
+            readers: BTreeMap::new(alloc),
+            alloc,
+        }
+    }
+
+    /// Appends an answer to those of its pair. After `Memory` the answers are of no use.
+    fn push(&mut self, pair: Pair, answer: Answer) -> Result<(), Memory>
+        ensures { OnOk result ((other : PairValue) → answers_kept self.new.readers other
+            ≡ answers_kept self.old.readers other ++ cond (is_eq (pair_cmp other pair)) (answer ∷ []) []) }
+    {
+        let found = self
+            .readers
+            .entry(pair.reader)?
+            .or_insert(Groups::new(self.alloc));
+        found.push(pair.writer, answer)?;
+        Ok(())
+    }
+
+    /// The answers of a pair, in the order in which they came.
+    pub(crate) fn of(&self, pair: Pair) -> &[Answer]
+        ensures { result.now ≡ answers_kept self.now.readers pair }
+    {
+        match self.readers.get(&pair.reader) {
+            Some(answers) => answers.of(pair.writer),
+            None => &[],
         }
     }
 }
@@ -78,25 +107,25 @@ fn answer_in(datagram: usize, act: &Act<'_>) -> Option<(Pair, Answer)>
 
 /// Adds the answer that an act of a datagram is, if it is one. After `Memory` the answers are of no use.
 fn note_answer(
-    answers: &mut Groups<AnswerKey, Answer>,
+    answers: &mut Answers,
     datagram: usize,
     act: &Act<'_>,
 ) -> Result<(), Memory>
-    ensures { OnOk result (AddsAnswers answers.old.map answers.new.map (placed_at datagram (act_value act.now ∷ []))) }
+    ensures { OnOk result (AddsAnswers answers.old.readers answers.new.readers (placed_at datagram (act_value act.now ∷ []))) }
 {
     if let Some((pair, answer)) = answer_in(datagram, act) {
-        answers.push(AnswerKey::of(pair), answer)?;
+        answers.push(pair, answer)?;
     }
     Ok(())
 }
 
 /// Adds the answers among the acts of a datagram. After `Memory` the answers are of no use.
 pub(crate) fn note_answers(
-    answers: &mut Groups<AnswerKey, Answer>,
+    answers: &mut Answers,
     datagram: usize,
     acts: &[Act<'_>],
 ) -> Result<(), Memory>
-    ensures { OnOk result (AddsAnswers answers.old.map answers.new.map (placed_at datagram (map act_value acts.now))) }
+    ensures { OnOk result (AddsAnswers answers.old.readers answers.new.readers (placed_at datagram (map act_value acts.now))) }
 {
     for act in acts {
         note_answer(answers, datagram, act)?;

@@ -5,4 +5,4 @@ use Rattle.rtps_audit.proofs.answer.note_answers.Given as goal
 
 -- the answers of the acts so far
 abbrev pub invariant-loop-act : goal.invariant-loop-act
-invariant-loop-act l = AddsAnswers l.fn.answers.map l.answers.map (placed_at l.datagram (map act_value (take l.act-index l.acts)))
+invariant-loop-act l = AddsAnswers l.fn.answers.readers l.answers.readers (placed_at l.datagram (map act_value (take l.act-index l.acts)))

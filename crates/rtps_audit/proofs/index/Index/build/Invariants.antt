@@ -20,7 +20,7 @@ invariant-loop-datagram l =
     record {
       place : l.place ≡ l.datagram-index;
       acts : (origin : Guid) → map placed_value (values_at guid_cmp l.acts.map origin) ≡ filter (is_from origin) placed;
-      answers : (pair : Pair) → answers_kept l.answers.map pair ≡ answers_among pair placed;
+      answers : (pair : Pair) → answers_kept l.answers.readers pair ≡ answers_among pair placed;
       map : IsMapOf (acts_in (map (λ datagram. datagram.now) so_far)) l.directory;
       datagrams : l.counts.datagrams ≡ length l.recording;
       refused : l.counts.refused ≡ count_by (λ datagram. (tally_of (reading_of datagram.now)).refused) so_far;
