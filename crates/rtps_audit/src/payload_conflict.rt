@@ -6,7 +6,7 @@ ghost use Rattle.rtps_ids.specs.declared.identity.Guid.{Guid as GuidValue};
 ghost use Rattle.rtps_receiver.specs.Values.{act_value};
 ghost use Rattle.rtps_wire.specs.Values.{PayloadValue, payload_value};
 ghost use Rattle.rtps_audit.specs.Delivery.{IsAsked, Word};
-ghost use Rattle.rtps_audit.specs.Answered.{HearsTwo};
+ghost use Rattle.rtps_audit.specs.Answered.{HearsTwo, last_among};
 ghost use Rattle.rtps_audit.specs.PayloadConflict.{AreConflictsAmong, AreSentIn, AreConflictsOf, IsAnother, IsInRange, IsSentBy, number_in};
 ghost use Rattle.rtps_audit.specs.Placed.{PlacedValue, is_from, placed_value};
 ghost use Rattle.rtps_audit.specs.RunVerdict.{IsLeast};
@@ -14,6 +14,7 @@ ghost use Rattle.rtps_audit.specs.Speech.{word_of};
 
 use crate::payload::is_same_payload;
 use crate::placed::Placed;
+use crate::word::number_in as announced_number;
 use rtps_ids::{Guid, GuidPrefix, Memory};
 use rtps_receiver::{Act, ActBody, Audience};
 use rtps_wire::{DataBody, Payload};
@@ -56,22 +57,29 @@ fn addressed<'x, 'a>(act: &'x Act<'a>, from: u64) -> Option<AddressedPayload<'x,
     })
 }
 
-/// The DATA among these acts whose number is `from` or a greater one, in the order of sending.
+/// The DATA among these acts whose number is `from` or a greater one, in the order of sending, and the last number that
+/// the writer announces by the acts, whoever hears it, or 0.
 fn collect<'x, 'a>(
     alloc: Global,
     acts: &'x [Placed<'a>],
+    writer: Guid,
     from: u64,
-) -> Result<Vec<AddressedPayload<'x, 'a>>, Memory>
-    ensures sent { IfOk result (λ entries. AreSentIn from (map placed_value acts.now) entries.items) }
-    ensures in_range { IfOk result (λ entries. All IsInRange entries.items) }
+) -> Result<(Vec<AddressedPayload<'x, 'a>>, u64), Memory>
+    ensures sent { IfOk result (λ found. AreSentIn from (map placed_value acts.now) found.0.items) }
+    ensures in_range { IfOk result (λ found. All IsInRange found.0.items) }
+    ensures last { IfOk result (λ found. found.1 ≡ last_among writer (map placed_value acts.now)) }
+    ensures last_in_range { IfOk result (λ found. found.1 < 2 ^ 63) }
 {
     let mut entries = Vec::new(alloc);
+    let mut last = 0u64;
     for place in 0..acts.len() {
-        if let Some(entry) = addressed(&acts[place].act, from) {
+        let act = &acts[place].act;
+        last = last.max(announced_number(act, writer));
+        if let Some(entry) = addressed(act, from) {
             entries.push(entry)?;
         }
     }
-    Ok(entries)
+    Ok((entries, last))
 }
 
 /// The first place from this one on that has another number; the end, where none has.
@@ -138,15 +146,23 @@ impl<'x, 'a> PayloadConflicts<'x, 'a> {
         Ok(PayloadConflicts { payloads })
     }
 
-    /// Of the DATA among a writer's acts whose number is `from` or a greater one. It takes the time of the acts where
-    /// their numbers came in order, as most do. `Memory` is answered where there is none for all these DATA.
-    pub(crate) fn of(alloc: Global, acts: &'x [Placed<'a>], from: u64) -> Result<Self, Memory>
-        ensures { IfOk result (λ conflicts. AreConflictsOf from conflicts.payloads.items (map placed_value acts.now)) }
+    /// Of the DATA among a writer's acts whose number is `from` or a greater one; and the last number that the writer
+    /// announces by the acts, whoever hears it, or 0. It takes the time of the acts where their numbers came in order, as
+    /// most do. `Memory` is answered where there is none for all these DATA.
+    pub(crate) fn of(
+        alloc: Global,
+        acts: &'x [Placed<'a>],
+        writer: Guid,
+        from: u64,
+    ) -> Result<(Self, u64), Memory>
+        ensures conflicts { IfOk result (λ found. AreConflictsOf from found.0.payloads.items (map placed_value acts.now)) }
+        ensures last { IfOk result (λ found. found.1 ≡ last_among writer (map placed_value acts.now)) }
+        ensures last_in_range { IfOk result (λ found. found.1 < 2 ^ 63) }
     {
-        let mut entries = collect(alloc, acts, from)?;
+        let (mut entries, last) = collect(alloc, acts, writer, from)?;
         entries.sort_by_key(|entry| entry.number)?;
         let conflicts = PayloadConflicts::among(alloc, &entries)?;
-        Ok(conflicts)
+        Ok((conflicts, last))
     }
 
     /// The least number for which a reader hears two different payloads. Each payload is compared with the one that the

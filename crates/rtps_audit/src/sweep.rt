@@ -1,7 +1,5 @@
 ghost use Rattle.std.specs.Prelude.{ℕ, ◌≡◌, ◌<◌, ◌≤◌, ◌^◌, map, All, IfOk, List};
-ghost use Rattle.rtps_audit.specs.Answered.{last_among};
 ghost use Rattle.rtps_audit.specs.Index.{IsIndexOf};
-ghost use Rattle.rtps_audit.specs.Placed.{placed_value};
 ghost use Rattle.rtps_audit.specs.Report.{IsJudgedFrom};
 
 use crate::answer::Answer;
@@ -11,7 +9,6 @@ use crate::placed::Placed;
 use crate::report::Row;
 use crate::told::Told;
 use crate::verdict::{Claims, Verdict};
-use crate::word::number_in;
 use rtps_discovery::Pair;
 use rtps_ids::{Guid, Memory, SeqNum};
 use std::alloc::Global;
@@ -41,18 +38,6 @@ struct Sweep {
     /// How many of the writer's acts are told.
     place: usize,
     readers: Vec<AskedReader>,
-}
-
-/// The last number that the writer announces by these acts, whoever hears it, or 0.
-fn last_number(acts: &[Placed<'_>], writer: Guid) -> u64
-    ensures value { result ≡ last_among writer (map placed_value acts.now) }
-    ensures in_range { result < 2 ^ 63 }
-{
-    let mut last = 0u64;
-    for placed in acts {
-        last = last.max(number_in(&placed.act, writer));
-    }
-    last
 }
 
 impl Ask {
@@ -238,6 +223,7 @@ pub(crate) fn rows_of_writer(
     for ask in &asks {
         sweep.ask(acts, *ask)?;
     }
-    let conflicts = PayloadConflicts::of(index.alloc, acts, from.get().cast_unsigned())?;
-    sweep.rows(index.alloc, &conflicts, last_number(acts, writer))
+    let first = from.get().cast_unsigned();
+    let (conflicts, last) = PayloadConflicts::of(index.alloc, acts, writer, first)?;
+    sweep.rows(index.alloc, &conflicts, last)
 }

@@ -48,9 +48,9 @@ returns-clause-judged c = λ recording is.
     let old = c.loop-ask.invariant.swept recording is in
     let all = take_all c.loop-ask.ask-index items (omega (arith, c.loop-ask-test.false)) in
     let swept = subst (λ l. IsSweptTo from c.loop-ask.sweep writer acts l old.0) (all ∙ c.deref-ask-items.ensures.value) old.2 in
-    let first : c.cast_unsigned.result ≡ from = omega (arith, ints) in
-    let conflicts = subst (λ m. AreConflictsOf m c.in_ok-conflicts.conflicts.payloads.items (map placed_value acts)) first c.in_ok-conflicts.ensures in
-    let known = all_known from recording writer c.args.pairs.now acts c.loop-ask.sweep c.in_ok-asks.asks.items old.0 c.in_ok-conflicts.conflicts c.last_number.result c.requires c.loop-ask.invariant.pairs (c.acts_of-acts.ensures recording is)
-    (c.in_ok-asks.ensures.asks recording is) conflicts c.last_number.ensures.value swept in
+    let first : c.cast_unsigned-first.result ≡ from = omega (arith, ints) in
+    let conflicts = subst (λ m. AreConflictsOf m c.in_ok-conflicts.conflicts.payloads.items (map placed_value acts)) first c.in_ok-conflicts.ensures.conflicts in
+    let known = all_known from recording writer c.args.pairs.now acts c.loop-ask.sweep c.in_ok-asks.asks.items old.0 c.in_ok-conflicts.conflicts c.in_ok-conflicts.last c.requires c.loop-ask.invariant.pairs (c.acts_of-acts.ensures recording is)
+    (c.in_ok-asks.ensures.asks recording is) conflicts c.in_ok-conflicts.ensures.last swept in
     let positive : 1 ≤ from = let some = c.get.ensures.positive in omega (arith, ints) in
     c.rows.ensures.judged from recording positive known

@@ -13,8 +13,8 @@ among-requires-clause-sorted c = subst (IsNonDecreasingBy number_in) (sym c.dere
 pub among-requires-clause-in_range : goal.among-requires-clause-in_range
 among-requires-clause-in_range c = subst (All IsInRange) (sym c.deref.ensures.value) (All-permutation IsInRange _ _ c.in_ok-sort_by_key.ensures.permutation c.in_ok-entries.ensures.in_range)
 
-pub returns : goal.returns
-returns c = record {
+pub returns-clause-conflicts : goal.returns-clause-conflicts
+returns-clause-conflicts c = record {
   entries = c.sort_by_key.new.self.items;
   sent = sent_moved c.args.from (map placed_value c.args.acts.now) _ _ c.in_ok-sort_by_key.ensures.permutation c.in_ok-entries.ensures.sent;
   conflicts = subst (λ l. AreConflictsAmong l c.in_ok-conflicts.conflicts.payloads.items) c.deref.ensures.value c.in_ok-conflicts.ensures;
