@@ -5,6 +5,8 @@
     reference.py json FILE                 prints what `rtps-audit audit --json` should print
     reference.py audit|why|json --from N FILE
                                            the same, of the numbers from N on
+    reference.py show|list|audit|why|json --any FILE
+                                           the same, of a capture of either form, with fragments put together
     reference.py compare PROGRAM [COUNT [SEED]]
                                            runs PROGRAM on COUNT random recordings, and says where it differs
     reference.py texts PROGRAM [COUNT [SEED]]
@@ -19,6 +21,8 @@ import random
 import subprocess
 import sys
 import tempfile
+
+import any_capture
 
 READ = {0x06, 0x07, 0x08, 0x09, 0x0c, 0x0e, 0x15}
 FRAGMENTS = {0x12, 0x13, 0x16}
@@ -268,8 +272,14 @@ def capture_of(file, limits=USUAL):
     return datagrams, frame - len(datagrams)
 
 
-def input_of(octets, limits=USUAL):
-    """datagrams of an input, and of a capture how many frames were ignored, or the last line on standard error"""
+def input_of(octets, limits=USUAL, any_form=False):
+    """datagrams of an input, and of a capture how many frames were ignored, or the last line on standard error
+
+    Under `--any` the ignored frames are told by their reasons.
+    """
+    if any_form and len(octets) <= limits[1] and any_capture.is_capture(octets):
+        reading = any_capture.read_any(octets, limits[0])
+        return reading if isinstance(reading, str) else (reading.datagrams, reading.counts())
     if len(octets) <= limits[1] and octets[:4].hex() in CAPTURES:
         return capture_of(octets, limits)
     datagrams = recording_of(octets, limits)
@@ -695,7 +705,7 @@ def report_values(datagrams, first=1):
 
 
 def json_lines(datagrams, first=1, ignored=None):
-    counted = {} if ignored is None else {'ignored': ignored}
+    counted = ignored if isinstance(ignored, dict) else {} if ignored is None else {'ignored': ignored}
     return [json.dumps(report_values(datagrams, first) | counted, separators=(',', ':'))]
 
 
@@ -709,9 +719,9 @@ def words_of(view):
     return ['audit', '--json'] if view == 'json' else [view]
 
 
-def answer(view, text, first=1, limits=USUAL):
+def answer(view, text, first=1, limits=USUAL, any_form=False):
     """text and status of the program; `first` is for reports alone"""
-    read = input_of(text, limits)
+    read = input_of(text, limits, any_form)
     if isinstance(read, str):
         return '', 2
     datagrams, ignored = read
@@ -720,7 +730,7 @@ def answer(view, text, first=1, limits=USUAL):
     else:
         lines = VIEWS[view](datagrams, first) if view in REPORTS else VIEWS[view](datagrams)
     if view in ('audit', 'why') and ignored is not None:
-        lines[-1] += f' ignored {ignored}'
+        lines[-1] += f" ignored {ignored['ignored'] if any_form else ignored}"
     unclean = view in REPORTS and any(' complete ' not in line for line in audit(datagrams, first)[1:-1])
     return ''.join(line + '\n' for line in lines), int(unclean)
 
@@ -986,9 +996,9 @@ def main():
         count = int(sys.argv[3]) if len(sys.argv) > 3 else 1000
         run = compare if sys.argv[1] == 'compare' else texts
         return run(sys.argv[2], count, int(sys.argv[4]) if len(sys.argv) > 4 else 1)
-    first = int(sys.argv[3]) if sys.argv[2] == '--from' else 1
+    first = int(sys.argv[sys.argv.index('--from') + 1]) if '--from' in sys.argv[2:-1] else 1
     with open(sys.argv[-1], 'rb') as f:
-        text, status = answer(sys.argv[1], f.read(), first)
+        text, status = answer(sys.argv[1], f.read(), first, any_form='--any' in sys.argv[2:-1])
     sys.stdout.write(text)
     return status
 

@@ -45,7 +45,7 @@ four_behind : (order : Order) (at : ℕ) (xs ys : List ℕ) → at + 4 ≤ lengt
 four_behind order at xs ys enough =
     ap (number_of order 4) (drop-append-le at xs ys (omega arith)) ∙ four-append order (drop at xs) ys (omega (arith, length-drop at xs))
 
-slice_range-append : (from to : ℕ) (xs ys : List ℕ) → from ≤ to → to ≤ length xs → slice_range (xs ++ ys) from to ≡ slice_range xs from to
+pub slice_range-append : (from to : ℕ) (xs ys : List ℕ) → from ≤ to → to ≤ length xs → slice_range (xs ++ ys) from to ≡ slice_range xs from to
 slice_range-append from to xs ys ordered within =
     ap (take (to - from)) (drop-append-le from xs ys (omega arith))
     ∙ take-append-le (to - from) (drop from xs) ys (omega (arith, length-drop from xs))

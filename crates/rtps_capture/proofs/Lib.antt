@@ -1,3 +1,12 @@
+pub mod AnyCaptureLemmas
+pub mod AnyFrameLemmas
 pub mod ComingLemmas
 pub mod FrameLemmas
 pub mod Offered
+pub mod PassedLemmas
+pub mod PieceLemmas
+pub mod AssemblyLemmas
+pub mod SentLemmas
+pub mod PacketLemmas
+pub mod CarriedLemmas
+pub mod AlikeLemmas

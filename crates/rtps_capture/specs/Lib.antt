@@ -1,6 +1,16 @@
+pub mod Alike
+pub mod AnyCapture
+pub mod AnyFrames
+pub mod Pieces
+pub mod Sent
+pub mod Assembly
+pub mod Blocks
 pub mod Coming
 pub mod Datagrams
 pub mod Frames
 pub mod Laws
 pub mod Layout
+pub mod LinkTypes
 pub mod Opening
+pub mod Packets
+pub mod Passed

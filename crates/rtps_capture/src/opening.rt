@@ -77,7 +77,7 @@ fn link_numbered(number: u32) -> Option<Link>
 
 /// The link type of a file whose numbers lie in this order.
 #[tactic(auto, unfolding(crate::specs::Opening::link_type_in))]
-fn link_type_in(order: Order, octets: &[u8]) -> Option<u32>
+pub(crate) fn link_type_in(order: Order, octets: &[u8]) -> Option<u32>
     ensures { result ≡ link_type_in_lem order octets.now }
 {
     if octets.len() < file::SIZE {

@@ -1,0 +1,19 @@
+-- The reading of a capture, a frame at a time.
+use Rattle.std.proofs.Common.{◌≡◌, sym, subst}
+use Rattle.std.specs.Prelude.{MatchResult, Ok, Err, Result}
+use Rattle.std.specs.Result.{IsErrAnd}
+use Rattle.rtps_capture.specs.AnyCapture.{AnyAnswer, Collected, IsAnswer, IsFault}
+use Rattle.rtps_capture.specs.declared.any_capture.AnyFault.{AnyFault}
+use Rattle.rtps_capture.specs.declared.any_capture.AnyFault.TheVariants as fault
+use Rattle.rtps_capture.specs.declared.any_capture.AnyReading.{AnyReading}
+
+-- memory was refused
+pub memory_noted : (result : Result (Unit {0}) AnyFault) (P : Unit {0} → Type 0) (is : Result Collected AnyFault)
+    → IsErrAnd result (λ e. e ≡ fault.Memory) → MatchResult result P (IsFault is)
+memory_noted (Ok done) P is says = absurd says
+memory_noted (Err e) P is says = subst (IsFault is) (sym says) tt
+
+-- memory was refused, at the reading
+pub memory_answered : (result : Result AnyReading AnyFault) (is : Result AnyAnswer AnyFault) → IsErrAnd result (λ e. e ≡ fault.Memory) → IsAnswer is result
+memory_answered (Ok reading) is says = absurd says
+memory_answered (Err e) is says = subst (IsFault is) (sym says) tt

@@ -1,0 +1,161 @@
+-- What was read so far is sound, frame by frame: what is kept came in fragments, and what was given was carried.
+use Rattle.std.proofs.Common.{◌≡◌, ℕ, ◌+◌, ◌≤◌, Bool, true, false, List, [], ◌∷◌, ◌++◌, length, refl, sym, ap, subst, ◌∙◌, inl, append_assoc, append-nil, arith}
+use Rattle.std.specs.Prelude.{IfSome, None, Option, Some, Ok, Err, Result, nat_lt, if◌then◌else◌, option_to_list, slice_range}
+use Rattle.std.specs.Ordering.{is_eq}
+use Rattle.std.proofs.lemmas.List.{length-append}
+use Rattle.std.proofs.lemmas.Cmp.{eq_by_cmp_equiv}
+use Rattle.rtps_capture.specs.AnyCapture.{AnyAnswer, Collected, all_noted, answer_of, answered, any_read, collected, contents_in, noted, nothing, opened_read, or_fault, with_contents, with_frame}
+use Rattle.rtps_capture.specs.AnyFrames.{AnyUnread, StandsInFile, any_frames_left, any_opened}
+use Rattle.rtps_capture.specs.Assembly.{Joined, key_cmp, taken_piece}
+use Rattle.rtps_capture.specs.Packets.{StandsIn}
+use Rattle.rtps_capture.specs.Pieces.{piece_of}
+use Rattle.rtps_capture.specs.Sent.{AllWereCarried, StandsAmong, WasCarried}
+use Rattle.rtps_capture.specs.declared.any_capture.AnyFault.{AnyFault}
+use Rattle.rtps_capture.specs.declared.any_capture.AnyFault.TheVariants as fault
+use Rattle.rtps_capture.specs.declared.any_frames.AnyFrame.{AnyFrame}
+use Rattle.rtps_capture.specs.declared.any_frames.AnyFrame.TheVariants.{Frame, NoFrame, Rest, BadBlock, CutFrame}
+use Rattle.rtps_capture.specs.declared.datagram.ByteRange.{ByteRange}
+use Rattle.rtps_capture.specs.declared.packet.Contents.{Contents}
+use Rattle.rtps_capture.specs.declared.packet.Contents.TheVariants as contents
+use Rattle.rtps_capture.specs.declared.fragment.Fragment.{Fragment}
+use Rattle.rtps_capture.specs.declared.fragment.FragmentKey.{FragmentKey}
+use Rattle.rtps_capture.proofs.AnyFrameLemmas.{AllStand, left_stand}
+use Rattle.rtps_capture.proofs.AssemblyLemmas.{key_total}
+use Rattle.rtps_capture.proofs.ComingLemmas.{slice_range-append}
+use Rattle.rtps_capture.proofs.PacketLemmas.{in_file}
+use Rattle.rtps_capture.proofs.SentLemmas.{AreOf, IsOf, JoinedSound, change_key, taken_sound}
+
+-- a datagram stands in the file and what is behind it, and was carried
+abbrev pub IsSound : List ℕ → List AnyFrame → List ℕ → ByteRange → Type 0
+IsSound file frames behind range =
+    (range.from ≤ range.to) × (range.to ≤ length file + length behind) × WasCarried file frames (slice_range (file ++ behind) range.from range.to)
+
+abbrev pub AreSound : List ℕ → List AnyFrame → List ℕ → List ByteRange → Type 0
+AreSound file frames behind [] = Unit {0}
+AreSound file frames behind (range ∷ ranges) = IsSound file frames behind range × AreSound file frames behind ranges
+
+pub record Sound (file : List ℕ) (frames : List AnyFrame) (so_far : Collected) : Type 0 where
+  pub keys : (key : FragmentKey) → AreOf file frames key (so_far.making key).making
+  pub carried : AreSound file frames so_far.behind so_far.datagrams
+
+-- what stands there stays, whatever comes behind it
+one_grown : (file : List ℕ) (frames : List AnyFrame) (behind more : List ℕ) (range : ByteRange) → IsSound file frames behind range → IsSound file frames (behind ++ more) range
+one_grown file frames behind more range sound =
+    let size = length-append behind more in
+    let front = length-append file behind in
+    let same : slice_range (file ++ (behind ++ more)) range.from range.to ≡ slice_range (file ++ behind) range.from range.to =
+    ap (λ (l : List ℕ). slice_range l range.from range.to) (sym (append_assoc file behind more)) ∙ slice_range-append range.from range.to (file ++ behind) more sound.0 (omega (arith, sound.1, front)) in
+    (sound.0, omega (arith, sound.1, size), subst (WasCarried file frames) (sym same) sound.2)
+
+grown : (file : List ℕ) (frames : List AnyFrame) (behind more : List ℕ) (ranges : List ByteRange) → AreSound file frames behind ranges → AreSound file frames (behind ++ more) ranges
+grown file frames behind more [] all = tt
+grown file frames behind more (range ∷ ranges) all = (one_grown file frames behind more range all.0, grown file frames behind more ranges all.1)
+
+pushed : (file : List ℕ) (frames : List AnyFrame) (behind : List ℕ) (ranges : List ByteRange) (range : ByteRange) → AreSound file frames behind ranges → IsSound file frames behind range
+    → AreSound file frames behind (ranges ++ range ∷ [])
+pushed file frames behind [] range all one = (one, tt)
+pushed file frames behind (first ∷ ranges) range all one = (all.0, pushed file frames behind ranges range all.1 one)
+
+with_option : (file : List ℕ) (frames : List AnyFrame) (behind : List ℕ) (ranges : List ByteRange) (datagram : Option ByteRange) → AreSound file frames behind ranges
+    → IfSome datagram (IsSound file frames behind) → AreSound file frames behind (ranges ++ option_to_list datagram)
+with_option file frames behind ranges None all one = subst (AreSound file frames behind) (sym (append-nil ranges)) all
+with_option file frames behind ranges (Some range) all one = pushed file frames behind ranges range all one
+
+fragment_sound : (file : List ℕ) (frames : List AnyFrame) (so_far : Collected) (fragment : Fragment) → StandsAmong file frames (contents.Fragment fragment)
+    → Sound file frames so_far → Sound file frames (with_contents file so_far (contents.Fragment fragment))
+fragment_sound file frames so_far fragment stands sound = record {
+  keys = λ other. by other (is_eq (key_cmp fragment.key other)) refl;
+  carried = with_option file frames joined.behind so_far.datagrams joined.taken.datagram
+      (subst (λ (l : List ℕ). AreSound file frames l so_far.datagrams) (sym left.grows) (grown file frames so_far.behind left.more so_far.datagrams sound.carried))
+      left.gives;
+}
+  where
+    joined : Joined
+    joined = taken_piece file so_far.behind (so_far.making fragment.key) (piece_of fragment)
+
+    one : IsOf file frames fragment.key (piece_of fragment)
+    one = record {
+      fragment = fragment;
+      same_key = (eq_by_cmp_equiv key_total).refl fragment.key;
+      stands = stands;
+      at_is = refl;
+      start_is = refl;
+      end_is = refl;
+      more_is = refl;
+    }
+
+    left : JoinedSound file frames fragment.key so_far.behind joined
+    left = taken_sound file so_far.behind frames fragment.key (so_far.making fragment.key) (piece_of fragment) (sound.keys fragment.key) one
+
+    by : (other : FragmentKey) (here : Bool) → is_eq (key_cmp fragment.key other) ≡ here
+        → AreOf file frames other (if here then joined.making else so_far.making other).making
+    by other true is = change_key file frames fragment.key other joined.making.making is left.are
+    by other false is = sound.keys other
+
+contents_sound : (file : List ℕ) (frames : List AnyFrame) (so_far : Collected) (contents : Contents) → StandsAmong file frames contents → StandsIn (length file) contents
+    → Sound file frames so_far → Sound file frames (with_contents file so_far contents)
+contents_sound file frames so_far (contents.Datagram range) stands within sound =
+    let same = slice_range-append range.from range.to file so_far.behind within.0 within.1 in
+    record {
+      keys = sound.keys;
+      carried = pushed file frames so_far.behind so_far.datagrams range sound.carried (within.0, omega (arith, within.1), inl (range, stands, same));
+    }
+contents_sound file frames so_far (contents.Fragment fragment) stands within sound = fragment_sound file frames so_far fragment stands sound
+contents_sound file frames so_far contents.Cut stands within sound = record { keys = sound.keys; carried = sound.carried }
+contents_sound file frames so_far contents.Other stands within sound = record { keys = sound.keys; carried = sound.carried }
+
+pub step_sound : (file : List ℕ) (frames seen after : List AnyFrame) (most : ℕ) (so_far next : Collected) (frame : AnyFrame) → frames ≡ seen ++ frame ∷ after
+    → StandsInFile (length file) frame → Sound file frames so_far → noted file most so_far frame ≡ Ok next → Sound file frames next
+unfolding noted collected
+step_sound file frames seen after most so_far next (Frame link range) among stands sound is = by (nat_lt most (length there.datagrams)) is
+  where
+    there : Collected
+    there = collected file so_far (contents_in file link range)
+
+    one : Sound file frames (with_frame so_far)
+    one = record { keys = sound.keys; carried = sound.carried }
+
+    sound_there : Sound file frames there
+    sound_there = contents_sound file frames (with_frame so_far) (contents_in file link range) (seen, link, range, after, among, refl) (in_file file link range stands.0 stands.1) one
+
+    by : (over : Bool) → (if over then Err fault.TooMany else Ok there) ≡ Ok next → Sound file frames next
+    by true same = let no = same in cc
+    by false same = let found : there ≡ next = cc in subst (Sound file frames) found sound_there
+step_sound file frames seen after most so_far next NoFrame among stands sound is = let same : so_far ≡ next = cc in subst (Sound file frames) same sound
+step_sound file frames seen after most so_far next Rest among stands sound is =
+    let same : collected file so_far contents.Cut ≡ next = cc in subst (Sound file frames) same (record { keys = sound.keys; carried = sound.carried })
+step_sound file frames seen after most so_far next BadBlock among stands sound is = let no = is in cc
+step_sound file frames seen after most so_far next CutFrame among stands sound is = let no = is in cc
+
+-- all that are still to come keep it sound
+sound_all : (file : List ℕ) (frames : List AnyFrame) (most : ℕ) (rest seen : List AnyFrame) (so_far last : Collected) → frames ≡ seen ++ rest
+    → AllStand (length file) rest → Sound file frames so_far → all_noted file most so_far rest ≡ Ok last → Sound file frames last
+sound_all file frames most [] seen so_far last among stand sound is = let same : so_far ≡ last = cc in subst (Sound file frames) same sound
+sound_all file frames most (frame ∷ rest) seen so_far last among stand sound is =
+    by (noted file most so_far frame) refl is
+    (λ next one. sound_all file frames most rest (seen ++ frame ∷ []) next last (among ∙ sym (append_assoc seen (frame ∷ []) rest)) stand.1 one)
+  where
+    by : (result : Result Collected AnyFault) → noted file most so_far frame ≡ result → or_fault result (λ more. all_noted file most more rest) ≡ Ok last
+        → ((next : Collected) → Sound file frames next → all_noted file most next rest ≡ Ok last → Sound file frames last) → Sound file frames last
+    by (Ok next) was holds more = more next (step_sound file frames seen rest most so_far next frame among stand.0 sound was) holds
+    by (Err fault) was holds more = let no = holds in cc
+
+all_carried : (file : List ℕ) (frames : List AnyFrame) (behind : List ℕ) (ranges : List ByteRange) → AreSound file frames behind ranges → AllWereCarried file frames behind ranges
+all_carried file frames behind [] sound = tt
+all_carried file frames behind (range ∷ ranges) sound = (sound.0.2, all_carried file frames behind ranges sound.1)
+
+pub each_carried : (most : ℕ) (file : List ℕ) (unread : AnyUnread) (answer : AnyAnswer) → any_opened file ≡ Some unread → any_read most file ≡ Ok answer
+    → AllWereCarried unread.octets (any_frames_left unread) answer.behind answer.datagrams
+unfolding any_read
+each_carried most file unread answer opened is = by (all_noted unread.octets most nothing (any_frames_left unread)) refl (sym (ap (opened_read most) opened) ∙ is)
+  where
+    frames : List AnyFrame
+    frames = any_frames_left unread
+
+    by : (result : Result Collected AnyFault) → all_noted unread.octets most nothing frames ≡ result → answered result ≡ Ok answer
+        → AllWereCarried unread.octets frames answer.behind answer.datagrams
+    by (Err fault) was holds = let no = holds in cc
+    by (Ok last) was holds =
+        let same : answer_of last ≡ answer = cc in
+        let sound = sound_all unread.octets frames most frames [] nothing last refl (left_stand unread) (record { keys = λ key. tt; carried = tt }) was in
+        subst (λ (a : AnyAnswer). AllWereCarried unread.octets frames a.behind a.datagrams) same (all_carried unread.octets frames last.behind last.datagrams sound.carried)

@@ -1,0 +1,89 @@
+-- What is behind the headers that are passed, one header at a time.
+use Rattle.std.proofs.Common.{◌≡◌, ℕ, zero, suc, ◌+◌, ◌<◌, ◌≤◌, Bool, true, false, List, length, refl, ap, subst, ◌∙◌, arith}
+use Rattle.std.specs.Prelude.{IfSome, None, Option, Some, if◌then◌else◌, nat_le, ◌==◌, ◌&&◌}
+use Rattle.std.proofs.lemmas.Bool.Decides.{nat_tests}
+use Rattle.rtps_capture.specs.Passed.{behind_extension, extension_passed, extension_size, is_atomic, is_extension, last_by, last_within, tag_passed}
+use Rattle.rtps_capture.specs.declared.layout.extension.TheConstants as extension
+use Rattle.rtps_capture.specs.declared.passed.Header.{Header}
+
+-- each header that is passed has octets of its own, within so many
+abbrev pub LeadsOn : (Header → Option Header) → ℕ → Type 0
+LeadsOn passed size = (header : Header) → IfSome (passed header) (λ behind. (header.at < behind.at) × (behind.at ≤ size))
+
+-- as many steps as there are octets are enough
+last_within-enough : (passed : Header → Option Header) (size : ℕ) → LeadsOn passed size → (m n : ℕ) (header : Header)
+    → size ≤ header.at + m → size ≤ header.at + n → last_within passed m header ≡ last_within passed n header
+unfolding last_within
+last_within-enough passed size on zero zero header p q = refl
+last_within-enough passed size on zero (suc n) header p q = by (passed header) (on header)
+  where
+    by : (o : Option Header) → IfSome o (λ behind. (header.at < behind.at) × (behind.at ≤ size)) → header ≡ last_by (last_within passed n) header o
+    by None within = refl
+    by (Some behind) within = absurd (omega (arith, within.0, within.1))
+last_within-enough passed size on (suc m) zero header p q = by (passed header) (on header)
+  where
+    by : (o : Option Header) → IfSome o (λ behind. (header.at < behind.at) × (behind.at ≤ size)) → last_by (last_within passed m) header o ≡ header
+    by None within = refl
+    by (Some behind) within = absurd (omega (arith, within.0, within.1))
+last_within-enough passed size on (suc m) (suc n) header p q = by (passed header) (on header) (last_within-enough passed size on m n)
+  where
+    by : (o : Option Header) → IfSome o (λ behind. (header.at < behind.at) × (behind.at ≤ size))
+        → ((behind : Header) → size ≤ behind.at + m → size ≤ behind.at + n → last_within passed m behind ≡ last_within passed n behind)
+        → last_by (last_within passed m) header o ≡ last_by (last_within passed n) header o
+    by None within rest = refl
+    by (Some behind) within rest = rest behind (omega (arith, within.0)) (omega (arith, within.0))
+
+-- a header that is passed leaves what is behind it
+pub last_within-step : (passed : Header → Option Header) (size : ℕ) → LeadsOn passed size → (header behind : Header) → passed header ≡ Some behind
+    → last_within passed size header ≡ last_within passed size behind
+unfolding last_within
+last_within-step passed size on header behind is = by size refl
+  where
+    within : (header.at < behind.at) × (behind.at ≤ size)
+    within = subst (λ (o : Option Header). IfSome o (λ next. (header.at < next.at) × (next.at ≤ size))) is (on header)
+
+    by : (n : ℕ) → size ≡ n → last_within passed n header ≡ last_within passed n behind
+    by zero none = absurd (omega (arith, within.0, within.1))
+    by (suc n) more = ap (last_by (last_within passed n) header) is ∙ last_within-enough passed size on n (suc n) behind (omega (arith, within.0)) (omega arith)
+
+-- a header that is not passed is the last
+pub last_within-end : (passed : Header → Option Header) (n : ℕ) (header : Header) → passed header ≡ None → last_within passed n header ≡ header
+unfolding last_within
+last_within-end passed zero header is = refl
+last_within-end passed (suc n) header is = ap (last_by (last_within passed n) header) is
+
+-- what is behind them is within as many octets
+pub last_within-le : (passed : Header → Option Header) (size : ℕ) → LeadsOn passed size → (n : ℕ) (header : Header) → header.at ≤ size
+    → (last_within passed n header).at ≤ size
+unfolding last_within
+last_within-le passed size on zero header within = within
+last_within-le passed size on (suc n) header within = by (passed header) (on header) (last_within-le passed size on n)
+  where
+    by : (o : Option Header) → IfSome o (λ behind. (header.at < behind.at) × (behind.at ≤ size))
+        → ((behind : Header) → behind.at ≤ size → (last_within passed n behind).at ≤ size) → (last_by (last_within passed n) header o).at ≤ size
+    by None leads rest = within
+    by (Some behind) leads rest = rest behind leads.1
+
+pub tags_lead_on : (frame : List ℕ) → LeadsOn (tag_passed frame) (length frame)
+tags_lead_on frame header = grind (arith, nat_tests)
+
+extension_leads_on : (packet : List ℕ) (header : Header) (size : ℕ) → 0 < size
+    → IfSome (behind_extension packet header.at size) (λ behind. (header.at < behind.at) × (behind.at ≤ length packet))
+extension_leads_on packet header size some = by (nat_le (header.at + size) (length packet)) refl
+  where
+    by : (fits : Bool) → nat_le (header.at + size) (length packet) ≡ fits
+        → IfSome (behind_extension packet header.at size) (λ behind. (header.at < behind.at) × (behind.at ≤ length packet))
+    by true is = rw is (omega arith, grind (arith, nat_tests))
+    by false is = rw is tt
+
+pub extensions_lead_on : (packet : List ℕ) → LeadsOn (extension_passed packet) (length packet)
+extensions_lead_on packet header =
+    by (nat_le (header.at + extension.SIZE) (length packet)) (is_extension header.kind) (header.kind == extension.FRAGMENT && is_atomic packet header.at)
+  where
+    by : (room options fragment : Bool)
+        → IfSome (if room then (if options then behind_extension packet header.at (extension_size packet header.at) else if fragment then behind_extension packet header.at extension.SIZE else None) else None)
+        (λ behind. (header.at < behind.at) × (behind.at ≤ length packet))
+    by false options fragment = tt
+    by true true fragment = extension_leads_on packet header (extension_size packet header.at) (omega arith)
+    by true false true = extension_leads_on packet header extension.SIZE (omega arith)
+    by true false false = tt

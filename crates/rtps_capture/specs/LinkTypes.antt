@@ -1,0 +1,19 @@
+-- The link types that are read from any capture. PCAP Capture File Format (IETF draft), 4 "File Header", and the registry of
+-- link types that it names.
+-- own: these are the ones under which systems record what they send over IP.
+use Rattle.std.specs.Prelude.{ℕ, ◌==◌, ◌||◌, if◌then◌else◌, Option, Some, None}
+use Rattle.rtps_capture.specs.declared.layout.link_type.TheConstants.{LOOPBACK, LOOP, ETHERNET, RAW, RAW_IPV4, RAW_IPV6, COOKED_1, COOKED_2}
+use Rattle.rtps_capture.specs.declared.link_type.LinkType.{LinkType}
+use Rattle.rtps_capture.specs.declared.link_type.LinkType.TheVariants.{Loopback, Ethernet, Raw, RawIpv4, RawIpv6, Cooked1, Cooked2}
+
+-- what the frames of this number are; those of another one are not read
+abbrev pub link_type_numbered : ℕ → Option LinkType
+link_type_numbered number =
+    if number == LOOPBACK || number == LOOP then Some Loopback
+    else if number == ETHERNET then Some Ethernet
+    else if number == RAW then Some Raw
+    else if number == RAW_IPV4 then Some RawIpv4
+    else if number == RAW_IPV6 then Some RawIpv6
+    else if number == COOKED_1 then Some Cooked1
+    else if number == COOKED_2 then Some Cooked2
+    else None

@@ -1,0 +1,216 @@
+-- What a frame of any capture contains. RFC 791 "Internet Protocol", 3.1 "Internet Header Format"; RFC 8200 "Internet Protocol,
+-- Version 6", 3 "IPv6 Header Format" and 4.5 "Fragment Header"; RFC 768 "User Datagram Protocol", "Format"; IEEE 802.3, 3.1.1
+-- "Packet format".
+-- own: headers are read from the front, the fields of a header before its lengths, and what is met first decides: that it is no
+-- UDP over IP or cannot be, or that the captured octets end. So a packet that was captured in part is not taken for another
+-- protocol, nor the other way round.
+use Rattle.std.specs.Prelude.{ℕ, ◌+◌, ◌-◌, ◌*◌, ◌/◌, ◌%◌, ◌==◌, ◌≤◌, ◌&&◌, ◌||◌, not, nat_le, nat_lt, Bool, if◌then◌else◌, List, length, drop, take, slice_index}
+use Rattle.rtps_ids.specs.Octets.{number_of}
+use Rattle.rtps_ids.specs.declared.order.Order.TheVariants.{Big}
+use Rattle.rtps_capture.specs.Datagrams.{header_size, is_no_fragment, is_udp, number_at, total_size}
+use Rattle.rtps_capture.specs.Passed.{extension_passed, is_tag, last_header, tag_passed}
+use Rattle.rtps_capture.specs.declared.layout.cooked_1.TheConstants as cooked_1
+use Rattle.rtps_capture.specs.declared.layout.cooked_2.TheConstants as cooked_2
+use Rattle.rtps_capture.specs.declared.layout.ethernet.TheConstants as ethernet
+use Rattle.rtps_capture.specs.declared.layout.extension.TheConstants as extension
+use Rattle.rtps_capture.specs.declared.layout.loopback.TheConstants as loopback
+use Rattle.rtps_capture.specs.declared.layout.packet.TheConstants as packet_4
+use Rattle.rtps_capture.specs.declared.layout.packet_6.TheConstants as packet_6
+use Rattle.rtps_capture.specs.declared.layout.udp.TheConstants as udp
+use Rattle.rtps_capture.specs.declared.link_type.LinkType.{LinkType}
+use Rattle.rtps_capture.specs.declared.link_type.LinkType.TheVariants as link
+use Rattle.rtps_capture.specs.declared.fragment.Address.{Address}
+use Rattle.rtps_capture.specs.declared.packet.Carried.{Carried}
+use Rattle.rtps_capture.specs.declared.packet.Carried.TheVariants.{Ipv4, Ipv6, Unfinished, Foreign}
+use Rattle.rtps_capture.specs.declared.packet.Contents.{Contents}
+use Rattle.rtps_capture.specs.declared.packet.Contents.TheVariants as contents
+use Rattle.rtps_capture.specs.declared.fragment.Fragment.{Fragment}
+use Rattle.rtps_capture.specs.declared.fragment.FragmentKey.{FragmentKey}
+use Rattle.rtps_capture.specs.declared.passed.Header.{Header}
+use Rattle.rtps_capture.specs.declared.datagram.ByteRange.{ByteRange}
+
+-- the packet of this version that begins there
+abbrev pub carried_by : ℕ → ℕ → Carried
+carried_by version at = if version == packet_4.VERSION then Ipv4 at else if version == packet_6.VERSION then Ipv6 at else Foreign
+
+-- the high half of a packet's first octet tells its version
+abbrev pub carried_by_version : List ℕ → ℕ → Carried
+carried_by_version frame at = if nat_lt at (length frame) then carried_by (slice_index frame at / 16) at else Unfinished
+
+-- the frame is a packet of this version
+abbrev pub carried_of : ℕ → List ℕ → Carried
+carried_of version frame =
+    if nat_lt 0 (length frame) then (if slice_index frame 0 / 16 == version then carried_by version 0 else Foreign) else Unfinished
+
+-- what a type says of what is behind it; a tag is passed if the frame has all of it
+abbrev pub carried_typed : Header → Carried
+carried_typed last =
+    if last.kind == ethernet.IPV4 then Ipv4 last.at
+    else if last.kind == ethernet.IPV6 then Ipv6 last.at
+    else if is_tag last.kind then Unfinished
+    else Foreign
+
+-- a header of this size has a type at this place, and behind it are tags and a packet
+abbrev pub carried_behind : ℕ → ℕ → List ℕ → Carried
+carried_behind type_at size frame =
+    if nat_le size (length frame) then carried_typed (last_header (tag_passed frame) (length frame) (record { kind = number_at type_at frame; at = size }))
+    else Unfinished
+
+-- where the packet begins that a frame carries
+unfoldable pub packet_of : LinkType → List ℕ → Carried
+packet_of link.Ethernet frame = carried_behind ethernet.TYPE ethernet.SIZE frame
+packet_of link.Cooked1 frame = carried_behind cooked_1.TYPE cooked_1.SIZE frame
+packet_of link.Cooked2 frame = carried_behind cooked_2.TYPE cooked_2.SIZE frame
+packet_of link.Loopback frame = carried_by_version frame loopback.SIZE
+packet_of link.Raw frame = carried_by_version frame 0
+packet_of link.RawIpv4 frame = carried_of packet_4.VERSION frame
+packet_of link.RawIpv6 frame = carried_of packet_6.VERSION frame
+
+-- four octets as a number
+abbrev pub number_4_at : ℕ → List ℕ → ℕ
+number_4_at at octets = number_of Big 4 (drop at octets)
+
+-- an address of 16 octets
+abbrev pub address_at : ℕ → List ℕ → Address
+address_at at octets = record {
+  first = number_4_at at octets;
+  second = number_4_at (at + 4) octets;
+  third = number_4_at (at + 8) octets;
+  fourth = number_4_at (at + 12) octets;
+}
+
+-- an address of four octets
+abbrev pub address_4_at : ℕ → List ℕ → Address
+address_4_at at octets = record { first = number_4_at at octets; second = 0; third = 0; fourth = 0 }
+
+-- what the fragments of one packet of version 4 have in common
+abbrev pub key_4 : List ℕ → FragmentKey
+key_4 packet = record {
+  identification = number_at packet_4.IDENTIFICATION packet;
+  version = packet_4.VERSION;
+  source = address_4_at packet_4.SOURCE packet;
+  destination = address_4_at packet_4.DESTINATION packet;
+}
+
+-- what those of one packet of version 6 have in common; their fragment header is at this place
+abbrev pub key_6 : List ℕ → ℕ → FragmentKey
+key_6 packet at = record {
+  identification = number_4_at (at + extension.IDENTIFICATION) packet;
+  version = packet_6.VERSION;
+  source = address_at packet_6.SOURCE packet;
+  destination = address_at packet_6.DESTINATION packet;
+}
+
+-- the datagram behind the UDP header that begins a range of a packet: its length counts the header's own octets
+unfoldable pub udp_within : List ℕ → ByteRange → Contents
+udp_within packet range =
+    if nat_le (range.from + udp.SIZE) range.to && nat_le udp.SIZE (number_at (range.from + udp.LENGTH) packet)
+    && nat_le (range.from + number_at (range.from + udp.LENGTH) packet) range.to
+    then contents.Datagram (record { from = range.from + udp.SIZE; to = range.from + number_at (range.from + udp.LENGTH) packet })
+    else contents.Other
+
+-- how many octets a fragment has
+abbrev pub fragment_size : Fragment → ℕ
+fragment_size fragment = fragment.range.to - fragment.range.from
+
+-- it does not reach past the most that a packet has, and with more behind it it has eights of octets
+abbrev pub can_be_fragment : Fragment → Bool
+can_be_fragment fragment =
+    nat_le (fragment.start + fragment_size fragment) packet_4.MOST
+    && (not fragment.more || (nat_lt 0 (fragment_size fragment) && fragment_size fragment % packet_4.UNIT == 0))
+
+-- the fragment, if it can be one
+abbrev pub fragment_of : Fragment → Contents
+fragment_of fragment = if can_be_fragment fragment then contents.Fragment fragment else contents.Other
+
+-- what a whole packet of version 4 that carries UDP contains; octets behind its total length are padding
+abbrev pub contents_of_whole_ipv4 : List ℕ → Contents
+contents_of_whole_ipv4 packet =
+    if is_no_fragment packet then udp_within packet (record { from = header_size packet; to = total_size packet })
+    else fragment_of (record {
+      key = key_4 packet;
+      start = number_at packet_4.FRAGMENT packet % packet_4.OFFSETS * packet_4.UNIT;
+      more = number_at packet_4.FRAGMENT packet / packet_4.OFFSETS % 2 == 1;
+      range = record { from = header_size packet; to = total_size packet };
+    })
+
+-- a header of version 4 that says UDP, with sizes that can be
+abbrev pub is_ipv4_udp : List ℕ → Bool
+is_ipv4_udp packet =
+    slice_index packet 0 / 16 == packet_4.VERSION && nat_le packet_4.LEAST (header_size packet) && is_udp packet && nat_le (header_size packet) (total_size packet)
+
+-- what a packet of version 4 contains
+unfoldable pub contents_of_ipv4 : List ℕ → Contents
+contents_of_ipv4 packet =
+    if nat_le packet_4.LEAST (length packet) then
+    (if is_ipv4_udp packet then (if nat_le (total_size packet) (length packet) then contents_of_whole_ipv4 packet else contents.Cut)
+    else contents.Other)
+    else contents.Cut
+
+-- what is at the end of the headers of a packet of version 6 that has nothing behind it
+abbrev pub contents_behind : List ℕ → Header → Contents
+contents_behind packet last =
+    if last.kind == packet_4.UDP then udp_within packet (record { from = last.at; to = length packet })
+    else if last.kind == extension.FRAGMENT && nat_le (last.at + extension.SIZE) (length packet) && slice_index packet last.at == packet_4.UDP
+    then fragment_of (record {
+      key = key_6 packet last.at;
+      start = number_at (last.at + extension.OFFSET) packet / 8 * packet_4.UNIT;
+      more = number_at (last.at + extension.OFFSET) packet % 2 == 1;
+      range = record { from = last.at + extension.SIZE; to = length packet };
+    })
+    else contents.Other
+
+-- what a whole packet of version 6 contains, with nothing behind it
+unfoldable pub contents_of_whole : List ℕ → Contents
+contents_of_whole packet =
+    contents_behind packet (last_header (extension_passed packet) (length packet) (record { kind = slice_index packet packet_6.NEXT; at = packet_6.SIZE }))
+
+-- the size of a packet of version 6, by its header
+abbrev pub size_of_ipv6 : List ℕ → ℕ
+size_of_ipv6 packet = packet_6.SIZE + number_at packet_6.PAYLOAD packet
+
+-- what a packet of version 6 contains; octets behind its payload length are padding
+unfoldable pub contents_of_ipv6 : List ℕ → Contents
+contents_of_ipv6 packet =
+    if nat_le packet_6.SIZE (length packet) then
+    (if slice_index packet 0 / 16 == packet_6.VERSION then
+    (if nat_le (size_of_ipv6 packet) (length packet) then contents_of_whole (take (size_of_ipv6 packet) packet) else contents.Cut)
+    else contents.Other)
+    else contents.Cut
+
+-- a range that is counted from another place on
+abbrev pub moved_range : ℕ → ByteRange → ByteRange
+moved_range by range = record { from = by + range.from; to = by + range.to }
+
+-- contents whose places are counted from another place on
+abbrev pub moved_contents : ℕ → Contents → Contents
+moved_contents by (contents.Datagram range) = contents.Datagram (moved_range by range)
+moved_contents by (contents.Fragment fragment) = contents.Fragment (record fragment { range = moved_range by fragment.range })
+moved_contents by contents.Cut = contents.Cut
+moved_contents by contents.Other = contents.Other
+
+-- what the packet contains that begins there in a frame
+abbrev pub contents_carried : List ℕ → Carried → Contents
+contents_carried frame (Ipv4 at) = moved_contents at (contents_of_ipv4 (drop at frame))
+contents_carried frame (Ipv6 at) = moved_contents at (contents_of_ipv6 (drop at frame))
+contents_carried frame Unfinished = contents.Cut
+contents_carried frame Foreign = contents.Other
+
+-- what a frame contains
+abbrev pub contents_of : LinkType → List ℕ → Contents
+contents_of link frame = contents_carried frame (packet_of link frame)
+
+-- the packet begins within so many octets
+abbrev pub is_within : ℕ → Carried → Type 0
+is_within size (Ipv4 at) = at ≤ size
+is_within size (Ipv6 at) = at ≤ size
+is_within size Unfinished = Unit {0}
+is_within size Foreign = Unit {0}
+
+-- what is told stands within so many octets
+abbrev pub StandsIn : ℕ → Contents → Type 0
+StandsIn size (contents.Datagram range) = (range.from ≤ range.to) × (range.to ≤ size)
+StandsIn size (contents.Fragment fragment) =
+    (fragment.range.from ≤ fragment.range.to) × (fragment.range.to ≤ size) × (fragment.start + fragment_size fragment ≤ packet_4.MOST)
+StandsIn size contents.Cut = Unit {0}
+StandsIn size contents.Other = Unit {0}

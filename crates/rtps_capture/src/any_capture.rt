@@ -1,0 +1,231 @@
+ghost use Rattle.std.specs.Prelude.{◌≡◌, ◌≤◌, ◌<◌, ◌+◌, ◌^◌, length, All, IfOk, MatchResult, Ok, OnOk};
+ghost use Rattle.rtps_capture.specs.AnyCapture.{AreWithin, IsAnswer, IsCounted, IsCountedWith, IsFault, StaysWithin, all_read, answer_of, any_read, any_value, collected, collected_of, contents_in as contents_in_lem, ignored, noted, nothing, with_fragment};
+ghost use Rattle.rtps_capture.specs.AnyFrames.{StandsInFile, any_frames_left, unread_of};
+ghost use Rattle.rtps_capture.specs.Assembly.{making_of, taken_piece};
+ghost use Rattle.rtps_capture.specs.Packets.{StandsIn, fragment_size};
+ghost use Rattle.rtps_capture.specs.Pieces.{piece_of};
+
+use crate::any_frames::{AnyFrame, AnyFrames};
+use crate::assembly::Assembly;
+use crate::datagram::ByteRange;
+use crate::fragment::Fragment;
+use crate::link_type::LinkType;
+use crate::packet::{Contents, contents_of, moved};
+use rtps_ids::Memory;
+use std::alloc::Global;
+
+/// The datagrams of a capture of either form, and how many of its frames are ignored, by the reason.
+#[derive(Drop)]
+pub struct AnyReading {
+    /// Where the datagrams stand, in the order of the frames that gave them: in the file, or in `behind`, whose octets are
+    /// counted on from the file's end.
+    pub datagrams: Vec<ByteRange>,
+    /// The octets of the packets that were put together.
+    pub behind: Vec<u8>,
+    /// Frames with fragments of packets that were never whole.
+    pub pieces: u64,
+    /// Frames whose captured octets end before their packet does, and the rest of a file that ends within a frame.
+    pub cut: u64,
+    /// Frames that carry no UDP over IP.
+    pub other: u64,
+}
+
+/// Why a capture is not read.
+#[derive(Clone, Copy, PartialEq, Eq, Debug)]
+pub enum AnyFault {
+    /// It is no capture that is read, or has a block that cannot be.
+    BadCapture,
+    /// A frame passes the end of its block. Frames count from 1.
+    CutCapture { frame: u64 },
+    /// It has more datagrams than are wanted.
+    TooMany,
+    Memory,
+}
+
+impl From<Memory> for AnyFault {
+    ghost use Rattle.std.specs.Prelude.{◌≡◌};
+    ghost use Rattle.rtps_capture.specs.declared.any_capture.AnyFault.TheVariants.{Memory};
+
+    ghost from_gives = { λ _ fault. fault ≡ Memory };
+
+    fn from(_memory: Memory) -> AnyFault {
+        AnyFault::Memory
+    }
+}
+
+/// What was read so far.
+#[derive(Drop)]
+struct Collected {
+    assembly: Assembly,
+    datagrams: Vec<ByteRange>,
+    behind: Vec<u8>,
+    counts: Counts,
+}
+
+/// How many frames there were so far, and of what kinds.
+#[derive(Clone, Copy, Debug)]
+struct Counts {
+    frames: u64,
+    /// Frames with a fragment that is no repeat.
+    fresh: u64,
+    /// Those of them whose packet was whole.
+    settled: u64,
+    cut: u64,
+    other: u64,
+}
+
+/// The datagrams of a capture of either form; after one of more than `most` datagrams nothing is read. The fault is the first
+/// in the file's order.
+pub fn read_any(alloc: Global, octets: &[u8], most: u64) -> Result<AnyReading, AnyFault>
+    ensures read { IsAnswer (any_read most octets.now) result }
+    ensures few { IfOk result (λ reading. ignored reading < 2 ^ 64) }
+    ensures within { IfOk result (λ reading. AreWithin (length octets.now + length reading.behind.items) reading.datagrams.items) }
+{
+    let Some(frames) = AnyFrames::open(alloc, octets) else {
+        return Err(AnyFault::BadCapture);
+    };
+    read_frames(frames, Collected::new(alloc), most)
+}
+
+/// What the frames give behind those that were collected.
+fn read_frames(
+    mut frames: AnyFrames<'_>,
+    mut collected: Collected,
+    most: u64,
+) -> Result<AnyReading, AnyFault>
+    requires counted { IsCounted collected }
+    requires few { collected.counts.frames + length (any_frames_left (unread_of frames)) < 2 ^ 63 }
+    requires within { AreWithin (length frames.octets.now + length collected.behind.items) collected.datagrams.items }
+    ensures read { IsAnswer (all_read frames.entry.octets.now most (collected_of collected) (any_frames_left (unread_of frames.entry))) result }
+    ensures few { IfOk result (λ reading. ignored reading < 2 ^ 64) }
+    ensures within { IfOk result (λ reading. AreWithin (length frames.entry.octets.now + length reading.behind.items) reading.datagrams.items) }
+{
+    let octets = frames.octets;
+    while let Some(frame) = frames.next_frame()? {
+        collected.note(octets, frame, most)?;
+    }
+    Ok(collected.finish())
+}
+
+/// What the frame contains that stands there in the file, with places of the file.
+#[tactic(auto, unfolding(crate::specs::AnyCapture::contents_in))]
+fn contents_in(octets: &[u8], link: Option<LinkType>, range: ByteRange) -> Contents
+    requires ordered { range.from ≤ range.to }
+    requires within { range.to ≤ length octets.now }
+    ensures contents { result ≡ contents_in_lem octets.now link range }
+    ensures within { StandsIn (length octets.now) result }
+{
+    match link {
+        Some(link) => moved(range.from, contents_of(link, &octets[range.from..range.to])),
+        None => Contents::Other,
+    }
+}
+
+impl Collected {
+    fn new(alloc: Global) -> Collected
+        ensures nothing { collected_of result ≡ nothing }
+        ensures counted { IsCounted result }
+    {
+        Collected {
+            assembly: Assembly::new(alloc),
+            datagrams: Vec::new(alloc),
+            behind: Vec::new(alloc),
+            counts: Counts {
+                frames: 0,
+                fresh: 0,
+                settled: 0,
+                cut: 0,
+                other: 0,
+            },
+        }
+    }
+
+    /// Takes what a record or block gave.
+    #[tactic(auto, unfolding(crate::specs::AnyCapture::noted, crate::specs::AnyCapture::collected))]
+    fn note(&mut self, octets: &[u8], frame: AnyFrame, most: u64) -> Result<(), AnyFault>
+        requires counted { IsCounted self.old }
+        requires few { self.old.counts.frames < 2 ^ 63 }
+        requires stands { StandsInFile (length octets.now) frame }
+        ensures noted { MatchResult result (λ _. noted octets.now most (collected_of self.old) frame ≡ Ok (collected_of self.new)) (IsFault (noted octets.now most (collected_of self.old) frame)) }
+        ensures counted { OnOk result (IsCounted self.new) }
+        ensures frames { OnOk result (self.new.counts.frames ≤ self.old.counts.frames + 1) }
+        ensures within { OnOk result (StaysWithin (length octets.now) self.old self.new) }
+    {
+        match frame {
+            AnyFrame::Frame(link, range) => {
+                self.take(octets, contents_in(octets, link, range))?;
+                if self.datagrams.len() as u64 > most {
+                    return Err(AnyFault::TooMany);
+                }
+                Ok(())
+            }
+            AnyFrame::NoFrame => Ok(()),
+            AnyFrame::Rest => {
+                self.counts.frames += 1;
+                self.counts.cut += 1;
+                Ok(())
+            }
+            AnyFrame::BadBlock => Err(AnyFault::BadCapture),
+            AnyFrame::CutFrame => Err(AnyFault::CutCapture {
+                frame: self.counts.frames + 1,
+            }),
+        }
+    }
+
+    /// Takes what a frame contains.
+    #[tactic(auto, unfolding(crate::specs::AnyCapture::collected))]
+    fn take(&mut self, octets: &[u8], contents: Contents) -> Result<(), Memory>
+        requires counted { IsCounted self.old }
+        requires few { self.old.counts.frames < 2 ^ 63 }
+        requires stands { StandsIn (length octets.now) contents }
+        ensures collected { OnOk result (collected_of self.new ≡ collected octets.now (collected_of self.old) contents) }
+        ensures counted { OnOk result (IsCounted self.new) }
+        ensures frames { OnOk result (self.new.counts.frames ≡ self.old.counts.frames + 1) }
+        ensures within { OnOk result (StaysWithin (length octets.now) self.old self.new) }
+    {
+        self.counts.frames += 1;
+        match contents {
+            Contents::Datagram(range) => self.datagrams.push(range)?,
+            Contents::Fragment(fragment) => self.take_fragment(octets, &fragment)?,
+            Contents::Cut => self.counts.cut += 1,
+            Contents::Other => self.counts.other += 1,
+        }
+        Ok(())
+    }
+
+    /// Takes a fragment.
+    fn take_fragment(&mut self, octets: &[u8], fragment: &Fragment) -> Result<(), Memory>
+        requires counted { IsCountedWith 1 self.old }
+        requires few { self.old.counts.frames < 2 ^ 64 }
+        requires stands { fragment.now.start + fragment_size fragment.now < 2 ^ 32 }
+        ensures collected { OnOk result (collected_of self.new ≡ with_fragment (collected_of self.old) fragment.now.key (taken_piece octets.now self.old.behind.items (making_of self.old.assembly.makings fragment.now.key) (piece_of fragment.now))) }
+        ensures counted { OnOk result (IsCounted self.new) }
+        ensures frames { OnOk result (self.new.counts.frames ≡ self.old.counts.frames) }
+        ensures within { OnOk result (StaysWithin (length octets.now) self.old self.new) }
+    {
+        let taken = self.assembly.take(octets, fragment, &mut self.behind)?;
+        self.counts.fresh += taken.fresh as u64;
+        self.counts.settled += taken.settled as u64;
+        self.counts.other += taken.other as u64;
+        if let Some(datagram) = taken.datagram {
+            self.datagrams.push(datagram)?;
+        }
+        Ok(())
+    }
+
+    /// What is left when all is read.
+    fn finish(self) -> AnyReading
+        requires counted { IsCounted self }
+        requires few { self.counts.frames < 2 ^ 63 }
+        ensures answer { any_value result ≡ answer_of (collected_of self) }
+        ensures few { ignored result < 2 ^ 64 }
+    {
+        AnyReading {
+            datagrams: self.datagrams,
+            behind: self.behind,
+            pieces: self.counts.fresh.saturating_sub(self.counts.settled),
+            cut: self.counts.cut,
+            other: self.counts.other,
+        }
+    }
+}

@@ -1,0 +1,124 @@
+ghost use Rattle.std.specs.Prelude.{◌≡◌, ◌≤◌, ◌+◌, length};
+ghost use Rattle.rtps_capture.specs.Blocks.{BlockStands, block_at as block_at_lem, block_with as block_with_lem, fixed_size as fixed_size_lem, is_pcapng as is_pcapng_lem, order_told as order_told_lem};
+
+use crate::layout::{block, interface, packet_block, section};
+use crate::link_type::LinkType;
+use crate::octet_number::{four_octets, two_octets};
+use rtps_ids::Order;
+
+/// A block of a pcapng file.
+#[derive(Clone, Copy, PartialEq, Eq, Debug)]
+pub(crate) enum Block {
+    Whole(WholeBlock),
+    /// The file ends within it.
+    Unfinished,
+    /// Its length cannot be, or it is the header of a section that is not read.
+    Bad,
+}
+
+/// A block that the file has all of.
+#[derive(Clone, Copy, PartialEq, Eq, Debug)]
+pub(crate) struct WholeBlock {
+    pub(crate) kind: u32,
+    /// The order of the section's numbers.
+    pub(crate) order: Order,
+    /// Where the block ends.
+    pub(crate) to: usize,
+}
+
+/// An interface of a section.
+#[derive(Clone, Copy, PartialEq, Eq, Debug)]
+pub(crate) struct Interface {
+    /// What its frames are, if they are read.
+    pub(crate) link: Option<LinkType>,
+    /// The most octets that are captured of a frame; 0 is no limit.
+    pub(crate) snap: u32,
+}
+
+/// Whether a file begins as a pcapng file does: with the type of a section header.
+pub fn is_pcapng(octets: &[u8]) -> bool
+    ensures { result ≡ is_pcapng_lem octets.now }
+{
+    octets.len() >= 4 && four_octets(Order::Big, octets, 0) == block::SECTION
+}
+
+/// The order in which the four octets at this place are the number that tells it.
+fn order_told(octets: &[u8], at: usize) -> Option<Order>
+    requires { at + 4 ≤ length octets.now }
+    ensures { result ≡ order_told_lem octets.now at }
+{
+    if four_octets(Order::Big, octets, at) == section::BYTE_ORDER {
+        return Some(Order::Big);
+    }
+    if four_octets(Order::Little, octets, at) == section::BYTE_ORDER {
+        return Some(Order::Little);
+    }
+    None
+}
+
+/// How many octets the fixed fields of a block's body have.
+#[inline]
+fn fixed_size(kind: u32) -> usize
+    ensures size { result ≡ fixed_size_lem kind }
+    ensures few { result ≤ 20 }
+{
+    match kind {
+        block::SECTION => section::FIXED,
+        block::INTERFACE => interface::FIXED,
+        block::ENHANCED | block::OLD => packet_block::FIXED,
+        block::SIMPLE => packet_block::SIMPLE,
+        _ => 0,
+    }
+}
+
+/// The block of this type at this place, whose numbers lie in this order: its length is looked at first, then whether the
+/// file has all of it, then the repetition, then its fields.
+#[tactic(auto, unfolding(crate::specs::Blocks::block_with))]
+#[inline]
+fn block_with(kind: u32, order: Order, octets: &[u8], at: usize) -> Block
+    requires { at + 8 ≤ length octets.now }
+    ensures block { result ≡ block_with_lem kind order octets.now at }
+    ensures stands { BlockStands at octets.now result }
+{
+    let size = four_octets(order, octets, at + block::LENGTH) as usize;
+    if size % block::UNIT != 0 || size < block::LEAST + fixed_size(kind) {
+        return Block::Bad;
+    }
+    if octets.len() - at < size {
+        return Block::Unfinished;
+    }
+    let to = at + size;
+    if four_octets(order, octets, to - block::REPETITION) as usize != size {
+        return Block::Bad;
+    }
+    if kind == block::SECTION
+        && two_octets(order, octets, at + section::MAJOR) != section::VERSION
+    {
+        return Block::Bad;
+    }
+    Block::Whole(WholeBlock { kind, order, to })
+}
+
+/// The block at this place of a pcapng file, in a section whose numbers lie in this order.
+#[tactic(auto, unfolding(crate::specs::Blocks::block_at))]
+pub(crate) fn block_at(order: Order, octets: &[u8], at: usize) -> Block
+    requires { at ≤ length octets.now }
+    ensures block { result ≡ block_at_lem order octets.now at }
+    ensures stands { BlockStands at octets.now result }
+{
+    let rest = octets.len() - at;
+    if rest < block::BODY {
+        return Block::Unfinished;
+    }
+    let kind = four_octets(order, octets, at);
+    if kind != block::SECTION {
+        return block_with(kind, order, octets, at);
+    }
+    if rest < block::LEAST {
+        return Block::Unfinished;
+    }
+    match order_told(octets, at + section::MAGIC) {
+        Some(own) => block_with(kind, own, octets, at),
+        None => Block::Bad,
+    }
+}

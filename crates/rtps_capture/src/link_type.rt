@@ -1,0 +1,39 @@
+ghost use Rattle.std.specs.Prelude.{◌≡◌};
+ghost use Rattle.rtps_capture.specs.LinkTypes.{link_type_numbered as link_type_numbered_lem};
+
+use crate::layout::link_type;
+
+/// What the frames of an interface are, of those that are read from any capture.
+#[derive(Clone, Copy, PartialEq, Eq, Debug)]
+pub enum LinkType {
+    /// Four octets, and behind them a packet of IP.
+    Loopback,
+    /// Ethernet frames (IEEE 802.3).
+    Ethernet,
+    /// Packets of IP, of version 4 or 6.
+    Raw,
+    /// Packets of IP of version 4.
+    RawIpv4,
+    /// Packets of IP of version 6.
+    RawIpv6,
+    /// Linux cooked frames.
+    Cooked1,
+    /// Linux cooked frames of version 2.
+    Cooked2,
+}
+
+/// What the frames of this link type are, if they are read: the number is one of the registry of link types.
+pub fn link_type_numbered(number: u32) -> Option<LinkType>
+    ensures { result ≡ link_type_numbered_lem number }
+{
+    match number {
+        link_type::LOOPBACK | link_type::LOOP => Some(LinkType::Loopback),
+        link_type::ETHERNET => Some(LinkType::Ethernet),
+        link_type::RAW => Some(LinkType::Raw),
+        link_type::RAW_IPV4 => Some(LinkType::RawIpv4),
+        link_type::RAW_IPV6 => Some(LinkType::RawIpv6),
+        link_type::COOKED_1 => Some(LinkType::Cooked1),
+        link_type::COOKED_2 => Some(LinkType::Cooked2),
+        _ => None,
+    }
+}

@@ -1,0 +1,269 @@
+ghost use Rattle.std.specs.Prelude.{◌≡◌, ◌≤◌, ◌<◌, ◌+◌, ◌-◌, ◌^◌, length};
+ghost use Rattle.rtps_capture.specs.Packets.{StandsIn, packet_of as packet_of_lem, carried_behind as carried_behind_lem, carried_by as carried_by_lem, contents_of as contents_of_lem, contents_of_ipv4 as contents_of_ipv4_lem, contents_of_ipv6 as contents_of_ipv6_lem, is_within, carried_by_version as carried_by_version_lem, carried_of as carried_of_lem, contents_of_whole as contents_of_whole_lem, moved_contents, udp_within as udp_within_lem};
+
+use crate::datagram::ByteRange;
+use crate::fragment::{Fragment, fragment_of, key_4_of, key_6_of};
+use crate::layout::{cooked_1, cooked_2, ethernet, extension, loopback, packet, packet_6, udp};
+use crate::link_type::LinkType;
+use crate::octet_number::two_octets;
+use crate::passed::{Header, behind_extensions, behind_tags, is_tag};
+use rtps_ids::Order;
+
+/// What a frame contains.
+#[derive(Clone, Copy, PartialEq, Eq, Debug)]
+pub enum Contents {
+    /// A UDP datagram in one packet, which stands there in the frame.
+    Datagram(ByteRange),
+    /// A part of a packet that was sent in several.
+    Fragment(Fragment),
+    /// The captured octets end before the packet does.
+    Cut,
+    /// No UDP over IP.
+    Other,
+}
+
+/// Where the packet begins that a frame carries.
+#[derive(Clone, Copy, PartialEq, Eq, Debug)]
+enum Carried {
+    Ipv4(usize),
+    Ipv6(usize),
+    /// The frame ends before its packet begins.
+    Unfinished,
+    /// Another thing than a packet of IP.
+    Foreign,
+}
+
+/// What a frame contains. Its headers are read from the front, the fields of a header before its lengths, and what is met
+/// first decides: that it is no UDP over IP or cannot be, or that the captured octets end.
+#[inline]
+pub fn contents_of(link: LinkType, frame: &[u8]) -> Contents
+    ensures contents { result ≡ contents_of_lem link frame.now }
+    ensures within { StandsIn (length frame.now) result }
+{
+    match packet_of(link, frame) {
+        Carried::Ipv4(at) => moved(at, contents_of_ipv4(&frame[at..])),
+        Carried::Ipv6(at) => moved(at, contents_of_ipv6(&frame[at..])),
+        Carried::Unfinished => Contents::Cut,
+        Carried::Foreign => Contents::Other,
+    }
+}
+
+/// Contents of a packet that begins at this place, with their places counted as this one is.
+#[inline]
+pub(crate) fn moved(by: usize, contents: Contents) -> Contents
+    requires { StandsIn (2 ^ 63 - by) contents }
+    ensures { result ≡ moved_contents by contents }
+{
+    match contents {
+        Contents::Datagram(range) => Contents::Datagram(ByteRange {
+            from: by + range.from,
+            to: by + range.to,
+        }),
+        Contents::Fragment(fragment) => Contents::Fragment(Fragment {
+            range: ByteRange {
+                from: by + fragment.range.from,
+                to: by + fragment.range.to,
+            },
+            ..fragment
+        }),
+        Contents::Cut => Contents::Cut,
+        Contents::Other => Contents::Other,
+    }
+}
+
+/// Where the packet begins that a frame carries.
+#[tactic(auto, unfolding(crate::specs::Packets::packet_of))]
+fn packet_of(link: LinkType, frame: &[u8]) -> Carried
+    ensures carried { result ≡ packet_of_lem link frame.now }
+    ensures within { is_within (length frame.now) result }
+{
+    match link {
+        LinkType::Ethernet => carried_behind(ethernet::TYPE, ethernet::SIZE, frame),
+        LinkType::Cooked1 => carried_behind(cooked_1::TYPE, cooked_1::SIZE, frame),
+        LinkType::Cooked2 => carried_behind(cooked_2::TYPE, cooked_2::SIZE, frame),
+        LinkType::Loopback => carried_by_version(frame, loopback::SIZE),
+        LinkType::Raw => carried_by_version(frame, 0),
+        LinkType::RawIpv4 => carried_of(packet::VERSION, frame),
+        LinkType::RawIpv6 => carried_of(packet_6::VERSION, frame),
+    }
+}
+
+/// The packet of this version that begins there, if the version is one of IP.
+#[inline]
+fn carried_by(version: u8, at: usize) -> Carried
+    ensures { result ≡ carried_by_lem version at }
+{
+    if version == packet::VERSION {
+        return Carried::Ipv4(at);
+    }
+    if version == packet_6::VERSION {
+        return Carried::Ipv6(at);
+    }
+    Carried::Foreign
+}
+
+/// The packet that begins there, of the version that the high half of its first octet tells.
+#[inline]
+fn carried_by_version(frame: &[u8], at: usize) -> Carried
+    ensures carried { result ≡ carried_by_version_lem frame.now at }
+    ensures within { is_within (length frame.now) result }
+{
+    if frame.len() <= at {
+        return Carried::Unfinished;
+    }
+    carried_by(frame[at] / 16, at)
+}
+
+/// The packet that the frame is, if it is one of this version.
+#[inline]
+fn carried_of(version: u8, frame: &[u8]) -> Carried
+    ensures carried { result ≡ carried_of_lem version frame.now }
+    ensures within { is_within (length frame.now) result }
+{
+    if frame.is_empty() {
+        return Carried::Unfinished;
+    }
+    if frame[0] / 16 != version {
+        return Carried::Foreign;
+    }
+    carried_by(version, 0)
+}
+
+/// The packet behind a header of this size, whose type stands there, and behind its tags.
+#[inline]
+fn carried_behind(type_at: usize, size: usize, frame: &[u8]) -> Carried
+    requires { type_at + 2 ≤ size }
+    ensures carried { result ≡ carried_behind_lem type_at size frame.now }
+    ensures within { is_within (length frame.now) result }
+{
+    if frame.len() < size {
+        return Carried::Unfinished;
+    }
+    let first = Header {
+        kind: two_octets(Order::Big, frame, type_at),
+        at: size,
+    };
+    let last = behind_tags(first, frame);
+    match last.kind {
+        ethernet::IPV4 => Carried::Ipv4(last.at),
+        ethernet::IPV6 => Carried::Ipv6(last.at),
+        kind if is_tag(kind) => Carried::Unfinished,
+        _ => Carried::Foreign,
+    }
+}
+
+/// What a packet of version 4 contains (RFC 791, 3.1 "Internet Header Format").
+#[tactic(auto, unfolding(crate::specs::Packets::contents_of_ipv4))]
+fn contents_of_ipv4(octets: &[u8]) -> Contents
+    ensures contents { result ≡ contents_of_ipv4_lem octets.now }
+    ensures within { StandsIn (length octets.now) result }
+{
+    if octets.len() < packet::LEAST {
+        return Contents::Cut;
+    }
+    let header = usize::from(octets[0] % 16) * 4;
+    let total = usize::from(two_octets(Order::Big, octets, packet::TOTAL));
+    if octets[0] / 16 != packet::VERSION || header < packet::LEAST {
+        return Contents::Other;
+    }
+    if octets[packet::PROTOCOL] != packet::UDP || total < header {
+        return Contents::Other;
+    }
+    if octets.len() < total {
+        return Contents::Cut;
+    }
+    let range = ByteRange {
+        from: header,
+        to: total,
+    };
+    let fragment = two_octets(Order::Big, octets, packet::FRAGMENT);
+    if fragment % packet::FRAGMENT_BITS == 0 {
+        return udp_within(octets, range);
+    }
+    fragment_of(Fragment {
+        key: key_4_of(octets),
+        start: usize::from(fragment % packet::OFFSETS) * packet::UNIT,
+        more: fragment / packet::OFFSETS % 2 == 1,
+        range,
+    })
+}
+
+/// What a packet of version 6 contains (RFC 8200, 3 "IPv6 Header Format").
+#[tactic(auto, unfolding(crate::specs::Packets::contents_of_ipv6))]
+fn contents_of_ipv6(octets: &[u8]) -> Contents
+    ensures contents { result ≡ contents_of_ipv6_lem octets.now }
+    ensures within { StandsIn (length octets.now) result }
+{
+    if octets.len() < packet_6::SIZE {
+        return Contents::Cut;
+    }
+    if octets[0] / 16 != packet_6::VERSION {
+        return Contents::Other;
+    }
+    let size = packet_6::SIZE + usize::from(two_octets(Order::Big, octets, packet_6::PAYLOAD));
+    if octets.len() < size {
+        return Contents::Cut;
+    }
+    contents_of_whole(&octets[..size])
+}
+
+/// What a whole packet of version 6 contains, which has nothing behind it.
+#[tactic(auto, unfolding(crate::specs::Packets::contents_of_whole))]
+fn contents_of_whole(octets: &[u8]) -> Contents
+    requires { 40 ≤ length octets.now }
+    ensures contents { result ≡ contents_of_whole_lem octets.now }
+    ensures within { StandsIn (length octets.now) result }
+{
+    let first = Header {
+        kind: u16::from(octets[packet_6::NEXT]),
+        at: packet_6::SIZE,
+    };
+    let last = behind_extensions(first, octets);
+    if last.kind == u16::from(packet::UDP) {
+        return udp_within(
+            octets,
+            ByteRange {
+                from: last.at,
+                to: octets.len(),
+            },
+        );
+    }
+    if last.kind != extension::FRAGMENT || octets.len() - last.at < extension::SIZE {
+        return Contents::Other;
+    }
+    if octets[last.at] != packet::UDP {
+        return Contents::Other;
+    }
+    let offset = two_octets(Order::Big, octets, last.at + extension::OFFSET);
+    fragment_of(Fragment {
+        key: key_6_of(octets, last.at),
+        start: usize::from(offset / 8) * packet::UNIT,
+        more: offset % 2 == 1,
+        range: ByteRange {
+            from: last.at + extension::SIZE,
+            to: octets.len(),
+        },
+    })
+}
+
+/// The datagram whose UDP header begins a range of a packet, if that has all of it (RFC 768, "Format").
+#[tactic(auto, unfolding(crate::specs::Packets::udp_within))]
+#[inline]
+pub(crate) fn udp_within(octets: &[u8], range: ByteRange) -> Contents
+    requires ordered { range.from ≤ range.to }
+    requires within { range.to ≤ length octets.now }
+    ensures contents { result ≡ udp_within_lem octets.now range }
+    ensures within { StandsIn (length octets.now) result }
+{
+    if range.to - range.from < udp::SIZE {
+        return Contents::Other;
+    }
+    let size = usize::from(two_octets(Order::Big, octets, range.from + udp::LENGTH));
+    if size < udp::SIZE || size > range.to - range.from {
+        return Contents::Other;
+    }
+    Contents::Datagram(ByteRange {
+        from: range.from + udp::SIZE,
+        to: range.from + size,
+    })
+}
