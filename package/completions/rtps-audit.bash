@@ -8,7 +8,7 @@ _rtps_audit() {
     fi
     case $command in
     show | list | audit | why)
-        local options='--max-datagrams --max-octets -h --help'
+        local options='--any --max-datagrams --max-octets -h --help'
         case $command in
         audit) options="--from --json $options" ;;
         why) options="--from $options" ;;

@@ -11,6 +11,7 @@ complete -c rtps-audit -s h -l help -d 'Print help'
 complete -c rtps-audit -n '__fish_seen_subcommand_from show list audit why' -F
 complete -c rtps-audit -n '__fish_seen_subcommand_from audit why' -x -l from -d 'The first number to ask for; smaller numbers are left out'
 complete -c rtps-audit -n '__fish_seen_subcommand_from audit' -l json -d 'Print one JSON object, with what each verdict rests on'
+complete -c rtps-audit -n '__fish_seen_subcommand_from show list audit why' -l any -d 'Read any capture'
 complete -c rtps-audit -n '__fish_seen_subcommand_from show list audit why' -x -l max-datagrams -d 'The most datagrams that the recording may have'
 complete -c rtps-audit -n '__fish_seen_subcommand_from show list audit why' -x -l max-octets -d 'The most octets that FILE may have'
 complete -c rtps-audit -n '__fish_seen_subcommand_from help' -a 'show list audit why sample help'

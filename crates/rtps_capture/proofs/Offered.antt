@@ -1,10 +1,19 @@
 -- Lemmas about the definitions of this crate, for the crates above it: whether octets begin a capture, the first four
--- tell.
-use Rattle.std.proofs.Common.{◌≡◌, ◌≤◌, List, ℕ, ◌++◌, length, false, refl, arith}
-use Rattle.std.specs.Prelude.{nat_lt}
+-- tell, and what is read of any capture is the same where more datagrams are wanted.
+use Rattle.std.proofs.Common.{◌≡◌, ◌≤◌, List, [], ◌∷◌, ℕ, Bool, ◌++◌, length, true, false, refl, ap, sym, ◌∙◌, arith}
+use Rattle.std.specs.Prelude.{nat_le, nat_lt, if◌then◌else◌, Option, None, Some, Result, Ok, Err}
 use Rattle.std.proofs.lemmas.Bool.Decides.{nat_tests}
 use Rattle.std.proofs.lemmas.List.{length-append, take-append-le}
+use Rattle.rtps_ids.specs.Octets.{number_of}
+use Rattle.rtps_ids.specs.declared.order.Order.TheVariants.{Big}
+use Rattle.rtps_capture.specs.AnyCapture.{AnyAnswer, Collected, all_noted, all_read, answered, any_read, collected, contents_in, limited, noted, nothing, opened_read, or_fault}
+use Rattle.rtps_capture.specs.AnyFrames.{AnyUnread, any_frames_left, any_opened}
+use Rattle.rtps_capture.specs.Blocks.{is_pcapng}
 use Rattle.rtps_capture.specs.Opening.{order_of}
+use Rattle.rtps_capture.specs.declared.any_capture.AnyFault.{AnyFault}
+use Rattle.rtps_capture.specs.declared.any_capture.AnyFault.TheVariants as fault
+use Rattle.rtps_capture.specs.declared.any_frames.AnyFrame.{AnyFrame}
+use Rattle.rtps_capture.specs.declared.any_frames.AnyFrame.TheVariants.{Frame, NoFrame, Rest, BadBlock, CutFrame}
 
 pub order_of-append : (start more : List ℕ) → 4 ≤ length start → order_of (start ++ more) ≡ order_of start
 unfolding order_of
@@ -14,3 +23,68 @@ order_of-append start more enough =
     let other : nat_lt (length (start ++ more)) 4 ≡ false = grind (arith, nat_tests) in
     let same = take-append-le 4 start more enough in
     rw (one, other, same) refl
+
+-- the number of the first octets
+number_of-append : (start more : List ℕ) → 4 ≤ length start → number_of Big 4 (start ++ more) ≡ number_of Big 4 start
+unfolding number_of
+number_of-append [] more enough = absurd (omega arith)
+number_of-append (a ∷ []) more enough = absurd (omega arith)
+number_of-append (a ∷ b ∷ []) more enough = absurd (omega arith)
+number_of-append (a ∷ b ∷ c ∷ []) more enough = absurd (omega arith)
+number_of-append (a ∷ b ∷ c ∷ d ∷ rest) more enough = refl
+
+pub is_pcapng-append : (start more : List ℕ) → 4 ≤ length start → is_pcapng (start ++ more) ≡ is_pcapng start
+is_pcapng-append start more enough =
+    let one : nat_le 4 (length start) ≡ true = grind (arith, nat_tests) in
+    let size : 4 ≤ length (start ++ more) = omega (arith, length-append start more) in
+    let other : nat_le 4 (length (start ++ more)) ≡ true = grind (arith, nat_tests) in
+    rw (one, other, number_of-append start more enough) refl
+
+-- what was limited is less than what more would be
+limited_within : (most more : ℕ) (one so_far : Collected) → most ≤ more → limited most one ≡ Ok so_far → limited more one ≡ Ok so_far
+limited_within most more one so_far within is = by (nat_lt most (length one.datagrams)) refl
+  where
+    by : (past : Bool) → nat_lt most (length one.datagrams) ≡ past → limited more one ≡ Ok so_far
+    by true far = let many : limited most one ≡ Err fault.TooMany = rw far refl in absurd cc
+    by false near =
+        let few : nat_lt more (length one.datagrams) ≡ false = grind (arith, nat_tests) in
+        let same : limited most one ≡ Ok one = rw near refl in
+        let all : limited more one ≡ Ok one = rw few refl in
+        all ∙ sym same ∙ is
+
+noted_within : (file : List ℕ) (most more : ℕ) (before so_far : Collected) (frame : AnyFrame) → most ≤ more
+    → noted file most before frame ≡ Ok so_far → noted file more before frame ≡ Ok so_far
+unfolding noted
+noted_within file most more before so_far (Frame link range) within is = limited_within most more (collected file before (contents_in file link range)) so_far within is
+noted_within file most more before so_far NoFrame within is = is
+noted_within file most more before so_far Rest within is = is
+noted_within file most more before so_far BadBlock within is = absurd cc
+noted_within file most more before so_far CutFrame within is = absurd cc
+
+-- what is behind a result is told only if that is no fault
+or_fault_ok : (is : Result Collected AnyFault) (more : Collected → Result Collected AnyFault) (so_far : Collected) → or_fault is more ≡ Ok so_far
+    → (before : Collected) × (is ≡ Ok before) × (more before ≡ Ok so_far)
+or_fault_ok (Ok before) more so_far is = (before, refl, is)
+or_fault_ok (Err e) more so_far is = absurd cc
+
+all_noted_within : (file : List ℕ) (most more : ℕ) (before so_far : Collected) (frames : List AnyFrame) → most ≤ more
+    → all_noted file most before frames ≡ Ok so_far → all_noted file more before frames ≡ Ok so_far
+all_noted_within file most more before so_far [] within is = is
+all_noted_within file most more before so_far (frame ∷ frames) within is =
+    let first = or_fault_ok (noted file most before frame) (λ one. all_noted file most one frames) so_far is in
+    ap (λ one. or_fault one (λ now. all_noted file more now frames)) (noted_within file most more before first.0 frame within first.1)
+    ∙ all_noted_within file most more first.0 so_far frames within first.2
+
+told : (is : Result Collected AnyFault) (answer : AnyAnswer) → answered is ≡ Ok answer → (so_far : Collected) × (is ≡ Ok so_far)
+told (Ok so_far) answer is = (so_far, refl)
+told (Err e) answer is = absurd cc
+
+pub any_read-within : (most more : ℕ) (file : List ℕ) (answer : AnyAnswer) → most ≤ more → any_read most file ≡ Ok answer → any_read more file ≡ Ok answer
+unfolding any_read
+any_read-within most more file answer within is = by (any_opened file) is
+  where
+    by : (opened : Option AnyUnread) → opened_read most opened ≡ Ok answer → opened_read more opened ≡ Ok answer
+    by None none = absurd cc
+    by (Some unread) read =
+        let all = told (all_noted unread.octets most nothing (any_frames_left unread)) answer read in
+        ap answered (all_noted_within unread.octets most more nothing all.0 (any_frames_left unread) within all.1 ∙ sym all.1) ∙ read

@@ -5,8 +5,8 @@ mod progress;
 
 use progress::{Progress, Wiping};
 use rtps_tool::{
-    CAPTURE_HEADER_SIZE, Choice, Ending, RecFault, RunFault, Unwatched, WordFault, read_words,
-    run_choice, status, unread_link_type, write_fault,
+    CAPTURE_HEADER_SIZE, Captures, Choice, Ending, RecFault, RunFault, Unwatched, WordFault,
+    is_pcapng, link_type_numbered, read_words, run_choice, status, unread_link_type, write_fault,
 };
 use std::alloc::AllocError;
 use std::fs::File;
@@ -18,8 +18,8 @@ use std::{env, io};
 /// capture has.
 const START: usize = CAPTURE_HEADER_SIZE;
 
-/// The octets that a pcapng file begins with.
-const PCAPNG: &[u8] = b"\x0a\x0d\x0d\x0a";
+/// The octets that a file begins with that `gzip` made.
+const GZIP: &[u8] = b"\x1f\x8b";
 
 /// What is known of an input: its first octets, how many octets were read, and why its last read failed.
 #[derive(Drop)]
@@ -198,7 +198,31 @@ fn run_on_input<R: Read + Drop>(
     let outcome = run_choice(rt.alloc(), choice, &mut input, &mut output, &mut progress);
     output.wipe();
     tell_of_input(rt, choice, &input.seen, &outcome);
+    if outcome.is_ok() {
+        tell_ignored(rt, choice, progress.ignored());
+    }
     outcome
+}
+
+/// On a terminal, says that `--any` may read more, if it was not given and frames were ignored.
+fn tell_ignored(rt: &HostRuntime, choice: &Choice, ignored: Option<u64>) {
+    let (Some(file), Some(ignored)) = (choice.file(), ignored) else {
+        return;
+    };
+    if captures_of(choice) == Captures::Classic {
+        let _ = writeln!(
+            rt.stderr(),
+            "rtps-audit: {file}: ignored {ignored}; --any may read these frames"
+        );
+    }
+}
+
+/// The captures that are read.
+fn captures_of(choice: &Choice) -> Captures {
+    match choice.options() {
+        Some(options) => options.captures,
+        None => Captures::Classic,
+    }
 }
 
 /// Prints what the line of a fault does not say: the name of the input, and why it cannot be read or is refused.
@@ -214,11 +238,16 @@ fn tell_of_input(
     if let Some(failure) = &seen.failure {
         tell_reason(rt, file, failure);
     }
-    if let Err(RunFault::Recording(fault)) = outcome {
-        tell_form(rt, file, seen.front());
-        if matches!(fault, RecFault::TooMany) {
-            tell_limit(rt, choice, file, seen.octets);
-        }
+    let Err(RunFault::Recording(fault)) = outcome else {
+        return;
+    };
+    tell_packed(rt, file, seen.front());
+    match captures_of(choice) {
+        Captures::Classic => tell_any(rt, file, seen.front(), *fault),
+        Captures::Any => tell_unread(rt, file, seen.front()),
+    }
+    if matches!(fault, RecFault::TooMany) {
+        tell_limit(rt, choice, file, seen.octets);
     }
 }
 
@@ -240,20 +269,51 @@ fn tell_limit(rt: &HostRuntime, choice: &Choice, file: &str, octets: u64) {
     );
 }
 
-/// If an input is refused and its first octets are those of a capture that is not read, prints its kind and a command
-/// that converts it.
-fn tell_form(rt: &HostRuntime, file: &str, start: &[u8]) {
-    if start.starts_with(PCAPNG) {
+/// If an input is refused and begins as `gzip` begins a file, prints that, and a command that unpacks it.
+fn tell_packed(rt: &HostRuntime, file: &str, start: &[u8]) {
+    if start.starts_with(GZIP) {
         let _ = writeln!(
             rt.stderr(),
-            "rtps-audit: {file}: a pcapng file; editcap -F pcap IN OUT makes a capture of it"
+            "rtps-audit: {file}: a gzip file; gunzip -c {file} | rtps-audit audit - reads what it holds"
         );
     }
-    if let Some(number) = unread_link_type(start) {
+}
+
+/// Says of an input that is refused for its form what it is, and that any capture can be asked for, where that reads it.
+fn tell_any(rt: &HostRuntime, file: &str, start: &[u8], fault: RecFault) {
+    if is_pcapng(start) {
         let _ = writeln!(
             rt.stderr(),
-            "rtps-audit: {file}: frames of link type {number}; tshark -r IN -Y 'udp && !icmp' -T fields -e udp.payload >OUT makes a recording of it"
+            "rtps-audit: {file}: a pcapng file; --any reads it"
         );
+    }
+    if matches!(fault, RecFault::CutCapture { .. }) {
+        let _ = writeln!(
+            rt.stderr(),
+            "rtps-audit: {file}: the capture ends within a frame; --any reads what is whole"
+        );
+    }
+    match unread_link_type(start) {
+        Some(number) if link_type_numbered(number).is_some() => {
+            let _ = writeln!(
+                rt.stderr(),
+                "rtps-audit: {file}: frames of link type {number}; --any reads them"
+            );
+        }
+        _ => tell_unread(rt, file, start),
+    }
+}
+
+/// Says of a capture that is refused what its frames are, where these are never read, and what makes a recording of it.
+fn tell_unread(rt: &HostRuntime, file: &str, start: &[u8]) {
+    match unread_link_type(start) {
+        Some(number) if link_type_numbered(number).is_none() => {
+            let _ = writeln!(
+                rt.stderr(),
+                "rtps-audit: {file}: frames of link type {number}; tshark -r IN -Y 'udp && !icmp' -T fields -e udp.payload >OUT makes a recording of it"
+            );
+        }
+        _ => {}
     }
 }
 

@@ -1,6 +1,6 @@
 //! The progress of a run that takes long, on a terminal.
 
-use rtps_tool::Watch;
+use rtps_tool::{Follow, Watch};
 use std::io::{self, IsTerminal, Write};
 use std::time::Instant;
 
@@ -21,6 +21,8 @@ pub struct Progress<'a> {
     begin: Option<Instant>,
     // After how many milliseconds progress is shown next.
     next: u128,
+    // How many frames of a capture were ignored.
+    ignored: u64,
 }
 
 impl<'a> Progress<'a> {
@@ -35,6 +37,7 @@ impl<'a> Progress<'a> {
             rt,
             begin,
             next: SILENCE,
+            ignored: 0,
         }
     }
 
@@ -67,6 +70,14 @@ impl<'a> Progress<'a> {
         }
     }
 
+    /// How many frames of a capture were ignored. None if nothing is shown.
+    pub fn ignored(&self) -> Option<u64> {
+        match self.begin {
+            Some(_) if self.ignored > 0 => Some(self.ignored),
+            _ => None,
+        }
+    }
+
     /// Clears what was shown.
     fn wipe(&self) {
         if self.elapsed().is_some_and(|elapsed| elapsed >= SILENCE) {
@@ -83,6 +94,12 @@ impl Watch for Progress<'_> {
                 "{WIPE}rtps-audit: judging, {done} of {all} pairs"
             );
         }
+    }
+}
+
+impl Follow for Progress<'_> {
+    fn recorded(&mut self, ignored: Option<u64>) {
+        self.ignored = ignored.unwrap_or(0);
     }
 }
 

@@ -24,7 +24,9 @@ use Rattle.rtps_evidence.specs.declared.explanation.Explanation.{Explanation}
 use Rattle.rtps_evidence.specs.declared.teller.Teller.{Teller}
 use Rattle.rtps_wire.specs.Values.{PayloadValue}
 use Rattle.rtps_wire.specs.Values.PayloadValue.{Absent, Whole, Key}
-use Rattle.rtps_text.specs.JsonText.{Member, announcement_json, claim_json, counts_members, evidence_members, ignored_members, items_of, members_of, object_of, pair_members, payload_members, place_members, report_json, row_json, sent_json, shown_members, teller_json, tokens_of, tokens_of_member, verdict_members}
+use Rattle.rtps_text.specs.Recording.{RecordingValue}
+use Rattle.rtps_text.specs.declared.recording.Reasons.{Reasons}
+use Rattle.rtps_text.specs.JsonText.{Member, announcement_json, claim_json, counts_members, evidence_members, ignored_members, items_of, members_of, object_of, pair_members, payload_members, place_members, reasons_members, report_json, row_json, sent_json, shown_members, teller_json, tokens_of, tokens_of_member, verdict_members}
 
 -- ---- tokens
 
@@ -43,9 +45,12 @@ row_tokens a b c d =
     ap (λ rest. begin_object ∷ rest)
     (front a (b ++ (c ++ d)) ∙ ap (λ rest. tokens_of a ++ rest) (front b (c ++ d) ∙ ap (λ rest. tokens_of b ++ rest) (front c d ∙ ap (λ rest. tokens_of c ++ rest) (whole d))))
 
--- an object of a member and two parts
-pub report_tokens : (a : Member) (b c : List Member) → json_tokens (object_of (a ∷ (b ++ c))) ≡ begin_object ∷ (tokens_of_member a ++ (tokens_of b ++ (tokens_of c ++ end_object ∷ [])))
-report_tokens (name, json) b c = ap (λ rest. begin_object ∷ key name ∷ (json_tokens json ++ rest)) (front b c ∙ ap (λ rest. tokens_of b ++ rest) (whole c))
+-- an object of a member and three parts
+pub report_tokens : (a : Member) (b c d : List Member)
+    → json_tokens (object_of (a ∷ (b ++ (c ++ d)))) ≡ begin_object ∷ (tokens_of_member a ++ (tokens_of b ++ (tokens_of c ++ (tokens_of d ++ end_object ∷ []))))
+report_tokens (name, json) b c d =
+    ap (λ rest. begin_object ∷ key name ∷ (json_tokens json ++ rest))
+    (front b (c ++ d) ∙ ap (λ rest. tokens_of b ++ rest) (front c d ∙ ap (λ rest. tokens_of c ++ rest) (whole d)))
 
 -- the array of rows
 pub rows_tokens : (rows : List Explanation)
@@ -117,19 +122,24 @@ ignored_within : (ignored : Option ℕ) → members_depth (members_of (ignored_m
 ignored_within None = omega arith
 ignored_within (Some ignored) = omega arith
 
-report_within : (rows : List ExplanationValue) (counts : Counts) (ignored : Option ℕ) → depth (report_json rows counts ignored) ≤ max_depth
-report_within rows counts ignored =
-    let last = joined 0 (counts_members counts) (ignored_members ignored) (omega arith) (ignored_within ignored) in
+reasons_within : (reasons : Option Reasons) → members_depth (members_of (reasons_members reasons)) ≤ 0
+reasons_within None = omega arith
+reasons_within (Some reasons) = omega arith
+
+report_within : (rows : List ExplanationValue) (counts : Counts) (recording : RecordingValue) → depth (report_json rows counts recording) ≤ max_depth
+report_within rows counts recording =
+    let frames = joined 0 (ignored_members recording.ignored) (reasons_members recording.reasons) (ignored_within recording.ignored) (reasons_within recording.reasons) in
+    let last = joined 0 (counts_members counts) (ignored_members recording.ignored ++ reasons_members recording.reasons) (omega arith) frames in
     omega (arith, rows_within rows, last)
 
 -- the grammar of JSON reads a report back, where its tokens are read back
-pub report_reads_back : (rows : List ExplanationValue) (counts : Counts) (ignored : Option ℕ)
-    → tokens (print (json_tokens (report_json rows counts ignored))) ≡ json_tokens (report_json rows counts ignored)
-    → document (print (json_tokens (report_json rows counts ignored))) ≡ Some (report_json rows counts ignored)
-report_reads_back rows counts ignored read =
-    let json = report_json rows counts ignored in
+pub report_reads_back : (rows : List ExplanationValue) (counts : Counts) (recording : RecordingValue)
+    → tokens (print (json_tokens (report_json rows counts recording))) ≡ json_tokens (report_json rows counts recording)
+    → document (print (json_tokens (report_json rows counts recording))) ≡ Some (report_json rows counts recording)
+report_reads_back rows counts recording read =
+    let json = report_json rows counts recording in
     ap (option_and_then (λ p. if_last p.0 p.1))
-    (ap (value max_depth) (read ∙ sym (append-nil (json_tokens json))) ∙ value-json_tokens json max_depth [] (report_within rows counts ignored))
+    (ap (value max_depth) (read ∙ sym (append-nil (json_tokens json))) ∙ value-json_tokens json max_depth [] (report_within rows counts recording))
 
 -- ---- numbers
 

@@ -24,6 +24,7 @@ use Rattle.rtps_wire.specs.Values.PayloadValue.{Absent, Whole, Key}
 use Rattle.rtps_text.specs.ListText.{guid_text, octet_text}
 use Rattle.rtps_text.specs.Recording.{RecordingValue}
 use Rattle.rtps_text.specs.WhyText.{ending_of_rows, kind_text}
+use Rattle.rtps_text.specs.declared.recording.Reasons.{Reasons}
 use Rattle.rtps_text.specs.declared.text.Ending.{Ending}
 
 -- a name and a value of an object
@@ -131,6 +132,11 @@ abbrev pub ignored_members : Option ℕ → List Member
 ignored_members None = []
 ignored_members (Some ignored) = (codes "ignored", count_json ignored) ∷ []
 
+-- for which reasons they gave none, where any capture was read
+abbrev pub reasons_members : Option Reasons → List Member
+reasons_members None = []
+reasons_members (Some reasons) = (codes "pieces", count_json reasons.pieces) ∷ (codes "cut", count_json reasons.cut) ∷ (codes "other", count_json reasons.other) ∷ []
+
 -- what was counted
 abbrev pub counts_members : Counts → List Member
 counts_members counts = (codes "datagrams", count_json counts.datagrams) ∷ (codes "refused", count_json counts.refused) ∷ (codes "skipped", count_json counts.skipped)
@@ -140,9 +146,10 @@ counts_members counts = (codes "datagrams", count_json counts.datagrams) ∷ (co
 abbrev pub pairs_member : List ExplanationValue → Member
 pairs_member rows = (codes "pairs", array_of (map row_json rows))
 
--- the whole report: the object of these rows and counts
-abbrev pub report_json : List ExplanationValue → Counts → Option ℕ → Json
-report_json rows counts ignored = object_of (pairs_member rows ∷ (counts_members counts ++ ignored_members ignored))
+-- the whole report: the object of these rows and counts, and of the frames of this recording
+abbrev pub report_json : List ExplanationValue → Counts → RecordingValue → Json
+report_json rows counts recording =
+    object_of (pairs_member rows ∷ (counts_members counts ++ (ignored_members recording.ignored ++ reasons_members recording.reasons)))
 
 -- the tokens of a member: its name, and those of its value
 abbrev pub tokens_of_member : Member → List Token
@@ -166,5 +173,5 @@ pub record IsJsonLine (value : Json) (text : List ℕ) : Type 0 where
 pub record IsJsonTextFrom (from : ℕ) (recording : RecordingValue) (text : List ℕ) (ending : Ending) : Type 0 where
   pub explained : Explained
   pub explains : IsExplainedFrom from recording.datagrams explained
-  pub is_line : IsJsonLine (report_json (map explanation_value explained.rows.items) explained.counts recording.ignored) text
+  pub is_line : IsJsonLine (report_json (map explanation_value explained.rows.items) explained.counts recording) text
   pub ends : ending ≡ ending_of_rows (map explanation_value explained.rows.items)

@@ -1,8 +1,15 @@
 -- What a recording is.
 -- own: what was left out of one is a part of it, since a verdict speaks of what is there.
-use Rattle.std.specs.Prelude.{ℕ, List, Option}
+use Rattle.std.specs.Prelude.{ℕ, ◌+◌, List, Option}
+use Rattle.rtps_text.specs.declared.recording.Reasons.{Reasons}
 
--- the datagrams in the order in which they were sent, and how many frames of a capture gave none; a text has no frames
+-- the datagrams in the order in which they were sent, how many frames of a capture gave none, and, where any capture is read,
+-- for which reasons; a text has no frames
 pub record RecordingValue : Type 0 where
   pub datagrams : List (List ℕ)
   pub ignored : Option ℕ
+  pub reasons : Option Reasons
+
+-- all frames that gave none
+abbrev pub ignored_by : Reasons → ℕ
+ignored_by reasons = reasons.pieces + reasons.cut + reasons.other

@@ -13,7 +13,8 @@ use rtps_discovery::laws::one_map;
 use rtps_evidence::laws::one_explanation;
 
 /// What is printed of a recording, and how a run on it ends, is decided by its datagrams alone; by `audit`, as JSON too,
-/// and `why`, also by how many frames of a capture were ignored, and by the number from which on they ask.
+/// and `why`, also by how many frames of a capture were ignored and for which reasons, and by the number from which
+/// on they ask.
 pub fn one_text()
     ensures shown { HasOneText IsShown }
     ensures listed { HasOneText IsListed }

@@ -10,7 +10,7 @@ mod text;
 
 pub use datagram_list::{DatagramList, Datagrams};
 pub use datagram_span::{DatagramSpan, make_room, push_octets, push_span};
-pub use recording::Recording;
+pub use recording::{Reasons, Recording};
 pub use rtps_audit::{Unwatched, Watch};
 pub use text::audit_text::audit_text;
 pub use text::json_object::json_text;

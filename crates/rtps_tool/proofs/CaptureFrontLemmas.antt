@@ -75,7 +75,7 @@ passed_on most octets reader kept old new (Some place) h gives few keeps = (
 -- no frame is left, and the octets are all
 pub passed_all : (most : ℕ) (octets : List ℕ) (spans : List DatagramSpan) (ignored : ℕ) (cursor : Cursor)
     → HasPassed most octets spans ignored cursor → frames_left (unread_behind cursor octets) ≡ []
-    → AreSpans octets spans × (recording_of_capture most octets ≡ Ok (record { datagrams = pieces octets spans; ignored = Some ignored }))
+    → AreSpans octets spans × (recording_of_capture most octets ≡ Ok (record { datagrams = pieces octets spans; ignored = Some ignored; reasons = None }))
 unfolding recording_of_capture
 passed_all most octets spans ignored cursor h none =
     let read = subst (λ (file : List ℕ). IsCaptureReadUpTo most file spans h.2 ignored cursor) (append-nil octets) (h.3 []) in

@@ -19,7 +19,7 @@ use Rattle.rtps_tool.specs.declared.faults.RecFault.TheVariants.{CutCapture, Too
 -- what the reader of a capture's frames answers, where this is defined
 abbrev pub IsReadFrom : List ℕ → Result RecordingValue RecFault → List DatagramSpan → Result ℕ RecFault → Type 0
 IsReadFrom octets defined spans result = MatchResult result
-    (λ ignored. AreSpans octets spans × (defined ≡ Ok (record { datagrams = pieces octets spans; ignored = Some ignored })))
+    (λ ignored. AreSpans octets spans × (defined ≡ Ok (record { datagrams = pieces octets spans; ignored = Some ignored; reasons = None })))
     (IsFaultOf defined)
 
 pub HasPushed-start : (most : ℕ) (octets : List ℕ) (all : List Frame) (spans : List DatagramSpan) → spans ≡ [] → HasPushed most octets all spans 0 0 all
@@ -67,22 +67,22 @@ HasPushed-datagram most octets all spans pushed number ignored left later place 
     }
 
 by_fault : (most : ℕ) (octets : List ℕ) (all : List Frame) (datagrams : List (List ℕ)) → datagrams_among octets all ≡ datagrams → length datagrams ≤ most
-    → recording_of_frames most octets all ≡ unless_cut (cut_among 1 all) (record { datagrams = datagrams; ignored = Some (ignored_among all) })
+    → recording_of_frames most octets all ≡ unless_cut (cut_among 1 all) (record { datagrams = datagrams; ignored = Some (ignored_among all); reasons = None })
 unfolding recording_of_frames
 by_fault most octets all datagrams is few = let fits : nat_lt most (length datagrams) ≡ false = grind (arith, nat_tests) in rw is (rw fits refl)
 
 -- no frame is left
 pub recording_of_frames-done : (most : ℕ) (octets : List ℕ) (all : List Frame) (spans : List DatagramSpan) (number ignored : ℕ) (left : List Frame)
     → HasPushed most octets all spans number ignored left → left ≡ []
-    → recording_of_frames most octets all ≡ Ok (record { datagrams = pieces octets spans; ignored = Some ignored })
+    → recording_of_frames most octets all ≡ Ok (record { datagrams = pieces octets spans; ignored = Some ignored; reasons = None })
 recording_of_frames-done most octets all spans number ignored left h none =
     let given : datagrams_among octets all ≡ pieces octets spans =
     sym h.given ∙ ap (λ (l : List Frame). pieces octets spans ++ datagrams_among octets l) none ∙ append-nil (pieces octets spans) in
     let passed : ignored_among all ≡ ignored = omega (arith, h.passed, ap ignored_among none) in
     let whole : cut_among 1 all ≡ None = sym h.cut ∙ ap (cut_among (number + 1)) none in
     by_fault most octets all (pieces octets spans) given (omega (arith, length-map spans (piece octets), h.few))
-    ∙ ap (λ cut. unless_cut cut (record { datagrams = pieces octets spans; ignored = Some (ignored_among all) })) whole
-    ∙ ap (λ n. Ok (record { datagrams = pieces octets spans; ignored = Some n })) passed
+    ∙ ap (λ cut. unless_cut cut (record { datagrams = pieces octets spans; ignored = Some (ignored_among all); reasons = None })) whole
+    ∙ ap (λ n. Ok (record { datagrams = pieces octets spans; ignored = Some n; reasons = None })) passed
 
 -- a frame is cut
 pub recording_of_frames-cut : (most : ℕ) (octets : List ℕ) (all : List Frame) (spans : List DatagramSpan) (number ignored : ℕ) (left later : List Frame)
@@ -92,7 +92,7 @@ recording_of_frames-cut most octets all spans number ignored left later h is =
     sym h.given ∙ ap (λ (l : List Frame). pieces octets spans ++ datagrams_among octets l) is ∙ append-nil (pieces octets spans) in
     let cut : cut_among 1 all ≡ Some (number + 1) = sym h.cut ∙ ap (cut_among (number + 1)) is in
     by_fault most octets all (pieces octets spans) given (omega (arith, length-map spans (piece octets), h.few))
-    ∙ ap (λ cut. unless_cut cut (record { datagrams = pieces octets spans; ignored = Some (ignored_among all) })) cut
+    ∙ ap (λ cut. unless_cut cut (record { datagrams = pieces octets spans; ignored = Some (ignored_among all); reasons = None })) cut
 
 -- there are too many datagrams
 pub recording_of_frames-many : (most : ℕ) (octets : List ℕ) (all : List Frame) (spans : List DatagramSpan) (number ignored : ℕ) (left later : List Frame) (place : ByteRange)

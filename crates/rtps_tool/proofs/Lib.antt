@@ -1,3 +1,4 @@
+pub mod AnyCaptureLemmas
 pub mod CaptureFrontLemmas
 pub mod CaptureLemmas
 pub mod LimitsLemmas

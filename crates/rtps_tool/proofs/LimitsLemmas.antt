@@ -1,24 +1,31 @@
 -- Limits that are raised.
 use Rattle.std.proofs.Common.{◌≡◌, ℕ, ◌+◌, ◌≤◌, true, false, Bool, List, [], ◌∷◌, length, Option, Some, None, Result, Ok, Err, refl, sym, ap, ◌∙◌, inl, inr, arith}
-use Rattle.std.specs.Prelude.{if◌then◌else◌, nat_lt}
+use Rattle.std.specs.Prelude.{if◌then◌else◌, ◌||◌, is_some, nat_lt}
 use Rattle.std.proofs.lemmas.Bool.Decides.{nat_tests}
 use Rattle.rtps_ids.specs.declared.order.Order.{Order}
+use Rattle.rtps_capture.specs.AnyCapture.{AnyAnswer, any_read}
+use Rattle.rtps_capture.specs.Blocks.{is_pcapng}
 use Rattle.rtps_capture.specs.Frames.{Unread, frames_left, opened}
 use Rattle.rtps_capture.specs.Opening.{order_of}
+use Rattle.rtps_capture.specs.declared.any_capture.AnyFault.{AnyFault}
 use Rattle.rtps_capture.specs.declared.frames.Frame.{Frame}
+use Rattle.rtps_capture.proofs.Offered.{any_read-within}
 use Rattle.rtps_digits.specs.Pairs.{octets_of}
 use Rattle.rtps_text.specs.Recording.{RecordingValue}
-use Rattle.rtps_tool.specs.Forms.{recording_in_form, recording_within}
-use Rattle.rtps_tool.specs.Laws.{StaysWithin}
+use Rattle.rtps_tool.specs.Forms.{begins_capture, recording_in, recording_in_any_form, recording_in_form, recording_within}
+use Rattle.rtps_tool.specs.Laws.{StaysWithin, TextsStayTexts}
 use Rattle.rtps_tool.specs.Lines.{lines_of}
+use Rattle.rtps_tool.specs.RecordingAnyCapture.{recording_of_any, recording_told}
 use Rattle.rtps_tool.specs.RecordingCapture.{datagrams_among, recording_of_capture, recording_of_frames, recording_opened}
 use Rattle.rtps_tool.specs.RecordingText.{line_fault, recording_of_lines, recording_of_text, without_frames}
 use Rattle.rtps_tool.specs.Unfinished.{with_front}
+use Rattle.rtps_tool.specs.declared.captures.Captures.{Captures}
+use Rattle.rtps_tool.specs.declared.captures.Captures.TheVariants.{Any, Classic}
 use Rattle.rtps_tool.specs.declared.faults.RecFault.{RecFault}
 use Rattle.rtps_tool.specs.declared.faults.RecFault.TheVariants.{TooMany}
 use Rattle.rtps_tool.specs.declared.runs.Limits.{Limits}
 use Rattle.rtps_tool.proofs.RecordingLemmas.{kind_of, recording_of_lines-faulty, recording_of_lines-nil, recording_of_lines-skipped, recording_of_lines-taken}
-use Rattle.rtps_tool.proofs.UnfinishedLemmas.{recording_of-within}
+use Rattle.rtps_tool.proofs.UnfinishedLemmas.{recording_in-text, recording_of-within}
 
 -- a line with no fault has none where there may be more datagrams
 fine_within : (most more before number : ℕ) (line : List ℕ) → most ≤ more → line_fault most before number line ≡ None → line_fault more before number line ≡ None
@@ -84,20 +91,57 @@ capture_within most more file recording within is = by (opened file) is
     by None none = absurd cc
     by (Some unread) some = frames_within most more file (frames_left unread) recording within some
 
+-- of any capture
+told_recording : (file : List ℕ) (is : Result AnyAnswer AnyFault) (recording : RecordingValue) → recording_told file is ≡ Ok recording
+    → (answer : AnyAnswer) × (is ≡ Ok answer)
+told_recording file (Ok answer) recording is = (answer, refl)
+told_recording file (Err fault) recording is = absurd cc
+
+any_within : (most more : ℕ) (file : List ℕ) (recording : RecordingValue) → most ≤ more → recording_of_any most file ≡ Ok recording
+    → recording_of_any more file ≡ Ok recording
+unfolding recording_of_any
+any_within most more file recording within is =
+    let answer = told_recording file (any_read most file) recording is in
+    ap (recording_told file) (any_read-within most more file answer.0 within answer.1 ∙ sym answer.1) ∙ is
+
 form_within : (most more : ℕ) (form : Option Order) (input : List ℕ) (recording : RecordingValue) → most ≤ more → recording_in_form most form input ≡ Ok recording
     → recording_in_form more form input ≡ Ok recording
 form_within most more None input recording within is = text_within most more input recording within is
 form_within most more (Some order) input recording within is = capture_within most more input recording within is
 
+any_form_within : (most more : ℕ) (is_capture : Bool) (input : List ℕ) (recording : RecordingValue) → most ≤ more → recording_in_any_form most is_capture input ≡ Ok recording
+    → recording_in_any_form more is_capture input ≡ Ok recording
+any_form_within most more false input recording within is = text_within most more input recording within is
+any_form_within most more true input recording within is = any_within most more input recording within is
+
+in_within : (most more : ℕ) (captures : Captures) (input : List ℕ) (recording : RecordingValue) → most ≤ more → recording_in captures most input ≡ Ok recording
+    → recording_in captures more input ≡ Ok recording
+in_within most more Classic input recording within is = form_within most more (order_of input) input recording within is
+in_within most more Any input recording within is = any_form_within most more (begins_capture Any input) input recording within is
+
 -- an input that is a recording has no more octets than it may
-few_octets : (limits : Limits) (input : List ℕ) (recording : RecordingValue) → recording_within limits input ≡ Ok recording → length input ≤ limits.octets
-few_octets limits input recording is =
+few_octets : (limits : Limits) (captures : Captures) (input : List ℕ) (recording : RecordingValue) → recording_within limits captures input ≡ Ok recording → length input ≤ limits.octets
+few_octets limits captures input recording is =
     let fits = (few_by (nat_lt limits.octets (length input)) _ recording is).0 in
     grind (arith, nat_tests)
 
 pub stays_within : StaysWithin
-stays_within limits greater input recording within is =
-    let few = few_octets limits input recording is in
-    let fine = sym (recording_of-within limits input few) ∙ is in
-    recording_of-within greater input (omega (arith, within.octets, few))
-    ∙ form_within limits.datagrams greater.datagrams (order_of input) input recording within.datagrams fine
+stays_within limits greater captures input recording within is =
+    let few = few_octets limits captures input recording is in
+    let fine = sym (recording_of-within limits captures input few) ∙ is in
+    recording_of-within greater captures input (omega (arith, within.octets, few))
+    ∙ in_within limits.datagrams greater.datagrams captures input recording within.datagrams fine
+
+-- a text stands for the same whatever captures are read
+pub texts_stay : TextsStayTexts
+texts_stay limits input plain =
+    by (nat_lt limits.octets (length input)) (recording_in-text Any limits.datagrams input plain ∙ sym (recording_in-text Classic limits.datagrams input (classic (is_some (order_of input)) (is_pcapng input) plain)))
+  where
+    classic : (one other : Bool) → (one || other) ≡ false → one ≡ false
+    classic false other none = refl
+    classic true other none = absurd cc
+
+    by : (past : Bool) → recording_in Any limits.datagrams input ≡ recording_in Classic limits.datagrams input
+        → (if past then Err TooMany else recording_in Any limits.datagrams input) ≡ (if past then Err TooMany else recording_in Classic limits.datagrams input)
+    by true same = refl
+    by false same = same

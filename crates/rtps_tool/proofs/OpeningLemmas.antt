@@ -1,18 +1,21 @@
 -- Facts on texts that begin as a capture does.
-use Rattle.std.proofs.Common.{◌≡◌, ◌==◌, ℕ, suc, ◌-◌, ◌<◌, true, false, Bool, List, [], ◌∷◌, length, take, map, None, Some, Err, refl, ap, ◌∙◌, ◌⊎◌, inl, inr, arith, subst, sym}
-use Rattle.std.specs.Prelude.{◌%◌, nat_le, nat_lt, is_err, slice_index, if◌then◌else◌, All}
+use Rattle.std.proofs.Common.{◌≡◌, ◌==◌, ℕ, suc, ◌-◌, ◌<◌, true, false, Bool, List, [], ◌∷◌, length, take, map, Option, None, Some, Err, refl, ap, ◌∙◌, ◌⊎◌, inl, inr, arith, subst, sym}
+use Rattle.std.specs.Prelude.{◌%◌, ◌||◌, is_some, nat_le, nat_lt, is_err, slice_index, if◌then◌else◌, All}
 use Rattle.std.specs.Str.Lines.{strip_carriage_return}
 use Rattle.std.proofs.lemmas.Bool.Decides.{nat_tests}
 use Rattle.hex.specs.Hex.{decode_of, decode_pairs, hex_digit_value}
 use Rattle.hex.specs.declared.error.FromHexError.TheVariants.{OddLength}
 use Rattle.rtps_ids.specs.Octets.{number_of}
 use Rattle.rtps_ids.specs.declared.order.Order.{Order}
+use Rattle.rtps_capture.specs.Blocks.{is_pcapng}
 use Rattle.rtps_capture.specs.Opening.{order_of}
+use Rattle.rtps_tool.specs.Laws.{NoTextBeginsAsACapture}
 use Rattle.rtps_tool.specs.Lines.{is_line_feed, parts_of, onto_first_line, lines_of}
-use Rattle.rtps_tool.specs.RecordingText.{is_datagram_line, recording_of_lines, recording_of_text, without_frames}
+use Rattle.rtps_tool.specs.RecordingText.{is_datagram_line, line_fault, recording_of_lines, recording_of_text, without_frames}
+use Rattle.rtps_tool.specs.declared.captures.Captures.TheVariants.{Any, Classic}
 use Rattle.rtps_tool.specs.declared.faults.RecFault.{RecFault}
 use Rattle.rtps_tool.specs.declared.faults.RecFault.TheVariants.{BadHex, TooLong, TooMany}
-use Rattle.rtps_tool.proofs.RecordingLemmas.{recording_of_lines-faulty}
+use Rattle.rtps_tool.proofs.RecordingLemmas.{recording_of_lines-faulty, recording_of_lines-skipped}
 
 -- an octet that ends no line, begins no comment and is no digit
 record IsStrange (a : ℕ) : Type 0 where
@@ -82,14 +85,62 @@ strange_text most a text s =
     let faulty = by_tests (nat_le most 0) (nat_lt 131070 (length (a ∷ line.0))) (is_err (decode_of (a ∷ line.0))) (no_digits a line.0 s.digit) in
     (faulty.0, ap without_frames (ap (recording_of_lines most 1 0) lines ∙ recording_of_lines-faulty most 1 0 (a ∷ line.0) others faulty.0 taken faulty.1))
 
--- octets that begin as a capture are no text
-pub capture_is_no_text : (most : ℕ) (input : List ℕ) (order : Order) → All (λ octet. octet < 256) input → order_of input ≡ Some order
+-- octets that begin as a classic capture are no text
+classic_is_no_text : (most : ℕ) (input : List ℕ) (order : Order) → All (λ octet. octet < 256) input → order_of input ≡ Some order
     → (fault : RecFault) × (recording_of_text most input ≡ Err fault)
 unfolding order_of
-capture_is_no_text most [] order small is = absurd (grind (arith, nat_tests))
-capture_is_no_text most (a ∷ []) order small is = absurd (grind (arith, nat_tests))
-capture_is_no_text most (a ∷ b ∷ []) order small is = absurd (grind (arith, nat_tests))
-capture_is_no_text most (a ∷ b ∷ c ∷ []) order small is = absurd (grind (arith, nat_tests))
-capture_is_no_text most (a ∷ b ∷ c ∷ d ∷ rest) order small is =
+classic_is_no_text most [] order small is = absurd (grind (arith, nat_tests))
+classic_is_no_text most (a ∷ []) order small is = absurd (grind (arith, nat_tests))
+classic_is_no_text most (a ∷ b ∷ []) order small is = absurd (grind (arith, nat_tests))
+classic_is_no_text most (a ∷ b ∷ c ∷ []) order small is = absurd (grind (arith, nat_tests))
+classic_is_no_text most (a ∷ b ∷ c ∷ d ∷ rest) order small is =
     strange_text most a (b ∷ c ∷ d ∷ rest)
     (strange a (first_octet a b c d rest order (small 0 0 (omega arith)) (small 1 0 (omega arith)) (small 2 0 (omega arith)) (small 3 0 (omega arith)) is))
+
+-- The octets of a pcapng file: an empty line, and one with a carriage return that is no digit.
+second_line_fault : (most : ℕ) → (fault : RecFault) × (line_fault most 0 2 (13 ∷ []) ≡ Some fault)
+second_line_fault most = by (nat_le most 0)
+  where
+    by : (many : Bool) → (fault : RecFault) × ((if many then Some TooMany else Some (BadHex 2)) ≡ Some fault)
+    by true = (TooMany, refl)
+    by false = (BadHex 2, refl)
+
+second_line : (most : ℕ) (others : List (List ℕ)) → (fault : RecFault) × (recording_of_lines most 1 0 ([] ∷ (13 ∷ []) ∷ others) ≡ Err fault)
+second_line most others =
+    let faulty = second_line_fault most in
+    (faulty.0, recording_of_lines-skipped most 1 0 [] ((13 ∷ []) ∷ others) refl ∙ recording_of_lines-faulty most 2 0 (13 ∷ []) others faulty.0 refl faulty.1)
+
+section_text : (most : ℕ) (rest : List ℕ) → (fault : RecFault) × (recording_of_text most (10 ∷ 13 ∷ 13 ∷ 10 ∷ rest) ≡ Err fault)
+unfolding recording_of_text
+section_text most rest =
+    let faulty = second_line most (lines_of rest) in
+    (faulty.0, ap without_frames faulty.1)
+
+-- the first four octets of a pcapng file
+section_octets : (a b c d : ℕ) (rest : List ℕ) → a < 256 → b < 256 → c < 256 → d < 256
+    → is_pcapng (a ∷ b ∷ c ∷ d ∷ rest) ≡ true → (a ≡ 10) × (b ≡ 13) × (c ≡ 13) × (d ≡ 10)
+unfolding number_of
+section_octets a b c d rest a-small b-small c-small d-small is = grind (arith, nat_tests)
+
+pcapng_is_no_text : (most : ℕ) (input : List ℕ) → All (λ octet. octet < 256) input → is_pcapng input ≡ true
+    → (fault : RecFault) × (recording_of_text most input ≡ Err fault)
+pcapng_is_no_text most [] small is = absurd (grind (arith, nat_tests))
+pcapng_is_no_text most (a ∷ []) small is = absurd (grind (arith, nat_tests))
+pcapng_is_no_text most (a ∷ b ∷ []) small is = absurd (grind (arith, nat_tests))
+pcapng_is_no_text most (a ∷ b ∷ c ∷ []) small is = absurd (grind (arith, nat_tests))
+pcapng_is_no_text most (a ∷ b ∷ c ∷ d ∷ rest) small is =
+    let same = section_octets a b c d rest (small 0 0 (omega arith)) (small 1 0 (omega arith)) (small 2 0 (omega arith)) (small 3 0 (omega arith)) is in
+    rw (same.0, same.1, same.2, same.3) (section_text most rest)
+
+-- octets that begin as a capture are no text
+pub capture_is_no_text : NoTextBeginsAsACapture
+capture_is_no_text Classic most input small is = by (order_of input) refl is
+  where
+    by : (order : Option Order) → order_of input ≡ order → is_some order ≡ true → (fault : RecFault) × (recording_of_text most input ≡ Err fault)
+    by None known none = absurd cc
+    by (Some order) known some = classic_is_no_text most input order small known
+capture_is_no_text Any most input small is = by (order_of input) refl is
+  where
+    by : (order : Option Order) → order_of input ≡ order → (is_some order || is_pcapng input) ≡ true → (fault : RecFault) × (recording_of_text most input ≡ Err fault)
+    by None known pcapng = pcapng_is_no_text most input small pcapng
+    by (Some order) known some = classic_is_no_text most input order small known

@@ -1,40 +1,39 @@
 -- Facts on a text that is read in pieces.
-use Rattle.std.proofs.Common.{◌≡◌, ℕ, ◌+◌, ◌<◌, ◌≤◌, List, [], ◌++◌, length, take, Option, None, Result, Ok, sym, ap, ◌∙◌, subst, arith}
+use Rattle.std.proofs.Common.{◌≡◌, ℕ, ◌+◌, ◌<◌, ◌≤◌, List, [], ◌++◌, false, length, take, Option, None, Result, Ok, sym, ap, ◌∙◌, subst, arith}
 use Rattle.std.proofs.lemmas.List.{append-nil, append_assoc, length-append, length-take-le, take-append-le, take-take}
 use Rattle.std.proofs.Math.Seq.{take-append-add}
 use Rattle.std.proofs.KnownBytes.{Consumes-trans}
 use Rattle.std.specs.Io.KnownBytes.{Consumes, IsAtEnd}
 use borrow.Rule.Slice.PartMut.{put_mid, post_of}
-use Rattle.rtps_capture.specs.Opening.{order_of}
-use Rattle.rtps_capture.proofs.Offered.{order_of-append}
 use Rattle.rtps_text.specs.Recording.{RecordingValue}
 use Rattle.rtps_tool.specs.Outcomes.{IsFaultOf}
-use Rattle.rtps_tool.specs.Forms.{recording_within}
+use Rattle.rtps_tool.specs.Forms.{begins_capture, recording_within}
 use Rattle.rtps_tool.specs.Lines.{lines_of}
 use Rattle.rtps_tool.specs.RecordingText.{recording_of_lines, without_frames}
 use Rattle.rtps_tool.specs.RunFaults.{run_fault_of}
 use Rattle.rtps_tool.specs.Runs.{Reads, ReadsRecording, FailsReading}
 use Rattle.rtps_tool.specs.Unfinished.{ReadsOn, recording_behind}
+use Rattle.rtps_tool.specs.declared.captures.Captures.{Captures}
 use Rattle.rtps_tool.specs.declared.faults.RecFault.{RecFault}
 use Rattle.rtps_tool.specs.declared.faults.RecFault.TheVariants.{BadHex, TooLong, TooMany, Memory, BadCapture, CutCapture}
 use Rattle.rtps_tool.specs.declared.runs.Limits.{Limits}
-use Rattle.rtps_tool.proofs.UnfinishedLemmas.{recording_behind-start, recording_of-text, recording_of-past}
+use Rattle.rtps_tool.proofs.UnfinishedLemmas.{begins_capture-append, recording_behind-start, recording_of-text, recording_of-past}
 use Rattle.rtps_tool.proofs.RecordingLemmas.{IsFaultOf-without_frames}
 
 -- so many octets were read of a text, enough to tell that it is one, and with whatever comes later it stands for what is told
-pub record HasRead (limits : Limits) (old new : Option (List ℕ)) (total : ℕ) (told : List ℕ → Result (List (List ℕ)) RecFault) : Type 0 where
+pub record HasRead (limits : Limits) (captures : Captures) (old new : Option (List ℕ)) (total : ℕ) (told : List ℕ → Result (List (List ℕ)) RecFault) : Type 0 where
   pub text : List ℕ
   pub taken : Consumes old new text
   pub size : length text ≡ total
   pub begun : 4 ≤ length text
-  pub plain : order_of text ≡ None
+  pub plain : begins_capture captures text ≡ false
   pub stands : (later : List ℕ) → told later ≡ recording_of_lines limits.datagrams 1 0 (lines_of (text ++ later))
 
 -- no line was read yet
-pub HasRead-start : (limits : Limits) (a b : Option (List ℕ)) (done : List (List ℕ)) (lines start : ℕ) (held : List ℕ) → done ≡ [] → lines ≡ 0
-    → Consumes a b (take start held) → start ≤ length held → 4 ≤ start → order_of (take start held) ≡ None
-    → HasRead limits a b start (λ later. recording_behind limits.datagrams done lines (take start held ++ later))
-HasRead-start limits a b done lines start held none first taken within begun plain = record {
+pub HasRead-start : (limits : Limits) (captures : Captures) (a b : Option (List ℕ)) (done : List (List ℕ)) (lines start : ℕ) (held : List ℕ) → done ≡ [] → lines ≡ 0
+    → Consumes a b (take start held) → start ≤ length held → 4 ≤ start → begins_capture captures (take start held) ≡ false
+    → HasRead limits captures a b start (λ later. recording_behind limits.datagrams done lines (take start held ++ later))
+HasRead-start limits captures a b done lines start held none first taken within begun plain = record {
   text = take start held;
   taken = taken;
   size = length-take-le start held within;
@@ -44,22 +43,22 @@ HasRead-start limits a b done lines start held none first taken within begun pla
 }
 
 -- a piece more was read
-pub HasRead-more : (limits : Limits) (a b c : Option (List ℕ)) (total got : ℕ) (told now : List ℕ → Result (List (List ℕ)) RecFault) (piece : List ℕ)
-    → HasRead limits a b total told → Consumes b c piece → length piece ≡ got → ((later : List ℕ) → now later ≡ told (piece ++ later)) → HasRead limits a c (total + got) now
-HasRead-more limits a b c total got told now piece h taken size same = record {
+pub HasRead-more : (limits : Limits) (captures : Captures) (a b c : Option (List ℕ)) (total got : ℕ) (told now : List ℕ → Result (List (List ℕ)) RecFault) (piece : List ℕ)
+    → HasRead limits captures a b total told → Consumes b c piece → length piece ≡ got → ((later : List ℕ) → now later ≡ told (piece ++ later)) → HasRead limits captures a c (total + got) now
+HasRead-more limits captures a b c total got told now piece h taken size same = record {
   text = h.text ++ piece;
   taken = Consumes-trans a b c h.text piece h.taken taken;
   size = omega (arith, length-append h.text piece, h.size);
   begun = omega (arith, length-append h.text piece, h.begun);
-  plain = order_of-append h.text piece h.begun ∙ h.plain;
+  plain = begins_capture-append captures h.text piece h.begun ∙ h.plain;
   stands = λ later. same later ∙ h.stands (piece ++ later)
       ∙ ap (λ (text : List ℕ). recording_of_lines limits.datagrams 1 0 (lines_of text)) (sym (append_assoc h.text piece later));
 }
 
 -- the same text is told of in another way
-pub HasRead-told : (limits : Limits) (a b : Option (List ℕ)) (total : ℕ) (told now : List ℕ → Result (List (List ℕ)) RecFault)
-    → HasRead limits a b total told → ((later : List ℕ) → now later ≡ told later) → HasRead limits a b total now
-HasRead-told limits a b total told now h same = record { text = h.text; taken = h.taken; size = h.size; begun = h.begun; plain = h.plain; stands = λ later. same later ∙ h.stands later }
+pub HasRead-told : (limits : Limits) (captures : Captures) (a b : Option (List ℕ)) (total : ℕ) (told now : List ℕ → Result (List (List ℕ)) RecFault)
+    → HasRead limits captures a b total told → ((later : List ℕ) → now later ≡ told later) → HasRead limits captures a b total now
+HasRead-told limits captures a b total told now h same = record { text = h.text; taken = h.taken; size = h.size; begun = h.begun; plain = h.plain; stands = λ later. same later ∙ h.stands later }
 
 -- a piece was read behind what is kept
 pub take_both : (kept got k : ℕ) (held buf : List ℕ) → kept ≤ length held → got ≤ length buf
@@ -75,87 +74,87 @@ pub take_front : (kept k : ℕ) (held buf : List ℕ) → kept ≤ length held �
 take_front kept k held buf within =
     take-append-le kept (take kept held) (buf ++ post_of kept k held) (omega (arith, length-take-le kept held within)) ∙ take-take kept kept held (omega arith)
 
-pub HasRead-read : (limits : Limits) (a b c : Option (List ℕ)) (total kept got k lines : ℕ) (done : List (List ℕ)) (held buf : List ℕ)
-    → HasRead limits a b total (λ later. recording_behind limits.datagrams done lines (take kept held ++ later)) → Consumes b c (take got buf) → length (take got buf) ≡ got
+pub HasRead-read : (limits : Limits) (captures : Captures) (a b c : Option (List ℕ)) (total kept got k lines : ℕ) (done : List (List ℕ)) (held buf : List ℕ)
+    → HasRead limits captures a b total (λ later. recording_behind limits.datagrams done lines (take kept held ++ later)) → Consumes b c (take got buf) → length (take got buf) ≡ got
     → kept ≤ length held → got ≤ length buf
-    → HasRead limits a c (total + got) (λ later. recording_behind limits.datagrams done lines (take (kept + got) (put_mid kept k held buf) ++ later))
-HasRead-read limits a b c total kept got k lines done held buf h taken size within some =
-    HasRead-more limits a b c total got (λ later. recording_behind limits.datagrams done lines (take kept held ++ later))
+    → HasRead limits captures a c (total + got) (λ later. recording_behind limits.datagrams done lines (take (kept + got) (put_mid kept k held buf) ++ later))
+HasRead-read limits captures a b c total kept got k lines done held buf h taken size within some =
+    HasRead-more limits captures a b c total got (λ later. recording_behind limits.datagrams done lines (take kept held ++ later))
     (λ later. recording_behind limits.datagrams done lines (take (kept + got) (put_mid kept k held buf) ++ later)) (take got buf) h taken size
     (λ later. ap (recording_behind limits.datagrams done lines)
     (ap (λ (text : List ℕ). text ++ later) (take_both kept got k held buf within some) ∙ append_assoc (take kept held) (take got buf) later))
 
 -- no octet more was read
-pub HasRead-last : (limits : Limits) (a b c : Option (List ℕ)) (total kept got k lines : ℕ) (done : List (List ℕ)) (held buf : List ℕ)
-    → HasRead limits a b total (λ later. recording_behind limits.datagrams done lines (take kept held ++ later)) → Consumes b c (take got buf) → length (take got buf) ≡ got
+pub HasRead-last : (limits : Limits) (captures : Captures) (a b c : Option (List ℕ)) (total kept got k lines : ℕ) (done : List (List ℕ)) (held buf : List ℕ)
+    → HasRead limits captures a b total (λ later. recording_behind limits.datagrams done lines (take kept held ++ later)) → Consumes b c (take got buf) → length (take got buf) ≡ got
     → kept ≤ length held → got ≤ length buf → got ≡ 0
-    → HasRead limits a c total (λ later. recording_behind limits.datagrams done lines (take kept (put_mid kept k held buf) ++ later))
-HasRead-last limits a b c total kept got k lines done held buf h taken size within some none =
-    let grown = HasRead-read limits a b c total kept got k lines done held buf h taken size within some in
+    → HasRead limits captures a c total (λ later. recording_behind limits.datagrams done lines (take kept (put_mid kept k held buf) ++ later))
+HasRead-last limits captures a b c total kept got k lines done held buf h taken size within some none =
+    let grown = HasRead-read limits captures a b c total kept got k lines done held buf h taken size within some in
     let same : total + got ≡ total = omega arith in
     let front : kept + got ≡ kept = omega arith in
     let told : ℕ → List ℕ → Result (List (List ℕ)) RecFault = λ n later. recording_behind limits.datagrams done lines (take n (put_mid kept k held buf) ++ later) in
-    subst (λ (n : ℕ). HasRead limits a c total (told n)) front (subst (λ (n : ℕ). HasRead limits a c n (told (kept + got))) same grown)
+    subst (λ (n : ℕ). HasRead limits captures a c total (told n)) front (subst (λ (n : ℕ). HasRead limits captures a c n (told (kept + got))) same grown)
 
 -- the whole text was read, and is not too long
-recording_of-read : (limits : Limits) (a b : Option (List ℕ)) (total : ℕ) (told : List ℕ → Result (List (List ℕ)) RecFault) (h : HasRead limits a b total told) → total ≤ limits.octets
-    → without_frames (told []) ≡ recording_within limits h.text
-recording_of-read limits a b total told h within =
+recording_of-read : (limits : Limits) (captures : Captures) (a b : Option (List ℕ)) (total : ℕ) (told : List ℕ → Result (List (List ℕ)) RecFault) (h : HasRead limits captures a b total told) → total ≤ limits.octets
+    → without_frames (told []) ≡ recording_within limits captures h.text
+recording_of-read limits captures a b total told h within =
     ap without_frames (h.stands [] ∙ ap (λ (text : List ℕ). recording_of_lines limits.datagrams 1 0 (lines_of text)) (append-nil h.text))
-    ∙ sym (recording_of-text limits h.text (omega (arith, h.size)) h.plain)
+    ∙ sym (recording_of-text limits captures h.text (omega (arith, h.size)) h.plain)
 
-pub ReadsRecording-read : (limits : Limits) (a b : Option (List ℕ)) (total : ℕ) (told : List ℕ → Result (List (List ℕ)) RecFault) (datagrams : List (List ℕ))
-    → HasRead limits a b total told → IsAtEnd b → total ≤ limits.octets → told [] ≡ Ok datagrams → ReadsRecording limits a b record { datagrams = datagrams; ignored = None }
-ReadsRecording-read limits a b total told datagrams h end within fine = record {
+pub ReadsRecording-read : (limits : Limits) (captures : Captures) (a b : Option (List ℕ)) (total : ℕ) (told : List ℕ → Result (List (List ℕ)) RecFault) (datagrams : List (List ℕ))
+    → HasRead limits captures a b total told → IsAtEnd b → total ≤ limits.octets → told [] ≡ Ok datagrams → ReadsRecording limits captures a b record { datagrams = datagrams; ignored = None; reasons = None }
+ReadsRecording-read limits captures a b total told datagrams h end within fine = record {
   text = h.text;
   taken = h.taken;
   whole = end;
-  is_read = sym (recording_of-read limits a b total told h within) ∙ ap without_frames fine;
+  is_read = sym (recording_of-read limits captures a b total told h within) ∙ ap without_frames fine;
 }
 
-pub ReadsRecording-last : (limits : Limits) (a b : Option (List ℕ)) (total lines : ℕ) (done : List (List ℕ)) (left : List ℕ) (datagrams : List (List ℕ))
-    → HasRead limits a b total (λ later. recording_behind limits.datagrams done lines (left ++ later)) → IsAtEnd b → total ≤ limits.octets → recording_behind limits.datagrams done lines left ≡ Ok datagrams
-    → ReadsRecording limits a b record { datagrams = datagrams; ignored = None }
-ReadsRecording-last limits a b total lines done left datagrams h end within fine =
-    ReadsRecording-read limits a b total (λ later. recording_behind limits.datagrams done lines (left ++ later)) datagrams h end within (ap (recording_behind limits.datagrams done lines) (append-nil left) ∙ fine)
+pub ReadsRecording-last : (limits : Limits) (captures : Captures) (a b : Option (List ℕ)) (total lines : ℕ) (done : List (List ℕ)) (left : List ℕ) (datagrams : List (List ℕ))
+    → HasRead limits captures a b total (λ later. recording_behind limits.datagrams done lines (left ++ later)) → IsAtEnd b → total ≤ limits.octets → recording_behind limits.datagrams done lines left ≡ Ok datagrams
+    → ReadsRecording limits captures a b record { datagrams = datagrams; ignored = None; reasons = None }
+ReadsRecording-last limits captures a b total lines done left datagrams h end within fine =
+    ReadsRecording-read limits captures a b total (λ later. recording_behind limits.datagrams done lines (left ++ later)) datagrams h end within (ap (recording_behind limits.datagrams done lines) (append-nil left) ∙ fine)
 
 -- what was read has this fault
-pub FailsReading-text : (limits : Limits) (a b : Option (List ℕ)) (text : List ℕ) (fault : RecFault) → Reads limits a b text → IsFaultOf (recording_within limits text) fault → FailsReading limits a b (run_fault_of fault)
-FailsReading-text limits a b text (BadHex line) reads faulty = record { text = text; reads = reads; faulty = faulty; readable = λ same. cc }
-FailsReading-text limits a b text (TooLong line) reads faulty = record { text = text; reads = reads; faulty = faulty; readable = λ same. cc }
-FailsReading-text limits a b text TooMany reads faulty = record { text = text; reads = reads; faulty = faulty; readable = λ same. cc }
-FailsReading-text limits a b text Memory reads faulty = tt
-FailsReading-text limits a b text BadCapture reads faulty = record { text = text; reads = reads; faulty = faulty; readable = λ same. cc }
-FailsReading-text limits a b text (CutCapture frame) reads faulty = record { text = text; reads = reads; faulty = faulty; readable = λ same. cc }
+pub FailsReading-text : (limits : Limits) (captures : Captures) (a b : Option (List ℕ)) (text : List ℕ) (fault : RecFault) → Reads limits a b text → IsFaultOf (recording_within limits captures text) fault → FailsReading limits captures a b (run_fault_of fault)
+FailsReading-text limits captures a b text (BadHex line) reads faulty = record { text = text; reads = reads; faulty = faulty; readable = λ same. cc }
+FailsReading-text limits captures a b text (TooLong line) reads faulty = record { text = text; reads = reads; faulty = faulty; readable = λ same. cc }
+FailsReading-text limits captures a b text TooMany reads faulty = record { text = text; reads = reads; faulty = faulty; readable = λ same. cc }
+FailsReading-text limits captures a b text Memory reads faulty = tt
+FailsReading-text limits captures a b text BadCapture reads faulty = record { text = text; reads = reads; faulty = faulty; readable = λ same. cc }
+FailsReading-text limits captures a b text (CutCapture frame) reads faulty = record { text = text; reads = reads; faulty = faulty; readable = λ same. cc }
 
-pub FailsReading-end : (limits : Limits) (a b : Option (List ℕ)) (total : ℕ) (told : List ℕ → Result (List (List ℕ)) RecFault) (fault : RecFault)
-    → HasRead limits a b total told → IsAtEnd b → total ≤ limits.octets → IsFaultOf (told []) fault → FailsReading limits a b (run_fault_of fault)
-FailsReading-end limits a b total told fault h end within faulty =
-    FailsReading-text limits a b h.text fault record { taken = h.taken; whole = λ _. end }
-    (subst (λ (all : Result RecordingValue RecFault). IsFaultOf all fault) (recording_of-read limits a b total told h within) (IsFaultOf-without_frames (told []) fault faulty))
+pub FailsReading-end : (limits : Limits) (captures : Captures) (a b : Option (List ℕ)) (total : ℕ) (told : List ℕ → Result (List (List ℕ)) RecFault) (fault : RecFault)
+    → HasRead limits captures a b total told → IsAtEnd b → total ≤ limits.octets → IsFaultOf (told []) fault → FailsReading limits captures a b (run_fault_of fault)
+FailsReading-end limits captures a b total told fault h end within faulty =
+    FailsReading-text limits captures a b h.text fault record { taken = h.taken; whole = λ _. end }
+    (subst (λ (all : Result RecordingValue RecFault). IsFaultOf all fault) (recording_of-read limits captures a b total told h within) (IsFaultOf-without_frames (told []) fault faulty))
 
-pub FailsReading-last : (limits : Limits) (a b : Option (List ℕ)) (total lines : ℕ) (done : List (List ℕ)) (left : List ℕ) (fault : RecFault)
-    → HasRead limits a b total (λ later. recording_behind limits.datagrams done lines (left ++ later)) → IsAtEnd b → total ≤ limits.octets → IsFaultOf (recording_behind limits.datagrams done lines left) fault
-    → FailsReading limits a b (run_fault_of fault)
-FailsReading-last limits a b total lines done left fault h end within faulty =
-    FailsReading-end limits a b total (λ later. recording_behind limits.datagrams done lines (left ++ later)) fault h end within
+pub FailsReading-last : (limits : Limits) (captures : Captures) (a b : Option (List ℕ)) (total lines : ℕ) (done : List (List ℕ)) (left : List ℕ) (fault : RecFault)
+    → HasRead limits captures a b total (λ later. recording_behind limits.datagrams done lines (left ++ later)) → IsAtEnd b → total ≤ limits.octets → IsFaultOf (recording_behind limits.datagrams done lines left) fault
+    → FailsReading limits captures a b (run_fault_of fault)
+FailsReading-last limits captures a b total lines done left fault h end within faulty =
+    FailsReading-end limits captures a b total (λ later. recording_behind limits.datagrams done lines (left ++ later)) fault h end within
     (subst (λ (text : List ℕ). IsFaultOf (recording_behind limits.datagrams done lines text) fault) (sym (append-nil left)) faulty)
 
 -- after a fault of a line reading went on
-pub FailsReading-on-past : (limits : Limits) (a b c : Option (List ℕ)) (total to : ℕ) (told : List ℕ → Result (List (List ℕ)) RecFault)
-    → HasRead limits a b total told → ReadsOn limits.octets b c total to → limits.octets < to → FailsReading limits a c (run_fault_of TooMany)
-FailsReading-on-past limits a b c total to told h more past =
+pub FailsReading-on-past : (limits : Limits) (captures : Captures) (a b c : Option (List ℕ)) (total to : ℕ) (told : List ℕ → Result (List (List ℕ)) RecFault)
+    → HasRead limits captures a b total told → ReadsOn limits.octets b c total to → limits.octets < to → FailsReading limits captures a c (run_fault_of TooMany)
+FailsReading-on-past limits captures a b c total to told h more past =
     let text = h.text ++ more.text in
     let size : length text ≡ to = omega (arith, length-append h.text more.text, h.size, more.size) in
-    FailsReading-text limits a c text TooMany record { taken = Consumes-trans a b c h.text more.text h.taken more.taken; whole = λ few. absurd (omega arith) }
-    (recording_of-past limits text (omega arith))
+    FailsReading-text limits captures a c text TooMany record { taken = Consumes-trans a b c h.text more.text h.taken more.taken; whole = λ few. absurd (omega arith) }
+    (recording_of-past limits captures text (omega arith))
 
-pub FailsReading-on : (limits : Limits) (a b c : Option (List ℕ)) (total to : ℕ) (told : List ℕ → Result (List (List ℕ)) RecFault) (fault : RecFault)
-    → HasRead limits a b total told → ReadsOn limits.octets b c total to → to ≤ limits.octets → ((later : List ℕ) → IsFaultOf (told later) fault) → FailsReading limits a c (run_fault_of fault)
-FailsReading-on limits a b c total to told fault h more within faulty =
+pub FailsReading-on : (limits : Limits) (captures : Captures) (a b c : Option (List ℕ)) (total to : ℕ) (told : List ℕ → Result (List (List ℕ)) RecFault) (fault : RecFault)
+    → HasRead limits captures a b total told → ReadsOn limits.octets b c total to → to ≤ limits.octets → ((later : List ℕ) → IsFaultOf (told later) fault) → FailsReading limits captures a c (run_fault_of fault)
+FailsReading-on limits captures a b c total to told fault h more within faulty =
     let text = h.text ++ more.text in
     let size : length text ≡ to = omega (arith, length-append h.text more.text, h.size, more.size) in
-    FailsReading-text limits a c text fault record { taken = Consumes-trans a b c h.text more.text h.taken more.taken; whole = λ _. more.whole within }
+    FailsReading-text limits captures a c text fault record { taken = Consumes-trans a b c h.text more.text h.taken more.taken; whole = λ _. more.whole within }
     (subst (λ (all : Result RecordingValue RecFault). IsFaultOf all fault)
-    (ap without_frames (h.stands more.text) ∙ sym (recording_of-text limits text (omega arith) (order_of-append h.text more.text h.begun ∙ h.plain)))
+    (ap without_frames (h.stands more.text) ∙ sym (recording_of-text limits captures text (omega arith) (begins_capture-append captures h.text more.text h.begun ∙ h.plain)))
     (IsFaultOf-without_frames (told more.text) fault (faulty more.text)))

@@ -9,6 +9,8 @@ use Rattle.rtps_tool.specs.Laws.{AreWithin, RunsAgree, RunsAgreeWithin}
 use Rattle.rtps_tool.specs.Forms.{recording_within}
 use Rattle.rtps_tool.specs.Limits.{usual}
 use Rattle.rtps_tool.specs.Runs.{ReadsRecording}
+use Rattle.rtps_tool.specs.declared.captures.Captures.{Captures}
+use Rattle.rtps_tool.specs.declared.captures.Captures.TheVariants.{Classic}
 use Rattle.rtps_tool.specs.declared.runs.Limits.{Limits}
 use Rattle.rtps_tool.proofs.LimitsLemmas.{stays_within}
 
@@ -28,24 +30,25 @@ second_within : (limits limits' : Limits) → AreWithin limits' (both limits lim
 second_within limits limits' = record { datagrams = omega arith; octets = omega arith }
 
 -- what was read within some limits, within greater ones
-within_both : (limits greater : Limits) (input : List ℕ) (left : Option (List ℕ)) (recording : RecordingValue) → AreWithin limits greater
-    → ReadsRecording limits (Some input) left recording → recording_within greater input ≡ Ok recording
-within_both limits greater input left recording within reads =
-    ap (recording_within greater) (sym (all_read input left reads.text reads.taken reads.whole)) ∙ stays_within limits greater reads.text recording within reads.is_read
+within_both : (limits greater : Limits) (captures : Captures) (input : List ℕ) (left : Option (List ℕ)) (recording : RecordingValue) → AreWithin limits greater
+    → ReadsRecording limits captures (Some input) left recording → recording_within greater captures input ≡ Ok recording
+within_both limits greater captures input left recording within reads =
+    ap (recording_within greater captures) (sym (all_read input left reads.text reads.taken reads.whole))
+    ∙ stays_within limits greater captures reads.text recording within reads.is_read
 
-one_recording : (limits limits' : Limits) (input : List ℕ) (left left' : Option (List ℕ)) (recording recording' : RecordingValue)
-    → ReadsRecording limits (Some input) left recording → ReadsRecording limits' (Some input) left' recording' → recording ≡ recording'
-one_recording limits limits' input left left' recording recording' one other =
+one_recording : (limits limits' : Limits) (captures : Captures) (input : List ℕ) (left left' : Option (List ℕ)) (recording recording' : RecordingValue)
+    → ReadsRecording limits captures (Some input) left recording → ReadsRecording limits' captures (Some input) left' recording' → recording ≡ recording'
+one_recording limits limits' captures input left left' recording recording' one other =
     let greater = both limits limits' in
-    let first = within_both limits greater input left recording (first_within limits limits') one in
-    let second = within_both limits' greater input left' recording' (second_within limits limits') other in
+    let first = within_both limits greater captures input left recording (first_within limits limits') one in
+    let second = within_both limits' greater captures input left' recording' (second_within limits limits') other in
     cc
 
 pub runs_agree_within : (Answers : RecordingValue → List ℕ → Ending → Type 0) → HasOneText Answers → RunsAgreeWithin Answers
-runs_agree_within Answers one_text limits limits' input left held holds left' held' holds' ending ending' (datagrams, text, reads, answers, wrote) (datagrams', text', reads', answers', wrote') =
-    let recording : datagrams' ≡ datagrams = sym (one_recording limits limits' input left left' datagrams datagrams' reads reads') in
+runs_agree_within Answers one_text limits limits' captures input left held holds left' held' holds' ending ending' (datagrams, text, reads, answers, wrote) (datagrams', text', reads', answers', wrote') =
+    let recording : datagrams' ≡ datagrams = sym (one_recording limits limits' captures input left left' datagrams datagrams' reads reads') in
     let same = one_text datagrams text text' ending ending' answers (subst (λ ds. Answers ds text' ending') recording answers') in
     (same.1, (text, wrote, subst (Appends held' holds') (sym same.0) wrote'))
 
 pub runs_agree : (Answers : RecordingValue → List ℕ → Ending → Type 0) → HasOneText Answers → RunsAgree Answers
-runs_agree Answers one_text = runs_agree_within Answers one_text usual usual
+runs_agree Answers one_text = runs_agree_within Answers one_text usual usual Classic

@@ -1,16 +1,20 @@
 -- Facts on a text of which a part was read.
-use Rattle.std.proofs.Common.{◌≡◌, ◌≢◌, ℕ, suc, ◌+◌, ◌-◌, ◌<◌, ◌≤◌, true, false, Bool, List, [], ◌∷◌, ◌++◌, length, take, drop, get_or, None, Some, Ok, Err, refl, sym, ap, ◌∙◌, subst, arith}
-use Rattle.std.specs.Prelude.{if◌then◌else◌, nat_lt, MatchResult, Result}
+use Rattle.std.proofs.Common.{◌≡◌, ◌≢◌, ℕ, suc, ◌+◌, ◌-◌, ◌<◌, ◌≤◌, true, false, Bool, List, [], ◌∷◌, ◌++◌, length, take, drop, get_or, Option, None, Some, Ok, Err, refl, sym, ap, ap₂, ◌∙◌, subst, arith}
+use Rattle.std.specs.Prelude.{if◌then◌else◌, ◌||◌, is_some, nat_le, nat_lt, MatchResult, Result}
 use Rattle.std.specs.List.{position}
 use Rattle.std.specs.Str.Lines.{strip_carriage_return}
 use Rattle.std.proofs.lemmas.List.{append-nil, length-append, length-take, get_or-take, drop-drop}
 use Rattle.std.proofs.lemmas.Bool.Decides.{nat_tests}
+use Rattle.rtps_ids.specs.declared.order.Order.{Order}
 use Rattle.rtps_capture.specs.Opening.{order_of}
+use Rattle.rtps_capture.proofs.Offered.{is_pcapng-append, order_of-append}
 use Rattle.rtps_tool.specs.Outcomes.{IsFaultOf}
-use Rattle.rtps_tool.specs.Forms.{recording_in_form, recording_within}
+use Rattle.rtps_tool.specs.Forms.{begins_capture, recording_in, recording_in_any_form, recording_in_form, recording_within}
 use Rattle.rtps_tool.specs.Lines.{lines_of, is_line_feed, parts_of}
 use Rattle.rtps_tool.specs.RecordingText.{recording_of_lines, recording_of_text, is_datagram_line, line_fault, without_frames}
 use Rattle.rtps_tool.specs.Unfinished.{with_front, recording_behind}
+use Rattle.rtps_tool.specs.declared.captures.Captures.{Captures}
+use Rattle.rtps_tool.specs.declared.captures.Captures.TheVariants.{Any, Classic}
 use Rattle.rtps_tool.specs.declared.faults.RecFault.{RecFault}
 use Rattle.rtps_tool.specs.declared.faults.RecFault.TheVariants.{TooLong, TooMany}
 use Rattle.rtps_tool.specs.declared.runs.Limits.{Limits}
@@ -141,19 +145,42 @@ recording_behind-comment-at most done lines (b ∷ text) later none some first =
     (sym first) (recording_behind-comment most done lines text later) none
 
 -- an input that is too long
-pub recording_of-past : (limits : Limits) (input : List ℕ) → limits.octets < length input → recording_within limits input ≡ Err TooMany
-recording_of-past limits input past = grind (arith, nat_tests)
+pub recording_of-past : (limits : Limits) (captures : Captures) (input : List ℕ) → limits.octets < length input → recording_within limits captures input ≡ Err TooMany
+recording_of-past limits captures input past = grind (arith, nat_tests)
 
 -- an input that is not too long stands for what it is in its form
-pub recording_of-within : (limits : Limits) (input : List ℕ) → length input ≤ limits.octets
-    → recording_within limits input ≡ recording_in_form limits.datagrams (order_of input) input
-recording_of-within limits input within = let few : nat_lt limits.octets (length input) ≡ false = grind (arith, nat_tests) in rw few refl
+pub recording_of-within : (limits : Limits) (captures : Captures) (input : List ℕ) → length input ≤ limits.octets
+    → recording_within limits captures input ≡ recording_in captures limits.datagrams input
+recording_of-within limits captures input within = let few : nat_lt limits.octets (length input) ≡ false = grind (arith, nat_tests) in rw few refl
+
+-- octets that begin no capture
+no_order : (order : Option Order) (most : ℕ) (text : List ℕ) → is_some order ≡ false → recording_in_form most order text ≡ recording_of_text most text
+no_order None most text plain = refl
+no_order (Some order) most text plain = absurd cc
+
+pub recording_in-text : (captures : Captures) (most : ℕ) (text : List ℕ) → begins_capture captures text ≡ false → recording_in captures most text ≡ recording_of_text most text
+recording_in-text Classic most text plain = no_order (order_of text) most text plain
+recording_in-text Any most text plain = ap (λ (is : Bool). recording_in_any_form most is text) plain
 
 -- a text stands for what its lines stand for
-pub recording_of-text : (limits : Limits) (text : List ℕ) → length text ≤ limits.octets → order_of text ≡ None
-    → recording_within limits text ≡ without_frames (recording_of_lines limits.datagrams 1 0 (lines_of text))
+pub recording_of-text : (limits : Limits) (captures : Captures) (text : List ℕ) → length text ≤ limits.octets → begins_capture captures text ≡ false
+    → recording_within limits captures text ≡ without_frames (recording_of_lines limits.datagrams 1 0 (lines_of text))
 unfolding recording_of_text
-recording_of-text limits text within plain = recording_of-within limits text within ∙ ap (λ form. recording_in_form limits.datagrams form text) plain
+recording_of-text limits captures text within plain = recording_of-within limits captures text within ∙ recording_in-text captures limits.datagrams text plain
+
+-- the first four octets tell whether an input begins as a capture does
+pub begins_capture-append : (captures : Captures) (start more : List ℕ) → 4 ≤ length start → begins_capture captures (start ++ more) ≡ begins_capture captures start
+begins_capture-append Classic start more enough = ap is_some (order_of-append start more enough)
+begins_capture-append Any start more enough = ap₂ (λ (one other : Bool). one || other) (ap is_some (order_of-append start more enough)) (is_pcapng-append start more enough)
+
+-- fewer octets begin none
+pub begins_capture-short : (captures : Captures) (input : List ℕ) → length input < 4 → begins_capture captures input ≡ false
+unfolding order_of
+begins_capture-short Classic input few = let short : nat_lt (length input) 4 ≡ true = grind (arith, nat_tests) in rw short refl
+begins_capture-short Any input few =
+    let short : nat_lt (length input) 4 ≡ true = grind (arith, nat_tests) in
+    let little : nat_le 4 (length input) ≡ false = grind (arith, nat_tests) in
+    rw (short, little) refl
 
 -- a text of which nothing was read
 pub recording_behind-whole : (most : ℕ) (done : List (List ℕ)) (lines : ℕ) (text : List ℕ) → done ≡ [] → lines ≡ 0

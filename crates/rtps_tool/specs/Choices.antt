@@ -21,13 +21,13 @@ audit_command Json = JsonCommand
 
 -- the options of its run; `sample` reads nothing, and has none
 abbrev pub options_of : Choice → Option Options
-options_of (Show file limits) = Some (record { command = ShowCommand; from = 1; limits = limits })
-options_of (ListChoice file limits) = Some (record { command = ListCommand; from = 1; limits = limits })
-options_of (Audit file from limits form) = Some (record { command = audit_command form; from = from; limits = limits })
-options_of (Why file from limits) = Some (record { command = WhyCommand; from = from; limits = limits })
+options_of (Show file limits captures) = Some (record { command = ShowCommand; from = 1; limits = limits; captures = captures })
+options_of (ListChoice file limits captures) = Some (record { command = ListCommand; from = 1; limits = limits; captures = captures })
+options_of (Audit file from limits captures form) = Some (record { command = audit_command form; from = from; limits = limits; captures = captures })
+options_of (Why file from limits captures) = Some (record { command = WhyCommand; from = from; limits = limits; captures = captures })
 options_of Sample = None
 
 -- the run with these options; without, the sample is written, and the reader stays as it is
 abbrev pub RunsBy : Option Options → (unread left held holds : Option (List ℕ)) → Result Ending RunFault → Type 0
-RunsBy (Some options) unread left held holds result = RunsWithin options.limits (IsTextOf options.command options.from) unread left held holds result
+RunsBy (Some options) unread left held holds result = RunsWithin options.limits options.captures (IsTextOf options.command options.from) unread left held holds result
 RunsBy None unread left held holds result = (left ≡ unread) × Writes sample held holds result

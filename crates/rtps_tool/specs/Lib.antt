@@ -6,6 +6,7 @@ pub mod Forms
 pub mod Laws
 pub mod Limits
 pub mod Lines
+pub mod RecordingAnyCapture
 pub mod RecordingCapture
 pub mod RecordingText
 pub mod RunFaults

@@ -40,7 +40,7 @@ unless_cut (Some frame) recording = Err (CutCapture frame)
 unfoldable pub recording_of_frames : (most : ℕ) → List ℕ → List Frame → Result RecordingValue RecFault
 recording_of_frames most file frames =
     if nat_lt most (length (datagrams_among file frames)) then Err TooMany
-    else unless_cut (cut_among 1 frames) (record { datagrams = datagrams_among file frames; ignored = Some (ignored_among frames) })
+    else unless_cut (cut_among 1 frames) (record { datagrams = datagrams_among file frames; ignored = Some (ignored_among frames); reasons = None })
 
 -- the recording of a capture, where it is one
 abbrev pub recording_opened : (most : ℕ) → List ℕ → Option Unread → Result RecordingValue RecFault

@@ -43,7 +43,7 @@ recording_of_lines most number before lines =
 
 -- a recording of which these are the datagrams, which no frames carry
 abbrev pub without_frames : Result (List (List ℕ)) RecFault → Result RecordingValue RecFault
-without_frames (Ok datagrams) = Ok (record { datagrams = datagrams; ignored = None })
+without_frames (Ok datagrams) = Ok (record { datagrams = datagrams; ignored = None; reasons = None })
 without_frames (Err fault) = Err fault
 
 -- the datagrams of a text in their order, so many at most, or its first fault

@@ -5,6 +5,8 @@ use Rattle.std.specs.Io.KnownBytes.{Appends, Consumes, Keeps, IsAtEnd}
 use Rattle.rtps_text.specs.Recording.{RecordingValue}
 use Rattle.rtps_tool.specs.Forms.{recording_within}
 use Rattle.rtps_tool.specs.Limits.{usual}
+use Rattle.rtps_tool.specs.declared.captures.Captures.{Captures}
+use Rattle.rtps_tool.specs.declared.captures.Captures.TheVariants.{Classic}
 use Rattle.rtps_tool.specs.declared.faults.RecFault.{RecFault}
 use Rattle.rtps_tool.specs.declared.faults.RecFault.TheVariants.{Memory as RecMemory}
 use Rattle.rtps_tool.specs.declared.faults.RunFault.{RunFault}
@@ -18,26 +20,26 @@ pub record Reads (limits : Limits) (old new : Option (List ℕ)) (text : List �
   pub taken : Consumes old new text
   pub whole : length text ≤ limits.octets → IsAtEnd new
 
--- this is the recording of all that the reader had, within these limits
-pub record ReadsRecording (limits : Limits) (old new : Option (List ℕ)) (recording : RecordingValue) : Type 0 where
+-- this is the recording of all that the reader had, within these limits, where these captures are read
+pub record ReadsRecording (limits : Limits) (captures : Captures) (old new : Option (List ℕ)) (recording : RecordingValue) : Type 0 where
   pub text : List ℕ
   pub taken : Consumes old new text
   pub whole : IsAtEnd new
-  pub is_read : recording_within limits text ≡ Ok recording
+  pub is_read : recording_within limits captures text ≡ Ok recording
 
 -- this is the fault of what was read: never want of memory, which is a fault of the run
-pub record ReadsFault (limits : Limits) (old new : Option (List ℕ)) (fault : RecFault) : Type 0 where
+pub record ReadsFault (limits : Limits) (captures : Captures) (old new : Option (List ℕ)) (fault : RecFault) : Type 0 where
   pub text : List ℕ
   pub reads : Reads limits old new text
-  pub faulty : recording_within limits text ≡ Err fault
+  pub faulty : recording_within limits captures text ≡ Err fault
   pub readable : fault ≢ RecMemory
 
 -- a run fails so before it writes anything
-abbrev pub FailsReading : Limits → (old new : Option (List ℕ)) → RunFault → Type 0
-FailsReading limits old new (Recording fault) = ReadsFault limits old new fault
-FailsReading limits old new Input = Unit {0}
-FailsReading limits old new (Output written) = ⊥
-FailsReading limits old new Memory = Unit {0}
+abbrev pub FailsReading : Limits → Captures → (old new : Option (List ℕ)) → RunFault → Type 0
+FailsReading limits captures old new (Recording fault) = ReadsFault limits captures old new fault
+FailsReading limits captures old new Input = Unit {0}
+FailsReading limits captures old new (Output written) = ⊥
+FailsReading limits captures old new Memory = Unit {0}
 
 -- so many octets of this text were written, and the rest was not
 abbrev pub FailsWriting : (old new : Option (List ℕ)) → List ℕ → RunFault → Type 0
@@ -46,21 +48,21 @@ FailsWriting old new text Input = ⊥
 FailsWriting old new text (Output written) = (written < length text) × Appends old new (take written text)
 FailsWriting old new text Memory = ⊥
 
--- A run that writes a text of the recording that it reads within these limits, and ends as it tells; `IsPrinted` says which
--- texts and ends those are. The reader before and after it, the writer before and after it, and what the run answers.
-abbrev pub RunsWithin : Limits → (RecordingValue → List ℕ → Ending → Type 0) → (unread left held holds : Option (List ℕ)) → Result Ending RunFault → Type 0
-RunsWithin limits IsPrinted unread left held holds (Ok ending) =
-    (recording : RecordingValue) × (text : List ℕ) × ReadsRecording limits unread left recording × IsPrinted recording text ending × Appends held holds text
-RunsWithin limits IsPrinted unread left held holds (Err (Recording fault)) = ReadsFault limits unread left fault × Keeps held holds
-RunsWithin limits IsPrinted unread left held holds (Err Input) = Keeps held holds
-RunsWithin limits IsPrinted unread left held holds (Err (Output written)) =
-    (recording : RecordingValue) × (text : List ℕ) × (ending : Ending) × ReadsRecording limits unread left recording × IsPrinted recording text ending
+-- A run that writes a text of the recording that it reads within these limits, where these captures are read, and ends as it
+-- tells; `IsPrinted` says which texts and ends those are. The reader before and after it, the writer before and after it, and what the run answers.
+abbrev pub RunsWithin : Limits → Captures → (RecordingValue → List ℕ → Ending → Type 0) → (unread left held holds : Option (List ℕ)) → Result Ending RunFault → Type 0
+RunsWithin limits captures IsPrinted unread left held holds (Ok ending) =
+    (recording : RecordingValue) × (text : List ℕ) × ReadsRecording limits captures unread left recording × IsPrinted recording text ending × Appends held holds text
+RunsWithin limits captures IsPrinted unread left held holds (Err (Recording fault)) = ReadsFault limits captures unread left fault × Keeps held holds
+RunsWithin limits captures IsPrinted unread left held holds (Err Input) = Keeps held holds
+RunsWithin limits captures IsPrinted unread left held holds (Err (Output written)) =
+    (recording : RecordingValue) × (text : List ℕ) × (ending : Ending) × ReadsRecording limits captures unread left recording × IsPrinted recording text ending
     × FailsWriting held holds text (Output written)
-RunsWithin limits IsPrinted unread left held holds (Err Memory) = Keeps held holds
+RunsWithin limits captures IsPrinted unread left held holds (Err Memory) = Keeps held holds
 
--- within the usual limits
+-- within the usual limits, where classic captures are read
 abbrev pub Runs : (RecordingValue → List ℕ → Ending → Type 0) → (unread left held holds : Option (List ℕ)) → Result Ending RunFault → Type 0
-Runs IsPrinted unread left held holds result = RunsWithin usual IsPrinted unread left held holds result
+Runs IsPrinted unread left held holds result = RunsWithin usual Classic IsPrinted unread left held holds result
 
 -- A run that reads nothing and writes this text: the writer before and after it, and what the run answers.
 abbrev pub Writes : List ℕ → (held holds : Option (List ℕ)) → Result Ending RunFault → Type 0

@@ -1,8 +1,8 @@
 -- The words of the command line, as `clap` reads them.
 -- own: a subcommand and one FILE; `sample` reads none. No option changes what a text means, but for that of `audit` and
--- `why`, which says from which number on verdicts ask; two options say how large a recording may be, and a flag of `audit`
--- asks for its report as JSON.
-use Rattle.std.specs.Prelude.{ℕ, ◌≡◌, ◌≢◌, ◌-◌, ◌^◌, codes, true, List, [], ◌∷◌, IfSome, Option, None, Some, unwrap_or}
+-- `why`, which says from which number on verdicts ask; two options say how large a recording may be, a flag asks for any
+-- capture to be read, and a flag of `audit` asks for its report as JSON.
+use Rattle.std.specs.Prelude.{ℕ, ◌≡◌, ◌≢◌, ◌-◌, ◌^◌, codes, Bool, true, false, List, [], ◌∷◌, IfSome, Option, None, Some, unwrap_or}
 use Rattle.std.specs.Option.{option_and_then}
 use Rattle.std.specs.Str.Parse.{digits_value, without_leading_plus}
 use Rattle.clap.specs.Words.{App, IsAmong, IsUnsignedIn, Kinds, Row, Rule, Text, fault_of, first_of, kind_of, one_of, new_app, new_rule, subcommand_of, with_rule, with_subcommand}
@@ -13,6 +13,8 @@ use Rattle.clap.specs.declared.error.kind.ErrorKind.{ErrorKind}
 use Rattle.clap.specs.declared.error.kind.ErrorKind.TheVariants.{DisplayHelp, DisplayVersion, MissingRequiredArgument, MissingSubcommand, OutOfMemory, UnknownArgument, ValueValidation}
 use Rattle.std.specs.String.{string_bytes}
 use Rattle.rtps_tool.specs.Limits.{usual}
+use Rattle.rtps_tool.specs.declared.captures.Captures.{Captures}
+use Rattle.rtps_tool.specs.declared.captures.Captures.TheVariants.{Classic, Any}
 use Rattle.rtps_tool.specs.declared.command.Choice.{Choice}
 use Rattle.rtps_tool.specs.declared.command.ReportForm.{ReportForm}
 use Rattle.rtps_tool.specs.declared.command.ReportForm.TheVariants.{Lines, Json}
@@ -29,10 +31,16 @@ file_rule = record (new_rule (codes "FILE")) { action = Some Set; required = tru
 abbrev pub number_rule : (called name : Text) → Rule
 number_rule called name = record (new_rule called) { long = Some name; action = Some Set; parser = Some (Unsigned 1 (2 ^ 63 - 1)) }
 
--- a subcommand that reads a file, within two limits
+-- a flag of this name
+abbrev pub flag_rule : (name : Text) → Rule
+flag_rule name = record (new_rule name) { long = Some name; action = Some SetTrue }
+
+-- a subcommand that reads a file, within two limits, and any capture where it is asked to
 abbrev pub reading_app : Text → App
 reading_app name =
-    with_rule (with_rule (with_rule (new_app name) file_rule) (number_rule (codes "DATAGRAMS") (codes "max-datagrams")))
+    with_rule
+    (with_rule (with_rule (with_rule (new_app name) file_rule) (flag_rule (codes "any")))
+    (number_rule (codes "DATAGRAMS") (codes "max-datagrams")))
     (number_rule (codes "OCTETS") (codes "max-octets"))
 
 -- the number from which on verdicts ask: a sequence number
@@ -43,13 +51,9 @@ from_rule = number_rule (codes "N") (codes "from")
 abbrev pub report_app : Text → App
 report_app name = with_rule (reading_app name) from_rule
 
--- a flag, which asks for JSON
-abbrev pub json_rule : Rule
-json_rule = record (new_rule (codes "json")) { long = Some (codes "json"); action = Some SetTrue }
-
--- the subcommand `audit`
+-- the subcommand `audit`, which has a flag that asks for JSON
 abbrev pub audit_app : App
-audit_app = with_rule (report_app (codes "audit")) json_rule
+audit_app = with_rule (report_app (codes "audit")) (flag_rule (codes "json"))
 
 -- a program that has a version and wants a subcommand
 abbrev pub bare_program : App
@@ -67,18 +71,18 @@ program =
 
 -- the subcommand that was chosen
 abbrev pub subcommand_name : Choice → Text
-subcommand_name (Show file limits) = codes "show"
-subcommand_name (ListChoice file limits) = codes "list"
-subcommand_name (Audit file from limits form) = codes "audit"
-subcommand_name (Why file from limits) = codes "why"
+subcommand_name (Show file limits captures) = codes "show"
+subcommand_name (ListChoice file limits captures) = codes "list"
+subcommand_name (Audit file from limits captures form) = codes "audit"
+subcommand_name (Why file from limits captures) = codes "why"
 subcommand_name Sample = codes "sample"
 
 -- the file that was chosen; `sample` has none
 abbrev pub file_name : Choice → Option Text
-file_name (Show file limits) = Some (string_bytes file)
-file_name (ListChoice file limits) = Some (string_bytes file)
-file_name (Audit file from limits form) = Some (string_bytes file)
-file_name (Why file from limits) = Some (string_bytes file)
+file_name (Show file limits captures) = Some (string_bytes file)
+file_name (ListChoice file limits captures) = Some (string_bytes file)
+file_name (Audit file from limits captures form) = Some (string_bytes file)
+file_name (Why file from limits captures) = Some (string_bytes file)
 file_name Sample = None
 
 -- its FILE is the one that was given, and empty where none was
@@ -98,24 +102,42 @@ IsNumberGiven text n = IsGivenOr 1 text n
 
 -- its number is the one that was given; only `audit` and `why` have one
 abbrev pub HasItsNumber : Choice → List Row → Type 0
-HasItsNumber (Show file limits) rows = Unit {0}
-HasItsNumber (ListChoice file limits) rows = Unit {0}
-HasItsNumber (Audit file from limits form) rows = IsNumberGiven (first_of (codes "N") rows) from
-HasItsNumber (Why file from limits) rows = IsNumberGiven (first_of (codes "N") rows) from
+HasItsNumber (Show file limits captures) rows = Unit {0}
+HasItsNumber (ListChoice file limits captures) rows = Unit {0}
+HasItsNumber (Audit file from limits captures form) rows = IsNumberGiven (first_of (codes "N") rows) from
+HasItsNumber (Why file from limits captures) rows = IsNumberGiven (first_of (codes "N") rows) from
 HasItsNumber Sample rows = Unit {0}
 
--- It asks for JSON where the flag was given: `clap` gives it the text `true` where it was, and `false` where not.
-abbrev pub IsFormGiven : Option Text → ReportForm → Type 0
-IsFormGiven None form = form ≡ Lines
-IsFormGiven (Some text) form = (text ≡ codes "true" → form ≡ Json) × (text ≡ codes "false" → form ≡ Lines)
+-- The flag was given, or not: `clap` gives it the text `true` where it was, and `false` where not.
+abbrev pub IsFlagGiven : Option Text → Bool → Type 0
+IsFlagGiven None given = given ≡ false
+IsFlagGiven (Some text) given = (text ≡ codes "true" → given ≡ true) × (text ≡ codes "false" → given ≡ false)
+
+-- the form that is asked for by the flag
+abbrev pub is_json : ReportForm → Bool
+is_json Lines = false
+is_json Json = true
+
+-- the captures that are asked for by the flag
+abbrev pub is_any : Captures → Bool
+is_any Classic = false
+is_any Any = true
 
 -- its form is the one that was asked for; only `audit` has one
 abbrev pub HasItsFlag : Choice → List Row → Type 0
-HasItsFlag (Show file limits) rows = Unit {0}
-HasItsFlag (ListChoice file limits) rows = Unit {0}
-HasItsFlag (Audit file from limits form) rows = IsFormGiven (one_of (codes "json") rows) form
-HasItsFlag (Why file from limits) rows = Unit {0}
+HasItsFlag (Show file limits captures) rows = Unit {0}
+HasItsFlag (ListChoice file limits captures) rows = Unit {0}
+HasItsFlag (Audit file from limits captures form) rows = IsFlagGiven (one_of (codes "json") rows) (is_json form)
+HasItsFlag (Why file from limits captures) rows = Unit {0}
 HasItsFlag Sample rows = Unit {0}
+
+-- it reads the captures that were asked for
+abbrev pub HasItsCaptures : Choice → List Row → Type 0
+HasItsCaptures (Show file limits captures) rows = IsFlagGiven (one_of (codes "any") rows) (is_any captures)
+HasItsCaptures (ListChoice file limits captures) rows = IsFlagGiven (one_of (codes "any") rows) (is_any captures)
+HasItsCaptures (Audit file from limits captures form) rows = IsFlagGiven (one_of (codes "any") rows) (is_any captures)
+HasItsCaptures (Why file from limits captures) rows = IsFlagGiven (one_of (codes "any") rows) (is_any captures)
+HasItsCaptures Sample rows = Unit {0}
 
 -- the limits are those that were given, each the usual one where it was not
 pub record AreLimitsGiven (rows : List Row) (limits : Limits) : Type 0 where
@@ -124,16 +146,16 @@ pub record AreLimitsGiven (rows : List Row) (limits : Limits) : Type 0 where
 
 -- its limits are those that were given
 abbrev pub HasItsLimits : Choice → List Row → Type 0
-HasItsLimits (Show file limits) rows = AreLimitsGiven rows limits
-HasItsLimits (ListChoice file limits) rows = AreLimitsGiven rows limits
-HasItsLimits (Audit file from limits form) rows = AreLimitsGiven rows limits
-HasItsLimits (Why file from limits) rows = AreLimitsGiven rows limits
+HasItsLimits (Show file limits captures) rows = AreLimitsGiven rows limits
+HasItsLimits (ListChoice file limits captures) rows = AreLimitsGiven rows limits
+HasItsLimits (Audit file from limits captures form) rows = AreLimitsGiven rows limits
+HasItsLimits (Why file from limits captures) rows = AreLimitsGiven rows limits
 HasItsLimits Sample rows = Unit {0}
 
--- the choice has the name of the subcommand that was found, its FILE, its number, its flag and its limits
+-- the choice has the name of the subcommand that was found, its FILE, its number, its flags and its limits
 abbrev pub IsChoice : Option (Text × List Row) → Choice → Type 0
 IsChoice found choice =
-    (rows : List Row) × (found ≡ Some (subcommand_name choice, rows)) × HasItsFile choice rows × HasItsNumber choice rows × HasItsFlag choice rows × HasItsLimits choice rows
+    (rows : List Row) × (found ≡ Some (subcommand_name choice, rows)) × HasItsFile choice rows × HasItsNumber choice rows × HasItsFlag choice rows × HasItsLimits choice rows × HasItsCaptures choice rows
 
 -- help and the version are answers, want of memory has no text, and any other error of `clap` refuses the words
 abbrev pub word_fault_by : ErrorKind → Error → WordFault
@@ -160,9 +182,9 @@ IsOneOf kinds (Help error) = IsAmong DisplayHelp kinds
 IsOneOf kinds (Version error) = IsAmong DisplayVersion kinds
 IsOneOf kinds Memory = Unit {0}
 
--- the text of the flag among these words, behind the program's name
-abbrev pub flag_of_words : List Text → Option Text
-flag_of_words words = option_and_then (λ found. one_of (codes "json") found.1) (subcommand_of program (codes "rtps-audit" ∷ words))
+-- the text of a flag of this name among these words, behind the program's name
+abbrev pub flag_of_words : (name : Text) → List Text → Option Text
+flag_of_words name words = option_and_then (λ found. one_of name found.1) (subcommand_of program (codes "rtps-audit" ∷ words))
 
 -- what is wrong with these words, behind the program's name
 abbrev pub faults_of_words : List Text → Kinds
@@ -170,8 +192,8 @@ faults_of_words words = fault_of program (codes "rtps-audit" ∷ words)
 
 -- Examples of command lines, and what is wrong with each, behind the program's name. Taken are lines with nothing wrong.
 -- Refused are one without a subcommand, and some without the FILE, with a FILE of `sample`, with a number that is none from 1 to
--- 2^63 - 1, or with an option that the subcommand does not have; `--help` and `--version` are answered. Of two lines: whether
--- JSON is asked for.
+-- 2^63 - 1, or with an option that the subcommand does not have; `--help` and `--version` are answered. Of some lines: whether
+-- JSON, or any capture, is asked for.
 pub record WordsAreWanted : Type 0 where
   pub no_subcommand : faults_of_words [] ≡ MissingSubcommand ∷ []
   pub no_file_to_show : faults_of_words (codes "show" ∷ []) ≡ MissingRequiredArgument ∷ []
@@ -201,9 +223,16 @@ pub record WordsAreWanted : Type 0 where
   pub too_many_octets : faults_of_words (codes "audit" ∷ codes "--max-octets" ∷ codes "9223372036854775808" ∷ codes "a.rec" ∷ []) ≡ ValueValidation ∷ []
   pub no_octets_of_why : faults_of_words (codes "why" ∷ codes "--max-octets" ∷ codes "0" ∷ codes "a.rec" ∷ []) ≡ ValueValidation ∷ []
   pub json : faults_of_words (codes "audit" ∷ codes "--json" ∷ codes "a.rec" ∷ []) ≡ []
-  pub json_is_asked : flag_of_words (codes "audit" ∷ codes "--json" ∷ codes "a.rec" ∷ []) ≡ Some (codes "true")
-  pub no_json_is_asked : flag_of_words (codes "audit" ∷ codes "a.rec" ∷ []) ≡ Some (codes "false")
+  pub json_is_asked : flag_of_words (codes "json") (codes "audit" ∷ codes "--json" ∷ codes "a.rec" ∷ []) ≡ Some (codes "true")
+  pub no_json_is_asked : flag_of_words (codes "json") (codes "audit" ∷ codes "a.rec" ∷ []) ≡ Some (codes "false")
   pub json_of_show : faults_of_words (codes "show" ∷ codes "--json" ∷ codes "a.rec" ∷ []) ≡ UnknownArgument ∷ []
   pub json_of_list : faults_of_words (codes "list" ∷ codes "--json" ∷ codes "a.rec" ∷ []) ≡ UnknownArgument ∷ []
   pub json_of_why : faults_of_words (codes "why" ∷ codes "--json" ∷ codes "a.rec" ∷ []) ≡ UnknownArgument ∷ []
+  pub any_to_show : faults_of_words (codes "show" ∷ codes "--any" ∷ codes "a.pcapng" ∷ []) ≡ []
+  pub any_to_list : faults_of_words (codes "list" ∷ codes "--any" ∷ codes "a.pcapng" ∷ []) ≡ []
+  pub any_to_audit : faults_of_words (codes "audit" ∷ codes "--any" ∷ codes "--json" ∷ codes "a.pcapng" ∷ []) ≡ []
+  pub any_to_explain : faults_of_words (codes "why" ∷ codes "a.pcapng" ∷ codes "--any" ∷ []) ≡ []
+  pub any_is_asked : flag_of_words (codes "any") (codes "why" ∷ codes "--any" ∷ codes "a.pcapng" ∷ []) ≡ Some (codes "true")
+  pub no_any_is_asked : flag_of_words (codes "any") (codes "audit" ∷ codes "--json" ∷ codes "a.rec" ∷ []) ≡ Some (codes "false")
+  pub any_of_sample : faults_of_words (codes "sample" ∷ codes "--any" ∷ []) ≡ UnknownArgument ∷ []
   pub limit_of_sample : faults_of_words (codes "sample" ∷ codes "--max-octets" ∷ codes "1" ∷ []) ≡ UnknownArgument ∷ []

@@ -5,6 +5,7 @@ ghost use Rattle.rtps_tool.specs.Words.{file_name};
 
 use crate::command::{Choice, ReportForm};
 use crate::faults::RunFault;
+use crate::follow::Follow;
 use crate::runs::{Command, Options, run, run_sample};
 use rtps_ids::SeqNum;
 use rtps_text::{Ending, Watch};
@@ -30,30 +31,44 @@ impl Choice {
         ensures { result ≡ options_of self.now }
     {
         match self {
-            Choice::Show { limits, .. } => Some(Options {
+            Choice::Show {
+                limits, captures, ..
+            } => Some(Options {
                 command: Command::Show,
                 from: SeqNum::first(),
                 limits: *limits,
+                captures: *captures,
             }),
-            Choice::List { limits, .. } => Some(Options {
+            Choice::List {
+                limits, captures, ..
+            } => Some(Options {
                 command: Command::List,
                 from: SeqNum::first(),
                 limits: *limits,
+                captures: *captures,
             }),
             Choice::Audit {
                 from,
                 limits,
+                captures,
                 form,
                 ..
             } => Some(Options {
                 command: audit_command(*form),
                 from: *from,
                 limits: *limits,
+                captures: *captures,
             }),
-            Choice::Why { from, limits, .. } => Some(Options {
+            Choice::Why {
+                from,
+                limits,
+                captures,
+                ..
+            } => Some(Options {
                 command: Command::Why,
                 from: *from,
                 limits: *limits,
+                captures: *captures,
             }),
             Choice::Sample => None,
         }
@@ -71,8 +86,8 @@ fn audit_command(form: ReportForm) -> Command
 }
 
 /// Runs what the words chose: [`crate::run`] on an input, or [`crate::run_sample`], which leaves the input as it is. It tells
-/// how far an audit is. An `Err` is that of the run, and leaves what the run leaves.
-pub fn run_choice<R: Read, W: Write, P: Watch>(
+/// what was read, and how far an audit is. An `Err` is that of the run, and leaves what the run leaves.
+pub fn run_choice<R: Read, W: Write, P: Watch + Follow>(
     alloc: Global,
     choice: &Choice,
     input: &mut R,

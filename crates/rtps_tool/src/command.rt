@@ -2,8 +2,9 @@ ghost use Rattle.std.specs.Prelude.{◌≡◌, ◌⊎◌, true, false, codes, So
 ghost use Rattle.std.specs.String.{string_bytes};
 ghost use Rattle.clap.specs.Words.{app_of, fault_of, first_of, found_of, new_app, one_of, rows_of, rule_of, subcommand_of, subcommand_rows_of, takes};
 ghost use Rattle.clap.specs.declared.builder.command.Command.TheViews.{out-Command};
-ghost use Rattle.rtps_tool.specs.Words.{bare_program as bare_app, audit_app, json_rule, number_rule, program as program_app, reading_app, report_app, AreLimitsGiven, IsChoice, IsFormGiven, IsGivenOr, IsNumberGiven, IsOneOf, HasItsKind};
+ghost use Rattle.rtps_tool.specs.Words.{bare_program as bare_app, audit_app, flag_rule, is_any, is_json, number_rule, program as program_app, reading_app, report_app, AreLimitsGiven, IsChoice, IsFlagGiven, IsGivenOr, IsNumberGiven, IsOneOf, HasItsKind};
 
+use crate::captures::Captures;
 use crate::runs::Limits;
 use clap::builder::ValueParser;
 use clap::error::ErrorKind;
@@ -22,18 +23,21 @@ pub enum ReportForm {
     Json,
 }
 
-/// What the words ask for. A FILE of `-` is standard input; the limits are those of its recording.
+/// What the words ask for. A FILE of `-` is standard input; the limits are those of its recording, and the captures those that
+/// are read.
 #[derive(Debug, Drop)]
 pub enum Choice {
     /// Show each datagram and its submessages.
     Show {
         file: String,
         limits: Limits,
+        captures: Captures,
     },
     /// List participants, endpoints and the pairs that match.
     List {
         file: String,
         limits: Limits,
+        captures: Captures,
     },
     /// Judge for each reliable writer and reader that match whether the reader got all data, of the writer's numbers from
     /// `from` on.
@@ -41,6 +45,7 @@ pub enum Choice {
         file: String,
         from: SeqNum,
         limits: Limits,
+        captures: Captures,
         form: ReportForm,
     },
     /// Say for each verdict of such an audit what it rests on, place by place.
@@ -48,6 +53,7 @@ pub enum Choice {
         file: String,
         from: SeqNum,
         limits: Limits,
+        captures: Captures,
     },
     /// Write a recording to try.
     Sample,
@@ -117,6 +123,9 @@ const VERSION: &str = "0.1.0";
 const FILE_HELP: &str =
     "A capture, or a text with one datagram a line in hexadecimal digits; - is standard input";
 
+const ANY_HELP: &str = "Read any capture: pcapng, Linux cooked, loopback and raw IP frames, VLAN tags, IPv6, \
+    and packets that came in fragments";
+
 const FROM_HELP: &str = "The first number to ask for, 1 to 9223372036854775807; \
     smaller numbers are left out; 1 if it is not given";
 
@@ -166,7 +175,18 @@ fn number_option<'a>(alloc: Global, called: &'a str, name: &'a str, help: &'a st
         .help(help)
 }
 
-/// A subcommand that reads a FILE, within two limits.
+/// A flag of this name.
+fn flag<'a>(alloc: Global, name: &'a str, help: &'a str) -> Arg<'a>
+    ensures rule { rule_of result ≡ flag_rule name.now }
+    ensures local { result.global ≡ false }
+{
+    Arg::new(alloc, name)
+        .long(name)
+        .action(ArgAction::SetTrue)
+        .help(help)
+}
+
+/// A subcommand that reads a FILE, within two limits, and any capture where it is asked to.
 fn reading_subcommand<'a>(
     alloc: Global,
     name: &'a str,
@@ -181,9 +201,10 @@ fn reading_subcommand<'a>(
         .help(FILE_HELP);
     let bare = Command::new(alloc, name).about(about).after_help(STATUSES);
     let one = bare.arg(file)?;
+    let two = one.arg(flag(alloc, "any", ANY_HELP))?;
     let datagrams = number_option(alloc, "DATAGRAMS", "max-datagrams", DATAGRAMS_HELP);
-    let two = one.arg(datagrams)?;
-    two.arg(number_option(alloc, "OCTETS", "max-octets", OCTETS_HELP))
+    let three = two.arg(datagrams)?;
+    three.arg(number_option(alloc, "OCTETS", "max-octets", OCTETS_HELP))
 }
 
 /// A subcommand that judges: it reads a FILE, and asks for numbers from some number on.
@@ -200,24 +221,13 @@ fn report_subcommand<'a>(
     reading.arg(from)
 }
 
-/// The flag of `audit` that asks for JSON.
-fn json_flag<'a>(alloc: Global) -> Arg<'a>
-    ensures rule { rule_of result ≡ json_rule }
-    ensures local { result.global ≡ false }
-{
-    Arg::new(alloc, "json")
-        .long("json")
-        .action(ArgAction::SetTrue)
-        .help(JSON_HELP)
-}
-
 /// The subcommand `audit`, which judges, and prints JSON where it is asked to.
 fn audit_subcommand<'a>(alloc: Global) -> Result<Command<'a>, AllocError>
     ensures app { IfOk result (λ command. app_of command ≡ audit_app) }
     ensures local { IfOk result (λ command. (out-Command command).has_globals ≡ false) }
 {
     let report = report_subcommand(alloc, "audit", AUDITS)?;
-    report.arg(json_flag(alloc))
+    report.arg(flag(alloc, "json", JSON_HELP))
 }
 
 /// A subcommand that reads nothing.
@@ -314,15 +324,81 @@ fn limits_of(found: &ArgMatches) -> Limits
     }
 }
 
+/// Whether the flag of this name is given.
+fn is_given(found: &ArgMatches, name: &str) -> bool
+    ensures { IsFlagGiven (one_of name.now (rows_of (found_of found.now))) result }
+{
+    found.get_flag(name)
+}
+
 /// The form that is asked for.
 fn form_of(found: &ArgMatches) -> ReportForm
-    ensures { IsFormGiven (one_of (codes "json") (rows_of (found_of found.now))) result }
+    ensures { IsFlagGiven (one_of (codes "json") (rows_of (found_of found.now))) (is_json result) }
 {
-    if found.get_flag("json") {
+    if is_given(found, "json") {
         ReportForm::Json
     } else {
         ReportForm::Lines
     }
+}
+
+/// The captures that are asked for.
+fn captures_of(found: &ArgMatches) -> Captures
+    ensures { IsFlagGiven (one_of (codes "any") (rows_of (found_of found.now))) (is_any result) }
+{
+    if is_given(found, "any") {
+        Captures::Any
+    } else {
+        Captures::Classic
+    }
+}
+
+/// What the matches of `show` choose.
+fn show_of(alloc: Global, show: &ArgMatches) -> Result<Choice, AllocError>
+    ensures { IfOk result (IsChoice (Some (codes "show", rows_of (found_of show.now)))) }
+{
+    Ok(Choice::Show {
+        file: file_of(alloc, show)?,
+        limits: limits_of(show),
+        captures: captures_of(show),
+    })
+}
+
+/// What the matches of `list` choose.
+fn list_of(alloc: Global, list: &ArgMatches) -> Result<Choice, AllocError>
+    ensures { IfOk result (IsChoice (Some (codes "list", rows_of (found_of list.now)))) }
+{
+    Ok(Choice::List {
+        file: file_of(alloc, list)?,
+        limits: limits_of(list),
+        captures: captures_of(list),
+    })
+}
+
+/// What the matches of `audit` choose.
+fn audit_of(alloc: Global, audit: &ArgMatches) -> Result<Choice, AllocError>
+    ensures { IfOk result (IsChoice (Some (codes "audit", rows_of (found_of audit.now)))) }
+{
+    let from = number_of(audit);
+    Ok(Choice::Audit {
+        file: file_of(alloc, audit)?,
+        from,
+        limits: limits_of(audit),
+        captures: captures_of(audit),
+        form: form_of(audit),
+    })
+}
+
+/// What the matches of `why` choose.
+fn why_of(alloc: Global, why: &ArgMatches) -> Result<Choice, AllocError>
+    ensures { IfOk result (IsChoice (Some (codes "why", rows_of (found_of why.now)))) }
+{
+    Ok(Choice::Why {
+        file: file_of(alloc, why)?,
+        from: number_of(why),
+        limits: limits_of(why),
+        captures: captures_of(why),
+    })
 }
 
 /// What the matches choose; None where they have no subcommand that can be chosen.
@@ -332,32 +408,16 @@ fn choice_of(alloc: Global, matches: &ArgMatches) -> Result<Option<Choice>, Allo
         (IsChoice (subcommand_rows_of matches.now))) }
 {
     if let Some(show) = matches.subcommand_matches("show") {
-        let file = file_of(alloc, show)?;
-        let limits = limits_of(show);
-        return Ok(Some(Choice::Show { file, limits }));
+        return Ok(Some(show_of(alloc, show)?));
     }
     if let Some(list) = matches.subcommand_matches("list") {
-        let file = file_of(alloc, list)?;
-        let limits = limits_of(list);
-        return Ok(Some(Choice::List { file, limits }));
+        return Ok(Some(list_of(alloc, list)?));
     }
     if let Some(audit) = matches.subcommand_matches("audit") {
-        let file = file_of(alloc, audit)?;
-        let from = number_of(audit);
-        let limits = limits_of(audit);
-        let form = form_of(audit);
-        return Ok(Some(Choice::Audit {
-            file,
-            from,
-            limits,
-            form,
-        }));
+        return Ok(Some(audit_of(alloc, audit)?));
     }
     if let Some(why) = matches.subcommand_matches("why") {
-        let file = file_of(alloc, why)?;
-        let from = number_of(why);
-        let limits = limits_of(why);
-        return Ok(Some(Choice::Why { file, from, limits }));
+        return Ok(Some(why_of(alloc, why)?));
     }
     if matches.subcommand_matches("sample").is_some() {
         return Ok(Some(Choice::Sample));
@@ -368,7 +428,7 @@ fn choice_of(alloc: Global, matches: &ArgMatches) -> Result<Option<Choice>, Allo
 /// Reads the words of the command line, of which the first is the program's name. An `Err` says why they ask for nothing that
 /// can be run: they are refused, they ask for help or for the version, or there was no memory to read them.
 pub fn read_words<'a>(alloc: Global, words: &'a [&'a str]) -> Result<Choice, WordFault>
-    // The subcommand, the FILE, the number, the flag and the limits are those of the matches that `clap` defines for the words.
+    // The subcommand, the FILE, the number, the flags and the limits are those of the matches that `clap` defines for the words.
     ensures chosen { IfOk result (IsChoice (subcommand_of program_app (map (λ word. word.now) words.now))) }
 
     // Words with a fault are refused, and the refusal is of its kind.

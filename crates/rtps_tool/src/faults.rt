@@ -3,6 +3,7 @@ ghost use Rattle.std.specs.Io.KnownBytes.{Appends};
 ghost use Rattle.rtps_tool.specs.FaultText.{fault_line, rec_fault_number, rec_fault_text, run_fault_number, run_fault_text};
 ghost use Rattle.rtps_tool.specs.Statuses.{status_of};
 
+use rtps_capture::AnyFault;
 use rtps_ids::Memory;
 use rtps_text::Ending;
 use std::alloc::{AllocError, AllocFailed};
@@ -23,9 +24,11 @@ pub enum RecFault {
     /// There was no memory for the recording, or no span for a datagram ([`rtps_text::DatagramSpan`]): one that begins at 2^48
     /// octets or behind has none.
     Memory,
-    /// A capture's header is cut, its major version is not 2, or its link type is neither Ethernet nor raw IP.
+    /// A capture's header is cut, its major version is not 2, or its link type is neither Ethernet nor raw IP. Where any
+    /// capture is read, its link type is none that is read, or a pcapng file has a block that cannot be.
     BadCapture,
-    /// A capture ends within a frame. Frames are counted from 1, ignored ones too.
+    /// A capture ends within a frame. Frames are counted from 1, ignored ones too. Where any capture is read, a frame passes the
+    /// end of its block.
     CutCapture { frame: u64 },
 }
 
@@ -58,6 +61,21 @@ impl fmt::Display for RecFault {
             RecFault::Memory => write!(f, "out of memory"),
             RecFault::BadCapture => write!(f, "bad capture"),
             RecFault::CutCapture { frame } => write!(f, "frame {frame}: cut"),
+        }
+    }
+}
+
+impl From<AnyFault> for RecFault {
+    ghost use Rattle.rtps_tool.specs.RecordingAnyCapture.{rec_fault_of};
+
+    ghost from_gives = { λ any_fault fault. fault ≡ rec_fault_of any_fault };
+
+    fn from(fault: AnyFault) -> RecFault {
+        match fault {
+            AnyFault::BadCapture => RecFault::BadCapture,
+            AnyFault::CutCapture { frame } => RecFault::CutCapture { frame },
+            AnyFault::TooMany => RecFault::TooMany,
+            AnyFault::Memory => RecFault::Memory,
         }
     }
 }

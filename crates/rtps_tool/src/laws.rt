@@ -6,7 +6,7 @@ ghost use Rattle.rtps_text.specs.JsonText.{IsJsonTextFrom};
 ghost use Rattle.rtps_text.specs.ListText.{IsListed};
 ghost use Rattle.rtps_text.specs.ShowText.{IsShown};
 ghost use Rattle.rtps_text.specs.WhyText.{IsExplainedTextFrom};
-ghost use Rattle.rtps_tool.specs.Laws.{NoTextBeginsAsACapture, RunsAgree, RunsAgreeWithin, StaysWithin};
+ghost use Rattle.rtps_tool.specs.Laws.{NoTextBeginsAsACapture, RunsAgree, RunsAgreeWithin, StaysWithin, TextsStayTexts};
 ghost use Rattle.rtps_tool.specs.Words.{WordsAreWanted};
 
 use rtps_text::laws::one_text;
@@ -31,7 +31,7 @@ pub fn runs_agree()
     one_text();
 }
 
-/// Limits decide whether a recording is taken, and nothing else: what is a recording within some limits is the same
+/// Limits decide whether a recording is taken, and nothing else, whatever captures are read: what is a recording within some limits is the same
 /// recording within greater ones, and two runs over the same octets that both end well, within whatever limits, end in the
 /// same way and write the same text.
 pub fn limits_change_nothing()
@@ -45,8 +45,13 @@ pub fn limits_change_nothing()
     one_text();
 }
 
-/// Octets that begin as a capture begin no text: as a text they would have a fault in their first line. So which form an
-/// input has is never in doubt.
+/// Octets that begin as a capture, of those that are read, begin no text: as a text they would have a fault in one of their first
+/// two lines. So which form an input has is never in doubt.
 pub fn no_text_begins_as_a_capture()
     ensures { NoTextBeginsAsACapture }
+{}
+
+/// An input that is a text stands for the same recording, whatever captures are read.
+pub fn texts_stay_texts()
+    ensures { TextsStayTexts }
 {}

@@ -7,8 +7,11 @@ ghost use Rattle.rtps_text.specs.ShowText.{IsShown};
 ghost use Rattle.rtps_tool.specs.Commands.{IsTextOf};
 ghost use Rattle.rtps_tool.specs.Limits.{usual as usual_lem};
 ghost use Rattle.rtps_tool.specs.Runs.{Runs, RunsWithin, Writes};
+ghost use Rattle.rtps_tool.specs.declared.captures.Captures.TheVariants.{Classic};
 
+use crate::captures::Captures;
 use crate::faults::RunFault;
+use crate::follow::Follow;
 use crate::streams::{read_input, write_text};
 use rtps_ids::{Memory, SeqNum};
 use rtps_text::{
@@ -63,37 +66,41 @@ pub struct Options {
     pub from: SeqNum,
     /// Those of the recording.
     pub limits: Limits,
+    /// Those that are read.
+    pub captures: Captures,
 }
 
 impl Options {
-    /// Within the usual limits.
+    /// Within the usual limits, of classic captures.
     pub fn usual(command: Command, from: SeqNum) -> Options
-        ensures { result ≡ record { command = command; from = from; limits = usual_lem } }
+        ensures { result ≡ record { command = command; from = from; limits = usual_lem; captures = Classic } }
     {
         Options {
             command,
             from,
             limits: Limits::usual(),
+            captures: Captures::Classic,
         }
     }
 }
 
 /// Reads a recording, to the end of the input or past the most octets that it may have, and writes what is printed of it.
-/// It tells how far an audit is. It ends [`Ending::Clean`], but for an audit that has a pair that is not complete.
+/// It tells what was read, and how far an audit is. It ends [`Ending::Clean`], but for an audit that has a pair that is not complete.
 ///
 /// The whole input is read and the whole text made before anything is written. An `Err` says what was written: nothing,
 /// but for [`RunFault::Output`]. How much was read is open after [`RunFault::Input`] and [`RunFault::Memory`].
-pub fn run<R: Read, W: Write, P: Watch>(
+pub fn run<R: Read, W: Write, P: Watch + Follow>(
     alloc: Global,
     options: &Options,
     input: &mut R,
     output: &mut W,
     watch: &mut P,
 ) -> Result<Ending, RunFault>
-    ensures { RunsWithin options.now.limits (IsTextOf options.now.command options.now.from)
+    ensures { RunsWithin options.now.limits options.now.captures (IsTextOf options.now.command options.now.from)
         (R.remaining input.old) (R.remaining input.new) (W.contents output.old) (W.contents output.new) result }
 {
-    let recording = read_input(alloc, options.limits, input)?;
+    let recording = read_input(alloc, options.limits, options.captures, input)?;
+    watch.recorded(recording.ignored());
     let (text, ending) = text_of(alloc, options, &recording, watch)?;
     write_text(text.as_bytes(), output)?;
     Ok(ending)

@@ -1,18 +1,22 @@
-ghost use Rattle.std.specs.Prelude.{◌≡◌, ◌≢◌, [], ◌+◌, ◌≤◌, ◌<◌, ℕ, List, Option, None, length, take, drop, vec_len, MatchResult, IfErr, IfOk, OnOk};
+ghost use Rattle.std.specs.Prelude.{◌≡◌, [], true, false, ◌+◌, ◌≤◌, ◌<◌, ℕ, List, Option, length, take, drop, vec_len, MatchResult, IfErr, IfOk, OnOk};
 ghost use Rattle.std.specs.Io.KnownBytes.{Appends, Consumes, IsAtEnd};
 ghost use Rattle.rtps_capture.specs.Opening.{order_of};
+ghost use Rattle.rtps_tool.specs.Forms.{begins_capture as begins_capture_lem};
+ghost use Rattle.rtps_tool.specs.declared.captures.Captures.{Captures as CapturesValue};
+ghost use Rattle.rtps_tool.specs.declared.captures.Captures.TheVariants.{Any, Classic};
 ghost use Rattle.rtps_tool.specs.CaptureFront.{HasReadFront};
 ghost use Rattle.rtps_tool.specs.Runs.{ReadsRecording, FailsReading, FailsWriting};
 ghost use Rattle.rtps_tool.specs.Unfinished.{ReadsOn};
 ghost use Rattle.rtps_tool.specs.declared.runs.Limits.{Limits as LimitsValue};
 ghost use Rattle.rtps_tool.specs.declared.faults.RunFault.TheVariants.{Input};
 
+use crate::captures::{Captures, begins_capture};
 use crate::faults::{RecFault, RunFault};
+use crate::form::any_capture::read_any_capture;
 use crate::form::capture_reader::CaptureReader;
 use crate::form::either::read_recording_within;
 use crate::form::line_reader::{KEPT_MAX, LineReader};
 use crate::runs::Limits;
-use rtps_capture::capture_order;
 use rtps_text::{Recording, make_room, push_octets};
 use std::alloc::{AllocError, Global};
 use std::io::{Read, Write};
@@ -26,28 +30,32 @@ const HELD: usize = KEPT_MAX + PIECE;
 /// How many octets tell the form of an input.
 const FORM: usize = 4;
 
-/// Reads the recording that is all the input, in either form, within limits. The input is read to its end, or past the
-/// most octets that it may have.
+/// Reads the recording that is all the input, a text or a capture of those that are read, within limits. The input is read to
+/// its end, or past the most octets that it may have.
 ///
 /// An `Err` is the first fault of the input, or [`RunFault::Input`] where a read failed, or [`RunFault::Memory`]. How much was
 /// read is open after the last two.
 pub fn read_input<R: Read>(
     alloc: Global,
     limits: Limits,
+    captures: Captures,
     input: &mut R,
 ) -> Result<Recording, RunFault>
     ensures { MatchResult result
-        (ReadsRecording limits (R.remaining input.old) (R.remaining input.new))
-        (FailsReading limits (R.remaining input.old) (R.remaining input.new)) }
+        (ReadsRecording limits captures (R.remaining input.old) (R.remaining input.new))
+        (FailsReading limits captures (R.remaining input.old) (R.remaining input.new)) }
 {
     let mut held = zeros(alloc, HELD)?;
     let start = read_start(input, &mut held)?;
     if start < FORM {
         return read_short(alloc, limits, &held[..start]);
     }
-    match capture_order(&held[..start]) {
-        None => read_text_input(alloc, limits, input, &mut held, start),
-        Some(_) => read_capture_input(alloc, limits, input, &held[..start]),
+    if !begins_capture(captures, &held[..start]) {
+        return read_text_input(alloc, limits, input, &mut held, start);
+    }
+    match captures {
+        Captures::Classic => read_capture_input(alloc, limits, input, &held[..start]),
+        Captures::Any => read_any_input(alloc, limits, input, &held[..start]),
     }
 }
 
@@ -78,10 +86,11 @@ fn read_start<R: Read>(input: &mut R, held: &mut [u8]) -> Result<usize, RunFault
     Ok(start)
 }
 
-/// Reads the recording that is these octets, which are all the input.
+/// Reads the recording that is these octets, which are all the input and too few to begin a capture.
 fn read_short(alloc: Global, limits: Limits, octets: &[u8]) -> Result<Recording, RunFault>
-    ensures { (old new : Option (List ℕ)) → Consumes old new octets.now → IsAtEnd new
-        → MatchResult result (ReadsRecording limits old new) (FailsReading limits old new) }
+    requires { length octets.now < 4 }
+    ensures { (captures : CapturesValue) (old new : Option (List ℕ)) → Consumes old new octets.now → IsAtEnd new
+        → MatchResult result (ReadsRecording limits captures old new) (FailsReading limits captures old new) }
 {
     Ok(read_recording_within(alloc, limits, octets)?)
 }
@@ -96,9 +105,9 @@ fn read_text_input<R: Read>(
 ) -> Result<Recording, RunFault>
     requires room { length held.old ≡ 196607 }
     requires begun { (4 ≤ start) × (start ≤ 65539) }
-    requires plain { order_of (take start held.old) ≡ None }
-    ensures { (before : Option (List ℕ)) → Consumes before (R.remaining input.old) (take start held.old)
-        → MatchResult result (ReadsRecording limits before (R.remaining input.new)) (FailsReading limits before (R.remaining input.new)) }
+    ensures { (captures : CapturesValue) (before : Option (List ℕ))
+        → begins_capture_lem captures (take start held.old) ≡ false → Consumes before (R.remaining input.old) (take start held.old)
+        → MatchResult result (ReadsRecording limits captures before (R.remaining input.new)) (FailsReading limits captures before (R.remaining input.new)) }
 {
     let mut reader = LineReader::new(alloc);
     read_pieces(limits, input, &mut reader, held, start)?;
@@ -116,10 +125,10 @@ fn read_pieces<R: Read>(
     requires empty { (reader.old.datagrams ≡ []) × (reader.old.lines ≡ 0) }
     requires room { length held.old ≡ 196607 }
     requires begun { (4 ≤ start) × (start ≤ 65539) }
-    requires plain { order_of (take start held.old) ≡ None }
-    ensures { (before : Option (List ℕ)) → Consumes before (R.remaining input.old) (take start held.old) → MatchResult result
-        (λ _. ReadsRecording limits before (R.remaining input.new) record { datagrams = reader.new.datagrams; ignored = None })
-        (FailsReading limits before (R.remaining input.new)) }
+    ensures { (captures : CapturesValue) (before : Option (List ℕ))
+        → begins_capture_lem captures (take start held.old) ≡ false → Consumes before (R.remaining input.old) (take start held.old) → MatchResult result
+        (λ _. ReadsRecording limits captures before (R.remaining input.new) record { datagrams = reader.new.datagrams; ignored = None; reasons = None })
+        (FailsReading limits captures before (R.remaining input.new)) }
 {
     let mut total = start as u128;
     let mut kept = 0;
@@ -177,7 +186,7 @@ fn read_on<R: Read>(
     Ok(total)
 }
 
-/// Reads the recording that is a capture, of which these octets were read.
+/// Reads the recording that is a classic capture, of which these octets were read.
 fn read_capture_input<R: Read>(
     alloc: Global,
     limits: Limits,
@@ -185,9 +194,9 @@ fn read_capture_input<R: Read>(
     begun: &[u8],
 ) -> Result<Recording, RunFault>
     requires begun { 4 ≤ length begun.now }
-    requires form { order_of begun.now ≢ None }
+    requires form { begins_capture_lem Classic begun.now ≡ true }
     ensures { (before : Option (List ℕ)) → Consumes before (R.remaining input.old) begun.now
-        → MatchResult result (ReadsRecording limits before (R.remaining input.new)) (FailsReading limits before (R.remaining input.new)) }
+        → MatchResult result (ReadsRecording limits Classic before (R.remaining input.new)) (FailsReading limits Classic before (R.remaining input.new)) }
 {
     let mut reader = CaptureReader::new(alloc);
     let octets = read_whole(alloc, limits, input, begun, &mut reader)?;
@@ -209,12 +218,52 @@ fn read_whole<R: Read>(
     ensures front { IfOk result (λ octets. HasReadFront limits.datagrams reader.new octets.items) }
     ensures read { (before : Option (List ℕ)) → Consumes before (R.remaining input.old) begun.now → MatchResult result
         (λ octets. Consumes before (R.remaining input.new) octets.items × IsAtEnd (R.remaining input.new))
-        (FailsReading limits before (R.remaining input.new)) }
+        (FailsReading limits Classic before (R.remaining input.new)) }
 {
     let mut octets = Vec::new(alloc);
     push_octets(&mut octets, begun)?;
     'pieces: while octets.len() as u64 <= limits.octets {
         reader.feed(limits.datagrams, &octets)?;
+        if read_behind(input, &mut octets)? == 0 {
+            return Ok(octets);
+        }
+    }
+    Err(RunFault::Recording(RecFault::TooMany))
+}
+
+/// Reads the recording that is a capture of either form, of which these octets were read.
+fn read_any_input<R: Read>(
+    alloc: Global,
+    limits: Limits,
+    input: &mut R,
+    begun: &[u8],
+) -> Result<Recording, RunFault>
+    requires begun { 4 ≤ length begun.now }
+    requires form { begins_capture_lem Any begun.now ≡ true }
+    ensures { (before : Option (List ℕ)) → Consumes before (R.remaining input.old) begun.now
+        → MatchResult result (ReadsRecording limits Any before (R.remaining input.new)) (FailsReading limits Any before (R.remaining input.new)) }
+{
+    let octets = read_all(alloc, limits, input, begun)?;
+    Ok(read_any_capture(alloc, limits.datagrams, octets)?)
+}
+
+/// Reads all the input, of which these octets were read. It has their form.
+fn read_all<R: Read>(
+    alloc: Global,
+    limits: Limits,
+    input: &mut R,
+    begun: &[u8],
+) -> Result<Vec<u8>, RunFault>
+    requires begun { 4 ≤ length begun.now }
+    ensures form { IfOk result (λ octets. begins_capture_lem Any octets.items ≡ begins_capture_lem Any begun.now) }
+    ensures small { IfOk result (λ octets. length octets.items ≤ limits.octets) }
+    ensures read { (before : Option (List ℕ)) → Consumes before (R.remaining input.old) begun.now → MatchResult result
+        (λ octets. Consumes before (R.remaining input.new) octets.items × IsAtEnd (R.remaining input.new))
+        (FailsReading limits Any before (R.remaining input.new)) }
+{
+    let mut octets = Vec::new(alloc);
+    push_octets(&mut octets, begun)?;
+    'pieces: while octets.len() as u64 <= limits.octets {
         if read_behind(input, &mut octets)? == 0 {
             return Ok(octets);
         }
@@ -229,7 +278,7 @@ fn read_behind<R: Read>(input: &mut R, octets: &mut Vec<u8>) -> Result<usize, Ru
     ensures read { OnOk result
         (Consumes (R.remaining input.old) (R.remaining input.new) (drop (length octets.old.items) octets.new.items)) }
     ensures end { IfOk result (λ got. got ≡ 0 → IsAtEnd (R.remaining input.new)) }
-    ensures err { IfErr result (λ fault. (limits : LimitsValue) (old new : Option (List ℕ)) → FailsReading limits old new fault) }
+    ensures err { IfErr result (λ fault. (limits : LimitsValue) (captures : CapturesValue) (old new : Option (List ℕ)) → FailsReading limits captures old new fault) }
 {
     let front = octets.len();
     make_room(octets, PIECE)?;

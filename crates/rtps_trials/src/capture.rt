@@ -1,4 +1,4 @@
-//! A capture that has the datagrams of a recording.
+//! Captures that give a recording.
 
 use crate::fault::Fault;
 use rtps_tool::Recording;
@@ -28,6 +28,17 @@ pub(crate) fn of(alloc: Global, recording: &Recording) -> Result<Vec<u8>, Fault>
     Ok(octets)
 }
 
+/// A capture with two frames for each datagram: its packet in two fragments, of which the first has the UDP header alone.
+pub(crate) fn in_fragments(alloc: Global, recording: &Recording) -> Result<Vec<u8>, Fault> {
+    let mut octets = begun(alloc)?;
+    let mut number = 0u16;
+    for datagram in recording.datagrams() {
+        push_fragments(&mut octets, datagram, number)?;
+        number = number.wrapping_add(1);
+    }
+    Ok(octets)
+}
+
 /// A capture without frames.
 fn begun(alloc: Global) -> Result<Vec<u8>, Fault> {
     Ok(Vec::from_slice(alloc, &HEADER)?)
@@ -53,6 +64,33 @@ fn push_frame(octets: &mut Vec<u8>, datagram: &[u8]) -> Result<(), Fault> {
     octets.extend_from_slice(&ip_of(total))?;
     octets.extend_from_slice(&udp_of(length))?;
     octets.extend_from_slice(datagram)?;
+    Ok(())
+}
+
+/// Appends the two frames of a datagram whose packet has this identification.
+fn push_fragments(octets: &mut Vec<u8>, datagram: &[u8], number: u16) -> Result<(), Fault> {
+    let Ok(size) = u16::try_from(datagram.len()) else {
+        return Err(Fault::Words);
+    };
+    push_fragment(octets, &udp_of(size.saturating_add(8)), [number, 0x2000])?;
+    push_fragment(octets, datagram, [number, 1])
+}
+
+/// Appends a frame with a part of a packet: its identification, and the flag for more and the offset.
+fn push_fragment(octets: &mut Vec<u8>, part: &[u8], words: [u16; 2]) -> Result<(), Fault> {
+    let Ok(size) = u16::try_from(part.len()) else {
+        return Err(Fault::Words);
+    };
+    let total = size.saturating_add(20);
+    let captured = u32::from(total).to_le_bytes();
+    let mut ip = ip_of(total);
+    ip[4..6].copy_from_slice(&words[0].to_be_bytes());
+    ip[6..8].copy_from_slice(&words[1].to_be_bytes());
+    octets.extend_from_slice(&[0; 8])?;
+    octets.extend_from_slice(&captured)?;
+    octets.extend_from_slice(&captured)?;
+    octets.extend_from_slice(&ip)?;
+    octets.extend_from_slice(part)?;
     Ok(())
 }
 

@@ -12,7 +12,8 @@ use crate::fault::Fault;
 use crate::recording::{datagrams, read};
 use std::alloc::{AllocError, Global};
 
-/// All calls that can be tried. A call whose name begins with `capture_` gets the recording as a capture.
+/// All calls that can be tried. A call whose name begins with `capture_` gets the recording as a capture. A call whose name
+/// begins with `fragments_` gets a capture in which each packet comes in two fragments.
 pub(crate) const CALLS: &[&str] = &[
     "note",
     "note_all",
@@ -51,6 +52,7 @@ pub(crate) const CALLS: &[&str] = &[
     "json_run",
     "capture_read_recording",
     "capture_show_run",
+    "fragments_any_run",
 ];
 
 /// `tests/refuse_requests.c` counts the requests between a request of this size and the next one of this size. Nothing
@@ -67,6 +69,9 @@ fn mark(alloc: Global) {
 pub(crate) fn try_call(alloc: Global, call: &str, text: &str) -> Result<bool, Fault> {
     if let Some(call) = call.strip_prefix("capture_") {
         return try_capture(alloc, call, text);
+    }
+    if let Some(call) = call.strip_prefix("fragments_") {
+        return try_fragments(alloc, call, text);
     }
     match call {
         "read_words" | "read_words_from" | "read_help" | "read_refused_words" => {
@@ -88,6 +93,13 @@ pub(crate) fn try_call(alloc: Global, call: &str, text: &str) -> Result<bool, Fa
 fn try_capture(alloc: Global, call: &str, text: &str) -> Result<bool, Fault> {
     let recording = read(alloc, text)?;
     let capture = capture::of(alloc, &recording)?;
+    inputs::is_input_refused(alloc, call, &capture)
+}
+
+/// A call on a capture of the recording in fragments.
+fn try_fragments(alloc: Global, call: &str, text: &str) -> Result<bool, Fault> {
+    let recording = read(alloc, text)?;
+    let capture = capture::in_fragments(alloc, &recording)?;
     inputs::is_input_refused(alloc, call, &capture)
 }
 

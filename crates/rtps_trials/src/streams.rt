@@ -4,8 +4,8 @@ use crate::fault::Fault;
 use crate::recording::second;
 use rtps_ids::SeqNum;
 use rtps_tool::{
-    Command, Ending, Options, RunFault, Unwatched, run, run_audit, run_audit_from, run_list,
-    run_show,
+    Captures, Command, Ending, Options, RunFault, Unwatched, run, run_audit, run_audit_from,
+    run_list, run_show,
 };
 use std::alloc::Global;
 use std::io::{self, ErrorKind, Read, Write};
@@ -71,15 +71,18 @@ pub(crate) enum Run {
     AuditFrom,
     Why,
     Json,
+    /// It shows, where any capture is read.
+    Any,
 }
 
-const RUNS: [Run; 6] = [
+const RUNS: [Run; 7] = [
     Run::Show,
     Run::List,
     Run::Audit,
     Run::AuditFrom,
     Run::Why,
     Run::Json,
+    Run::Any,
 ];
 
 impl Run {
@@ -100,6 +103,11 @@ impl Run {
             }
             Run::Json => {
                 let options = Options::usual(Command::Json, second());
+                run(alloc, &options, input, output, &mut Unwatched)
+            }
+            Run::Any => {
+                let mut options = Options::usual(Command::Show, SeqNum::first());
+                options.captures = Captures::Any;
                 run(alloc, &options, input, output, &mut Unwatched)
             }
         }

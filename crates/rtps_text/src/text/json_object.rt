@@ -5,9 +5,9 @@ ghost use Rattle.std.specs.String.{string_bytes};
 ghost use Rattle.json.specs.Token.{key, number as number_token, string as string_token};
 ghost use Rattle.json.specs.Tree.{json_tokens};
 ghost use Rattle.rtps_evidence.specs.Explanation.{evidence_value, explanation_value};
-ghost use Rattle.rtps_text.specs.JsonText.{IsJsonLine, IsJsonTextFrom, counts_members, ignored_members, pair_members, pairs_member, report_json, row_json, shown_members, tokens_of, tokens_of_member, verdict_members};
+ghost use Rattle.rtps_text.specs.JsonText.{IsJsonLine, IsJsonTextFrom, counts_members, ignored_members, pair_members, pairs_member, reasons_members, report_json, row_json, shown_members, tokens_of, tokens_of_member, verdict_members};
 
-use crate::recording::Recording;
+use crate::recording::{Reasons, Recording};
 use crate::text::Ending;
 use crate::text::json_members::{
     push_claim, push_count, push_evidence, push_guid, push_name, push_number, push_sent,
@@ -31,20 +31,20 @@ pub fn json_text<P: Watch>(
     ensures { IfOk result (λ told. IsJsonTextFrom from recording.now (string_bytes told.0) told.1) }
 {
     let explained = explained_of(alloc, recording, from, watch)?;
-    let text = line_of(alloc, &explained, recording.ignored())?;
+    let text = line_of(alloc, &explained, recording)?;
     Ok((text, ending_of(&explained.rows)))
 }
 
-/// The line of explained rows, of a recording of which so many frames were ignored, if it has any.
+/// The line of the explained rows of a recording.
 fn line_of(
     alloc: Global,
     explained: &Explained<'_>,
-    ignored: Option<u64>,
+    recording: &Recording,
 ) -> Result<String, AllocError>
-    ensures { IfOk result (λ text. IsJsonLine (report_json (map explanation_value explained.now.rows.items) explained.now.counts ignored) (string_bytes text)) }
+    ensures { IfOk result (λ text. IsJsonLine (report_json (map explanation_value explained.now.rows.items) explained.now.counts recording.now) (string_bytes text)) }
 {
     let mut writer = Writer::new(Vec::new(alloc));
-    push_report(alloc, &mut writer, explained, ignored)?;
+    push_report(alloc, &mut writer, explained, recording)?;
     let mut text = unsafe { String::from_utf8_unchecked(writer.into_inner()) };
     text.push_str("\n")?;
     Ok(text)
@@ -55,17 +55,18 @@ fn push_report(
     alloc: Global,
     writer: &mut Writer,
     explained: &Explained<'_>,
-    ignored: Option<u64>,
+    recording: &Recording,
 ) -> Result<(), AllocError>
     ensures tokens { OnOk result (writer.new.tokens
-        ≡ writer.old.tokens ++ json_tokens (report_json (map explanation_value explained.now.rows.items) explained.now.counts ignored)) }
+        ≡ writer.old.tokens ++ json_tokens (report_json (map explanation_value explained.now.rows.items) explained.now.counts recording.now)) }
     ensures before { writer.new.before ≡ writer.old.before }
 {
     let mut text = String::new(alloc);
     writer.begin_object()?;
     push_pairs(writer, &mut text, &explained.rows)?;
     push_counts(writer, explained.counts)?;
-    push_ignored(writer, ignored)?;
+    push_ignored(writer, recording.ignored())?;
+    push_reasons(writer, recording.reasons())?;
     writer.end_object()
 }
 
@@ -200,4 +201,17 @@ fn push_ignored(writer: &mut Writer, ignored: Option<u64>) -> Result<(), AllocEr
         Some(ignored) => push_count(writer, "ignored", ignored),
         None => Ok(()),
     }
+}
+
+/// Appends for which reasons they were ignored; nothing where not any capture was read.
+fn push_reasons(writer: &mut Writer, reasons: Option<Reasons>) -> Result<(), AllocError>
+    ensures tokens { OnOk result (writer.new.tokens ≡ writer.old.tokens ++ tokens_of (reasons_members reasons)) }
+    ensures before { writer.new.before ≡ writer.old.before }
+{
+    let Some(reasons) = reasons else {
+        return Ok(());
+    };
+    push_count(writer, "pieces", reasons.pieces)?;
+    push_count(writer, "cut", reasons.cut)?;
+    push_count(writer, "other", reasons.other)
 }

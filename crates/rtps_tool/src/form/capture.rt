@@ -25,7 +25,7 @@ fn read_spans(most: u64, octets: &[u8], spans: &mut Vec<DatagramSpan>) -> Result
     requires empty { spans.old.items ≡ [] }
     ensures { MatchResult result
         (λ ignored. AreSpans octets.now spans.new.items
-        × (recording_of_capture most octets.now ≡ Ok (record { datagrams = pieces octets.now spans.new.items; ignored = Some ignored })))
+        × (recording_of_capture most octets.now ≡ Ok (record { datagrams = pieces octets.now spans.new.items; ignored = Some ignored; reasons = None })))
         (IsFaultOf (recording_of_capture most octets.now)) }
 {
     match Frames::open(octets) {
@@ -40,7 +40,7 @@ fn push_spans(most: u64, frames: Frames<'_>, spans: &mut Vec<DatagramSpan>) -> R
     requires few { length (frames_left frames) < 2 ^ 64 }
     ensures { let octets = frames.entry.octets in let defined = recording_of_frames most octets (frames_left frames.entry) in MatchResult result
         (λ ignored. AreSpans octets spans.new.items
-        × (defined ≡ Ok (record { datagrams = pieces octets spans.new.items; ignored = Some ignored })))
+        × (defined ≡ Ok (record { datagrams = pieces octets spans.new.items; ignored = Some ignored; reasons = None })))
         (IsFaultOf defined) }
 {
     let mut number = 0u64;

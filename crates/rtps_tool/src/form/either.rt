@@ -1,6 +1,7 @@
 ghost use Rattle.std.specs.Prelude.{◌≡◌, Ok, MatchResult};
 ghost use Rattle.rtps_tool.specs.Outcomes.{IsFaultOf};
 ghost use Rattle.rtps_tool.specs.Forms.{recording_of, recording_within};
+ghost use Rattle.rtps_tool.specs.declared.captures.Captures.TheVariants.{Classic};
 
 use crate::faults::RecFault;
 use crate::form::capture::read_capture;
@@ -26,15 +27,15 @@ pub fn read_recording(alloc: Global, input: &[u8]) -> Result<Recording, RecFault
 }
 
 /// Reads a recording within limits. One that has more octets or datagrams is refused as [`RecFault::TooMany`], octets
-/// before any other fault. Else it is [`read_recording`].
+/// before any other fault. Else it is [`read_recording`]. [`crate::read_input`] reads other captures, too.
 pub fn read_recording_within(
     alloc: Global,
     limits: Limits,
     input: &[u8],
 ) -> Result<Recording, RecFault>
     ensures { MatchResult result
-        (λ recording. recording_within limits input.now ≡ Ok recording)
-        (IsFaultOf (recording_within limits input.now)) }
+        (λ recording. recording_within limits Classic input.now ≡ Ok recording)
+        (IsFaultOf (recording_within limits Classic input.now)) }
 {
     if input.len() as u64 > limits.octets {
         return Err(RecFault::TooMany);

@@ -15,6 +15,7 @@ pub(super) fn is_input_refused(alloc: Global, call: &str, input: &[u8]) -> Resul
         "audit_from_run" => Run::AuditFrom,
         "why_run" => Run::Why,
         "json_run" => Run::Json,
+        "any_run" => Run::Any,
         _ => {
             let wanted = read_recording(alloc, input)?;
             return is_recording_refused(alloc, input, &wanted);

@@ -37,7 +37,7 @@ returns-clause-explained c = λ from recording one other ending last is also.
 pub returns-clause-json : goal.returns-clause-json
 returns-clause-json c = λ from recording one other ending last is also.
     let same = c.one_explanation.ensures from recording.datagrams is.explained also.explained is.explains also.explains in (
-      is.is_line.is_text ∙ ap (λ (rows : List ExplanationValue). json_line (report_json rows is.explained.counts recording.ignored)) same.0
-          ∙ ap (λ (counts : Counts). json_line (report_json (map explanation_value also.explained.rows.items) counts recording.ignored)) same.1 ∙ sym also.is_line.is_text,
+      is.is_line.is_text ∙ ap (λ (rows : List ExplanationValue). json_line (report_json rows is.explained.counts recording)) same.0
+          ∙ ap (λ (counts : Counts). json_line (report_json (map explanation_value also.explained.rows.items) counts recording)) same.1 ∙ sym also.is_line.is_text,
       is.ends ∙ ap ending_of_rows same.0 ∙ sym also.ends,
     )

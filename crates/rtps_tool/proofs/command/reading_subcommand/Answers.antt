@@ -19,11 +19,14 @@ returns c =
     let bare_local = ap (λ f. f.has_globals) c.after_help-bare.ensures ∙ ap (λ f. f.has_globals) c.about.ensures ∙ c.new-2.ensures.local in
     let one_is = c.in_ok-one.ensures.shape not_global ∙ ap₂ with_rule bare_is file_is in
     let one_local : (out-Command c.in_ok-one.one).has_globals ≡ false = rw (c.in_ok-one.ensures.globals, bare_local, not_global) refl in
+    let any = c.flag.ensures in
+    let two_is = c.in_ok-two.ensures.shape any.local ∙ ap₂ with_rule one_is any.rule in
+    let two_local : (out-Command c.in_ok-two.two).has_globals ≡ false = rw (c.in_ok-two.ensures.globals, one_local, any.local) refl in
     let datagrams = c.number_option-datagrams.ensures in
-    let two_is = c.in_ok-two.ensures.shape datagrams.local ∙ ap₂ with_rule one_is datagrams.rule in
-    let two_local : (out-Command c.in_ok-two.two).has_globals ≡ false = rw (c.in_ok-two.ensures.globals, one_local, datagrams.local) refl in
+    let three_is = c.in_ok-three.ensures.shape datagrams.local ∙ ap₂ with_rule two_is datagrams.rule in
+    let three_local : (out-Command c.in_ok-three.three).has_globals ≡ false = rw (c.in_ok-three.ensures.globals, two_local, datagrams.local) refl in
     let octets = c.number_option.ensures in
     record {
-      app = IfOk-weaker c.arg-3.result _ _ (λ command added. added.shape octets.local ∙ ap₂ with_rule two_is octets.rule) c.arg-3.ensures;
-      local = IfOk-weaker c.arg-3.result _ _ (λ command added. rw (added.globals, two_local, octets.local) refl) c.arg-3.ensures;
+      app = IfOk-weaker c.arg-4.result _ _ (λ command added. added.shape octets.local ∙ ap₂ with_rule three_is octets.rule) c.arg-4.ensures;
+      local = IfOk-weaker c.arg-4.result _ _ (λ command added. rw (added.globals, three_local, octets.local) refl) c.arg-4.ensures;
     }

@@ -21,8 +21,8 @@ pieces-init g c =
       omega (arith, c.requires.begun.1),
       omega (arith, c.requires.empty.1),
       refl,
-      λ before taken. subst (λ (n : ℕ). HasRead c.args.limits before (g.R.Read.remaining c.args.input.now) start (λ later. recording_behind c.args.limits.datagrams reader.datagrams reader.lines (take n held ++ later))) front
-          (HasRead-start c.args.limits before (g.R.Read.remaining c.args.input.now) reader.datagrams reader.lines start held c.requires.empty.0 c.requires.empty.1 taken (omega (arith, c.requires.room, c.requires.begun.1)) c.requires.begun.0 c.requires.plain),
+      λ captures before plain taken. subst (λ (n : ℕ). HasRead c.args.limits captures before (g.R.Read.remaining c.args.input.now) start (λ later. recording_behind c.args.limits.datagrams reader.datagrams reader.lines (take n held ++ later))) front
+          (HasRead-start c.args.limits captures before (g.R.Read.remaining c.args.input.now) reader.datagrams reader.lines start held c.requires.empty.0 c.requires.empty.1 taken (omega (arith, c.requires.room, c.requires.begun.1)) c.requires.begun.0 plain),
     )
 
 pub slice_bounds-feed-end : goal.slice_bounds-feed-end
@@ -32,13 +32,13 @@ pub slice_bounds-feed-end-in-pieces : goal.slice_bounds-feed-end-in-pieces
 slice_bounds-feed-end-in-pieces g c = omega (arith, length-take (c.pieces.kept + c.pieces.got) c.pieces.held, c.pieces.auto.held, c.requires.room, c.pieces.invariant.1)
 
 pub returns-in-Err : goal.returns-in-Err
-returns-in-Err g c = λ before taken.
-    let grown = c.pieces.invariant.4 before taken in
+returns-in-Err g c = λ captures before plain taken.
+    let grown = c.pieces.invariant.4 captures before plain taken in
     let more = c.in_ok-total-in-Err.ensures in
-    let F = λ (fault : RecFault). FailsReading c.args.limits before (g.R.Read.remaining c.read_on.new.input) (run_fault_of fault) in
+    let F = λ (fault : RecFault). FailsReading c.args.limits captures before (g.R.Read.remaining c.read_on.new.input) (run_fault_of fault) in
     let failed : F c.if-total-limits.first = elim c.if-total-limits.branch [
-      | then-total-limits w ↦ subst F (sym w.first-is) (FailsReading-on-past _ _ _ _ _ _ _ grown more w.if-total-limits.true)
-      | else-total-limits w ↦ subst F (sym w.first-is) (FailsReading-on _ _ _ _ _ _ _ c.in-Err.fault grown more w.if-total-limits.false c.in-Err.ensures)
+      | then-total-limits w ↦ subst F (sym w.first-is) (FailsReading-on-past _ _ _ _ _ _ _ _ grown more w.if-total-limits.true)
+      | else-total-limits w ↦ subst F (sym w.first-is) (FailsReading-on _ _ _ _ _ _ _ _ c.in-Err.fault grown more w.if-total-limits.false c.in-Err.ensures)
     ] in
     rw c.from.ensures failed
 
@@ -58,14 +58,14 @@ pieces-preserved g c =
       omega (arith, c.in-Ok-read.ensures.bound.0, fed.0),
       omega (arith, fed.1, fed.2.counted, c.pieces.invariant.2, length-take (c.pieces.kept + c.pieces.got) c.pieces.held, length-take left c.feed.new.text),
       ap (position is_line_feed) (take_front left size held buf within ∙ front) ∙ fed.2.goes_on,
-      λ before taken.
-          let told = HasRead-told c.args.limits before _ _ _ _ (c.pieces.invariant.4 before taken)
+      λ captures before plain taken.
+          let told = HasRead-told c.args.limits captures before _ _ _ _ (c.pieces.invariant.4 captures before plain taken)
           (λ later. ap (λ (text : List ℕ). recording_behind c.args.limits.datagrams new.datagrams new.lines (text ++ later)) front ∙ fed.2.stands later) in
-          HasRead-read c.args.limits before _ _ c.pieces.total left got size new.lines new.datagrams held buf told c.in-Ok-read.ensures.bytes.0 (sym c.in-Ok-read.ensures.bound.1) within c.in-Ok-read.ensures.bound.0,
+          HasRead-read c.args.limits captures before _ _ c.pieces.total left got size new.lines new.datagrams held buf told c.in-Ok-read.ensures.bytes.0 (sym c.in-Ok-read.ensures.bound.1) within c.in-Ok-read.ensures.bound.0,
     )
 
 pub returns-then-got-eq0 : goal.returns-then-got-eq0
-returns-then-got-eq0 g c = λ before taken.
+returns-then-got-eq0 g c = λ captures before plain taken.
     let left = c.in-Ok.left in
     let got = c.in-Ok-read.got in
     let size = left + 65536 - left in
@@ -76,13 +76,13 @@ returns-then-got-eq0 g c = λ before taken.
     let held = c.feed.new.text ++ rest in
     let front : take left held ≡ take left c.feed.new.text = take-append-le left c.feed.new.text rest fed.1 in
     let within : left ≤ length held = omega (arith, length-append c.feed.new.text rest, fed.1) in
-    let told = HasRead-told c.args.limits before _ _ _ _ (c.pieces.invariant.4 before taken)
+    let told = HasRead-told c.args.limits captures before _ _ _ _ (c.pieces.invariant.4 captures before plain taken)
     (λ later. ap (λ (text : List ℕ). recording_behind c.args.limits.datagrams new.datagrams new.lines (text ++ later)) front ∙ fed.2.stands later) in
-    let last = HasRead-last c.args.limits before _ _ c.pieces.total left got size new.lines new.datagrams held buf told c.in-Ok-read.ensures.bytes.0 (sym c.in-Ok-read.ensures.bound.1) within c.in-Ok-read.ensures.bound.0 c.if-got-eq0.true in
-    ReadsRecording-last c.args.limits before _ c.pieces.total _ _ _ _ last (c.in-Ok-read.ensures.bytes.1 c.if-got-eq0.true (omega arith)) (omega arith) c.in_ok-finish.ensures
+    let last = HasRead-last c.args.limits captures before _ _ c.pieces.total left got size new.lines new.datagrams held buf told c.in-Ok-read.ensures.bytes.0 (sym c.in-Ok-read.ensures.bound.1) within c.in-Ok-read.ensures.bound.0 c.if-got-eq0.true in
+    ReadsRecording-last c.args.limits captures before _ c.pieces.total _ _ _ _ last (c.in-Ok-read.ensures.bytes.1 c.if-got-eq0.true (omega arith)) (omega arith) c.in_ok-finish.ensures
 
 pub returns-in_err-finish : goal.returns-in_err-finish
-returns-in_err-finish g c = λ before taken.
+returns-in_err-finish g c = λ captures before plain taken.
     let p = err_from_is_err_and c.from_residual-in_err-finish.result c.from_residual-in_err-finish.ensures.1 in
     let left = c.in-Ok.left in
     let got = c.in-Ok-read.got in
@@ -94,7 +94,7 @@ returns-in_err-finish g c = λ before taken.
     let held = c.feed.new.text ++ rest in
     let front : take left held ≡ take left c.feed.new.text = take-append-le left c.feed.new.text rest fed.1 in
     let within : left ≤ length held = omega (arith, length-append c.feed.new.text rest, fed.1) in
-    let told = HasRead-told c.args.limits before _ _ _ _ (c.pieces.invariant.4 before taken)
+    let told = HasRead-told c.args.limits captures before _ _ _ _ (c.pieces.invariant.4 captures before plain taken)
     (λ later. ap (λ (text : List ℕ). recording_behind c.args.limits.datagrams new.datagrams new.lines (text ++ later)) front ∙ fed.2.stands later) in
-    let last = HasRead-last c.args.limits before _ _ c.pieces.total left got size new.lines new.datagrams held buf told c.in-Ok-read.ensures.bytes.0 (sym c.in-Ok-read.ensures.bound.1) within c.in-Ok-read.ensures.bound.0 c.if-got-eq0.true in
-    rw (p.1, p.2) (FailsReading-last c.args.limits before _ c.pieces.total _ _ _ c.in_err-finish.field-0.0 last (c.in-Ok-read.ensures.bytes.1 c.if-got-eq0.true (omega arith)) (omega arith) c.in_err-finish.ensures)
+    let last = HasRead-last c.args.limits captures before _ _ c.pieces.total left got size new.lines new.datagrams held buf told c.in-Ok-read.ensures.bytes.0 (sym c.in-Ok-read.ensures.bound.1) within c.in-Ok-read.ensures.bound.0 c.if-got-eq0.true in
+    rw (p.1, p.2) (FailsReading-last c.args.limits captures before _ c.pieces.total _ _ _ c.in_err-finish.field-0.0 last (c.in-Ok-read.ensures.bytes.1 c.if-got-eq0.true (omega arith)) (omega arith) c.in_err-finish.ensures)

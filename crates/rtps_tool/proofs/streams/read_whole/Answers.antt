@@ -5,6 +5,7 @@ use Rattle.std.proofs.lemmas.Result.{err_from_is_err_and}
 use Rattle.rtps_capture.specs.Opening.{order_of}
 use Rattle.rtps_capture.proofs.Offered.{order_of-append}
 use Rattle.rtps_tool.specs.CaptureFront.{HasReadFront}
+use Rattle.rtps_tool.specs.declared.captures.Captures.TheVariants.{Classic}
 use Rattle.rtps_tool.proofs.CaptureFrontLemmas.{front_grown}
 use Rattle.rtps_tool.proofs.streams.read_whole.Goals as goal
 
@@ -14,7 +15,7 @@ feed-requires g c = subst (HasReadFront c.args.limits.datagrams c.pieces.reader)
 pub returns-in_err-read_behind-clause-read : goal.returns-in_err-read_behind-clause-read
 returns-in_err-read_behind-clause-read g c = λ before taken.
     let p = err_from_is_err_and c.from_residual-in_err-read_behind.result c.from_residual-in_err-read_behind.ensures.1 in
-    rw (p.1, p.2) (c.in_err-read_behind.ensures.err c.args.limits before _)
+    rw (p.1, p.2) (c.in_err-read_behind.ensures.err c.args.limits Classic before _)
 
 pub pieces-preserved : goal.pieces-preserved
 pieces-preserved g c =

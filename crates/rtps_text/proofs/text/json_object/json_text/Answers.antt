@@ -1,17 +1,14 @@
-use Rattle.std.proofs.Common.{◌∙◌, ap, map, subst}
-use Rattle.std.specs.String.{string_bytes}
+use Rattle.std.proofs.Common.{◌∙◌, ap, map}
 use Rattle.rtps_evidence.specs.Explanation.{explanation_value}
-use Rattle.rtps_text.specs.JsonText.{IsJsonLine, report_json}
 use Rattle.rtps_text.specs.WhyText.{ending_of_rows}
 use Rattle.rtps_text.proofs.text.json_object.json_text.Goals as goal
 
 pub returns : goal.returns
 returns g c =
     let explained = c.in_ok-explained.explained in
-    let rows = map explanation_value explained.rows.items in
     record {
       explained = explained;
       explains = c.in_ok-explained.ensures;
-      is_line = subst (λ ignored. IsJsonLine (report_json rows explained.counts ignored) (string_bytes c.in_ok-text.text)) c.ignored.ensures c.in_ok-text.ensures;
+      is_line = c.in_ok-text.ensures;
       ends = c.ending_of.ensures ∙ ap (λ all. ending_of_rows (map explanation_value all)) c.deref.ensures.value;
     }

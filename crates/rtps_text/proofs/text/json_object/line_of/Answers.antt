@@ -11,11 +11,11 @@ pub returns : goal.returns
 returns c =
     let explained = c.args.explained.now in
     let rows = map explanation_value explained.rows.items in
-    let json = report_json rows explained.counts c.args.ignored in
+    let json = report_json rows explained.counts c.args.recording.now in
     let written : c.push_report.new.writer.tokens ≡ json_tokens json = c.in_ok-push_report.ensures.tokens ∙ ap (λ all. all ++ json_tokens json) c.new-writer.ensures.tokens in
     let before : c.push_report.new.writer.before ≡ [] = c.in_ok-push_report.ensures.before ∙ c.new-writer.ensures.before ∙ c.new.ensures.items in
     let items = c.into_inner.ensures.items ∙ ap (λ all. all ++ print c.push_report.new.writer.tokens) before ∙ ap print written in
     record {
       is_text = c.in_ok-push_str.ensures.bytes ∙ ap (λ all. all ++ 10 ∷ []) (ap (λ octets. octets.items) c.from_utf8_unchecked-text.ensures.value ∙ items);
-      reads_back = report_reads_back rows explained.counts c.args.ignored (subst (λ all. tokens (print all) ≡ all) written c.into_inner.ensures.reads_back);
+      reads_back = report_reads_back rows explained.counts c.args.recording.now (subst (λ all. tokens (print all) ≡ all) written c.into_inner.ensures.reads_back);
     }

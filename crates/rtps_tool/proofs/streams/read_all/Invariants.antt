@@ -1,0 +1,16 @@
+use Rattle.std.proofs.Common.{◌≡◌, ◌+◌, ◌-◌, ◌≤◌, List, ℕ, Option, length}
+use Rattle.std.specs.Io.KnownBytes.{Consumes}
+use Rattle.rtps_tool.specs.Forms.{begins_capture}
+use Rattle.rtps_tool.specs.declared.captures.Captures.TheVariants.{Any}
+use Rattle.rtps_tool.proofs.streams.read_all.Given as goal
+
+-- what is kept was read
+abbrev pub invariant-pieces : goal.invariant-pieces
+invariant-pieces g l =
+    let octets = l.octets.items in
+    (4 ≤ length octets) × (begins_capture Any octets ≡ begins_capture Any l.initial.begun)
+    × ((before : Option (List ℕ)) → Consumes before (g.R.Read.remaining l.initial.input) l.initial.begun → Consumes before (g.R.Read.remaining l.input) octets)
+
+-- the octets that may still come
+abbrev pub decreases-pieces : goal.decreases-pieces
+decreases-pieces g l = l.limits.octets + 1 - length l.octets.items
