@@ -24,6 +24,7 @@ SHOWN = ('datagram 1 version 2.5 vendor 0000 prefix aaaaaaaaaaaaaaaaaaaaaaaa\n'
          'heartbeat 20 le reader 00000000 writer 00000103 first 1 last 0 count 1 final 0 live 0 '
          'from aaaaaaaaaaaaaaaaaaaaaaaa to all time none\n')
 ETHERNET, RAW_IP = 1, 101
+CUT = 'rtps-audit: FILE: the capture ends within a frame; --any reads what is whole\n'
 MICROSECONDS, NANOSECONDS = 0xa1b2c3d4, 0xa1b23c4d
 
 
@@ -105,18 +106,16 @@ def rows(tests):
     padded = with_octets(BASE, 24 + 8, '54000000') + bytes(4)
     tests.answers('padding', 'show', padded, SHOWN)
     tests.answers('padding', 'audit', padded, audited(1, 0, 0))
-    tests.refuses('the last octet lacks', BASE[:-1], 'frame 1: cut')
+    tests.refuses('the last octet lacks', BASE[:-1], 'frame 1: cut', CUT)
     tests.refuses('a header without its last octet', BASE[:23], 'bad capture')
     other = with_octets(BASE, 20, '71000000')
-    tshark = "tshark -r IN -Y 'udp && !icmp' -T fields -e udp.payload >OUT makes a recording of it"
-    tests.refuses('another link type', other, 'bad capture', f'rtps-audit: FILE: frames of link type 113; {tshark}\n')
-    tests.refuses('another link type, header alone', other[:24], 'bad capture', f'rtps-audit: FILE: frames of link type 113; {tshark}\n')
+    tests.refuses('another link type', other, 'bad capture', 'rtps-audit: FILE: frames of link type 113; --any reads them\n')
+    tests.refuses('another link type, header alone', other[:24], 'bad capture', 'rtps-audit: FILE: frames of link type 113; --any reads them\n')
     tests.refuses('another major version', with_octets(BASE, 4, '0300'), 'bad capture')
     tests.answers('another minor version', 'show', with_octets(BASE, 6, 'ffff'), SHOWN)
     tests.answers('what stands above the link type', 'show', with_octets(BASE, 22, '00f4'), SHOWN)
-    editcap = 'editcap -F pcap IN OUT makes a capture of it'
     tests.refuses('pcapng', bytes.fromhex('0a0d0d0a 1c000000 4d3c2b1a 01000000'), 'line 2: bad hex',
-                  f'rtps-audit: FILE: a pcapng file; {editcap}\n')
+                  'rtps-audit: FILE: a pcapng file; --any reads it\n')
     tests.answers('three octets of a magic are text', 'audit', b'', audited(0, 0, 0).replace(' ignored 0', ''))
     for size in range(1, 4):
         tests.refuses(f'{size} octets of a magic are text', BASE[:size], 'line 1: bad hex')
@@ -261,7 +260,7 @@ def limits(tests):
     tests.answers('1,000,000 datagrams', 'audit', start() + empty * 1000000, audited(1000000, 1000000, 0))
     tests.passes('1,000,001 datagrams', start() + empty * 1000001, 1000000, 'datagrams', views=ALONE)
     tests.answers('1,000,001 datagrams', 'audit', start() + empty * 1000001, audited(1000001, 1000001, 0), words=('--max-datagrams', '1000001'))
-    tests.refuses('1,000,000 datagrams and a frame that is cut', start() + empty * 1000000 + empty[:-1], 'frame 1000001: cut', views=ALONE)
+    tests.refuses('1,000,000 datagrams and a frame that is cut', start() + empty * 1000000 + empty[:-1], 'frame 1000001: cut', CUT, views=ALONE)
     tests.passes('1,000,001 datagrams and a frame that is cut', start() + empty * 1000001 + empty[:-1], 1000000, 'datagrams', views=ALONE)
     tests.answers('2,000,000 ignored frames', 'audit', start() + record(b'') * 2000000, audited(0, 0, 2000000))
     most = 2 ** 30
@@ -273,7 +272,7 @@ def limits(tests):
     tests.answers('1,073,741,824 octets', 'audit', whole, audited(0, 0, count + 1))
     tests.passes('1,073,741,825 octets', whole + b'\0', most, 'octets', views=ALONE)
     tests.passes('1,073,741,825 octets of another version', whole[:4] + b'\3' + whole[5:] + b'\0', most, 'octets', views=ALONE)
-    tests.refuses('1,073,741,825 octets', whole + b'\0', f'frame {count + 2}: cut', words=('--max-octets', str(most + 1)), views=ALONE)
+    tests.refuses('1,073,741,825 octets', whole + b'\0', f'frame {count + 2}: cut', CUT, ('--max-octets', str(most + 1)), ALONE)
     print('limits: 10')
 
 
@@ -288,7 +287,7 @@ def chosen_limits(tests):
     for most in (1, 2):
         tests.passes(f'at most {most} datagrams', octets, most, 'datagrams', ('--max-datagrams', str(most)))
     tests.answers('ignored frames behind the last datagram', 'audit', octets + ignored, audited(3, 3, 2), words=('--max-datagrams', '3'))
-    tests.refuses('a frame that is cut behind the last datagram', octets + ignored[:-1], 'frame 5: cut', words=('--max-datagrams', '3'))
+    tests.refuses('a frame that is cut behind the last datagram', octets + ignored[:-1], 'frame 5: cut', CUT, ('--max-datagrams', '3'))
     for most in (size, size + 1, 2 ** 63 - 1):
         tests.answers(f'at most {most} octets', 'audit', octets, audited(3, 3, 1), words=('--max-octets', str(most)))
     for most in (1, 3, 4, 24, size - 1):

@@ -83,13 +83,14 @@ class Tests(Counts):
         told = f'rtps-audit: FILE: more than {most} {what}; --max-{what} N raises this limit\n'
         self.refuses(name, octets, 'too many datagrams', told, words, views)
 
-    def agrees(self, name, octets, views=VIEWS):
+    def agrees(self, name, octets, views=VIEWS, words=()):
         """each view is what the second implementation says; of standard error the last line is compared"""
-        read = reference.input_of(octets)
+        any_form = '--any' in words
+        read = reference.input_of(octets, any_form=any_form)
         told = f'rtps-audit: {read}\n' if isinstance(read, str) else ''
         for view in views:
-            output, error, status = self.run(view, octets)
-            wanted, ended = reference.answer(view, octets)
+            output, error, status = self.run(view, octets, words)
+            wanted, ended = reference.answer(view, octets, any_form=any_form)
             self.holds(f'{view}: {name}', (wanted, told, ended), (output, error[-len(told):] if told else error, status))
 
 

@@ -27,7 +27,7 @@ OF_ENDPOINTS = ['note', 'note_all', 'participants', 'endpoints', 'matched', 'pai
 CALLS = ['walk', 'add_plain', 'add_merged', 'judge', 'judge_by_plain', 'judge_from_plain', 'judge_from_merged', 'index_judge',
          'index_judge_from', 'evidence', 'audit_from', 'put_u16', 'put_u32', 'put_number', 'write_list', 'write_message',
          'read_recording', 'show_run', 'list_run', 'audit_run', 'audit_from_run', 'why_run', 'json_run',
-         'capture_read_recording', 'capture_show_run']
+         'capture_read_recording', 'capture_show_run', 'fragments_any_run']
 # Those that hear what a writer says to readers that it names.
 OF_NAMED = ['build', 'judge', 'index_judge', 'evidence', 'audit', 'why_run']
 WORDS = ['read_words', 'read_words_from', 'read_help', 'read_refused_words']
@@ -150,6 +150,7 @@ def of_program(library, program, recording):
     runs.append((' of a GAP whose list has 128 ranges', ['audit', '-'], many_ranges()))
     runs.append((' of readers that are named', ['audit', '--json', '-'], named_readers()))
     runs.append((' of a capture', ['audit', '--max-datagrams', '6', '--max-octets', '100000', '-'], capture))
+    runs.append((' of any capture', ['audit', '--any', '-'], file_of('examples', 'ipv6.pcapng')))
     for name, words, text in runs:
         of_words = requests_of(library, [program, *words[:-1], 'absent.rec'])
         yield f"rtps-audit {' '.join(words)}{name}", [program, *words], text, nothing, of_words
