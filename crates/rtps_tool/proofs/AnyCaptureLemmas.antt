@@ -1,12 +1,15 @@
 -- Facts on the ranges of any capture as spans.
 use Rattle.std.proofs.Common.{◌≡◌, ℕ, List, [], ◌∷◌, ◌++◌, ◌≤◌, length, map, refl, ap, ap₂, ◌∙◌, subst, arith}
 use Rattle.std.proofs.lemmas.List.{get_or-map, length-map, map-append}
-use Rattle.std.specs.Prelude.{slice_range}
-use Rattle.rtps_capture.specs.AnyCapture.{AreWithin}
+use Rattle.std.specs.Prelude.{slice_range, Result}
+use Rattle.rtps_capture.specs.AnyCapture.{AnyAnswer, AreWithin, IsFault}
+use Rattle.rtps_capture.specs.declared.any_capture.AnyFault.{AnyFault}
+use Rattle.rtps_capture.specs.declared.any_capture.AnyFault.TheVariants as kind
 use Rattle.rtps_capture.specs.declared.datagram.ByteRange.{ByteRange}
 use Rattle.rtps_text.specs.DatagramSpan.{AreSpans, end_of, pieces, start_of}
 use Rattle.rtps_text.specs.declared.datagram_span.DatagramSpan.{DatagramSpan}
-use Rattle.rtps_tool.specs.RecordingAnyCapture.{octets_in}
+use Rattle.rtps_tool.specs.Outcomes.{IsFaultOf}
+use Rattle.rtps_tool.specs.RecordingAnyCapture.{octets_in, rec_fault_of, recording_told}
 
 -- the range of a span
 abbrev pub range_of : DatagramSpan → ByteRange
@@ -30,3 +33,10 @@ pub spans_within : (spans : List DatagramSpan) (octets : List ℕ) → AreWithin
 spans_within spans octets within = λ i d few.
     subst (λ (range : ByteRange). (range.from ≤ range.to) × (range.to ≤ length octets)) (get_or-map range_of spans i d (range_of d) few)
     (within i (range_of d) (omega (arith, few, length-map spans range_of)))
+
+-- a fault of a capture is that of its recording
+pub any_fault : (file : List ℕ) (is : Result AnyAnswer AnyFault) (fault : AnyFault) → IsFault is fault → IsFaultOf (recording_told file is) (rec_fault_of fault)
+any_fault file is kind.BadCapture same = ap (recording_told file) same
+any_fault file is (kind.CutCapture frame) same = ap (recording_told file) same
+any_fault file is kind.TooMany same = ap (recording_told file) same
+any_fault file is kind.Memory same = tt

@@ -1,5 +1,5 @@
 -- Limits that are raised.
-use Rattle.std.proofs.Common.{◌≡◌, ℕ, ◌+◌, ◌≤◌, true, false, Bool, List, [], ◌∷◌, length, Option, Some, None, Result, Ok, Err, refl, sym, ap, ◌∙◌, inl, inr, arith}
+use Rattle.std.proofs.Common.{◌≡◌, ℕ, ◌+◌, ◌<◌, ◌≤◌, true, false, Bool, List, [], ◌∷◌, length, Option, Some, None, Result, Ok, Err, refl, sym, ap, ◌∙◌, inl, inr, arith}
 use Rattle.std.specs.Prelude.{if◌then◌else◌, ◌||◌, is_some, nat_lt}
 use Rattle.std.proofs.lemmas.Bool.Decides.{nat_tests}
 use Rattle.rtps_ids.specs.declared.order.Order.{Order}
@@ -25,7 +25,7 @@ use Rattle.rtps_tool.specs.declared.faults.RecFault.{RecFault}
 use Rattle.rtps_tool.specs.declared.faults.RecFault.TheVariants.{TooMany}
 use Rattle.rtps_tool.specs.declared.runs.Limits.{Limits}
 use Rattle.rtps_tool.proofs.RecordingLemmas.{kind_of, recording_of_lines-faulty, recording_of_lines-nil, recording_of_lines-skipped, recording_of_lines-taken}
-use Rattle.rtps_tool.proofs.UnfinishedLemmas.{recording_in-text, recording_of-within}
+use Rattle.rtps_tool.proofs.UnfinishedLemmas.{begins_capture-short, recording_in-text, recording_of-within}
 
 -- a line with no fault has none where there may be more datagrams
 fine_within : (most more before number : ℕ) (line : List ℕ) → most ≤ more → line_fault most before number line ≡ None → line_fault more before number line ≡ None
@@ -145,3 +145,8 @@ texts_stay limits input plain =
         → (if past then Err TooMany else recording_in Any limits.datagrams input) ≡ (if past then Err TooMany else recording_in Classic limits.datagrams input)
     by true same = refl
     by false same = same
+
+-- too few octets to begin a capture
+pub recording_of-short : (limits : Limits) (captures : Captures) (input : List ℕ) → length input < 4 → recording_within limits captures input ≡ recording_within limits Classic input
+recording_of-short limits Classic input few = refl
+recording_of-short limits Any input few = texts_stay limits input (begins_capture-short Any input few)

@@ -1,4 +1,4 @@
-use Rattle.std.proofs.Common.{◌≡◌, ◌++◌, ◌+◌, ◌-◌, ◌≤◌, ◌∙◌, ℕ, List, drop, length, take, refl, sym, ap, subst, arith}
+use Rattle.std.proofs.Common.{◌≡◌, ◌++◌, ◌+◌, ◌-◌, ◌<◌, ◌≤◌, ◌∙◌, ℕ, List, drop, length, take, refl, sym, ap, subst, arith}
 use Rattle.std.specs.List.{position}
 use Rattle.std.proofs.lemmas.List.{length-append, length-take, take-append-le}
 use Rattle.std.proofs.lemmas.Result.{err_from_is_err_and}
@@ -7,7 +7,9 @@ use Rattle.rtps_tool.specs.RunFaults.{run_fault_of}
 use Rattle.rtps_tool.specs.Runs.{FailsReading}
 use Rattle.rtps_tool.specs.Unfinished.{recording_behind}
 use Rattle.rtps_tool.specs.declared.faults.RecFault.{RecFault}
-use Rattle.rtps_tool.proofs.ReadingLemmas.{HasRead, take_front, HasRead-start, HasRead-read, HasRead-last, HasRead-told, ReadsRecording-last, FailsReading-last, FailsReading-on, FailsReading-on-past}
+use Rattle.rtps_tool.specs.declared.faults.RecFault.TheVariants.{TooMany}
+use Rattle.rtps_tool.proofs.ReadingLemmas.{HasRead, take_front, HasRead-start, HasRead-read, HasRead-last, HasRead-told, ReadsRecording-last, FailsReading-last, FailsReading-on, FailsReading-on-past, FailsReading-text}
+use Rattle.rtps_tool.proofs.UnfinishedLemmas.{recording_of-past}
 use Rattle.rtps_tool.proofs.streams.read_pieces.Goals as goal
 use Rattle.rtps_tool.proofs.streams.read_pieces.Goals.{then-total-limits, else-total-limits}
 
@@ -98,3 +100,10 @@ returns-in_err-finish g c = λ captures before plain taken.
     (λ later. ap (λ (text : List ℕ). recording_behind c.args.limits.datagrams new.datagrams new.lines (text ++ later)) front ∙ fed.2.stands later) in
     let last = HasRead-last c.args.limits captures before _ _ c.pieces.total left got size new.lines new.datagrams held buf told c.in-Ok-read.ensures.bytes.0 (sym c.in-Ok-read.ensures.bound.1) within c.in-Ok-read.ensures.bound.0 c.if-got-eq0.true in
     rw (p.1, p.2) (FailsReading-last c.args.limits captures before _ c.pieces.total _ _ _ c.in_err-finish.field-0.0 last (c.in-Ok-read.ensures.bytes.1 c.if-got-eq0.true (omega arith)) (omega arith) c.in_err-finish.ensures)
+
+pub returns : goal.returns
+returns g c = λ captures before plain taken.
+    let h = c.pieces.invariant.4 captures before plain taken in
+    let past : c.args.limits.octets < length h.text = omega (arith, h.size, c.pieces-test.false) in
+    FailsReading-text c.args.limits captures before _ h.text TooMany record { taken = h.taken; whole = λ few. absurd (omega (arith, past, few)) }
+    (recording_of-past c.args.limits captures h.text past)
