@@ -48,8 +48,8 @@ pub row_tokens : (a b c d e : List Member)
 row_tokens a b c d e =
     ap (λ rest. begin_object ∷ rest)
     (front a (b ++ (c ++ (d ++ e)))
-      ∙ ap (λ rest. tokens_of a ++ rest) (front b (c ++ (d ++ e))
-        ∙ ap (λ rest. tokens_of b ++ rest) (front c (d ++ e) ∙ ap (λ rest. tokens_of c ++ rest) (front d e ∙ ap (λ rest. tokens_of d ++ rest) (whole e)))))
+    ∙ ap (λ rest. tokens_of a ++ rest) (front b (c ++ (d ++ e))
+    ∙ ap (λ rest. tokens_of b ++ rest) (front c (d ++ e) ∙ ap (λ rest. tokens_of c ++ rest) (front d e ∙ ap (λ rest. tokens_of d ++ rest) (whole e)))))
 
 -- an object of a member and three parts
 pub report_tokens : (a : Member) (b c d : List Member)
