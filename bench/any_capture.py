@@ -79,9 +79,9 @@ def of_ipv4(packet):
 
 def of_ipv6(packet):
     need(packet, 40)
-    if packet[0] >> 4 != 6:
-        raise Other
     size, following = big(packet[4:6]), packet[6]
+    if packet[0] >> 4 != 6 or following not in (UDP, FRAGMENT, *PASSED):
+        raise Other
     need(packet, 40 + size)
     rest = packet[40:40 + size]
     while following != UDP:

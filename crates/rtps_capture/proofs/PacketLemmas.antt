@@ -5,7 +5,7 @@ use Rattle.std.proofs.lemmas.Bool.Decides.{nat_tests}
 use Rattle.std.proofs.lemmas.List.{length-drop, length-take}
 use Rattle.rtps_capture.specs.AnyCapture.{contents_in}
 use Rattle.rtps_capture.specs.Datagrams.{header_size, is_no_fragment, number_at, total_size}
-use Rattle.rtps_capture.specs.Packets.{StandsIn, can_be_fragment, carried_behind, carried_by, carried_by_version, carried_of, carried_typed, contents_behind, contents_carried, contents_of, contents_of_ipv4, contents_of_ipv6, contents_of_whole, contents_of_whole_ipv4, fragment_of, is_ipv4_udp, is_within, key_4, key_6, moved_contents, packet_of, size_of_ipv6, udp_within}
+use Rattle.rtps_capture.specs.Packets.{StandsIn, can_be_fragment, carried_behind, carried_by, carried_by_version, carried_of, carried_typed, contents_behind, contents_carried, contents_of, contents_of_ipv4, contents_of_ipv6, contents_of_whole, contents_of_whole_ipv4, fragment_of, is_ipv4_udp, is_ipv6_udp, is_within, key_4, key_6, moved_contents, packet_of, size_of_ipv6, udp_within}
 use Rattle.rtps_capture.specs.Passed.{extension_passed, is_tag, last_header, tag_passed}
 use Rattle.rtps_capture.specs.declared.datagram.ByteRange.{ByteRange}
 use Rattle.rtps_capture.specs.declared.layout.ethernet.TheConstants as ethernet
@@ -110,13 +110,13 @@ whole_stands packet long =
 
 ipv6_stands : (packet : List ℕ) → StandsIn (length packet) (contents_of_ipv6 packet)
 unfolding contents_of_ipv6
-ipv6_stands packet = by (nat_le packet_6.SIZE (length packet)) (slice_index packet 0 / 16 == packet_6.VERSION) (nat_le (size_of_ipv6 packet) (length packet)) refl
+ipv6_stands packet = by (nat_le packet_6.SIZE (length packet)) (is_ipv6_udp packet) (nat_le (size_of_ipv6 packet) (length packet)) refl
   where
     size : ℕ
     size = size_of_ipv6 packet
 
-    by : (room version there : Bool) → nat_le size (length packet) ≡ there
-        → StandsIn (length packet) (if room then (if version then (if there then contents_of_whole (take size packet) else contents.Cut) else contents.Other) else contents.Cut)
+    by : (room udp there : Bool) → nat_le size (length packet) ≡ there
+        → StandsIn (length packet) (if room then (if udp then (if there then contents_of_whole (take size packet) else contents.Cut) else contents.Other) else contents.Cut)
     by false version there is = tt
     by true false there is = tt
     by true true false is = tt

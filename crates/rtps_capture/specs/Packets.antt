@@ -8,7 +8,7 @@ use Rattle.std.specs.Prelude.{ℕ, ◌+◌, ◌-◌, ◌*◌, ◌/◌, ◌%◌, 
 use Rattle.rtps_ids.specs.Octets.{number_of}
 use Rattle.rtps_ids.specs.declared.order.Order.TheVariants.{Big}
 use Rattle.rtps_capture.specs.Datagrams.{header_size, is_no_fragment, is_udp, number_at, total_size}
-use Rattle.rtps_capture.specs.Passed.{extension_passed, is_tag, last_header, tag_passed}
+use Rattle.rtps_capture.specs.Passed.{extension_passed, is_extension, is_tag, last_header, tag_passed}
 use Rattle.rtps_capture.specs.declared.layout.cooked_1.TheConstants as cooked_1
 use Rattle.rtps_capture.specs.declared.layout.cooked_2.TheConstants as cooked_2
 use Rattle.rtps_capture.specs.declared.layout.ethernet.TheConstants as ethernet
@@ -169,11 +169,17 @@ contents_of_whole packet =
 abbrev pub size_of_ipv6 : List ℕ → ℕ
 size_of_ipv6 packet = packet_6.SIZE + number_at packet_6.PAYLOAD packet
 
+-- a header of version 6 behind which UDP can stand: it names UDP, or a header that is looked behind
+abbrev pub is_ipv6_udp : List ℕ → Bool
+is_ipv6_udp packet =
+    slice_index packet 0 / 16 == packet_6.VERSION
+    && (slice_index packet packet_6.NEXT == packet_4.UDP || is_extension (slice_index packet packet_6.NEXT) || slice_index packet packet_6.NEXT == extension.FRAGMENT)
+
 -- what a packet of version 6 contains; octets behind its payload length are padding
 unfoldable pub contents_of_ipv6 : List ℕ → Contents
 contents_of_ipv6 packet =
     if nat_le packet_6.SIZE (length packet) then
-    (if slice_index packet 0 / 16 == packet_6.VERSION then
+    (if is_ipv6_udp packet then
     (if nat_le (size_of_ipv6 packet) (length packet) then contents_of_whole (take (size_of_ipv6 packet) packet) else contents.Cut)
     else contents.Other)
     else contents.Cut

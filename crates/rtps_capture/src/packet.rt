@@ -1,12 +1,12 @@
 ghost use Rattle.std.specs.Prelude.{◌≡◌, ◌≤◌, ◌<◌, ◌+◌, ◌-◌, ◌^◌, length};
-ghost use Rattle.rtps_capture.specs.Packets.{StandsIn, packet_of as packet_of_lem, carried_behind as carried_behind_lem, carried_by as carried_by_lem, contents_of as contents_of_lem, contents_of_ipv4 as contents_of_ipv4_lem, contents_of_ipv6 as contents_of_ipv6_lem, is_within, carried_by_version as carried_by_version_lem, carried_of as carried_of_lem, contents_of_whole as contents_of_whole_lem, moved_contents, udp_within as udp_within_lem};
+ghost use Rattle.rtps_capture.specs.Packets.{StandsIn, packet_of as packet_of_lem, carried_behind as carried_behind_lem, carried_by as carried_by_lem, contents_of as contents_of_lem, contents_of_ipv4 as contents_of_ipv4_lem, contents_of_ipv6 as contents_of_ipv6_lem, is_ipv6_udp as is_ipv6_udp_lem, is_within, carried_by_version as carried_by_version_lem, carried_of as carried_of_lem, contents_of_whole as contents_of_whole_lem, moved_contents, udp_within as udp_within_lem};
 
 use crate::datagram::ByteRange;
 use crate::fragment::{Fragment, fragment_of, key_4_of, key_6_of};
 use crate::layout::{cooked_1, cooked_2, ethernet, extension, loopback, packet, packet_6, udp};
 use crate::link_type::LinkType;
 use crate::octet_number::two_octets;
-use crate::passed::{Header, behind_extensions, behind_tags, is_tag};
+use crate::passed::{Header, behind_extensions, behind_tags, is_extension, is_tag};
 use rtps_ids::Order;
 
 /// What a frame contains.
@@ -188,6 +188,18 @@ fn contents_of_ipv4(octets: &[u8]) -> Contents
     })
 }
 
+/// Whether UDP can stand behind this header of version 6: it names UDP, or a header that is looked behind.
+fn is_ipv6_udp(octets: &[u8]) -> bool
+    requires { 40 ≤ length octets.now }
+    ensures { result ≡ is_ipv6_udp_lem octets.now }
+{
+    let next = octets[packet_6::NEXT];
+    octets[0] / 16 == packet_6::VERSION
+        && (next == packet::UDP
+            || is_extension(u16::from(next))
+            || u16::from(next) == extension::FRAGMENT)
+}
+
 /// What a packet of version 6 contains (RFC 8200, 3 "IPv6 Header Format").
 #[tactic(auto, unfolding(crate::specs::Packets::contents_of_ipv6))]
 fn contents_of_ipv6(octets: &[u8]) -> Contents
@@ -197,7 +209,7 @@ fn contents_of_ipv6(octets: &[u8]) -> Contents
     if octets.len() < packet_6::SIZE {
         return Contents::Cut;
     }
-    if octets[0] / 16 != packet_6::VERSION {
+    if !is_ipv6_udp(octets) {
         return Contents::Other;
     }
     let size = packet_6::SIZE + usize::from(two_octets(Order::Big, octets, packet_6::PAYLOAD));

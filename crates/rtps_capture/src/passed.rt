@@ -51,7 +51,7 @@ pub(crate) fn behind_tags(first: Header, frame: &[u8]) -> Header
 
 /// Whether this is an extension header that is passed by its length (RFC 8200, 4.3, 4.4 and 4.6).
 #[inline]
-fn is_extension(kind: u16) -> bool
+pub(crate) fn is_extension(kind: u16) -> bool
     ensures { result ≡ is_extension_lem kind }
 {
     kind == extension::HOP_BY_HOP || kind == extension::ROUTING || kind == extension::DESTINATION
