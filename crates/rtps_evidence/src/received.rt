@@ -78,11 +78,7 @@ fn received_among(
 }
 
 /// The numbers that a pair's reader received for certain, also those that are not asked for.
-fn find_received(
-    alloc: Global,
-    index: &Index<'_>,
-    pair: Pair,
-) -> Result<Vec<Stretch>, Memory>
+fn find_received(alloc: Global, index: &Index<'_>, pair: Pair) -> Result<Vec<Stretch>, Memory>
     ensures { (recording : List (List ℕ)) → IsIndexOf recording index.now → IfOk result (λ received. (n : ℕ)
         → stretches_have received.items n ≡ is_received pair.writer pair.reader (placed_in recording) n) }
 {

@@ -60,11 +60,7 @@ impl Recording {
     }
 
     /// The recording that is the datagrams that stand so among octets of a capture, of which so many frames gave none.
-    pub fn of_any_capture(
-        octets: Vec<u8>,
-        spans: Vec<DatagramSpan>,
-        reasons: Reasons,
-    ) -> Recording
+    pub fn of_any_capture(octets: Vec<u8>, spans: Vec<DatagramSpan>, reasons: Reasons) -> Recording
         requires spans { AreSpans octets.items spans.items }
         requires few { ignored_by reasons < 2 ^ 64 }
         ensures { result ≡ record { datagrams = pieces octets.items spans.items; ignored = Some (ignored_by reasons); reasons = Some reasons } }

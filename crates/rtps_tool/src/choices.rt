@@ -32,7 +32,9 @@ impl Choice {
     {
         match self {
             Choice::Show {
-                limits, captures, ..
+                limits,
+                captures,
+                ..
             } => Some(Options {
                 command: Command::Show,
                 from: SeqNum::first(),
@@ -40,7 +42,9 @@ impl Choice {
                 captures: *captures,
             }),
             Choice::List {
-                limits, captures, ..
+                limits,
+                captures,
+                ..
             } => Some(Options {
                 command: Command::List,
                 from: SeqNum::first(),

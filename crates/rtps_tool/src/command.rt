@@ -123,7 +123,8 @@ const VERSION: &str = "0.1.0";
 const FILE_HELP: &str =
     "A capture, or a text with one datagram a line in hexadecimal digits; - is standard input";
 
-const ANY_HELP: &str = "Read any capture: pcapng, Linux cooked, loopback and raw IP frames, VLAN tags, IPv6, \
+const ANY_HELP: &str =
+    "Read any capture: pcapng, Linux cooked, loopback and raw IP frames, VLAN tags, IPv6, \
     and packets that came in fragments";
 
 const FROM_HELP: &str = "The first number to ask for, 1 to 9223372036854775807; \

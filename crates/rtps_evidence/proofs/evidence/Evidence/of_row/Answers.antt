@@ -31,7 +31,7 @@ returns-clause-evidence c = λ recording is summary judged.
       amounts = subst (λ n. AreAmounts from n writer reader all c.in_ok-amounts.amounts) last (subst (λ (w : Guid). AreAmounts from c.args.summary.now.asked.last w reader all c.in_ok-amounts.amounts) c.requires (c.in_ok-amounts.ensures recording is summary));
       received = subst (λ n. AreReceived from n writer reader all c.in_ok-received.received) last (c.in_ok-received.ensures recording is (c.in_ok-numbers.ensures.received recording is));
       missed = subst (λ n. AreMissed from n writer reader all c.in_ok-missed-2.missed) last
-        (c.in_ok-missed-2.ensures recording is (λ n. c.in_ok-missed.ensures recording is place known n ∙ ap (λ (p : Pair). is_missed p.writer p.reader all n) pair));
+          (c.in_ok-missed-2.ensures recording is (λ n. c.in_ok-missed.ensures recording is place known n ∙ ap (λ (p : Pair). is_missed p.writer p.reader all n) pair));
       questions = c.questions_since-questions.ensures recording is;
       teller = c.teller_of.ensures ∙ ap (teller_by row.verdict writer reader) acts ∙ teller_by_same row.verdict writer reader all;
       claim = c.claim_of.ensures recording is;
