@@ -11,11 +11,10 @@ use Rattle.rtps_audit.specs.Delivery.Word.{Told, Gone}
 use Rattle.rtps_audit.specs.RunVerdict.{IsLeast, ClaimsUntold, IsVerdictFrom}
 use Rattle.rtps_audit.specs.PlainVerdict.{IsFounded, IsSpoken, SpeaksTwo, IsClaimed, IsUnclaimed}
 use Rattle.rtps_audit.specs.FullRun.{IsBoundedBy}
-use Rattle.rtps_audit.specs.Judge.{greatest_base}
 use Rattle.rtps_audit.specs.Laws.{EachHasAVerdict}
 use Rattle.rtps_audit.specs.declared.verdict.Verdict.{Verdict}
 use Rattle.rtps_audit.specs.declared.verdict.Verdict.TheVariants.{Unfounded, Conflict, Open, Complete}
-use Rattle.rtps_audit.proofs.Greatest.{below_greatest, greatest_below, claimed_from_below, below_from_claims}
+use Rattle.rtps_audit.proofs.Greatest.{below_from_claims, below_greatest, claimed_from_below, greatest_base, greatest_below}
 use Rattle.rtps_audit.proofs.DeliveryRuns.{asked_or_not}
 use Rattle.rtps_audit.proofs.Verdicts.{told_or_not, from_plain}
 

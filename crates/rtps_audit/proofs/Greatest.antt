@@ -6,7 +6,6 @@ use Rattle.std.proofs.lemmas.Bool.{cases_lt}
 use Rattle.std.proofs.lemmas.List.Elements.{filter_map-append, Contains-append_left, Contains-append_right, Contains-append_cases, Contains-push}
 use Rattle.rtps_audit.specs.Delivery.{greatest, Datagram, Speech, IsAsked, Claims}
 use Rattle.rtps_audit.specs.PlainVerdict.{IsClaimed}
-use Rattle.rtps_audit.specs.Judge.{greatest_base}
 
 greatest-append : (xs ys : List ℕ) → greatest (xs ++ ys) ≡ max (greatest xs) (greatest ys)
 greatest-append [] ys = omega arith
@@ -45,6 +44,11 @@ greatest_below n x (y ∷ ys) among lt = elim (Contains-append_cases (y ∷ []) 
     only_number a b (suc k, h, e) = absurd (omega arith)
 
 -- ---- the greatest base
+
+-- the greatest base of an answer, or 0
+abbrev pub greatest_base : Speech → ℕ
+greatest_base [] = 0
+greatest_base (datagram ∷ speech) = max (greatest datagram.bases) (greatest_base speech)
 
 -- a claim with a datagram more before it
 claims_next : {from : ℕ} (d : Datagram) (speech : Speech) (j n : ℕ) → Claims from speech j n → Claims from (d ∷ speech) (suc j) n

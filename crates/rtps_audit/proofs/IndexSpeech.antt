@@ -17,14 +17,13 @@ use Rattle.rtps_discovery.specs.declared.matching.Pair.{Pair}
 use Rattle.rtps_audit.specs.Answered.{HearsTwo, IsGivenBy, IsHeard, IsToldAll, IsToldBy, IsUntoldAmong, base_among, last_among, verdict_by}
 use Rattle.rtps_audit.specs.Delivery.{Claims, Datagram, Gives, IsAsked, Speech, Word, greatest, last_announced_from}
 use Rattle.rtps_audit.specs.Delivery.Word.{Told}
-use Rattle.rtps_audit.specs.Judge.{IsFirstUntold, greatest_base}
 use Rattle.rtps_audit.specs.Placed.{PlacedValue, answer_at, answer_of, answers_among, is_from, placed_in}
-use Rattle.rtps_audit.specs.PlainVerdict.{IsClaimed, IsUnclaimed, SpeaksTwo}
+use Rattle.rtps_audit.specs.PlainVerdict.{IsClaimed, IsFounded, IsPlainVerdictFrom, IsUnclaimed, SpeaksTwo}
 use Rattle.rtps_audit.specs.RunVerdict.{ClaimsUntold, IsLeast, IsTold, IsVerdictFrom}
 use Rattle.rtps_audit.specs.Speech.{announced_for, announced_of_body, base_for, natural, said_by, speech_of, word_for, word_of}
 use Rattle.rtps_audit.specs.declared.answer.Answer.{Answer}
 use Rattle.rtps_audit.specs.declared.verdict.Untold.{Untold}
-use Rattle.rtps_audit.proofs.Greatest.{below_from_claims, below_greatest, claimed_from_below, greatest_below}
+use Rattle.rtps_audit.proofs.Greatest.{below_from_claims, below_greatest, claimed_from_below, greatest_base, greatest_below}
 use Rattle.rtps_audit.proofs.PlacedActs.{contains_cases, contains_head, contains_none, contains_tail, kept_if_passed, kept_is_there, made_from, makes, stands_there, stands_where}
 use Rattle.rtps_audit.proofs.PlacedLemmas.{both, bytes_eq-sym}
 use Rattle.rtps_audit.specs.declared.verdict.Verdict.{Verdict}
@@ -211,6 +210,10 @@ answers_counted pair recording k d lt =
     omega arith
 
 -- ---- the first claim that is not told
+
+-- the first claim that no earlier datagram tells, if there is one
+abbrev pub IsFirstUntold : ℕ → Speech → Option Untold → Type 0
+IsFirstUntold from speech found = MatchOption found (IsFounded from speech) (λ untold. IsPlainVerdictFrom from speech (Unfounded untold.datagram untold.number))
 
 pub first_from : (from : ℕ) (pair : Pair) (recording : List (List ℕ)) (placed : List PlacedValue) → HasSpeech pair.writer recording placed → (untold : Option Untold) → IsUntoldAmong from pair.writer pair.reader placed (answers_among pair (placed_in recording)) untold
     → IsFirstUntold from (speech_of pair.writer pair.reader recording) untold

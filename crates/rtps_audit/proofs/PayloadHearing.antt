@@ -16,7 +16,7 @@ use Rattle.rtps_wire.specs.Values.{PayloadValue, payload_value}
 use Rattle.rtps_audit.specs.Delivery.{IsAsked, Word}
 use Rattle.rtps_audit.specs.Delivery.Word.{Told}
 use Rattle.rtps_audit.specs.Answered.{HearsTwo, IsHeard}
-use Rattle.rtps_audit.specs.PayloadConflict.{AreConflictsOf, AreSentIn, HasTwo, IsAnother, IsHeardAmong, IsSentBy, number_in}
+use Rattle.rtps_audit.specs.PayloadConflict.{AreConflictsOf, AreSentIn, HasTwo, IsAnother, IsSentBy, number_in}
 use Rattle.rtps_audit.specs.Placed.{PlacedValue, is_from, placed_value}
 use Rattle.rtps_audit.specs.RunVerdict.{IsLeast}
 use Rattle.rtps_audit.specs.Speech.{word_of}
@@ -116,6 +116,10 @@ pub placed_next : (acts : List Placed) (k : ℕ) (d : Placed) → k < length act
 placed_next acts k d within = ap (map placed_value) (take_more acts k d within) ∙ map-append placed_value (take k acts) (get_or acts k d ∷ [])
 
 -- ---- two payloads that a reader hears are two that it hears of what is kept
+
+-- it is among these entries, and the reader hears it
+abbrev pub IsHeardAmong : List AddressedPayload → Guid → AddressedPayload → Type 0
+IsHeardAmong entries reader entry = Contains entries entry × (is_among entry.dest.now (Some entry.data.now.reader) reader ≡ true)
 
 kept_of_heard : (from : ℕ) (kept : List AddressedPayload) (writer reader : Guid) (placed : List PlacedValue) (n : ℕ) (x : PayloadValue) (known : AreConflictsOf from kept placed) → IsAsked from n → IsHeard writer reader placed n (Told x)
     → (e : AddressedPayload) × IsHeardAmong known.entries reader e × (number_in e ≡ n) × (payload_value e.data.now.payload ≡ x)

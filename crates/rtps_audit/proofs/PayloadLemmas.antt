@@ -8,7 +8,7 @@ use Rattle.std.proofs.lemmas.List.{get_or_default}
 use Rattle.std.proofs.lemmas.Bool.{cases_lt}
 use Rattle.rtps_wire.specs.Values.{PayloadValue, payload_value}
 use Rattle.rtps_audit.specs.RunVerdict.{IsLeast}
-use Rattle.rtps_audit.specs.KeptPayloads.{IsKept, KeepsTwo, Agrees, number_of}
+use Rattle.rtps_audit.specs.KeptPayloads.{IsKept, KeepsTwo, number_of}
 use Rattle.rtps_audit.specs.declared.payload.KeptPayload.{KeptPayload}
 
 -- what stands at a place
@@ -17,6 +17,10 @@ number_at xs d k = number_of (get_or xs k d)
 
 abbrev payload_at : List KeptPayload → KeptPayload → ℕ → PayloadValue
 payload_at xs d k = payload_value (get_or xs k d).payload
+
+-- payloads of one number have one payload
+abbrev pub Agrees : KeptPayload → KeptPayload → Type 0
+Agrees x y = x.number ≡ y.number → payload_value x.payload ≡ payload_value y.payload
 
 -- where neighbours agree below a place, any two payloads of one number do
 agree : (xs : List KeptPayload) (d : KeptPayload) (high : ℕ) → high ≤ length xs → IsNonDecreasingBy number_of xs → AllAdjacentBelow Agrees xs high

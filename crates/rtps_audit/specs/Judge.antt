@@ -1,25 +1,13 @@
 -- What a judge knows of the acts that it was told. own: what has to be remembered of them, so that each is told once.
-use Rattle.std.specs.Prelude.{ℕ, Bool, true, ◌≡◌, ◌≤◌, ◌<◌, ◌-◌, ◌^◌, ◌↔◌, max, List, [], ◌∷◌, All, MatchOption, Option}
+use Rattle.std.specs.Prelude.{ℕ, Bool, true, ◌≡◌, ◌≤◌, ◌<◌, ◌-◌, ◌^◌, ◌↔◌, max, List, All}
 use Rattle.rtps_wire.specs.Values.{PayloadValue}
 use Rattle.rtps_discovery.specs.declared.matching.Pair.{Pair}
 use Rattle.rtps_audit.specs.Answered.{IsFrontBy, IsHeard, IsUntoldAmong, base_among, last_among}
-use Rattle.rtps_audit.specs.Delivery.{Word, Speech, IsAsked, greatest}
+use Rattle.rtps_audit.specs.Delivery.{Word, IsAsked}
 use Rattle.rtps_audit.specs.Delivery.Word.{Told}
 use Rattle.rtps_audit.specs.KeptPayloads.{IsKept}
 use Rattle.rtps_audit.specs.Placed.{PlacedValue, answers_among}
-use Rattle.rtps_audit.specs.PlainVerdict.{IsFounded, IsPlainVerdictFrom}
 use Rattle.rtps_audit.specs.declared.plain_judge.PlainJudge.{PlainJudge}
-use Rattle.rtps_audit.specs.declared.verdict.Untold.{Untold}
-use Rattle.rtps_audit.specs.declared.verdict.Verdict.TheVariants.{Unfounded}
-
--- the greatest base of an answer, or 0
-abbrev pub greatest_base : Speech → ℕ
-greatest_base [] = 0
-greatest_base (datagram ∷ speech) = max (greatest datagram.bases) (greatest_base speech)
-
--- the first claim that no earlier datagram tells, if there is one
-abbrev pub IsFirstUntold : ℕ → Speech → Option Untold → Type 0
-IsFirstUntold from speech found = MatchOption found (IsFounded from speech) (λ untold. IsPlainVerdictFrom from speech (Unfounded untold.datagram untold.number))
 
 -- The judge asks for the numbers from `from` on, and was told these acts for this pair, of datagrams up to the last that
 -- began. Its set has the smaller numbers too.

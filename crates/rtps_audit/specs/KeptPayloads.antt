@@ -24,10 +24,6 @@ KeepsMore from old new word = (n : ℕ) (payload : PayloadValue) → IsAsked fro
 abbrev pub KeepsTwo : List KeptPayload → ℕ → Type 0
 KeepsTwo payloads n = (x : PayloadValue) × (y : PayloadValue) × IsKept payloads n x × IsKept payloads n y × (x ≢ y)
 
--- payloads of one number have one payload
-abbrev pub Agrees : KeptPayload → KeptPayload → Type 0
-Agrees x y = x.number ≡ y.number → payload_value x.payload ≡ payload_value y.payload
-
 -- the number that a payload is kept for
 abbrev pub number_of : KeptPayload → ℕ
 number_of entry = entry.number

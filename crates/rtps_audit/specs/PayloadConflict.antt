@@ -1,8 +1,7 @@
 -- Different payloads for one number, and who hears them. own: a number has one payload, so a reader that hears two of
 -- them is in doubt. Who hears a DATA: DDSI-RTPS 2.5, 8.3.4 "The RTPS Message Receiver" and 8.3.8.2 "Data".
-use Rattle.std.specs.Prelude.{ℕ, ◌==◌, ◌≡◌, ◌≢◌, ◌↔◌, ◌<◌, ◌≤◌, ◌^◌, if◌then◌else◌, true, Contains, List, Option, Some, None}
-use Rattle.rtps_ids.specs.declared.identity.Guid.{Guid}
-use Rattle.rtps_receiver.specs.Speech.{is_among, reader_named}
+use Rattle.std.specs.Prelude.{ℕ, ◌==◌, ◌≡◌, ◌≢◌, ◌↔◌, ◌<◌, ◌≤◌, ◌^◌, if◌then◌else◌, Contains, List, Option, Some, None}
+use Rattle.rtps_receiver.specs.Speech.{reader_named}
 use Rattle.rtps_receiver.specs.Values.{ActValue}
 use Rattle.rtps_wire.specs.Values.{PayloadValue, payload_value}
 use Rattle.rtps_audit.specs.Delivery.{IsAsked}
@@ -49,10 +48,6 @@ pub record AreConflictsOf (from : ℕ) (kept : List AddressedPayload) (placed : 
   pub entries : List AddressedPayload
   pub sent : AreSentIn from placed entries
   pub conflicts : AreConflictsAmong entries kept
-
--- it is among these entries, and the reader hears it
-abbrev pub IsHeardAmong : List AddressedPayload → Guid → AddressedPayload → Type 0
-IsHeardAmong entries reader entry = Contains entries entry × (is_among entry.dest.now (Some entry.data.now.reader) reader ≡ true)
 
 -- there is an entry before this one, with another payload for the same number
 abbrev pub IsAnother : Option AddressedPayload → AddressedPayload → Type 0

@@ -25,3 +25,4 @@ pub use plain_judge::{judge, judge_by, judge_from};
 pub use report::{Counts, Report, Row, Unwatched, Watch, audit, audit_from, audit_watched};
 pub use rtps_coverage::{Coverage, MergedRanges, PlainRanges};
 pub use verdict::Verdict;
+pub use word::announced_number;

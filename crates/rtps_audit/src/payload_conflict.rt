@@ -14,7 +14,7 @@ ghost use Rattle.rtps_audit.specs.Speech.{word_of};
 
 use crate::payload::is_same_payload;
 use crate::placed::Placed;
-use crate::word::number_in as announced_number;
+use crate::word::announced_number;
 use rtps_ids::{Guid, GuidPrefix, Memory};
 use rtps_receiver::{Act, ActBody, Audience};
 use rtps_wire::{DataBody, Payload};

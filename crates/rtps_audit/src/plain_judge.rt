@@ -7,7 +7,7 @@ ghost use Rattle.rtps_audit.specs.RunVerdict.{IsVerdictFrom};
 ghost use Rattle.rtps_audit.specs.Speech.{base_for, speech_of};
 
 use crate::verdict::{Claims, Verdict};
-use crate::word::{Words, number_in};
+use crate::word::{Words, announced_number};
 use rtps_coverage::{Coverage, MergedRanges};
 use rtps_discovery::Pair;
 use rtps_ids::{Memory, SeqNum};
@@ -64,7 +64,7 @@ impl<'a, C: Coverage> PlainJudge<'a, C> {
     {
         self.claims
             .note_base(base_in(act, pair), self.datagrams, self.front);
-        self.claims.note_number(number_in(act, pair.writer));
+        self.claims.note_number(announced_number(act, pair.writer));
         self.words.note_heard(act, pair)?;
         Ok(())
     }

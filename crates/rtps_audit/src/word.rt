@@ -144,7 +144,7 @@ fn add_gap<C: Coverage>(told: &mut C, gap: &GapBody) -> Result<(), Memory>
 }
 
 /// The number that the writer announces by an act, or 0.
-pub(crate) fn number_in(act: &Act<'_>, writer: Guid) -> u64
+pub fn announced_number(act: &Act<'_>, writer: Guid) -> u64
     ensures value { result ≡ unwrap_or (announced_for writer (act_value act.now)) 0 }
     ensures in_range { result < 2 ^ 63 }
 {

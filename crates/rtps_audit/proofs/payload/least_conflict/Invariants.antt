@@ -1,5 +1,5 @@
 use Rattle.std.specs.List.{AllAdjacentBelow}
-use Rattle.rtps_audit.specs.KeptPayloads.{Agrees}
+use Rattle.rtps_audit.proofs.PayloadLemmas.{Agrees}
 use Rattle.rtps_audit.proofs.payload.least_conflict.Given as goal
 
 -- the payloads so far agree with their neighbours

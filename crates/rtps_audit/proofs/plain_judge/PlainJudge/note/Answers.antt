@@ -18,5 +18,5 @@ returns-clause-knows g c = λ from placed known.
     tells_on g.C.Coverage.covered old _ pair placed _ c.requires refl c.note_heard.ensures.from refl refl small
     (c.note_number.ensures.untold ∙ subst (FindsUntold old.claims.untold c.note_base.new.self.untold old.datagrams old.front) base found)
     (c.note_number.ensures.base ∙ c.note_base.ensures.base ∙ ap (max old.claims.base) base)
-    (c.note_number.ensures.last ∙ ap (λ l. max l c.number_in.result) c.note_base.ensures.last ∙ ap (max old.claims.last) c.number_in.ensures.value)
+    (c.note_number.ensures.last ∙ ap (λ l. max l c.announced_number.result) c.note_base.ensures.last ∙ ap (max old.claims.last) c.announced_number.ensures.value)
     c.in_ok-note_heard.ensures.told c.in_ok-note_heard.ensures.payloads known
