@@ -6,9 +6,8 @@ ghost use Rattle.rtps_audit.specs.Placed.{placed_value};
 ghost use Rattle.rtps_evidence.specs.Locations.{announcement_at, announcement_of, number_said as number_said_lem};
 
 use crate::location::{Kind, Location, kind_of, location_of};
-use rtps_audit::Placed;
+use rtps_audit::{Placed, announced_number};
 use rtps_ids::{Guid, SeqNum};
-use rtps_receiver::ActBody;
 
 /// The submessage that announces a number first.
 #[derive(Clone, Copy, PartialEq, Eq, Debug)]
@@ -20,21 +19,6 @@ pub struct Announcement {
     pub place: Location,
 }
 
-/// The number that the writer announces by an act, or 0.
-fn number_said(placed: &Placed<'_>, writer: Guid) -> u64
-    ensures value { result ≡ number_said_lem writer (placed_value placed.now) }
-    ensures in_range { result < 2 ^ 63 }
-{
-    if !placed.act.spoken_by(writer) {
-        return 0;
-    }
-    match &placed.act.body {
-        ActBody::Data(data) => data.number.get().cast_unsigned(),
-        ActBody::Heartbeat(heartbeat) => heartbeat.last.max(0).cast_unsigned(),
-        ActBody::AckNack(_) | ActBody::Gap(_) => 0,
-    }
-}
-
 /// The greatest number that the writer announces by these acts, or 0.
 pub(crate) fn greatest_number(acts: &[Placed<'_>], writer: Guid) -> u64
     ensures value { result ≡ greatest (map (number_said_lem writer) (map placed_value acts.now)) }
@@ -42,7 +26,7 @@ pub(crate) fn greatest_number(acts: &[Placed<'_>], writer: Guid) -> u64
 {
     let mut greatest = 0u64;
     for placed in acts {
-        greatest = greatest.max(number_said(placed, writer));
+        greatest = greatest.max(announced_number(&placed.act, writer));
     }
     greatest
 }
@@ -54,7 +38,7 @@ fn first_announcing(acts: &[Placed<'_>], writer: Guid, number: u64) -> Option<An
         (find (λ placed. number_said_lem writer placed == number) (map placed_value acts.now)) }
 {
     for placed in acts {
-        if number_said(placed, writer) == number {
+        if announced_number(&placed.act, writer) == number {
             return Some(Announcement {
                 number: number.cast_signed(),
                 kind: kind_of(&placed.act.body),

@@ -7,8 +7,8 @@ use Rattle.rtps_evidence.proofs.last_announcement.greatest_number.Goals as goal
 pub loop-placed-preserved : goal.loop-placed-preserved
 loop-placed-preserved c =
     let past = greatest_past placed_value (number_said c.args.writer) c.args.acts.now c.loop-placed.placed-index c.placed-item.result c.loop-placed-test.true c.placed-item.is in
-    let said = c.number_said.ensures.value in
-    let small = c.number_said.ensures.in_range in
+    let said = c.announced_number.ensures.value in
+    let small = c.announced_number.ensures.in_range in
     let so_far = c.loop-placed.invariant.value in
     let low = c.loop-placed.invariant.in_range in
     let is = c.max-greatest.ensures in
