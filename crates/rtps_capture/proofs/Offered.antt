@@ -1,7 +1,7 @@
 -- Lemmas about the definitions of this crate, for the crates above it: whether octets begin a capture, the first four
 -- tell, and what is read of any capture is the same where more datagrams are wanted.
 use Rattle.std.proofs.Common.{◌≡◌, ◌≤◌, List, [], ◌∷◌, ℕ, Bool, ◌++◌, length, true, false, refl, ap, sym, ◌∙◌, arith}
-use Rattle.std.specs.Prelude.{nat_le, nat_lt, if◌then◌else◌, Option, None, Some, Result, Ok, Err}
+use Rattle.std.specs.Prelude.{nat_le, nat_lt, Option, None, Some, Result, Ok, Err}
 use Rattle.std.proofs.lemmas.Bool.Decides.{nat_tests}
 use Rattle.std.proofs.lemmas.List.{length-append, take-append-le}
 use Rattle.rtps_ids.specs.Octets.{number_of}

@@ -1,5 +1,5 @@
 use Rattle.std.proofs.Common.{◌≡◌, ◌∙◌, codes, true, false, ap, Bool, Option, Some, None, refl}
-use Rattle.clap.specs.Words.{Text, found_of, one_of}
+use Rattle.clap.specs.Words.{Text, found_of}
 use Rattle.clap.proofs.WalkLemmas.{one_text-rows}
 use Rattle.rtps_tool.specs.Words.{IsFlagGiven}
 use Rattle.rtps_tool.proofs.command.is_given.Goals as goal
