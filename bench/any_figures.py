@@ -5,15 +5,15 @@
 
 A NAME is that of a row; without one all are measured. PROGRAM is the built program of this repository if none is given. A
 recording is made as a classic capture, on which `audit` is run, and in another form, on which `audit --any` is run. They
-stay in the folder RTPS_BENCH_DIR, if that is set. A time is the least wall time of RUNS runs that take turns (5 if none is
-given), and memory the greatest that a run took. Nothing here passes or fails.
+stay in the folder RTPS_BENCH_DIR, if that is set. A time is the least processor time of RUNS runs that take turns (5 if none
+is given), and memory the greatest that a run took. Nothing here passes or fails.
 """
 import os
+import subprocess
 import sys
 import tempfile
 
 from figures import PROGRAM, frame, one_pair, robot
-from measure import run
 
 MIB = 1 << 20
 CLASSIC = bytes.fromhex('d4c3b2a1020004000000000000000000ffff000001000000')
@@ -71,6 +71,13 @@ def made(path, begin, datagrams, form):
             f.writelines(form(number, datagram) for number, datagram in enumerate(datagrams()))
         os.rename(path + '.part', path)
     return path
+
+
+def run(command):
+    """processor time, the greatest memory in KiB, and the status"""
+    child = subprocess.Popen(command, stdout=subprocess.DEVNULL, stderr=subprocess.DEVNULL)
+    _, status, usage = os.wait4(child.pid, 0)
+    return usage.ru_utime + usage.ru_stime, usage.ru_maxrss, os.waitstatus_to_exitcode(status)
 
 
 def measured(name, program, runs, folder):
