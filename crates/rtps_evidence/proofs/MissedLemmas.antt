@@ -1,10 +1,9 @@
 -- The numbers that are asked for and missed.
-use Rattle.std.proofs.Common.{◌≡◌, ◌∙◌, ℕ, ◌+◌, ◌<◌, ◌≤◌, ◌==◌, ◌&&◌, ◌||◌, ◌⊎◌, Bool, true, false, cond, nat_le, nat_lt, max, not, filter, get_or, length, take, List, [], ◌∷◌, ◌++◌, Option, Some, None, refl, sym, ap, arith, inl, inr}
+use Rattle.std.proofs.Common.{◌≡◌, ◌∙◌, ℕ, ◌+◌, ◌<◌, ◌≤◌, ◌==◌, ◌&&◌, ◌||◌, Bool, true, false, cond, nat_le, nat_lt, not, filter, get_or, length, take, List, [], ◌∷◌, ◌++◌, Option, Some, None, refl, sym, ap, arith, inl, inr}
 use Rattle.std.specs.List.{cons_option, find, last_or, list_any}
 use Rattle.std.specs.Option.{option_map}
 use Rattle.std.proofs.lemmas.Bool.{cases_lt}
 use Rattle.std.proofs.lemmas.Bool.Decides.{nat_tests}
-use Rattle.std.proofs.lemmas.List.{take_more}
 use Rattle.std.proofs.lemmas.List.Folds.{list_any-append}
 use Rattle.rtps_ids.specs.declared.identity.Guid.{Guid}
 use Rattle.rtps_ids.specs.NumberSet.{NumberSetValue, is_member}
@@ -18,7 +17,7 @@ use Rattle.rtps_audit.specs.AnnouncedPlaces.{announced_among, announced_at}
 use Rattle.rtps_audit.specs.Placed.{PlacedValue, is_from, is_guid}
 use Rattle.rtps_audit.specs.declared.announced_places.AnnouncedPlace.{AnnouncedPlace}
 use Rattle.rtps_audit.proofs.Offered.{answerer_is_origin}
-use Rattle.rtps_evidence.specs.Amount.{count_in, stretch_has, stretches_have}
+use Rattle.rtps_evidence.specs.Amount.{count_in, stretches_have}
 use Rattle.rtps_evidence.specs.Locations.{find_last, is_behind, location_of, sends, teller_at}
 use Rattle.rtps_evidence.specs.Missed.{AreMissed, announces, asks_for, first_place, gone_behind, has_guid, is_in_set, is_missed, missed_at, missed_by, numbers_have, place_announced, sends_behind, withdraws_behind}
 use Rattle.rtps_evidence.specs.Received.{is_received, withdraws}

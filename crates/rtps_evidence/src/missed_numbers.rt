@@ -186,6 +186,9 @@ pub(crate) fn find_missed(
 {
     let pair = listener.pair;
     let numbers = sent_unreceived(alloc, index.acts_of(pair.writer), listener, received)?;
+    if numbers.is_empty() {
+        return Ok(Vec::new(alloc));
+    }
     let mut asked = asked_among(alloc, index.acts_of(pair.reader), pair)?;
     let asked = rising(alloc, &mut asked)?;
     let missed = asked_of(alloc, &numbers, &asked)?;
