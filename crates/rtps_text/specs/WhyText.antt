@@ -124,8 +124,8 @@ told_before_text (Some teller) claim = gone_text teller claim
 
 -- what keeps a number from being received
 unfoldable pub kept_text : Option Teller → Option Location → List ℕ
-kept_text gone None = codes "not acknowledged"
-kept_text gone (Some claim) = told_before_text gone claim
+kept_text teller None = codes "not acknowledged"
+kept_text teller (Some claim) = told_before_text teller claim
 
 -- the least number that is not received, and what keeps it; nothing where all are received
 abbrev pub not_received_line : Option NotReceived → List ℕ
