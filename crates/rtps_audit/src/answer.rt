@@ -106,11 +106,7 @@ fn answer_in(datagram: usize, act: &Act<'_>) -> Option<(Pair, Answer)>
 }
 
 /// Adds the answer that an act of a datagram is, if it is one. After `Memory` the answers are of no use.
-fn note_answer(
-    answers: &mut Answers,
-    datagram: usize,
-    act: &Act<'_>,
-) -> Result<(), Memory>
+fn note_answer(answers: &mut Answers, datagram: usize, act: &Act<'_>) -> Result<(), Memory>
     ensures { OnOk result (AddsAnswers answers.old.readers answers.new.readers (placed_at datagram (act_value act.now ∷ []))) }
 {
     if let Some((pair, answer)) = answer_in(datagram, act) {

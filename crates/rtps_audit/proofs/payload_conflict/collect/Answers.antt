@@ -24,8 +24,8 @@ loop-place-preserved c =
     let next = placed_next acts k c.index-acts-place.result c.loop-place-test.true in
     let more = greatest_more (λ (at : PlacedValue). announced_for writer at.act) so_far (placed_value here) in
     let last =
-        c.max-last.ensures ∙ ap (λ m. max m c.number_in.result) c.loop-place.invariant.last ∙ ap (max (last_among writer so_far)) c.number_in.ensures.value
-        ∙ sym more ∙ ap (last_among writer) (sym next) in
+    c.max-last.ensures ∙ ap (λ m. max m c.number_in.result) c.loop-place.invariant.last ∙ ap (max (last_among writer so_far)) c.number_in.ensures.value
+    ∙ sym more ∙ ap (last_among writer) (sym next) in
     let last_in_range : c.max-last.result < 2 ^ 63 = omega (arith, c.max-last.ensures, c.number_in.ensures.in_range, c.loop-place.invariant.last_in_range) in
     elim c.match-addressed.branch [
       | in-Some+in_ok-push w ↦
