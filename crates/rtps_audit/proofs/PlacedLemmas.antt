@@ -97,6 +97,18 @@ answer_read datagram act ack_nack writer reader pair number body answered from i
         subst (λ (w : Guid). answer_of pair (record { datagram = datagram; act = act }) ≡ cond (is_eq (pair_cmp pair (record { writer = w; reader = origin_of act }))) (Some (record { datagram = datagram; at = act.at; base = number })) None) same
         (answer_for datagram act ack_nack dest pair number body e is)
 
+-- two orders are equal together, whichever is looked at first
+pub swapped_alike : (one other : Ordering) → is_eq (ordering_then one other) ≡ is_eq (ordering_then other one)
+swapped_alike Less Less = refl
+swapped_alike Less Equal = refl
+swapped_alike Less Greater = refl
+swapped_alike Equal Less = refl
+swapped_alike Equal Equal = refl
+swapped_alike Equal Greater = refl
+swapped_alike Greater Less = refl
+swapped_alike Greater Equal = refl
+swapped_alike Greater Greater = refl
+
 -- one answer more, where there is one
 pub answer_added : (found : Option Answer) (is_its : Bool) (answer : Answer) → found ≡ cond is_its (Some answer) None → cond is_its (answer ∷ []) [] ≡ cons_option found []
 answer_added found true answer is = ap (λ o. cons_option o []) (sym is)

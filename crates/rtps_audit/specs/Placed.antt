@@ -4,17 +4,19 @@ use Rattle.std.specs.Prelude.{ℕ, pos, Bool, ◌+◌, ◌≡◌, ◌&&◌, List
 use Rattle.std.specs.BTreeMap.{BTreeMap}
 use Rattle.std.specs.Global.{Vec}
 use Rattle.std.specs.List.{filter_map}
+use Rattle.std.specs.Ordering.{ordering_then}
+use Rattle.std.specs.declared.cmp.Ordering.{Ordering}
 use Rattle.rtps_ids.specs.declared.identity.Guid.{Guid}
 use Rattle.rtps_wire.specs.Reading.{reading_of}
 use Rattle.rtps_receiver.specs.Acts.{acts_of}
 use Rattle.rtps_receiver.specs.Speech.{is_entity, is_prefix, origin_of}
 use Rattle.rtps_receiver.specs.Values.{ActValue, act_value}
 use Rattle.rtps_discovery.specs.GuidOrder.{guid_cmp}
-use Rattle.rtps_discovery.specs.Listings.{pair_cmp}
 use Rattle.rtps_discovery.specs.declared.matching.Pair.{Pair}
 use Rattle.rtps_audit.specs.Groups.{values_at}
 use Rattle.rtps_audit.specs.Speech.{base_for}
 use Rattle.rtps_audit.specs.declared.answer.Answer.{Answer}
+use Rattle.rtps_audit.specs.declared.answer.AnswerKey.{AnswerKey}
 use Rattle.rtps_audit.specs.declared.placed.Placed.{Placed}
 
 -- an act, and the datagram that it stands in, counted from 1
@@ -64,6 +66,18 @@ answers_among pair placed = filter_map (answer_of pair) placed
 abbrev pub AddsActs : BTreeMap Guid (Vec Placed) → BTreeMap Guid (Vec Placed) → List PlacedValue → Type 0
 AddsActs old new placed = (origin : Guid) → map placed_value (values_at guid_cmp new origin) ≡ map placed_value (values_at guid_cmp old origin) ++ filter (is_from origin) placed
 
+-- the key of a pair's answers
+abbrev pub key_of : Pair → AnswerKey
+key_of pair = record { reader = pair.reader; writer = pair.writer }
+
+-- by reader, and then by writer
+abbrev pub key_cmp : AnswerKey → AnswerKey → Ordering
+key_cmp a b = ordering_then (guid_cmp a.reader b.reader) (guid_cmp a.writer b.writer)
+
+-- the answers that are kept of a pair
+abbrev pub answers_kept : BTreeMap AnswerKey (Vec Answer) → Pair → List Answer
+answers_kept map pair = values_at key_cmp map (key_of pair)
+
 -- and so the answers
-abbrev pub AddsAnswers : BTreeMap Pair (Vec Answer) → BTreeMap Pair (Vec Answer) → List PlacedValue → Type 0
-AddsAnswers old new placed = (pair : Pair) → values_at pair_cmp new pair ≡ values_at pair_cmp old pair ++ answers_among pair placed
+abbrev pub AddsAnswers : BTreeMap AnswerKey (Vec Answer) → BTreeMap AnswerKey (Vec Answer) → List PlacedValue → Type 0
+AddsAnswers old new placed = (pair : Pair) → answers_kept new pair ≡ answers_kept old pair ++ answers_among pair placed

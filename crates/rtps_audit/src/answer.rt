@@ -7,7 +7,7 @@ ghost use Rattle.rtps_audit.specs.Placed.{AddsAnswers, answer_of, placed_at};
 
 use crate::groups::Groups;
 use rtps_discovery::Pair;
-use rtps_ids::Memory;
+use rtps_ids::{Guid, Memory};
 use rtps_receiver::{Act, ActBody};
 
 /// An answer of a reader to a writer: the datagram that it stands in, counted from 1, the place of its first octet there,
@@ -29,6 +29,28 @@ impl Answer {
         ensures in_range { result < 2 ^ 63 }
     {
         self.base.max(0).cast_unsigned()
+    }
+}
+
+/// A pair, in the order of the readers' GUIDs and then of the writers'. A reader answers many writers in one datagram, so
+/// its answers stand near one another.
+#[derive(Clone, Copy, PartialEq, Eq, PartialOrd, Ord)]
+pub(crate) struct AnswerKey {
+    reader: Guid,
+    writer: Guid,
+}
+
+impl AnswerKey {
+    ghost use Rattle.rtps_audit.specs.Placed.{key_of};
+
+    /// The key of a pair's answers.
+    pub(crate) fn of(pair: Pair) -> Self
+        ensures { result ≡ key_of pair }
+    {
+        AnswerKey {
+            reader: pair.reader,
+            writer: pair.writer,
+        }
     }
 }
 
@@ -56,21 +78,21 @@ fn answer_in(datagram: usize, act: &Act<'_>) -> Option<(Pair, Answer)>
 
 /// Adds the answer that an act of a datagram is, if it is one. After `Memory` the answers are of no use.
 fn note_answer(
-    answers: &mut Groups<Pair, Answer>,
+    answers: &mut Groups<AnswerKey, Answer>,
     datagram: usize,
     act: &Act<'_>,
 ) -> Result<(), Memory>
     ensures { OnOk result (AddsAnswers answers.old.map answers.new.map (placed_at datagram (act_value act.now ∷ []))) }
 {
     if let Some((pair, answer)) = answer_in(datagram, act) {
-        answers.push(pair, answer)?;
+        answers.push(AnswerKey::of(pair), answer)?;
     }
     Ok(())
 }
 
 /// Adds the answers among the acts of a datagram. After `Memory` the answers are of no use.
 pub(crate) fn note_answers(
-    answers: &mut Groups<Pair, Answer>,
+    answers: &mut Groups<AnswerKey, Answer>,
     datagram: usize,
     acts: &[Act<'_>],
 ) -> Result<(), Memory>

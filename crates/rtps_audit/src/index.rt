@@ -8,7 +8,7 @@ ghost use Rattle.rtps_audit.specs.Placed.{answers_among, is_from, placed_in, pla
 ghost use Rattle.rtps_audit.specs.Report.{is_undirected as is_undirected_lem};
 ghost use Rattle.rtps_audit.specs.Speech.{speech_of};
 
-use crate::answer::{Answer, note_answers};
+use crate::answer::{Answer, AnswerKey, note_answers};
 use crate::groups::Groups;
 use crate::placed::{Placed, note_acts};
 use crate::report::Counts;
@@ -24,7 +24,7 @@ use std::alloc::Global;
 #[derive(Drop)]
 pub struct Index<'a> {
     pub(crate) acts: Groups<Guid, Placed<'a>>,
-    pub(crate) answers: Groups<Pair, Answer>,
+    pub(crate) answers: Groups<AnswerKey, Answer>,
     pub(crate) directory: Directory<'a>,
     pub(crate) counts: Counts,
     pub(crate) alloc: Global,
@@ -84,7 +84,7 @@ impl<'a> Index<'a> {
         ensures { (recording : List (List ℕ)) → IsIndexOf recording self.now
             → result.now ≡ answers_among pair (placed_in recording) }
     {
-        self.answers.of(pair)
+        self.answers.of(AnswerKey::of(pair))
     }
 
     /// What the recording announces. It takes no memory.

@@ -1,4 +1,4 @@
-ghost use Rattle.std.specs.Prelude.{ℕ, ◌≡◌, ◌≢◌, ◌<◌, ◌≤◌, ◌^◌, ◌↔◌, false, true, length, map, All, Contains, IfOk, IfSome, IsTrue, List, MatchOption, Some};
+ghost use Rattle.std.specs.Prelude.{ℕ, ◌≡◌, ◌≢◌, ◌<◌, ◌≤◌, ◌^◌, ◌↔◌, false, true, length, map, take, All, Contains, IfOk, IfSome, IsTrue, List, MatchOption, Some};
 ghost use Rattle.std.specs.List.{AllWithin, HoldsAt};
 ghost use Rattle.std.specs.List.Sorted.{IsNonDecreasingBy};
 ghost use Rattle.std.specs.Option.{ForSome};
@@ -93,12 +93,13 @@ fn run_end(entries: &[AddressedPayload<'_>], start: usize, number: u64) -> usize
     entries.len()
 }
 
-/// Whether one of these payloads is another one.
+/// Whether one of these payloads is another one than this, which is the first of them. It is not compared with itself.
 fn has_other(entries: &[AddressedPayload<'_>], payload: Payload<'_>) -> bool
+    requires first { All (λ entry. payload_value entry.payload ≡ payload_value payload) (take 1 entries.now) }
     ensures other { result ≡ true → (entry : AddressedPayload) × Contains entries.now entry × (payload_value entry.payload ≢ payload_value payload.entry) }
     ensures same { result ≡ false → All (λ entry. payload_value entry.payload ≡ payload_value payload.entry) entries.now }
 {
-    for place in 0..entries.len() {
+    for place in 1..entries.len() {
         if !is_same_payload(entries[place].payload, payload) {
             return true;
         }

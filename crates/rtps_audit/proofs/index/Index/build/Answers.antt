@@ -1,13 +1,30 @@
-use Rattle.std.proofs.Common.{◌+◌, ◌++◌, ◌∙◌, [], ap, arith, filter, map, subst, sym, take}
+use Rattle.std.proofs.Common.{◌+◌, ◌++◌, ◌∙◌, [], ap, arith, filter, map, refl, subst, sym, take}
 use Rattle.std.proofs.lemmas.Grind.{common_steps}
 use Rattle.std.specs.Prelude.{count_by}
 use Rattle.rtps_receiver.specs.Acts.{acts_in}
 use Rattle.rtps_discovery.specs.Directory.{IsMapOf}
-use Rattle.rtps_audit.specs.Placed.{answers_among, is_from, placed_in}
+use Rattle.rtps_audit.specs.Placed.{answers_among, is_from, key_of, placed_in, placed_value}
 use Rattle.rtps_audit.specs.Report.{is_undirected}
 use Rattle.rtps_audit.proofs.PlacedActs.{placed_on, acts_in_more}
 use Rattle.rtps_audit.proofs.PlacedLemmas.{acts_joined, answers_joined}
 use Rattle.rtps_audit.proofs.index.Index.build.Goals as goal
+
+pub loop-datagram-init : goal.loop-datagram-init
+loop-datagram-init c = record {
+  place = refl;
+  acts = λ origin. ap (map placed_value) (c.new-acts.ensures origin);
+  answers = λ pair. c.new-answers.ensures (key_of pair);
+  map = c.new-directory.ensures.map;
+  datagrams = refl;
+  refused = refl;
+  skipped = refl;
+  fragments = refl;
+  undirected = refl;
+  few_refused = omega arith;
+  few_skipped = omega arith;
+  few_fragments = omega arith;
+  few_undirected = omega arith;
+}
 
 pub loop-datagram-preserved : goal.loop-datagram-preserved
 loop-datagram-preserved c =
