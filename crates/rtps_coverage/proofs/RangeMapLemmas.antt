@@ -16,7 +16,7 @@ use Rattle.std.proofs.lemmas.Bool.Decides.{nat_tests}
 use Rattle.std.proofs.lemmas.Option.{none-some, same_Some}
 use Rattle.std.proofs.lemmas.List.Folds.{list_any_none}
 use Rattle.rtps_coverage.specs.Spans.{has_number}
-use Rattle.rtps_coverage.specs.RangeMap.{IsApart, HasRange, IsLastUpTo, IsFirstPast, IsRangeWith, IsClear, kept_has, values_all}
+use Rattle.rtps_coverage.specs.RangeMap.{IsApart, HasRange, IsLastUpTo, IsFirstPast, IsRangeWith, IsClear, IsLastRange, kept_has, values_all}
 use Rattle.rtps_coverage.specs.declared.coverage.Span.{Span}
 
 -- ---- comparisons of keys
@@ -234,7 +234,24 @@ clear_has kept lo hi n ordered clear from to =
       | inr le ↦ let a = clear.before key span e le in not_past n span (omega arith)
     ])
 
+-- what begins past the end of the last range is clear of all
+pub clear_past : (kept : BTreeMap ℕ Span) (lo hi key : ℕ) (last : Span) → IsApart kept → IsLastRange kept key last → last.hi < lo → IsClear kept lo hi
+clear_past kept lo hi key last h is past = record {
+  before = λ other that e le. elim (cases_lt other key) [
+    | inl lt ↦ let a = h.apart other key that last e is.kept_here lt in let b = h.from key last is.kept_here in let d = h.to key last is.kept_here in omega arith
+    | inr ge ↦
+        let up = is.greatest other that e in
+        let same : last ≡ that = kept_once kept key other last that is.kept_here e (omega arith) in
+        subst (λ (s : Span). s.hi < lo) same past
+  ];
+  after = λ other that e lt. let up = is.greatest other that e in let d = h.to key last is.kept_here in absurd (omega arith);
+}
+
 -- ---- ranges that join
+
+-- numbers that lie in a range add nothing
+pub adds_none : (lo hi from to n : ℕ) (rest : Bool) → (from ≤ n → n < to → rest ≡ true) → from ≤ lo → hi ≤ to → rest ≡ (rest || (nat_le lo n && nat_lt n hi))
+adds_none lo hi from to n rest f a b = grind (arith, nat_tests)
 
 -- a range that begins between lo and end is taken in by the numbers from lo on: both are one range then
 pub absorbs : (lo from end to reached n : ℕ) (rest : Bool) → lo ≤ from → from ≤ end → end ≤ reached → to ≤ reached → ((reached ≡ end) ⊎ (reached ≡ to))

@@ -57,10 +57,6 @@ fn first_touching(kept: &BTreeMap<u64, Span>, lo: u64, hi: u64) -> Option<(u64, 
     requires ordered { lo < hi }
     ensures { MatchOption result (IsClear kept.now lo hi) (λ p. IsFirstTouching kept.now lo hi p.0 p.1) }
 {
-    let (_, last) = last_range(kept)?;
-    if last.hi < lo {
-        return None;
-    }
     if let Some((key, span)) = last_up_to(kept, lo) {
         if lo <= span.hi {
             return Some((key, span));
@@ -125,6 +121,9 @@ fn grow(kept: &mut BTreeMap<u64, Span>, key: u64, first: Span, lo: u64, hi: u64)
     ensures has { (n : ℕ) → kept_has kept.new n ≡ (kept_has kept.old n || (nat_le lo n && nat_lt n hi)) }
     ensures len { btree_map_len kept.new ≤ btree_map_len kept.old }
 {
+    if first.lo <= lo && hi <= first.hi {
+        return;
+    }
     let lo = lo.min(first.lo);
     let hi = absorb(kept, key, lo, hi.max(first.hi));
     widen(kept, key, Span { lo, hi });
@@ -162,7 +161,10 @@ pub(crate) fn join(kept: &mut BTreeMap<u64, Span>, lo: u64, hi: u64) -> Result<(
         → IsOk result × (btree_map_len kept.new ≤ btree_map_len kept.old) }
 {
     if let Some((key, last)) = last_range(kept) {
-        if last.lo <= lo && lo <= last.hi {
+        if last.hi < lo {
+            return insert(kept, lo, hi);
+        }
+        if last.lo <= lo {
             let hi = hi.max(last.hi);
             widen(kept, key, Span { lo: last.lo, hi });
             return Ok(());
