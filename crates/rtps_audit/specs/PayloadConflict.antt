@@ -21,9 +21,9 @@ IsInRange entry = (1 ≤ entry.number) × (entry.number < 2 ^ 63)
 
 -- the entry is what a DATA says, and whom it is for
 pub record IsSentBy (act : ActValue) (entry : AddressedPayload) : Type 0 where
-  pub dest : act.dest ≡ entry.audience.dest
-  pub reader : reader_named act.body ≡ Some entry.audience.reader
-  pub says : (n : ℕ) → word_of act.body n ≡ (if n == entry.number then Some (Told (payload_value entry.payload)) else None)
+  pub dest : act.dest ≡ entry.dest.now
+  pub reader : reader_named act.body ≡ Some entry.data.now.reader
+  pub says : (n : ℕ) → word_of act.body n ≡ (if n == entry.number then Some (Told (payload_value entry.data.now.payload)) else None)
 
 -- the entries are those of the DATA among these acts whose numbers are asked for
 pub record AreSentIn (from : ℕ) (placed : List PlacedValue) (entries : List AddressedPayload) : Type 0 where
@@ -38,7 +38,7 @@ pub record HasTwo (Among : AddressedPayload → Type 0) (n : ℕ) : Type 0 where
   pub other_among : Among other
   pub one_number : one.number ≡ n
   pub other_number : other.number ≡ n
-  pub differ : payload_value one.payload ≢ payload_value other.payload
+  pub differ : payload_value one.data.now.payload ≢ payload_value other.data.now.payload
 
 -- kept are those of the entries whose number has two different payloads
 abbrev pub AreConflictsAmong : List AddressedPayload → List AddressedPayload → Type 0
@@ -52,9 +52,9 @@ pub record AreConflictsOf (from : ℕ) (kept : List AddressedPayload) (placed : 
 
 -- it is among these entries, and the reader hears it
 abbrev pub IsHeardAmong : List AddressedPayload → Guid → AddressedPayload → Type 0
-IsHeardAmong entries reader entry = Contains entries entry × (is_among entry.audience.dest (Some entry.audience.reader) reader ≡ true)
+IsHeardAmong entries reader entry = Contains entries entry × (is_among entry.dest.now (Some entry.data.now.reader) reader ≡ true)
 
 -- there is an entry before this one, with another payload for the same number
 abbrev pub IsAnother : Option AddressedPayload → AddressedPayload → Type 0
 IsAnother None here = ⊥
-IsAnother (Some before) here = (before.number ≡ here.number) × (payload_value before.payload ≢ payload_value here.payload)
+IsAnother (Some before) here = (before.number ≡ here.number) × (payload_value before.data.now.payload ≢ payload_value here.data.now.payload)

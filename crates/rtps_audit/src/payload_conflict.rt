@@ -14,30 +14,30 @@ ghost use Rattle.rtps_audit.specs.Speech.{word_of};
 
 use crate::payload::is_same_payload;
 use crate::placed::Placed;
-use rtps_ids::{Guid, Memory};
+use rtps_ids::{Guid, GuidPrefix, Memory};
 use rtps_receiver::{Act, ActBody, Audience};
-use rtps_wire::Payload;
+use rtps_wire::{DataBody, Payload};
 use std::alloc::Global;
 
-/// What a DATA says, and whom it is for.
+/// What a DATA says, and whom it is for. It borrows both, so that little is moved where these are put in order.
 #[derive(Clone, Copy)]
-pub(crate) struct AddressedPayload<'a> {
-    pub(crate) audience: Audience,
+pub(crate) struct AddressedPayload<'x, 'a> {
     pub(crate) number: u64,
-    pub(crate) payload: Payload<'a>,
+    pub(crate) dest: &'x Option<GuidPrefix>,
+    pub(crate) data: &'x DataBody<'a>,
 }
 
 /// Of a writer's DATA, those of each number that has two different payloads, whoever hears them, in the order of
 /// numbers. Mostly there are none.
 #[derive(Drop)]
-pub(crate) struct PayloadConflicts<'a> {
-    pub(crate) payloads: Vec<AddressedPayload<'a>>,
+pub(crate) struct PayloadConflicts<'x, 'a> {
+    pub(crate) payloads: Vec<AddressedPayload<'x, 'a>>,
     ghost sorted: { IsNonDecreasingBy number_in payloads.items },
     ghost in_range: { All IsInRange payloads.items },
 }
 
 /// What an act says if it is a DATA whose number is `from` or a greater one; None of anything else.
-fn addressed<'a>(act: &Act<'a>, from: u64) -> Option<AddressedPayload<'a>>
+fn addressed<'x, 'a>(act: &'x Act<'a>, from: u64) -> Option<AddressedPayload<'x, 'a>>
     ensures { MatchOption result
         ((n : ℕ) (x : PayloadValue) → IsAsked from n → word_of (act_value act.now).body n ≢ Some (Word.Told x))
         (λ entry. IsSentBy (act_value act.now) entry × IsAsked from entry.number × IsInRange entry) }
@@ -50,21 +50,18 @@ fn addressed<'a>(act: &Act<'a>, from: u64) -> Option<AddressedPayload<'a>>
         return None;
     }
     Some(AddressedPayload {
-        audience: Audience {
-            dest: act.dest,
-            reader: data.reader,
-        },
         number,
-        payload: data.payload,
+        dest: &act.dest,
+        data,
     })
 }
 
 /// The DATA among these acts whose number is `from` or a greater one, in the order of sending.
-fn collect<'a>(
+fn collect<'x, 'a>(
     alloc: Global,
-    acts: &[Placed<'a>],
+    acts: &'x [Placed<'a>],
     from: u64,
-) -> Result<Vec<AddressedPayload<'a>>, Memory>
+) -> Result<Vec<AddressedPayload<'x, 'a>>, Memory>
     ensures sent { IfOk result (λ entries. AreSentIn from (map placed_value acts.now) entries.items) }
     ensures in_range { IfOk result (λ entries. All IsInRange entries.items) }
 {
@@ -78,7 +75,7 @@ fn collect<'a>(
 }
 
 /// The first place from this one on that has another number; the end, where none has.
-fn run_end(entries: &[AddressedPayload<'_>], start: usize, number: u64) -> usize
+fn run_end(entries: &[AddressedPayload<'_, '_>], start: usize, number: u64) -> usize
     requires { start ≤ length entries.now }
     ensures onward { start ≤ result }
     ensures within { result ≤ length entries.now }
@@ -94,13 +91,14 @@ fn run_end(entries: &[AddressedPayload<'_>], start: usize, number: u64) -> usize
 }
 
 /// Whether one of these payloads is another one than this, which is the first of them. It is not compared with itself.
-fn has_other(entries: &[AddressedPayload<'_>], payload: Payload<'_>) -> bool
-    requires first { All (λ entry. payload_value entry.payload ≡ payload_value payload) (take 1 entries.now) }
-    ensures other { result ≡ true → (entry : AddressedPayload) × Contains entries.now entry × (payload_value entry.payload ≢ payload_value payload.entry) }
-    ensures same { result ≡ false → All (λ entry. payload_value entry.payload ≡ payload_value payload.entry) entries.now }
+fn has_other(entries: &[AddressedPayload<'_, '_>], payload: Payload<'_>) -> bool
+    requires first { All (λ entry. payload_value entry.data.now.payload ≡ payload_value payload) (take 1 entries.now) }
+    ensures other { result ≡ true → (entry : AddressedPayload) × Contains entries.now entry × (payload_value entry.data.now.payload ≢ payload_value payload.entry) }
+    ensures same { result ≡ false → All (λ entry. payload_value entry.data.now.payload ≡ payload_value payload.entry) entries.now }
 {
     for place in 1..entries.len() {
-        if !is_same_payload(entries[place].payload, payload) {
+        let other = entries[place];
+        if !is_same_payload(other.data.payload, payload) {
             return true;
         }
     }
@@ -108,20 +106,20 @@ fn has_other(entries: &[AddressedPayload<'_>], payload: Payload<'_>) -> bool
 }
 
 /// Whether the payload that was heard before is another one for the same number.
-fn is_another(before: Option<AddressedPayload<'_>>, here: AddressedPayload<'_>) -> bool
+fn is_another(before: Option<AddressedPayload<'_, '_>>, here: AddressedPayload<'_, '_>) -> bool
     ensures { IsTrue result ↔ IsAnother before.entry here.entry }
 {
     match before {
         Some(before) => {
-            before.number == here.number && !is_same_payload(before.payload, here.payload)
+            before.number == here.number && !is_same_payload(before.data.payload, here.data.payload)
         }
         None => false,
     }
 }
 
-impl<'a> PayloadConflicts<'a> {
+impl<'x, 'a> PayloadConflicts<'x, 'a> {
     /// Of these, which are in the order of numbers: the runs of one number in which two payloads differ.
-    fn among(alloc: Global, entries: &[AddressedPayload<'a>]) -> Result<Self, Memory>
+    fn among(alloc: Global, entries: &[AddressedPayload<'x, 'a>]) -> Result<Self, Memory>
         requires sorted { IsNonDecreasingBy number_in entries.now }
         requires in_range { All IsInRange entries.now }
         ensures { IfOk result (λ conflicts. AreConflictsAmong entries.now conflicts.payloads.items) }
@@ -132,7 +130,7 @@ impl<'a> PayloadConflicts<'a> {
             let first = entries[start];
             let end = run_end(entries, start + 1, first.number);
             let run = &entries[start..end];
-            if has_other(run, first.payload) {
+            if has_other(run, first.data.payload) {
                 payloads.extend_from_slice(run)?;
             }
             start = end;
@@ -142,7 +140,7 @@ impl<'a> PayloadConflicts<'a> {
 
     /// Of the DATA among a writer's acts whose number is `from` or a greater one. It takes the time of the acts where
     /// their numbers came in order, as most do. `Memory` is answered where there is none for all these DATA.
-    pub(crate) fn of(alloc: Global, acts: &[Placed<'a>], from: u64) -> Result<Self, Memory>
+    pub(crate) fn of(alloc: Global, acts: &'x [Placed<'a>], from: u64) -> Result<Self, Memory>
         ensures { IfOk result (λ conflicts. AreConflictsOf from conflicts.payloads.items (map placed_value acts.now)) }
     {
         let mut entries = collect(alloc, acts, from)?;
@@ -162,7 +160,11 @@ impl<'a> PayloadConflicts<'a> {
         let mut before = None;
         for place in 0..self.payloads.len() {
             let here = self.payloads[place];
-            if here.audience.has(reader) {
+            let audience = Audience {
+                dest: *here.dest,
+                reader: here.data.reader,
+            };
+            if audience.has(reader) {
                 if is_another(before, here) {
                     return Some(here.number);
                 }

@@ -120,7 +120,7 @@ impl AskedReader {
 
     /// The verdict, where all its answers are noted, this is the last number that its writer announces, and these are the
     /// conflicts among the writer's payloads.
-    fn verdict(&self, conflicts: &PayloadConflicts<'_>, last: u64) -> Verdict
+    fn verdict(&self, conflicts: &PayloadConflicts<'_, '_>, last: u64) -> Verdict
         requires { last < 2 ^ 63 }
         ensures { (from : ℕ) (recording : List (List ℕ)) → 1 ≤ from → IsAllKnown from recording conflicts.now last self.now
             → IsVerdictFrom from (speech_of self.now.pair.writer self.now.pair.reader recording) result }
@@ -199,7 +199,7 @@ impl Sweep {
     fn rows(
         &self,
         alloc: Global,
-        conflicts: &PayloadConflicts<'_>,
+        conflicts: &PayloadConflicts<'_, '_>,
         last: u64,
     ) -> Result<Vec<Row>, Memory>
         requires { last < 2 ^ 63 }

@@ -10,21 +10,21 @@ pub returns-then-is_another-clause-conflict : goal.returns-then-is_another-claus
 returns-then-is_another-clause-conflict c = λ from writer placed known writers.
     let xs = c.args.self.now.payloads.items in
     let within : c.loop-place.place < length xs = omega (arith, c.loop-place-test.true, c.len-place-end.ensures) in
-    let least = heard_least xs c.loop-place.place c.args.reader c.loop-place.before c.index.result.now c.args.self.now.sorted within c.index.ensures (sym c.has.ensures ∙ c.if-has.true) (c.is_another.ensures.0 (search rules)) c.loop-place.invariant in
+    let least = heard_least xs c.loop-place.place c.args.reader c.loop-place.before c.index-here.result.now c.args.self.now.sorted within c.index-here.ensures (sym c.has.ensures ∙ c.if-has.true) (c.is_another.ensures.0 (search rules)) c.loop-place.invariant in
     record { holds = two_heard from xs writer c.args.reader placed _ known writers least.holds; least = λ m two. least.least m (two_kept from xs writer c.args.reader placed m known two) }
 
 pub loop-place-preserved : goal.loop-place-preserved
 loop-place-preserved c =
     let xs = c.args.self.now.payloads.items in
     let place = c.loop-place.place in
-    let here = c.index.result.now in
+    let here = c.index-here.result.now in
     let within : place < length xs = omega (arith, c.loop-place-test.true, c.len-place-end.ensures) in
-    let more : take place xs ++ here ∷ [] ≡ take (place + 1) xs = ap (λ x. take place xs ++ x ∷ []) c.index.ensures ∙ sym (take_more xs place here within) in
+    let more : take place xs ++ here ∷ [] ≡ take (place + 1) xs = ap (λ x. take place xs ++ x ∷ []) c.index-here.ensures ∙ sym (take_more xs place here within) in
     elim c.if-has.branch [
       | then-has+else-is_another w ↦ subst (λ b. IsHeardSoFar (take (place + 1) xs) c.args.reader b) (sym w.before-is)
           (subst (λ l. IsHeardSoFar l c.args.reader (Some here)) more
           (heard_more (take place xs) c.args.reader c.loop-place.before here (sym c.has.ensures ∙ w.if-has.true)
-          (λ e among. subst (λ x. number_in e ≤ number_in x) (sym c.index.ensures) (none_greater xs place here e c.args.self.now.sorted within among)) (λ other. let no = w.is_another.ensures.1 other in search rules) c.loop-place.invariant))
+          (λ e among. subst (λ x. number_in e ≤ number_in x) (sym c.index-here.ensures) (none_greater xs place here e c.args.self.now.sorted within among)) (λ other. let no = w.is_another.ensures.1 other in search rules) c.loop-place.invariant))
       | else-has w ↦ subst (λ b. IsHeardSoFar (take (place + 1) xs) c.args.reader b) (sym w.before-is)
           (subst (λ l. IsHeardSoFar l c.args.reader c.loop-place.before) more (heard_skip (take place xs) c.args.reader c.loop-place.before here (sym c.has.ensures ∙ w.if-has.false) c.loop-place.invariant))
     ]
