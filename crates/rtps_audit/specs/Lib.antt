@@ -8,6 +8,7 @@ pub mod Delivered
 pub mod KeptPayloads
 pub mod Groups
 pub mod Placed
+pub mod AnnouncedPlaces
 pub mod Answered
 pub mod PayloadConflict
 pub mod Index

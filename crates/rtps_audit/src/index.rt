@@ -4,11 +4,13 @@ ghost use Rattle.rtps_receiver.specs.Values.{act_value};
 ghost use Rattle.rtps_discovery.specs.Directory.{IsMapOf};
 ghost use Rattle.rtps_audit.specs.Delivered.{IsExactVerdict, IsExactVerdictFrom};
 ghost use Rattle.rtps_audit.specs.Index.{IsIndexOf};
+ghost use Rattle.rtps_audit.specs.AnnouncedPlaces.{announced_among};
 ghost use Rattle.rtps_audit.specs.Placed.{answers_among, is_from, placed_in, placed_value};
 ghost use Rattle.rtps_audit.specs.Report.{is_undirected as is_undirected_lem};
 ghost use Rattle.rtps_audit.specs.Speech.{speech_of};
 
 use crate::answer::{Answer, AnswerKey, note_answers};
+use crate::announced_places::{AnnouncedPlace, note_places};
 use crate::groups::Groups;
 use crate::placed::{Placed, note_acts};
 use crate::report::Counts;
@@ -25,6 +27,7 @@ use std::alloc::Global;
 pub struct Index<'a> {
     pub(crate) acts: Groups<Guid, Placed<'a>>,
     pub(crate) answers: Groups<AnswerKey, Answer>,
+    pub(crate) announced: Groups<Guid, AnnouncedPlace>,
     pub(crate) directory: Directory<'a>,
     pub(crate) counts: Counts,
     pub(crate) alloc: Global,
@@ -38,6 +41,7 @@ impl<'a> Index<'a> {
     {
         let mut acts = Groups::new(alloc);
         let mut answers = Groups::new(alloc);
+        let mut announced = Groups::new(alloc);
         let mut directory = Directory::new(alloc);
         let mut walk = Walk::new(alloc);
         let mut place = 0usize;
@@ -54,6 +58,7 @@ impl<'a> Index<'a> {
             let tally = walk.read(datagram)?;
             note_acts(&mut acts, place, walk.acts())?;
             note_answers(&mut answers, place, walk.acts())?;
+            note_places(&mut announced, place, walk.acts())?;
             let _ = directory.note_all(walk.acts())?;
             counts.refused += one_if(tally.refused);
             counts.skipped += u128::from(tally.skipped);
@@ -64,6 +69,7 @@ impl<'a> Index<'a> {
         Ok(Index {
             acts,
             answers,
+            announced,
             directory,
             counts,
             alloc,
@@ -85,6 +91,15 @@ impl<'a> Index<'a> {
             → result.now ≡ answers_among pair (placed_in recording) }
     {
         self.answers.of(AnswerKey::of(pair))
+    }
+
+    /// Where the recording announces the endpoint of this GUID, as a writer or a reader, in the order of sending. It takes no
+    /// memory.
+    pub fn announced_at(&self, guid: Guid) -> &[AnnouncedPlace]
+        ensures { (recording : List (List ℕ)) → IsIndexOf recording self.now
+            → result.now ≡ announced_among guid (placed_in recording) }
+    {
+        self.announced.of(guid)
     }
 
     /// What the recording announces. It takes no memory.

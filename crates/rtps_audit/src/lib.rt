@@ -2,6 +2,7 @@
 //! (DDSI-RTPS 2.5, 8.4 "Behavior Module").
 #![tactic(auto)]
 
+mod announced_places;
 mod answer;
 mod groups;
 mod index;
@@ -16,6 +17,7 @@ mod told;
 mod verdict;
 mod word;
 
+pub use announced_places::AnnouncedPlace;
 pub use answer::Answer;
 pub use index::Index;
 pub use placed::Placed;

@@ -2,6 +2,7 @@
 //! and readers match.
 #![tactic(auto)]
 
+mod announced;
 mod announcement;
 mod directory_map;
 mod endpoint;
@@ -15,6 +16,7 @@ mod notice;
 mod offers;
 mod topic_index;
 
+pub use announced::announced_endpoint;
 pub use announcement::{read_endpoint, read_participant};
 pub use directory_map::Directory;
 pub use endpoint::{Durability, Endpoint, Reliability, Side};

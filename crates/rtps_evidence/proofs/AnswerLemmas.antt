@@ -83,3 +83,8 @@ claimed datagram n pair placed = found_among (λ d b. (d == datagram) && nat_lt 
     never : (b : Bool) → (b && nat_lt n 0) ≡ false
     never true = grind (arith, nat_tests)
     never false = refl
+
+-- the first answer that claims a number is the first act that does
+pub claimed_first : (n : ℕ) (pair : Pair) (placed : List PlacedValue)
+    → find (λ (claim : Claim). nat_lt n (natural claim.below)) (map claim_in (answers_among pair placed)) ≡ option_map (claim_at pair.writer pair.reader) (find (λ at. nat_lt n (base_said pair.writer pair.reader at)) placed)
+claimed_first n pair placed = found_among (λ d b. nat_lt n b) pair placed (λ d. grind (arith, nat_tests))

@@ -8,3 +8,11 @@ pub mod RowLemmas
 pub mod HeardLemmas
 pub mod OneExplanation
 pub mod AnswerLemmas
+pub mod PlacedOrder
+pub mod HushedRuns
+pub mod ReceivedRuns
+pub mod RisingLemmas
+pub mod ClaimedLemmas
+pub mod NotReceivedLemmas
+pub mod QuestionLemmas
+pub mod MissedLemmas

@@ -23,11 +23,17 @@ one_evidence from pair recording one other same is also =
     let payloads = is.amounts.payloads ∙ sym also.amounts.payloads in
     let gone = is.amounts.gone ∙ sym also.amounts.gone in
     let untold = is.amounts.untold ∙ sym also.amounts.untold in
+    let received = is.received.count ∙ sym also.received.count in
+    let not_received = is.received.not_received ∙ sym also.received.not_received in
+    let missed = is.missed.count ∙ sym also.missed.count in
+    let first_missed = is.missed.first ∙ sym also.missed.first in
+    let asked_since = is.questions.count ∙ sym also.questions.count in
+    let last_asked = is.questions.last ∙ sym also.questions.last in
     let teller = is.teller ∙ ap (λ (v : Verdict). teller_by v pair.writer pair.reader (placed_in recording)) same ∙ sym also.teller in
     let claim = is.claim ∙ ap (λ (v : Verdict). claim_by v pair.writer pair.reader (placed_in recording)) same ∙ sym also.claim in
     let first = is.first ∙ ap (λ (v : Verdict). first_by v pair.writer pair.reader (placed_in recording)) same ∙ sym also.first in
     let another = is.other ∙ ap (λ (v : Verdict). other_by v pair.writer pair.reader (placed_in recording)) same ∙ sym also.other in
-    rw (same, announcement, acknowledgement, payloads, gone, untold, teller, claim, first, another) refl
+    rw (same, announcement, acknowledgement, payloads, gone, untold, received, not_received, missed, first_missed, asked_since, last_asked, teller, claim, first, another) refl
 
 value_is : (one other : ExplanationValue) → one.pair ≡ other.pair → one.topic ≡ other.topic → one.type_name ≡ other.type_name → one.evidence ≡ other.evidence → one ≡ other
 value_is one other pair topic type_name evidence =

@@ -11,6 +11,9 @@ use Rattle.rtps_audit.specs.declared.verdict.Verdict.{Verdict}
 use Rattle.rtps_audit.specs.declared.verdict.Verdict.TheVariants.{Unfounded, Conflict, Open, Complete}
 use Rattle.rtps_evidence.specs.Locations.{SentValue, acknowledgement_of, announcement_of, claim_of, first_sent, other_sent, sent_value, teller_of}
 use Rattle.rtps_evidence.specs.Amount.{AreAmounts}
+use Rattle.rtps_evidence.specs.Missed.{AreMissed}
+use Rattle.rtps_evidence.specs.Questions.{AreQuestions}
+use Rattle.rtps_evidence.specs.Received.{AreReceived}
 use Rattle.rtps_evidence.specs.declared.acknowledgement.Claim.{Claim}
 use Rattle.rtps_evidence.specs.declared.teller.Teller.{Teller}
 use Rattle.rtps_evidence.specs.declared.evidence.Evidence.{Evidence}
@@ -50,6 +53,9 @@ pub record IsEvidenceFrom (from : ℕ) (pair : Pair) (recording : List (List ℕ
   pub announcement : evidence.announcement ≡ announcement_of from pair.writer (last_announced_from from (speech_of pair.writer pair.reader recording)) (placed_in recording)
   pub acknowledgement : evidence.acknowledgement ≡ acknowledgement_of from pair.writer pair.reader (placed_in recording)
   pub amounts : AreAmounts from (last_announced_from from (speech_of pair.writer pair.reader recording)) pair.writer pair.reader (placed_in recording) (record { payloads = evidence.payloads; gone = evidence.gone; untold = evidence.untold })
+  pub received : AreReceived from (last_announced_from from (speech_of pair.writer pair.reader recording)) pair.writer pair.reader (placed_in recording) (record { count = evidence.received; not_received = evidence.not_received })
+  pub missed : AreMissed from (last_announced_from from (speech_of pair.writer pair.reader recording)) pair.writer pair.reader (placed_in recording) (record { count = evidence.missed; first = evidence.first_missed })
+  pub questions : AreQuestions pair.writer pair.reader (placed_in recording) (record { count = evidence.asked_since; last = evidence.last_asked })
   pub teller : evidence.teller ≡ teller_by evidence.verdict pair.writer pair.reader (placed_in recording)
   pub claim : evidence.claim ≡ claim_by evidence.verdict pair.writer pair.reader (placed_in recording)
   pub first : option_map sent_value evidence.first_sent ≡ first_by evidence.verdict pair.writer pair.reader (placed_in recording)

@@ -16,6 +16,9 @@ use Rattle.rtps_evidence.specs.declared.last_announcement.Announcement.{Announce
 use Rattle.rtps_evidence.specs.declared.acknowledgement.Claim.{Claim}
 use Rattle.rtps_evidence.specs.declared.explanation.Explained.{Explained}
 use Rattle.rtps_evidence.specs.declared.explanation.Explanation.{Explanation}
+use Rattle.rtps_evidence.specs.declared.first_missed.FirstMissed.{FirstMissed}
+use Rattle.rtps_evidence.specs.declared.location.Location.{Location}
+use Rattle.rtps_evidence.specs.declared.not_received.NotReceived.{NotReceived}
 use Rattle.rtps_evidence.specs.declared.teller.Teller.{Teller}
 use Rattle.rtps_evidence.specs.declared.evidence.Evidence.{Evidence}
 
@@ -27,6 +30,12 @@ pub record EvidenceValue : Type 0 where
   pub payloads : ℕ
   pub gone : ℕ
   pub untold : ℕ
+  pub received : ℕ
+  pub not_received : Option NotReceived
+  pub missed : ℕ
+  pub first_missed : Option FirstMissed
+  pub asked_since : ℕ
+  pub last_asked : Option Location
   pub teller : Option Teller
   pub claim : Option Claim
   pub first_sent : Option SentValue
@@ -42,6 +51,12 @@ evidence_value evidence =
       payloads = evidence.payloads;
       gone = evidence.gone;
       untold = evidence.untold;
+      received = evidence.received;
+      not_received = evidence.not_received;
+      missed = evidence.missed;
+      first_missed = evidence.first_missed;
+      asked_since = evidence.asked_since;
+      last_asked = evidence.last_asked;
       teller = evidence.teller;
       claim = evidence.claim;
       first_sent = option_map sent_value evidence.first_sent;

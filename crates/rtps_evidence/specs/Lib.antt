@@ -1,5 +1,10 @@
 pub mod Locations
 pub mod Amount
+pub mod Rising
+pub mod Received
+pub mod Claimed
+pub mod Missed
+pub mod Questions
 pub mod Evidence
 pub mod Certificates
 pub mod Explanation

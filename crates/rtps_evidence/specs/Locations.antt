@@ -1,8 +1,8 @@
 -- Where a recording shows what a pair said: who announced a number, who told it, what was sent for it, and what was
 -- answered. DDSI-RTPS 2.5, 8.3.8.1 "AckNack", 8.3.8.2 "Data", 8.3.8.4 "Gap" and 8.3.8.6 "Heartbeat". Acts are those of a
 -- recording, by datagram and then by place.
-use Rattle.std.specs.Prelude.{ℕ, pos, Bool, true, false, ◌==◌, ◌&&◌, nat_lt, if◌then◌else◌, List, map, Option, Some, None, is_some, not, unwrap_or}
-use Rattle.std.specs.List.{find}
+use Rattle.std.specs.Prelude.{ℕ, pos, Bool, true, false, ◌==◌, ◌&&◌, ◌||◌, nat_lt, if◌then◌else◌, List, filter, map, Option, Some, None, is_some, not, unwrap_or}
+use Rattle.std.specs.List.{find, last_or}
 use Rattle.std.specs.Option.{option_map}
 use Rattle.std.specs.Str.{bytes_eq}
 use Rattle.rtps_ids.specs.declared.identity.Guid.{Guid}
@@ -27,6 +27,15 @@ use Rattle.rtps_wire.specs.Values.{payload_value}
 -- where an act stands
 abbrev pub location_of : PlacedValue → Location
 location_of placed = record { datagram = placed.datagram; at = placed.act.at }
+
+-- an act stands behind a place: in a later datagram, or as a later submessage of the same one. Behind no place stands all
+abbrev pub is_behind : Option Location → PlacedValue → Bool
+is_behind None placed = true
+is_behind (Some place) placed = nat_lt place.datagram placed.datagram || ((place.datagram == placed.datagram) && nat_lt place.at placed.act.at)
+
+-- the last act that passes
+abbrev pub find_last : (PlacedValue → Bool) → List PlacedValue → Option PlacedValue
+find_last test acts = last_or None (filter test acts)
 
 -- which submessage it is
 abbrev pub kind_of : ActBodyValue → Kind

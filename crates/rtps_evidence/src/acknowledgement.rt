@@ -20,7 +20,7 @@ pub struct Claim {
 }
 
 /// What an answer claims, and where it stands.
-fn claim_in(answer: &Answer) -> Claim
+pub(crate) fn claim_in(answer: &Answer) -> Claim
     ensures { result ≡ claim_in_lem answer.now }
 {
     Claim {
@@ -33,7 +33,7 @@ fn claim_in(answer: &Answer) -> Claim
 }
 
 /// The greatest base of these answers, or 0.
-fn greatest_base(answers: &[Answer]) -> u64
+pub(crate) fn greatest_base(answers: &[Answer]) -> u64
     ensures value { result ≡ greatest (map (λ answer. natural answer.base) answers.now) }
     ensures in_range { result < 2 ^ 63 }
 {

@@ -63,7 +63,7 @@ fn count_in_order(stretches: &[Stretch], from: u64, end: u64) -> u64
 }
 
 /// How many of the numbers from `from` on and below `end` lie in these stretches.
-fn count_of(stretches: &mut Vec<Stretch>, from: u64, end: u64) -> Result<u64, Memory>
+pub(crate) fn count_of(stretches: &mut Vec<Stretch>, from: u64, end: u64) -> Result<u64, Memory>
     requires { from ≤ end }
     ensures { IfOk result (λ count. count ≡ count_in (stretches_have stretches.old.items) from end) }
 {

@@ -7,7 +7,14 @@ ghost use Rattle.rtps_evidence.specs.Locations.{sent_value};
 ghost use Rattle.rtps_evidence.specs.Evidence.{claim_by as claim_by_lem, first_by as first_by_lem, other_by as other_by_lem, teller_by as teller_by_lem};
 
 use crate::acknowledgement::{Claim, find_acknowledgement, find_claim};
+use crate::first_missed::FirstMissed;
 use crate::last_announcement::Announcement;
+use crate::location::Location;
+use crate::missed::count_missed;
+use crate::missed_numbers::{Listener, find_missed};
+use crate::not_received::NotReceived;
+use crate::questions::questions_since;
+use crate::received::{count_received, received_numbers};
 use crate::sent_payload::{Sent, first_sent, other_sent};
 use crate::teller::{Teller, find_teller};
 use crate::writer_summary::WriterSummary;
@@ -32,6 +39,20 @@ pub struct Evidence<'a> {
     pub gone: u64,
     /// How many of them have no word.
     pub untold: u64,
+    /// How many of them the reader received for certain: where there is a run, every run ends with a payload for each.
+    pub received: u64,
+    /// The least of them that it may not have received, and what keeps it from being certain; None where there is none.
+    pub not_received: Option<NotReceived>,
+    /// How many of them it missed: it may not have received them, it asked for them, and a payload for each was sent to it behind
+    /// its first announcement.
+    pub missed: u64,
+    /// The least of them; None where there is none.
+    pub first_missed: Option<FirstMissed>,
+    /// How many HEARTBEATs without the final flag the reader hears from the writer behind its last answer to it, or behind the
+    /// beginning where there is none.
+    pub asked_since: u64,
+    /// Where the last of them stands.
+    pub last_asked: Option<Location>,
     /// Where the verdict is open or unfounded: the first act that tells the reader of its number, before the claim or behind
     /// it; None where there is none.
     pub teller: Option<Teller>,
@@ -78,6 +99,12 @@ impl<'a> Evidence<'a> {
     {
         let acts = index.acts_of(row.pair.writer);
         let amounts = summary.amounts(alloc, index, row.pair.reader)?;
+        let mut numbers = received_numbers(alloc, index, row.pair)?;
+        let listener = Listener::of(index, row.pair);
+        let mut missed = find_missed(alloc, index, &listener, &numbers)?;
+        let missed = count_missed(&mut missed, index, row.pair, &summary.asked)?;
+        let received = count_received(&mut numbers, index, row.pair, &summary.asked)?;
+        let questions = questions_since(index, row.pair);
         Ok(Evidence {
             verdict: row.verdict,
             announcement: summary.announcement,
@@ -85,6 +112,12 @@ impl<'a> Evidence<'a> {
             payloads: amounts.payloads,
             gone: amounts.gone,
             untold: amounts.untold,
+            received: received.count,
+            not_received: received.not_received,
+            missed: missed.count,
+            first_missed: missed.first,
+            asked_since: questions.count,
+            last_asked: questions.last,
             teller: teller_of(acts, row),
             claim: claim_of(index, row),
             first_sent: first_of(acts, row),

@@ -3,6 +3,7 @@
 
 ghost use Rattle.rtps_evidence.specs.Certificates.{CompleteIsShown, ConflictIsShown, OpenIsShown, UnfoundedIsShown};
 ghost use Rattle.rtps_evidence.specs.Explanation.{HasOneExplanation};
+ghost use Rattle.rtps_evidence.specs.Received.{ReceivedIsExact};
 
 use rtps_audit::laws::one_report;
 use rtps_discovery::laws::one_map;
@@ -28,6 +29,12 @@ pub fn conflict_is_shown()
 /// every run ends with a word for each of them, and with one payload at most.
 pub fn complete_is_shown()
     ensures { CompleteIsShown }
+{}
+
+/// Received is exact: where there is a run, every run ends with a payload for each number that is received, and for each
+/// other number that is asked for some run ends without one.
+pub fn received_is_exact()
+    ensures { ReceivedIsExact }
 {}
 
 /// A recording is explained in one way.

@@ -1,7 +1,7 @@
 ghost use Rattle.std.specs.Prelude.{◌≡◌};
 ghost use Rattle.rtps_receiver.specs.Values.{act_body_value};
 ghost use Rattle.rtps_audit.specs.Placed.{placed_value};
-ghost use Rattle.rtps_evidence.specs.Locations.{kind_of as kind_of_lem, location_of as location_of_lem};
+ghost use Rattle.rtps_evidence.specs.Locations.{is_behind as is_behind_lem, kind_of as kind_of_lem, location_of as location_of_lem};
 
 use rtps_audit::Placed;
 use rtps_receiver::ActBody;
@@ -32,6 +32,18 @@ pub(crate) fn location_of(placed: &Placed<'_>) -> Location
         datagram: placed.datagram as u64,
         at: placed.act.at,
     }
+}
+
+/// Whether an act stands behind a place: in a later datagram, or as a later submessage of the same one. Behind no place stands
+/// all.
+pub(crate) fn is_behind(place: Option<Location>, placed: &Placed<'_>) -> bool
+    ensures { result ≡ is_behind_lem place (placed_value placed.now) }
+{
+    let Some(place) = place else {
+        return true;
+    };
+    let datagram = placed.datagram as u64;
+    place.datagram < datagram || (place.datagram == datagram && place.at < placed.act.at)
 }
 
 /// Which submessage an act is.

@@ -18,7 +18,7 @@ pub struct Teller {
 }
 
 /// Whether a GAP says that the number will not come.
-fn gap_has(gap: &GapBody, number: u64) -> bool
+pub(crate) fn gap_has(gap: &GapBody, number: u64) -> bool
     requires { number < 2 ^ 63 }
     ensures { result ≡ is_in_gap gap.now number }
 {
@@ -45,7 +45,7 @@ fn tells(placed: &Placed<'_>, pair: Pair, number: u64) -> bool
 }
 
 /// An act as one that tells a number.
-fn teller_at(placed: &Placed<'_>) -> Teller
+pub(crate) fn teller_at(placed: &Placed<'_>) -> Teller
     ensures { result ≡ teller_at_lem (placed_value placed.now) }
 {
     Teller {

@@ -21,10 +21,13 @@ use Rattle.rtps_evidence.specs.Explanation.{EvidenceValue, ExplanationValue, exp
 use Rattle.rtps_evidence.specs.declared.last_announcement.Announcement.{Announcement}
 use Rattle.rtps_evidence.specs.declared.acknowledgement.Claim.{Claim}
 use Rattle.rtps_evidence.specs.declared.explanation.Explanation.{Explanation}
+use Rattle.rtps_evidence.specs.declared.first_missed.FirstMissed.{FirstMissed}
+use Rattle.rtps_evidence.specs.declared.location.Location.{Location}
+use Rattle.rtps_evidence.specs.declared.not_received.NotReceived.{NotReceived}
 use Rattle.rtps_evidence.specs.declared.teller.Teller.{Teller}
 use Rattle.rtps_wire.specs.Values.{PayloadValue}
 use Rattle.rtps_wire.specs.Values.PayloadValue.{Absent, Whole, Key}
-use Rattle.rtps_text.specs.JsonText.{Member, announcement_json, claim_json, counts_members, evidence_members, ignored_members, items_of, members_of, object_of, pair_members, payload_members, place_members, report_json, row_json, sent_json, shown_members, teller_json, tokens_of, tokens_of_member, verdict_members}
+use Rattle.rtps_text.specs.JsonText.{Member, announcement_json, claim_json, counts_members, delivery_members, evidence_members, first_missed_members, ignored_members, items_of, members_of, not_received_json, object_of, pair_members, payload_members, place_json, place_members, report_json, row_json, sent_json, shown_members, teller_json, tokens_of, tokens_of_member, verdict_members}
 
 -- ---- tokens
 
@@ -37,11 +40,14 @@ whole : (members : List Member) → members_tokens (members_of members) ≡ toke
 whole [] = refl
 whole ((name, json) ∷ members) = ap (λ rest. key name ∷ (json_tokens json ++ rest)) (whole members) ∙ sym (append_assoc (key name ∷ json_tokens json) (tokens_of members) (end_object ∷ []))
 
--- an object of four parts
-pub row_tokens : (a b c d : List Member) → json_tokens (object_of (a ++ (b ++ (c ++ d)))) ≡ begin_object ∷ (tokens_of a ++ (tokens_of b ++ (tokens_of c ++ (tokens_of d ++ end_object ∷ []))))
-row_tokens a b c d =
+-- an object of five parts
+pub row_tokens : (a b c d e : List Member)
+    → json_tokens (object_of (a ++ (b ++ (c ++ (d ++ e))))) ≡ begin_object ∷ (tokens_of a ++ (tokens_of b ++ (tokens_of c ++ (tokens_of d ++ (tokens_of e ++ end_object ∷ [])))))
+row_tokens a b c d e =
     ap (λ rest. begin_object ∷ rest)
-    (front a (b ++ (c ++ d)) ∙ ap (λ rest. tokens_of a ++ rest) (front b (c ++ d) ∙ ap (λ rest. tokens_of b ++ rest) (front c d ∙ ap (λ rest. tokens_of c ++ rest) (whole d))))
+    (front a (b ++ (c ++ (d ++ e)))
+      ∙ ap (λ rest. tokens_of a ++ rest) (front b (c ++ (d ++ e))
+        ∙ ap (λ rest. tokens_of b ++ rest) (front c (d ++ e) ∙ ap (λ rest. tokens_of c ++ rest) (front d e ∙ ap (λ rest. tokens_of d ++ rest) (whole e)))))
 
 -- an object of a member and two parts
 pub report_tokens : (a : Member) (b c : List Member) → json_tokens (object_of (a ∷ (b ++ c))) ≡ begin_object ∷ (tokens_of_member a ++ (tokens_of b ++ (tokens_of c ++ end_object ∷ [])))
@@ -94,9 +100,24 @@ verdict_within (Unfounded datagram n) = omega arith
 evidence_within : (evidence : EvidenceValue) → members_depth (members_of (evidence_members evidence)) ≤ 2
 evidence_within evidence = omega (arith, announcement_within evidence.announcement, claim_within evidence.acknowledgement)
 
+place_within : (place : Option Location) → depth (place_json place) ≤ 1
+place_within None = omega arith
+place_within (Some place) = omega arith
+
+not_received_within : (kept : Option NotReceived) → depth (not_received_json kept) ≤ 2
+not_received_within None = omega arith
+not_received_within (Some kept) = omega (arith, teller_within kept.gone, place_within kept.acknowledged)
+
+first_missed_within : (first : Option FirstMissed) → members_depth (members_of (first_missed_members first)) ≤ 2
+first_missed_within None = omega arith
+first_missed_within (Some first) = omega (arith, teller_within first.gone)
+
+delivery_within : (evidence : EvidenceValue) → members_depth (members_of (delivery_members evidence)) ≤ 2
+delivery_within evidence = omega (arith, not_received_within evidence.not_received, first_missed_within evidence.first_missed)
+
 shown_within : (verdict : Verdict) (evidence : EvidenceValue) → members_depth (members_of (shown_members verdict evidence)) ≤ 2
 shown_within (Complete last) evidence = omega arith
-shown_within (Open n) evidence = omega (arith, teller_within evidence.teller)
+shown_within (Open n) evidence = omega (arith, teller_within evidence.teller, place_within evidence.last_asked)
 shown_within (Conflict n) evidence = omega (arith, sent_within evidence.first_sent, sent_within evidence.other_sent)
 shown_within (Unfounded datagram n) evidence = omega (arith, claim_within evidence.claim, teller_within evidence.teller)
 
@@ -104,9 +125,10 @@ row_within : (row : ExplanationValue) → depth (row_json row) ≤ 3
 row_within row =
     let evidence = row.evidence in
     let verdict = evidence.verdict in
-    let last = joined 2 (evidence_members evidence) (shown_members verdict evidence) (evidence_within evidence) (shown_within verdict evidence) in
-    let later = joined 2 (verdict_members verdict) (evidence_members evidence ++ shown_members verdict evidence) (verdict_within verdict) last in
-    let all = joined 2 (pair_members row) (verdict_members verdict ++ (evidence_members evidence ++ shown_members verdict evidence)) (omega arith) later in
+    let last = joined 2 (delivery_members evidence) (shown_members verdict evidence) (delivery_within evidence) (shown_within verdict evidence) in
+    let late = joined 2 (evidence_members evidence) (delivery_members evidence ++ shown_members verdict evidence) (evidence_within evidence) last in
+    let later = joined 2 (verdict_members verdict) (evidence_members evidence ++ (delivery_members evidence ++ shown_members verdict evidence)) (verdict_within verdict) late in
+    let all = joined 2 (pair_members row) (verdict_members verdict ++ (evidence_members evidence ++ (delivery_members evidence ++ shown_members verdict evidence))) (omega arith) later in
     omega (arith, all)
 
 rows_within : (rows : List ExplanationValue) → items_depth (items_of (map row_json rows)) ≤ 3

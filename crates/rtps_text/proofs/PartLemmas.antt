@@ -19,3 +19,8 @@ pub six_parts : {A : Type 0} {one two three four five six : List A} (start a b c
     → one ≡ start ++ a → two ≡ one ++ b → three ≡ two ++ c → four ≡ three ++ d → five ≡ four ++ e → six ≡ five ++ f → six ≡ start ++ (a ++ (b ++ (c ++ (d ++ (e ++ f)))))
 six_parts {A} {one} start a b c d e f first second third fourth fifth sixth =
     two_parts start a (b ++ (c ++ (d ++ (e ++ f)))) first (five_parts one b c d e f second third fourth fifth sixth)
+
+pub seven_parts : {A : Type 0} {one two three four five six seven : List A} (start a b c d e f g : List A)
+    → one ≡ start ++ a → two ≡ one ++ b → three ≡ two ++ c → four ≡ three ++ d → five ≡ four ++ e → six ≡ five ++ f → seven ≡ six ++ g → seven ≡ start ++ (a ++ (b ++ (c ++ (d ++ (e ++ (f ++ g))))))
+seven_parts {A} {one} start a b c d e f g first second third fourth fifth sixth seventh =
+    two_parts start a (b ++ (c ++ (d ++ (e ++ (f ++ g))))) first (six_parts one b c d e f g second third fourth fifth sixth seventh)

@@ -17,6 +17,8 @@ use Rattle.rtps_evidence.specs.Explanation.{EvidenceValue, ExplanationValue, IsE
 use Rattle.rtps_evidence.specs.declared.last_announcement.Announcement.{Announcement}
 use Rattle.rtps_evidence.specs.declared.acknowledgement.Claim.{Claim}
 use Rattle.rtps_evidence.specs.declared.explanation.Explained.{Explained}
+use Rattle.rtps_evidence.specs.declared.first_missed.FirstMissed.{FirstMissed}
+use Rattle.rtps_evidence.specs.declared.not_received.NotReceived.{NotReceived}
 use Rattle.rtps_evidence.specs.declared.location.Location.{Location}
 use Rattle.rtps_evidence.specs.declared.teller.Teller.{Teller}
 use Rattle.rtps_wire.specs.Values.{PayloadValue}
@@ -76,6 +78,22 @@ abbrev pub teller_json : Option Teller → Json
 teller_json None = null
 teller_json (Some teller) = object_of ((codes "by", string (kind_text teller.kind)) ∷ place_members teller.place)
 
+-- where a submessage stands, or null where there is none
+abbrev pub place_json : Option Location → Json
+place_json None = null
+place_json (Some place) = object_of (place_members place)
+
+-- the least number that is not received, and what keeps it; null where all are received
+abbrev pub not_received_json : Option NotReceived → Json
+not_received_json None = null
+not_received_json (Some kept) = object_of ((codes "number", count_json kept.number) ∷ (codes "gone", teller_json kept.gone) ∷ (codes "acknowledged", place_json kept.acknowledged) ∷ [])
+
+-- the least number that is missed, the answer that asks for it last, and what told it gone since; no member where none is
+abbrev pub first_missed_members : Option FirstMissed → List Member
+first_missed_members None = []
+first_missed_members (Some first) =
+    (codes "first_missed", object_of ((codes "number", count_json first.number) ∷ (codes "asked", place_json (Some first.asked)) ∷ (codes "gone", teller_json first.gone) ∷ [])) ∷ []
+
 -- the name of a kind of payload, and so many octets
 abbrev pub carried_members : List ℕ → ℕ → List Member
 carried_members kind octets = (codes "payload", string kind) ∷ (codes "octets", count_json octets) ∷ []
@@ -114,17 +132,22 @@ abbrev pub evidence_members : EvidenceValue → List Member
 evidence_members evidence = (codes "announced", announcement_json evidence.announcement) ∷ (codes "acknowledged", claim_json evidence.acknowledgement)
     ∷ (codes "payloads", count_json evidence.payloads) ∷ (codes "gone", count_json evidence.gone) ∷ (codes "untold", count_json evidence.untold) ∷ []
 
+-- which numbers are received, and which are missed
+abbrev pub delivery_members : EvidenceValue → List Member
+delivery_members evidence = (codes "received", count_json evidence.received) ∷ (codes "not_received", not_received_json evidence.not_received)
+    ∷ (codes "missed", count_json evidence.missed) ∷ first_missed_members evidence.first_missed
+
 -- what the verdict rests on
 abbrev pub shown_members : Verdict → EvidenceValue → List Member
 shown_members (Complete last) evidence = []
-shown_members (Open n) evidence = (codes "told", teller_json evidence.teller) ∷ []
+shown_members (Open n) evidence = (codes "told", teller_json evidence.teller) ∷ (codes "asked_since", count_json evidence.asked_since) ∷ (codes "last_asked", place_json evidence.last_asked) ∷ []
 shown_members (Conflict n) evidence = (codes "sent", array_of (sent_json evidence.first_sent ∷ sent_json evidence.other_sent ∷ [])) ∷ []
 shown_members (Unfounded datagram n) evidence = (codes "claimed", claim_json evidence.claim) ∷ (codes "told", teller_json evidence.teller) ∷ []
 
 -- a row of the report with its evidence
 abbrev pub row_json : ExplanationValue → Json
 row_json row =
-    object_of (pair_members row ++ (verdict_members row.evidence.verdict ++ (evidence_members row.evidence ++ shown_members row.evidence.verdict row.evidence)))
+    object_of (pair_members row ++ (verdict_members row.evidence.verdict ++ (evidence_members row.evidence ++ (delivery_members row.evidence ++ shown_members row.evidence.verdict row.evidence))))
 
 -- how many frames of a capture gave no datagram; a text has none
 abbrev pub ignored_members : Option ℕ → List Member

@@ -2,7 +2,7 @@
 -- own: for each row of the report, its pair and what its verdict rests on, place by place, so that it can be checked with
 -- `show`. A place is the number of a datagram, from 1, and the place of a submessage's first octet in it, from 0, both as
 -- `show` writes them. Behind the line of a pair, each line begins with two spaces.
-use Rattle.std.specs.Prelude.{ℕ, ℤ, ◌≡◌, ◌++◌, if◌then◌else◌, List, [], ◌∷◌, codes, length, map, Option, None, Some}
+use Rattle.std.specs.Prelude.{ℕ, ℤ, ◌≡◌, ◌+◌, ◌++◌, if◌then◌else◌, List, [], ◌∷◌, codes, length, map, Option, None, Some}
 use Rattle.std.specs.Fmt.{decimal, signed_decimal}
 use Rattle.std.specs.List.{flat_map, list_all}
 use Rattle.rtps_audit.specs.declared.report.Counts.{Counts}
@@ -13,6 +13,8 @@ use Rattle.rtps_evidence.specs.Explanation.{EvidenceValue, ExplanationValue, IsE
 use Rattle.rtps_evidence.specs.declared.last_announcement.Announcement.{Announcement}
 use Rattle.rtps_evidence.specs.declared.acknowledgement.Claim.{Claim}
 use Rattle.rtps_evidence.specs.declared.explanation.Explained.{Explained}
+use Rattle.rtps_evidence.specs.declared.first_missed.FirstMissed.{FirstMissed}
+use Rattle.rtps_evidence.specs.declared.not_received.NotReceived.{NotReceived}
 use Rattle.rtps_evidence.specs.declared.location.Kind.{Kind}
 use Rattle.rtps_evidence.specs.declared.location.Kind.TheVariants.{Data, Heartbeat, AckNack, Gap}
 use Rattle.rtps_evidence.specs.declared.location.Location.{Location}
@@ -85,12 +87,55 @@ sent_line number None = []
 sent_line number (Some sent) =
     inner_line (codes "number" ∷ signed_decimal number ∷ codes "payload" ∷ carried_text sent.payload ∷ place_text sent.place ∷ [])
 
+-- a place, and a comma behind it
+abbrev pub place_comma : Location → List ℕ
+place_comma place = place_text place ++ codes ","
+
+-- how many of the numbers asked about are received
+abbrev pub received_line : ℕ → ℕ → List ℕ
+received_line received numbers = inner_line (codes "received" ∷ decimal received ∷ codes "of" ∷ decimal numbers ∷ [])
+
+-- a number that is missed, the answer that asks for it last, and what told it gone since
+abbrev pub asked_fields : FirstMissed → Option Teller → List (List ℕ)
+asked_fields first None = codes "number" ∷ decimal first.number ∷ codes "asked for" ∷ place_comma first.asked ∷ codes "not told gone since" ∷ []
+asked_fields first (Some teller) =
+    codes "number" ∷ decimal first.number ∷ codes "asked for" ∷ place_comma first.asked ∷ codes "told gone by" ∷ kind_text teller.kind ∷ place_text teller.place ∷ []
+
+-- how many numbers are missed, and the least of them behind four spaces; nothing where none is
+abbrev pub missed_lines : ℕ → Option FirstMissed → List ℕ
+missed_lines missed None = []
+missed_lines missed (Some first) = inner_line (codes "missed" ∷ decimal missed ∷ []) ++ (32 ∷ 32 ∷ inner_line (asked_fields first first.gone))
+
+-- what keeps a number from being received
+abbrev pub kept_fields : Option Teller → Option Location → List (List ℕ)
+kept_fields gone None = codes "not acknowledged" ∷ []
+kept_fields None (Some claim) = codes "told nothing before datagram" ∷ decimal claim.datagram ∷ codes "at" ∷ decimal claim.at ∷ []
+kept_fields (Some teller) (Some claim) = codes "told gone by" ∷ kind_text teller.kind ∷ place_comma teller.place ∷ codes "acknowledged" ∷ place_text claim ∷ []
+
+-- the least number that is not received, and what keeps it; nothing where all are received
+abbrev pub not_received_line : Option NotReceived → List ℕ
+not_received_line None = []
+not_received_line (Some kept) = inner_line (codes "number" ∷ decimal kept.number ∷ codes "may not be received:" ∷ kept_fields kept.gone kept.acknowledged)
+
+-- how often the writer asked for an answer since the last one
+abbrev pub questions_line : ℕ → Option Location → List ℕ
+questions_line count None = inner_line (codes "not asked since its last answer" ∷ [])
+questions_line count (Some place) = inner_line (codes "asked" ∷ decimal count ∷ codes "times since its last answer, last" ∷ place_text place ∷ [])
+
 -- the lines of what the verdict rests on
 abbrev pub shown_by : Verdict → EvidenceValue → List ℕ
 shown_by (Complete last) evidence = []
-shown_by (Open number) evidence = told_line number evidence.teller
+shown_by (Open number) evidence = told_line number evidence.teller ++ questions_line evidence.asked_since evidence.last_asked
 shown_by (Conflict number) evidence = sent_line number evidence.first_sent ++ sent_line number evidence.other_sent
 shown_by (Unfounded datagram number) evidence = claimed_line evidence.claim ++ told_line number evidence.teller
+
+-- the lines behind the amounts
+abbrev pub rest_lines : EvidenceValue → List ℕ
+rest_lines evidence =
+    received_line evidence.received (evidence.payloads + evidence.gone + evidence.untold)
+    ++ (missed_lines evidence.missed evidence.first_missed
+    ++ (not_received_line evidence.not_received
+    ++ shown_by evidence.verdict evidence))
 
 -- the lines of a pair
 abbrev pub explanation_text : ExplanationValue → List ℕ
@@ -100,7 +145,7 @@ explanation_text row =
     ++ (announced_line row.evidence.announcement
     ++ (acknowledged_line row.evidence.acknowledgement
     ++ (amounts_line row.evidence.payloads row.evidence.gone row.evidence.untold
-    ++ shown_by row.evidence.verdict row.evidence))))
+    ++ rest_lines row.evidence))))
 
 -- the lines of these rows and counts
 abbrev pub explained_text : List ExplanationValue → Counts → Option ℕ → List ℕ

@@ -5,7 +5,9 @@ ghost use Rattle.rtps_text.specs.SampleText.{sample as sample_lines};
 
 mod audit_lines;
 pub(crate) mod audit_text;
+mod delivery_lines;
 mod item_lines;
+mod json_delivery;
 mod json_members;
 pub(crate) mod json_object;
 mod list_lines;

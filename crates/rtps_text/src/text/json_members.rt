@@ -9,7 +9,7 @@ ghost use Rattle.json.specs.Tree.{json_tokens};
 ghost use Rattle.rtps_evidence.specs.Locations.{sent_value};
 ghost use Rattle.rtps_evidence.specs.Explanation.{evidence_value};
 ghost use Rattle.rtps_wire.specs.Values.{payload_value};
-ghost use Rattle.rtps_text.specs.JsonText.{announcement_json, carried_members, claim_json, evidence_members, payload_members, place_members, sent_json, teller_json, tokens_of};
+ghost use Rattle.rtps_text.specs.JsonText.{announcement_json, carried_members, claim_json, evidence_members, payload_members, place_json, place_members, sent_json, teller_json, tokens_of};
 ghost use Rattle.rtps_text.specs.ListText.{guid_text, octet_text};
 
 use crate::text::list_lines::NameOctets;
@@ -135,18 +135,40 @@ pub(crate) fn push_claim(
     writer.end_object()
 }
 
-/// Appends what told a number first.
-pub(crate) fn push_teller(writer: &mut Writer, teller: Option<Teller>) -> Result<(), AllocError>
-    ensures tokens { OnOk result (writer.new.tokens ≡ writer.old.tokens ++ key (codes "told") ∷ json_tokens (teller_json teller)) }
+/// Appends what told a number.
+pub(crate) fn push_teller(
+    writer: &mut Writer,
+    name: &str,
+    teller: Option<Teller>,
+) -> Result<(), AllocError>
+    ensures tokens { OnOk result (writer.new.tokens ≡ writer.old.tokens ++ key name.now ∷ json_tokens (teller_json teller)) }
     ensures before { writer.new.before ≡ writer.old.before }
 {
-    writer.key("told")?;
+    writer.key(name)?;
     let Some(teller) = teller else {
         return writer.null();
     };
     writer.begin_object()?;
     push_text(writer, "by", kind_name(teller.kind))?;
     push_place(writer, teller.place)?;
+    writer.end_object()
+}
+
+/// Appends where a submessage stands, as an object.
+pub(crate) fn push_standing(
+    writer: &mut Writer,
+    name: &str,
+    place: Option<Location>,
+) -> Result<(), AllocError>
+    ensures tokens { OnOk result (writer.new.tokens ≡ writer.old.tokens ++ key name.now ∷ json_tokens (place_json place)) }
+    ensures before { writer.new.before ≡ writer.old.before }
+{
+    writer.key(name)?;
+    let Some(place) = place else {
+        return writer.null();
+    };
+    writer.begin_object()?;
+    push_place(writer, place)?;
     writer.end_object()
 }
 

@@ -9,8 +9,9 @@ ghost use Rattle.rtps_text.specs.JsonText.{IsJsonLine, IsJsonTextFrom, counts_me
 
 use crate::recording::Recording;
 use crate::text::Ending;
+use crate::text::json_delivery::push_delivery;
 use crate::text::json_members::{
-    push_claim, push_count, push_evidence, push_guid, push_name, push_number, push_sent,
+    push_claim, push_count, push_evidence, push_guid, push_name, push_number, push_sent, push_standing,
     push_teller, push_text, push_total,
 };
 use crate::text::why_text::{ending_of, explained_of};
@@ -110,6 +111,7 @@ fn push_row(writer: &mut Writer, text: &mut String, row: &Explanation<'_>) -> Re
     push_pair(writer, text, row)?;
     push_verdict(writer, row.evidence.verdict)?;
     push_evidence(writer, &row.evidence)?;
+    push_delivery(writer, &row.evidence)?;
     push_shown(writer, &row.evidence)?;
     writer.end_object()
 }
@@ -163,7 +165,11 @@ fn push_shown(writer: &mut Writer, evidence: &Evidence<'_>) -> Result<(), AllocE
 {
     match evidence.verdict {
         Verdict::Complete { .. } => Ok(()),
-        Verdict::Open { .. } => push_teller(writer, evidence.teller),
+        Verdict::Open { .. } => {
+            push_teller(writer, "told", evidence.teller)?;
+            push_count(writer, "asked_since", evidence.asked_since)?;
+            push_standing(writer, "last_asked", evidence.last_asked)
+        }
         Verdict::Conflict { .. } => {
             writer.key("sent")?;
             writer.begin_array()?;
@@ -173,7 +179,7 @@ fn push_shown(writer: &mut Writer, evidence: &Evidence<'_>) -> Result<(), AllocE
         }
         Verdict::Unfounded { .. } => {
             push_claim(writer, "claimed", evidence.claim)?;
-            push_teller(writer, evidence.teller)
+            push_teller(writer, "told", evidence.teller)
         }
     }
 }

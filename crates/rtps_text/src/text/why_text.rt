@@ -4,12 +4,15 @@ ghost use Rattle.std.specs.Option.{option_map};
 ghost use Rattle.std.specs.String.{string_bytes};
 ghost use Rattle.rtps_evidence.specs.Locations.{sent_value};
 ghost use Rattle.rtps_evidence.specs.Explanation.{IsExplainedFrom, evidence_value, explanation_value};
-ghost use Rattle.rtps_text.specs.WhyText.{IsExplainedTextFrom, ending_of_rows, explained_text, explanation_text, sent_line, shown_by};
+ghost use Rattle.rtps_text.specs.WhyText.{IsExplainedTextFrom, ending_of_rows, explained_text, explanation_text, rest_lines, sent_line, shown_by};
 
 use crate::recording::Recording;
 use crate::text::Ending;
 use crate::text::audit_lines::{PairsLine, ReportCountsLine};
 use crate::text::audit_text::{datagrams_of, is_complete};
+use crate::text::delivery_lines::{
+    MissedLines, NotReceivedLine, QuestionsLine, ReceivedLine,
+};
 use crate::text::parts::{push_field, push_payload};
 use crate::text::why_lines::{
     AcknowledgedLine, AmountsLine, AnnouncedLine, ClaimedLine, NamesLine, PairLine, PlaceText,
@@ -84,6 +87,16 @@ fn push_row(text: &mut String, row: &Explanation<'_>) -> Result<(), AllocError>
     write!(text, "{}", AnnouncedLine(evidence.announcement))?;
     write!(text, "{}", AcknowledgedLine(evidence.acknowledgement))?;
     write!(text, "{}", AmountsLine(evidence))?;
+    push_rest(text, evidence)
+}
+
+/// Appends the lines behind the amounts.
+fn push_rest(text: &mut String, evidence: &Evidence<'_>) -> Result<(), AllocError>
+    ensures { OnOk result (string_bytes text.new ≡ string_bytes text.old ++ rest_lines (evidence_value evidence.now)) }
+{
+    write!(text, "{}", ReceivedLine(evidence))?;
+    write!(text, "{}", MissedLines(evidence.missed, evidence.first_missed))?;
+    write!(text, "{}", NotReceivedLine(evidence.not_received))?;
     push_shown(text, evidence)
 }
 
@@ -94,7 +107,10 @@ fn push_shown(text: &mut String, evidence: &Evidence<'_>) -> Result<(), AllocErr
 {
     match evidence.verdict {
         Verdict::Complete { .. } => Ok(()),
-        Verdict::Open { number } => write!(text, "{}", ToldLine(number, evidence.teller)),
+        Verdict::Open { number } => {
+            write!(text, "{}", ToldLine(number, evidence.teller))?;
+            write!(text, "{}", QuestionsLine(evidence.asked_since, evidence.last_asked))
+        }
         Verdict::Conflict { number } => {
             push_sent(text, number, evidence.first_sent)?;
             push_sent(text, number, evidence.other_sent)

@@ -7,6 +7,7 @@ use Rattle.rtps_discovery.specs.GuidOrder.{guid_cmp}
 use Rattle.rtps_discovery.specs.declared.matching.Pair.{Pair}
 use Rattle.rtps_wire.specs.Reading.{reading_of}
 use Rattle.rtps_wire.specs.Tally.{tally_of}
+use Rattle.rtps_audit.specs.AnnouncedPlaces.{announced_among}
 use Rattle.rtps_audit.specs.Groups.{values_at}
 use Rattle.rtps_audit.specs.Placed.{answers_among, answers_kept, is_from, placed_in, placed_value}
 use Rattle.rtps_audit.specs.Report.{is_undirected}
@@ -21,6 +22,7 @@ invariant-loop-datagram l =
       place : l.place ≡ l.datagram-index;
       acts : (origin : Guid) → map placed_value (values_at guid_cmp l.acts.map origin) ≡ filter (is_from origin) placed;
       answers : (pair : Pair) → answers_kept l.answers.map pair ≡ answers_among pair placed;
+      announced : (guid : Guid) → values_at guid_cmp l.announced.map guid ≡ announced_among guid placed;
       map : IsMapOf (acts_in (map (λ datagram. datagram.now) so_far)) l.directory;
       datagrams : l.counts.datagrams ≡ length l.recording;
       refused : l.counts.refused ≡ count_by (λ datagram. (tally_of (reading_of datagram.now)).refused) so_far;

@@ -2,9 +2,9 @@ use Rattle.std.proofs.Common.{◌++◌, ◌∷◌, [], ◌∙◌, ap, sym}
 use Rattle.std.proofs.lemmas.Result.{on_ok_weaker}
 use Rattle.json.specs.Token.{begin_object, end_object}
 use Rattle.rtps_evidence.specs.Explanation.{explanation_value}
-use Rattle.rtps_text.specs.JsonText.{evidence_members, pair_members, shown_members, tokens_of, verdict_members}
+use Rattle.rtps_text.specs.JsonText.{delivery_members, evidence_members, pair_members, shown_members, tokens_of, verdict_members}
 use Rattle.rtps_text.proofs.JsonLemmas.{row_tokens}
-use Rattle.rtps_text.proofs.PartLemmas.{six_parts}
+use Rattle.rtps_text.proofs.PartLemmas.{seven_parts}
 use Rattle.rtps_text.proofs.text.json_object.push_row.Goals as goal
 
 pub returns-clause-tokens : goal.returns-clause-tokens
@@ -14,10 +14,11 @@ returns-clause-tokens c =
     let pair = pair_members row in
     let verdict = verdict_members row.evidence.verdict in
     let evidence = evidence_members row.evidence in
+    let delivery = delivery_members row.evidence in
     let shown = shown_members row.evidence.verdict row.evidence in
     on_ok_weaker c.end_object.result
     (λ last.
-    six_parts start (begin_object ∷ []) (tokens_of pair) (tokens_of verdict) (tokens_of evidence) (tokens_of shown) (end_object ∷ []) c.in_ok-begin_object.ensures.ok
-    c.in_ok-push_pair.ensures.tokens c.in_ok-push_verdict.ensures.tokens c.in_ok-push_evidence.ensures.tokens c.in_ok-push_shown.ensures.tokens last
-    ∙ ap (λ tokens. start ++ tokens) (sym (row_tokens pair verdict evidence shown)))
+    seven_parts start (begin_object ∷ []) (tokens_of pair) (tokens_of verdict) (tokens_of evidence) (tokens_of delivery) (tokens_of shown) (end_object ∷ []) c.in_ok-begin_object.ensures.ok
+    c.in_ok-push_pair.ensures.tokens c.in_ok-push_verdict.ensures.tokens c.in_ok-push_evidence.ensures.tokens c.in_ok-push_delivery.ensures.tokens c.in_ok-push_shown.ensures.tokens last
+    ∙ ap (λ tokens. start ++ tokens) (sym (row_tokens pair verdict evidence delivery shown)))
     c.end_object.ensures.ok

@@ -1,0 +1,241 @@
+-- The numbers that are asked for and missed.
+use Rattle.std.proofs.Common.{◌≡◌, ◌∙◌, ℕ, ◌+◌, ◌<◌, ◌≤◌, ◌==◌, ◌&&◌, ◌||◌, ◌⊎◌, Bool, true, false, cond, nat_le, nat_lt, max, not, filter, get_or, length, take, List, [], ◌∷◌, ◌++◌, Option, Some, None, refl, sym, ap, arith, inl, inr}
+use Rattle.std.specs.List.{cons_option, find, last_or, list_any}
+use Rattle.std.specs.Option.{option_map}
+use Rattle.std.proofs.lemmas.Bool.{cases_lt}
+use Rattle.std.proofs.lemmas.Bool.Decides.{nat_tests}
+use Rattle.std.proofs.lemmas.List.{take_more}
+use Rattle.std.proofs.lemmas.List.Folds.{list_any-append}
+use Rattle.rtps_ids.specs.declared.identity.Guid.{Guid}
+use Rattle.rtps_ids.specs.NumberSet.{NumberSetValue, is_member}
+use Rattle.rtps_ids.specs.Ranges.{IsRangeFrom, HasNoneFrom}
+use Rattle.rtps_ids.proofs.Offered.{member_decides, not_member}
+use Rattle.rtps_discovery.specs.declared.matching.Pair.{Pair}
+use Rattle.rtps_receiver.specs.Speech.{is_answer}
+use Rattle.rtps_discovery.specs.Endpoint.{EndpointValue}
+use Rattle.rtps_discovery.specs.Notice.{announcement_of as notice_of, endpoint_in}
+use Rattle.rtps_audit.specs.AnnouncedPlaces.{announced_among, announced_at}
+use Rattle.rtps_audit.specs.Placed.{PlacedValue, is_from, is_guid}
+use Rattle.rtps_audit.specs.declared.announced_places.AnnouncedPlace.{AnnouncedPlace}
+use Rattle.rtps_audit.proofs.Offered.{answerer_is_origin}
+use Rattle.rtps_evidence.specs.Amount.{count_in, stretch_has, stretches_have}
+use Rattle.rtps_evidence.specs.Locations.{find_last, is_behind, location_of, sends, teller_at}
+use Rattle.rtps_evidence.specs.Missed.{AreMissed, announces, asks_for, first_place, gone_behind, has_guid, is_in_set, is_missed, missed_at, missed_by, numbers_have, place_announced, sends_behind, withdraws_behind}
+use Rattle.rtps_evidence.specs.Received.{is_received, withdraws}
+use Rattle.rtps_evidence.specs.declared.amount.Stretch.{Stretch}
+use Rattle.rtps_evidence.specs.declared.first_missed.FirstMissed.{FirstMissed}
+use Rattle.rtps_evidence.specs.declared.teller.Teller.{Teller}
+use Rattle.rtps_evidence.specs.declared.location.Location.{Location}
+
+use Rattle.rtps_evidence.proofs.ClaimedLemmas.{sender, withdrawer}
+use Rattle.rtps_evidence.proofs.CountLemmas.{count_same}
+use Rattle.rtps_evidence.proofs.FindLemmas.{any_filter, find_filter}
+use Rattle.rtps_evidence.proofs.NotReceivedLemmas.{least_found, least_none}
+use Rattle.rtps_evidence.proofs.QuestionLemmas.{filter_filter}
+
+-- ---- the members of a set, range by range
+
+pub set_range : (set : NumberSetValue) (at first past : ℕ) → IsRangeFrom set at first past → (n : ℕ) → (is_member set n && nat_lt n past) ≡ ((is_member set n && nat_lt n at) || (nat_le first n && nat_lt n past))
+set_range set at first past range n = elim (cases_lt n first) [
+  | inl lt ↦ elim (cases_lt n at) [
+    | inl early ↦ let some = range.some in let onward = range.onward in
+        let one : nat_lt n past ≡ true = grind (arith, nat_tests) in
+        let two : nat_lt n at ≡ true = grind (arith, nat_tests) in
+        let three : nat_le first n ≡ false = grind (arith, nat_tests) in
+        rw (one, two, three) (or_no (is_member set n && true))
+    | inr le ↦
+        let none : is_member set n ≡ false = not_member set n (λ member. range.before n le lt member) in
+        let three : nat_le first n ≡ false = grind (arith, nat_tests) in
+        rw (none, three) refl
+  ]
+  | inr le ↦ elim (cases_lt n past) [
+    | inl lt ↦
+        let there : is_member set n ≡ true = (member_decides set n).1 (range.members n le lt) in
+        let one : nat_lt n past ≡ true = grind (arith, nat_tests) in
+        let two : nat_le first n ≡ true = grind (arith, nat_tests) in
+        rw (there, one, two) (sym (or_yes (nat_lt n at)))
+    | inr ge ↦ let some = range.some in let onward = range.onward in
+        let one : nat_lt n past ≡ false = grind (arith, nat_tests) in
+        let two : nat_lt n at ≡ false = grind (arith, nat_tests) in
+        rw (one, two) (all_no (is_member set n) (nat_le first n))
+  ]
+]
+  where
+    or_no : (b : Bool) → b ≡ (b || false)
+    or_no true = refl
+    or_no false = refl
+
+    or_yes : (b : Bool) → (b || true) ≡ true
+    or_yes true = refl
+    or_yes false = refl
+
+    all_no : (a b : Bool) → (a && false) ≡ ((a && false) || (b && false))
+    all_no true true = refl
+    all_no true false = refl
+    all_no false true = refl
+    all_no false false = refl
+
+pub set_end : (set : NumberSetValue) (at : ℕ) → HasNoneFrom set at → (n : ℕ) → is_member set n ≡ (is_member set n && nat_lt n at)
+set_end set at none n = elim (cases_lt n at) [
+  | inl lt ↦ let one : nat_lt n at ≡ true = grind (arith, nat_tests) in rw one (and_yes (is_member set n))
+  | inr le ↦ let out : is_member set n ≡ false = not_member set n (λ member. none n le member) in rw out refl
+]
+  where
+    and_yes : (b : Bool) → b ≡ (b && true)
+    and_yes true = refl
+    and_yes false = refl
+
+pub none_yet_in : (set : NumberSetValue) (n : ℕ) (old : Bool) → old ≡ (old || (is_member set n && nat_lt n 0))
+none_yet_in set n old = let none : nat_lt n 0 ≡ false = grind (arith, nat_tests) in rw none (nothing (is_member set n) old)
+  where
+    nothing : (a b : Bool) → b ≡ (b || (a && false))
+    nothing true true = refl
+    nothing true false = refl
+    nothing false true = refl
+    nothing false false = refl
+
+-- ---- stretches one after another
+
+or_nothing : (b : Bool) → (b || false) ≡ b
+or_nothing true = refl
+or_nothing false = refl
+
+-- of the first `i` stretches, this is the least number from `from` on and below `end`, or `end`
+pub record IsLeastSo (stretches : List Stretch) (from end i least : ℕ) : Type 0 where
+  pub onward : from ≤ least
+  pub within : least ≤ end
+  pub below : (n : ℕ) → from ≤ n → n < least → stretches_have (take i stretches) n ≡ false
+  pub inside : least < end → stretches_have (take i stretches) least ≡ true
+
+-- ---- a number more
+
+pub number_more : (old new : List ℕ) (m n : ℕ) (sent : Bool) (received : ℕ → Bool) → new ≡ old ++ m ∷ [] → sent ≡ (m == n) → received m ≡ false → numbers_have new n ≡ (numbers_have old n || (sent && not (received n)))
+number_more old new m n sent received is e out =
+    ap (λ l. numbers_have l n) is ∙ list_any-append (λ number. number == n) old (m ∷ []) ∙ ap (λ b. numbers_have old n || b) (or_nothing (m == n) ∙ same (m == n) refl ∙ ap (λ b. b && not (received n)) (sym e))
+  where
+    same : (b : Bool) → (m == n) ≡ b → b ≡ (b && not (received n))
+    same true at = let one : m ≡ n = grind (arith, nat_tests, at) in sym (ap not (sym (ap received one) ∙ out))
+    same false at = refl
+
+pub number_none : (old : Bool) (m n : ℕ) (sent : Bool) (received : ℕ → Bool) → sent ≡ (m == n) → received m ≡ true → old ≡ (old || (sent && not (received n)))
+number_none old m n sent received e there = sym (or_nothing old) ∙ ap (λ b. old || b) (same (m == n) refl ∙ ap (λ b. b && not (received n)) (sym e))
+  where
+    same : (b : Bool) → (m == n) ≡ b → false ≡ (b && not (received n))
+    same true at = let one : m ≡ n = grind (arith, nat_tests, at) in sym (ap not (sym (ap received one) ∙ there))
+    same false at = refl
+
+-- ---- what is missed
+
+any_and : {X : Type 0} (test : X → Bool) (b : Bool) (xs : List X) → list_any (λ x. test x && b) xs ≡ (list_any test xs && b)
+any_and test b [] = refl
+any_and test b (x ∷ xs) = ap (λ c. (test x && b) || c) (any_and test b xs) ∙ shared (test x) (list_any test xs)
+  where
+    shared : (a c : Bool) → ((a && b) || (c && b)) ≡ ((a || c) && b)
+    shared true c = either b c
+      where
+        either : (b c : Bool) → (b || (c && b)) ≡ b
+        either true c = refl
+        either false true = refl
+        either false false = refl
+    shared false c = refl
+
+parts : (a b : Bool) → (a && b) ≡ true → (a ≡ true) × (b ≡ true)
+parts true b e = (refl, e)
+parts false b e = absurd (let no : false ≡ true = e in cc)
+
+turned : (a s r : Bool) → (a && (s && r)) ≡ (r && (a && s))
+turned true true true = refl
+turned true true false = refl
+turned true false true = refl
+turned true false false = refl
+turned false s true = refl
+turned false s false = refl
+
+-- what is sent behind the announcement and not received, and asked for, is missed
+pub missed_same : (pair : Pair) (placed writer_acts reader_acts : List PlacedValue) (announced : Option Location) (n : ℕ) (received asked sent : Bool)
+    → writer_acts ≡ filter (is_from pair.writer) placed → reader_acts ≡ filter (is_from pair.reader) placed → announced ≡ place_announced pair.reader placed
+    → received ≡ is_received pair.writer pair.reader placed n
+    → asked ≡ list_any (asks_for pair.writer pair.reader n) reader_acts
+    → sent ≡ list_any (λ at. sends_behind announced pair.writer pair.reader n at && not received) writer_acts
+    → (asked && sent) ≡ is_missed pair.writer pair.reader placed n
+missed_same pair placed writer_acts reader_acts announced n received asked sent of_writer of_reader place known asks sends_it =
+    ap (λ b. b && sent) (asks ∙ ap (list_any (asks_for pair.writer pair.reader n)) of_reader ∙ any_filter (asks_for pair.writer pair.reader n) (is_from pair.reader)
+      (λ at passes. answerer_is_origin pair.reader pair.writer at (parts (is_answer at.act pair.reader pair.writer) (is_in_set at.act.body n) passes).0) placed)
+    ∙ ap (λ b. list_any (asks_for pair.writer pair.reader n) placed && b)
+      (sends_it ∙ any_and (sends_behind announced pair.writer pair.reader n) (not received) writer_acts
+      ∙ ap (λ b. b && not received) (ap (list_any (sends_behind announced pair.writer pair.reader n)) of_writer
+        ∙ any_filter (sends_behind announced pair.writer pair.reader n) (is_from pair.writer) (λ at passes. sender pair.writer pair.reader n at (parts (is_behind announced at) (sends pair.writer pair.reader n at) passes).1) placed
+        ∙ ap (λ p. list_any (sends_behind p pair.writer pair.reader n) placed) place))
+    ∙ turned (list_any (asks_for pair.writer pair.reader n) placed) (list_any (sends_behind (place_announced pair.reader placed) pair.writer pair.reader n) placed) (not received)
+    ∙ ap (λ b. not b && (list_any (asks_for pair.writer pair.reader n) placed && list_any (sends_behind (place_announced pair.reader placed) pair.writer pair.reader n) placed)) known
+
+-- ---- counted, and the least of them
+
+pub some_missed : (from last least count : ℕ) (pair : Pair) (placed : List PlacedValue) (items lent : List Stretch) (first : Option FirstMissed) → lent ≡ items
+    → ((n : ℕ) → stretches_have items n ≡ is_missed pair.writer pair.reader placed n) → from ≤ least → stretches_have lent least ≡ true → ((n : ℕ) → from ≤ n → n < least → stretches_have lent n ≡ false)
+    → count ≡ count_in (stretches_have items) from (last + 1) → least < last + 1 → first ≡ missed_by pair.writer pair.reader placed (Some least)
+    → AreMissed from last pair.writer pair.reader placed (record { count = count; first = first })
+some_missed from last least count pair placed items lent first same is low inside below counted high found = record {
+  count = counted ∙ count_same (stretches_have items) (is_missed pair.writer pair.reader placed) from (last + 1) (λ n a b. is n);
+  first =
+    found
+    ∙ sym (ap (missed_by pair.writer pair.reader placed)
+      (least_found (is_missed pair.writer pair.reader placed) from (last + 1) least low high
+        (sym (is least) ∙ sym (ap (λ l. stretches_have l least) same) ∙ inside)
+        (λ m begun before. sym (is m) ∙ sym (ap (λ l. stretches_have l m) same) ∙ below m begun before)));
+}
+
+pub none_missed : (from last least count : ℕ) (pair : Pair) (placed : List PlacedValue) (items lent : List Stretch) → lent ≡ items
+    → ((n : ℕ) → stretches_have items n ≡ is_missed pair.writer pair.reader placed n) → ((n : ℕ) → from ≤ n → n < least → stretches_have lent n ≡ false)
+    → count ≡ count_in (stretches_have items) from (last + 1) → last + 1 ≤ least → AreMissed from last pair.writer pair.reader placed (record { count = count; first = None })
+none_missed from last least count pair placed items lent same is below counted high = record {
+  count = counted ∙ count_same (stretches_have items) (is_missed pair.writer pair.reader placed) from (last + 1) (λ n a b. is n);
+  first =
+    sym (ap (missed_by pair.writer pair.reader placed)
+      (least_none (is_missed pair.writer pair.reader placed) from (last + 1)
+        (λ m begun before. sym (is m) ∙ sym (ap (λ l. stretches_have l m) same) ∙ below m begun (omega arith))));
+}
+
+-- ---- who asked for it last, and what told it gone since
+
+-- what the reader's own acts ask for last is what all acts do
+pub asking_same : (writer reader : Guid) (n : ℕ) (placed : List PlacedValue) → option_map location_of (find_last (asks_for writer reader n) (filter (is_from reader) placed)) ≡ option_map location_of (find_last (asks_for writer reader n) placed)
+asking_same writer reader n placed =
+    ap (λ l. option_map location_of (last_or None l)) (filter_filter (asks_for writer reader n) (is_from reader)
+      (λ at passes. answerer_is_origin reader writer at (parts (is_answer at.act reader writer) (is_in_set at.act.body n) passes).0) placed)
+
+pub gone_same_behind : (place : Location) (writer reader : Guid) (n : ℕ) (placed : List PlacedValue) → gone_behind place writer reader n (filter (is_from writer) placed) ≡ gone_behind place writer reader n placed
+gone_same_behind place writer reader n placed =
+    ap (option_map teller_at) (find_filter (withdraws_behind place writer reader n) (is_from writer) (λ at passes. withdrawer writer reader n at (parts (is_behind (Some place) at) (withdraws writer reader n at) passes).1) placed)
+
+pub never_asked : (writer reader : Guid) (n : ℕ) (placed : List PlacedValue) (asking : Option PlacedValue) → None ≡ option_map location_of asking → ◌≡◌ {A = Option FirstMissed} None (option_map (missed_at writer reader n placed) asking)
+never_asked writer reader n placed None e = refl
+never_asked writer reader n placed (Some at) e = absurd (let no : None ≡ Some (location_of at) = e in cc)
+
+pub asked_last : (writer reader : Guid) (n : ℕ) (placed : List PlacedValue) (asking : Option PlacedValue) (asked : Location) (gone : Option Teller) → Some asked ≡ option_map location_of asking → gone ≡ gone_behind asked writer reader n placed
+    → ◌≡◌ {A = Option FirstMissed} (Some (record { number = n; asked = asked; gone = gone })) (option_map (missed_at writer reader n placed) asking)
+asked_last writer reader n placed None asked gone e told = absurd (let no : Some asked ≡ None = e in cc)
+asked_last writer reader n placed (Some at) asked gone e told =
+    let same : asked ≡ location_of at = (let one : Some asked ≡ Some (location_of at) = e in cc) in
+    ap (λ (g : Option Teller). let made : FirstMissed = record { number = n; asked = asked; gone = g } in Some made) told
+    ∙ ap (λ (p : Location). let made : FirstMissed = record { number = n; asked = p; gone = gone_behind p writer reader n placed } in Some made) same
+
+-- ---- where the reader is announced
+
+pub first_of_some : (places : List AnnouncedPlace) (d : AnnouncedPlace) → 0 < length places → ◌≡◌ {A = Option Location} (Some (record { datagram = (get_or places 0 d).datagram; at = (get_or places 0 d).at })) (first_place places)
+first_of_some [] d lt = absurd (omega arith)
+first_of_some (place ∷ places) d lt = refl
+
+-- the first place that is kept is that of the first act that announces it
+pub place_same : (guid : Guid) (placed : List PlacedValue) → first_place (announced_among guid placed) ≡ place_announced guid placed
+place_same guid [] = refl
+place_same guid (x ∷ placed) = by (place_same guid placed) (endpoint_in (notice_of x.act))
+  where
+    by : first_place (announced_among guid placed) ≡ place_announced guid placed → (found : Option EndpointValue)
+        → first_place (cons_option (announced_at x.datagram x.act.at guid found) (announced_among guid placed)) ≡ option_map location_of (cond (has_guid guid found) (Some x) (find (announces guid) placed))
+    by onward None = onward
+    by onward (Some endpoint) = is_its (is_guid guid endpoint.guid)
+      where
+        is_its : (b : Bool) → first_place (cons_option (cond b (Some (record { datagram = x.datagram; at = x.act.at })) None) (announced_among guid placed)) ≡ option_map location_of (cond b (Some x) (find (announces guid) placed))
+        is_its true = refl
+        is_its false = onward

@@ -1,0 +1,89 @@
+-- The least number that is not received, and what keeps it.
+use Rattle.std.proofs.Common.{◌≡◌, ◌∙◌, ℕ, zero, suc, ◌+◌, ◌-◌, ◌<◌, ◌≤◌, Bool, true, false, cond, not, List, Option, Some, None, refl, sym, ap, arith, inl, inr}
+use Rattle.std.specs.List.{find, range_with_len}
+use Rattle.std.specs.Option.{option_map}
+use Rattle.std.proofs.lemmas.Bool.{cases_lt}
+use Rattle.rtps_ids.specs.declared.identity.Guid.{Guid}
+use Rattle.rtps_discovery.specs.declared.matching.Pair.{Pair}
+use Rattle.rtps_audit.specs.Placed.{PlacedValue}
+use Rattle.rtps_evidence.specs.Amount.{count_in, stretches_have}
+use Rattle.rtps_evidence.specs.Locations.{claim_at}
+use Rattle.rtps_evidence.specs.Received.{AreReceived, first_claiming, gone_before, is_received, kept_by, least_in}
+use Rattle.rtps_evidence.specs.declared.acknowledgement.Claim.{Claim}
+use Rattle.rtps_evidence.specs.declared.amount.Stretch.{Stretch}
+use Rattle.rtps_evidence.specs.declared.not_received.NotReceived.{NotReceived}
+use Rattle.rtps_evidence.specs.declared.teller.Teller.{Teller}
+use Rattle.rtps_evidence.proofs.CountLemmas.{count_same}
+
+-- ---- the least number
+
+holds_not : (has : ℕ → Bool) (n : ℕ) → has n ≡ true → has n ≡ false → ⊥
+holds_not has n holds fails = let clash : true ≡ false = sym holds ∙ fails in cc
+
+found_in : (has : ℕ → Bool) (lo n k : ℕ) → lo ≤ k → k < lo + n → has k ≡ true → ((m : ℕ) → lo ≤ m → m < k → has m ≡ false) → find has (range_with_len lo n) ≡ Some k
+found_in has lo zero k low high is none = absurd (omega arith)
+found_in has lo (suc n) k low high is none = by (λ past. found_in has (lo + 1) n k past (omega arith) is (λ m begun before. none m (omega arith) before)) (has lo) refl
+  where
+    by : (lo + 1 ≤ k → find has (range_with_len (lo + 1) n) ≡ Some k) → (b : Bool) → has lo ≡ b → cond b (Some lo) (find has (range_with_len (lo + 1) n)) ≡ Some k
+    by onward true holds = elim (cases_lt lo k) [
+      | inl before ↦ absurd (holds_not has lo holds (none lo (omega arith) before))
+      | inr past ↦ let same : lo ≡ k = omega arith in ap Some same
+    ]
+    by onward false fails = elim (cases_lt lo k) [
+      | inl before ↦ onward (omega arith)
+      | inr past ↦ let same : lo ≡ k = omega arith in absurd (holds_not has k is (sym (ap has same) ∙ fails))
+    ]
+
+none_in : (has : ℕ → Bool) (lo n : ℕ) → ((m : ℕ) → lo ≤ m → m < lo + n → has m ≡ false) → find has (range_with_len lo n) ≡ None
+none_in has lo zero none = refl
+none_in has lo (suc n) none = ap (λ b. cond b (Some lo) (find has (range_with_len (lo + 1) n))) (none lo (omega arith) (omega arith)) ∙ none_in has (lo + 1) n (λ m begun before. none m (omega arith) (omega arith))
+
+pub least_found : (has : ℕ → Bool) (lo hi k : ℕ) → lo ≤ k → k < hi → has k ≡ true → ((m : ℕ) → lo ≤ m → m < k → has m ≡ false) → least_in has lo hi ≡ Some k
+least_found has lo hi k low high is none = found_in has lo (hi - lo) k low (omega arith) is none
+
+pub least_none : (has : ℕ → Bool) (lo hi : ℕ) → ((m : ℕ) → lo ≤ m → m < hi → has m ≡ false) → least_in has lo hi ≡ None
+least_none has lo hi none = none_in has lo (hi - lo) (λ m low high. none m low (omega arith))
+
+-- ---- what keeps it
+
+pub kept_unclaimed : (writer reader : Guid) (n : ℕ) (acts : List PlacedValue) (claim : Option PlacedValue) → None ≡ option_map (claim_at writer reader) claim
+    → ◌≡◌ {A = NotReceived} (record { number = n; gone = None; acknowledged = None }) (kept_by writer reader n acts claim)
+kept_unclaimed writer reader n acts None e = refl
+kept_unclaimed writer reader n acts (Some claim) e = absurd (let no : None ≡ Some (claim_at writer reader claim) = e in cc)
+
+pub kept_claimed : (writer reader : Guid) (n : ℕ) (acts : List PlacedValue) (claim : Option PlacedValue) (found : Claim) (gone : Option Teller) → Some found ≡ option_map (claim_at writer reader) claim
+    → gone ≡ gone_before writer reader n found.place.datagram acts → ◌≡◌ {A = NotReceived} (record { number = n; gone = gone; acknowledged = Some found.place }) (kept_by writer reader n acts claim)
+kept_claimed writer reader n acts None found gone e is = absurd (let no : Some found ≡ None = e in cc)
+kept_claimed writer reader n acts (Some claim) found gone e is =
+    let same : found ≡ claim_at writer reader claim = (let one : Some found ≡ Some (claim_at writer reader claim) = e in cc) in
+    let place = ap (λ (c : Claim). c.place) same in
+    let told = is ∙ ap (λ (c : Claim). gone_before writer reader n c.place.datagram acts) same in
+    ap (λ (g : Option Teller). let made : NotReceived = record { number = n; gone = g; acknowledged = Some found.place } in made) told
+    ∙ ap (λ p. let made : NotReceived = record { number = n; gone = gone_before writer reader n claim.datagram acts; acknowledged = Some p } in made) place
+
+-- ---- counted, and the least of the others
+
+pub some_not_received : (from last least count : ℕ) (pair : Pair) (placed : List PlacedValue) (items lent : List Stretch) (found : NotReceived) → lent ≡ items
+    → ((n : ℕ) → stretches_have items n ≡ is_received pair.writer pair.reader placed n) → from ≤ least → stretches_have lent least ≡ false → ((n : ℕ) → from ≤ n → n < least → stretches_have lent n ≡ true)
+    → count ≡ count_in (stretches_have items) from (last + 1) → least < last + 1 → found ≡ kept_by pair.writer pair.reader least placed (first_claiming pair.writer pair.reader least placed)
+    → AreReceived from last pair.writer pair.reader placed (record { count = count; not_received = Some found })
+some_not_received from last least count pair placed items lent found same is low outside between counted high kept = record {
+  count = counted ∙ count_same (stretches_have items) (is_received pair.writer pair.reader placed) from (last + 1) (λ n a b. is n);
+  not_received =
+    ap Some kept
+    ∙ sym (ap (option_map (λ n. kept_by pair.writer pair.reader n placed (first_claiming pair.writer pair.reader n placed)))
+      (least_found (λ n. not (is_received pair.writer pair.reader placed n)) from (last + 1) least low high
+        (ap not (sym (is least) ∙ sym (ap (λ l. stretches_have l least) same) ∙ outside))
+        (λ m begun before. ap not (sym (is m) ∙ sym (ap (λ l. stretches_have l m) same) ∙ between m begun before))));
+}
+
+pub all_received : (from last least count : ℕ) (pair : Pair) (placed : List PlacedValue) (items lent : List Stretch) → lent ≡ items
+    → ((n : ℕ) → stretches_have items n ≡ is_received pair.writer pair.reader placed n) → ((n : ℕ) → from ≤ n → n < least → stretches_have lent n ≡ true)
+    → count ≡ count_in (stretches_have items) from (last + 1) → last + 1 ≤ least → AreReceived from last pair.writer pair.reader placed (record { count = count; not_received = None })
+all_received from last least count pair placed items lent same is between counted high = record {
+  count = counted ∙ count_same (stretches_have items) (is_received pair.writer pair.reader placed) from (last + 1) (λ n a b. is n);
+  not_received =
+    sym (ap (option_map (λ n. kept_by pair.writer pair.reader n placed (first_claiming pair.writer pair.reader n placed)))
+      (least_none (λ n. not (is_received pair.writer pair.reader placed n)) from (last + 1)
+        (λ m begun before. ap not (sym (is m) ∙ sym (ap (λ l. stretches_have l m) same) ∙ between m begun (omega arith)))));
+}

@@ -1,0 +1,212 @@
+-- Received is exact: what every run ends with, and how a run ends without a payload.
+use Rattle.std.proofs.Common.{◌≡◌, ℕ, suc, ◌+◌, ◌<◌, ◌≤◌, ◌&&◌, Bool, true, false, nat_lt, not, List, [], ◌∷◌, ◌++◌, Option, Some, None, refl, sym, ◌∙◌, ap, subst, arith, inl, inr}
+use Rattle.std.specs.Prelude.{Contains, is_some, unwrap_or}
+use Rattle.std.specs.List.{list_any}
+use Rattle.std.proofs.lemmas.Bool.{cases_lt}
+use Rattle.std.proofs.lemmas.Bool.Decides.{nat_tests}
+use Rattle.std.proofs.lemmas.List.Elements.{Contains-append_left}
+use Rattle.rtps_ids.specs.declared.identity.Guid.{Guid}
+use Rattle.rtps_discovery.specs.declared.matching.Pair.{Pair}
+use Rattle.rtps_wire.specs.Values.{PayloadValue}
+use Rattle.rtps_audit.specs.Delivery.{Word, Speech, DeliveryState, start, IsAsked, Event, Gives, Claims, Step, Follows, IsReached, Ends, HasRun}
+use Rattle.rtps_audit.specs.Delivery.Word.{Told, Gone}
+use Rattle.rtps_audit.specs.Delivery.Event.{Send, Take}
+use Rattle.rtps_audit.specs.Placed.{PlacedValue, placed_in}
+use Rattle.rtps_audit.specs.Speech.{base_for, speech_of, word_for}
+use Rattle.rtps_audit.proofs.DeliveryRuns.{Follows-append, place_within}
+use Rattle.rtps_audit.proofs.Offered.{base_is_claim, claim_is_base, given_is_word, run_is_founded, word_is_given}
+use Rattle.rtps_audit.proofs.Sound.{reached-sound}
+use Rattle.rtps_evidence.specs.Locations.{base_said, payload_in}
+use Rattle.rtps_evidence.specs.Received.{HoldsPayload, ReceivedIsExact, claims, first_claiming, is_certain_by, is_gone, sends_before, withdraws, withdraws_before}
+use Rattle.rtps_evidence.proofs.HushedRuns.{IsGoneBefore, run_without_payload}
+use Rattle.rtps_evidence.proofs.PlacedOrder.{first_is_first, found_is_there, none_found, none_passes, placed_ordered, some_passes}
+
+-- ---- what is held of a number that is claimed
+
+-- a word for n that is held, and that a datagram before place j gives
+pub record HoldsFrom (from : ℕ) (speech : Speech) (state : DeliveryState) (j n : ℕ) : Type 0 where
+  pub word : Word
+  pub held : Contains state.held (n, word)
+  pub place : ℕ
+  pub act : ℕ
+  pub earlier : place < j
+  pub gives : Gives from speech place act n word
+
+-- of each answer in a datagram that is sent, n is held by a word that stands before it
+abbrev ClaimedBefore : ℕ → Speech → ℕ → DeliveryState → Type 0
+ClaimedBefore from speech n state = (j : ℕ) → j < state.sent → Claims from speech j n → HoldsFrom from speech state j n
+
+reached_next : {from : ℕ} (speech : Speech) (old new : DeliveryState) (event : Event) → IsReached from speech old → Step from speech old event new → IsReached from speech new
+reached_next {from} speech old new event (events, follows) step =
+    (events ++ event ∷ [], Follows-append from speech start old new events (event ∷ []) follows (new, step, refl))
+
+before_next : {from : ℕ} (speech : Speech) (n : ℕ) (old : DeliveryState) (event : Event) (new : DeliveryState) → IsReached from speech old → Step from speech old event new → ClaimedBefore from speech n old → ClaimedBefore from speech n new
+before_next {from} speech n old Send new reached (may, e) before = subst (ClaimedBefore from speech n) (sym e) sent
+  where
+    sent : ClaimedBefore from speech n (record { sent = suc old.sent; held = old.held })
+    sent j lt claims = elim (cases_lt j old.sent) [
+      | inl earlier ↦
+          let had = before j earlier claims in
+          record { word = had.word; held = had.held; place = had.place; act = had.act; earlier = had.earlier; gives = had.gives }
+      | inr here ↦
+          let same : j ≡ old.sent = omega arith in
+          let holds = may.1 n (subst (λ i. Claims from speech i n) same claims) in
+          let given = (reached-sound speech old reached).given n holds.0 holds.1 in
+          let lower = given.2 in
+          record { word = holds.0; held = holds.1; place = given.0; act = given.1; earlier = omega arith; gives = given.3 }
+    ]
+before_next {from} speech n old (Take i k m word) new reached (lt, gives, e) before = subst (ClaimedBefore from speech n) (sym e) taken
+  where
+    taken : ClaimedBefore from speech n (record { sent = old.sent; held = old.held ++ (m, word) ∷ [] })
+    taken j lt claims =
+        let had = before j lt claims in
+        record { word = had.word; held = Contains-append_left old.held ((m, word) ∷ []) (n, had.word) had.held; place = had.place; act = had.act; earlier = had.earlier; gives = had.gives }
+
+before_each : {from : ℕ} (speech : Speech) (n : ℕ) (old : DeliveryState) (events : List Event) (new : DeliveryState) → IsReached from speech old → Follows from speech old events new → ClaimedBefore from speech n old → ClaimedBefore from speech n new
+before_each {from} speech n old [] new reached e before = subst (ClaimedBefore from speech n) (sym e) before
+before_each speech n old (event ∷ events) new reached (mid, step, follows) before =
+    before_each speech n mid events new (reached_next speech old mid event reached step) follows (before_next speech n old event mid reached step before)
+
+-- a run ends with a word for each number that is claimed, which stands before the claim
+held_from_before : {from : ℕ} (speech : Speech) (end : DeliveryState) (j n : ℕ) → Ends from speech end → Claims from speech j n → HoldsFrom from speech end j n
+held_from_before {from} speech end j n ((events, follows), all) claims =
+    let within = place_within speech j claims.datagram claims.stands in
+    before_each speech n start events end ([], refl) follows none j (omega arith) claims
+  where
+    none : ClaimedBefore from speech n start
+    none i lt claims = absurd (omega arith)
+
+-- ---- words and tests
+
+gone_word : (word : Option Word) → is_gone word ≡ true → word ≡ Some Gone
+gone_word (Some Gone) e = refl
+gone_word (Some (Told payload)) e = absurd (let no : false ≡ true = e in cc)
+gone_word None e = absurd (let no : false ≡ true = e in cc)
+
+parts : (a b : Bool) → (a && b) ≡ true → (a ≡ true) × (b ≡ true)
+parts true b e = (refl, e)
+parts false b e = absurd (let no : false ≡ true = e in cc)
+
+not_true : (b : Bool) → not b ≡ true → b ≡ false
+not_true false e = refl
+not_true true e = absurd (let no : false ≡ true = e in cc)
+
+-- an act that tells a number gone before a datagram does
+passes_gone : (writer reader : Guid) (n datagram : ℕ) (at : PlacedValue) → at.datagram < datagram → word_for writer reader at.act n ≡ Some Gone → withdraws_before writer reader n datagram at ≡ true
+passes_gone writer reader n datagram at lt word =
+    let early : nat_lt at.datagram datagram ≡ true = grind (arith, nat_tests) in
+    ap (λ b. b && is_gone (word_for writer reader at.act n)) early ∙ ap is_gone word
+
+passes_sent : (writer reader : Guid) (n datagram : ℕ) (at : PlacedValue) (payload : PayloadValue) → at.datagram < datagram → word_for writer reader at.act n ≡ Some (Told payload) → sends_before writer reader n datagram at ≡ true
+passes_sent writer reader n datagram at payload lt word =
+    let early : nat_lt at.datagram datagram ≡ true = grind (arith, nat_tests) in
+    ap (λ b. b && is_some (payload_in (word_for writer reader at.act n))) early ∙ ap (λ o. is_some (payload_in o)) word
+
+-- an act that passes the test of a claim is an answer
+claim_there : (from : ℕ) (pair : Pair) (recording : List (List ℕ)) (n : ℕ) (at : PlacedValue) → IsAsked from n → Contains (placed_in recording) at → claims pair.writer pair.reader n at ≡ true
+    → (j : ℕ) × Claims from (speech_of pair.writer pair.reader recording) j n × (at.datagram ≡ j + 1)
+claim_there from pair recording n at asked among is =
+    let above : n < base_said pair.writer pair.reader at = grind (arith, nat_tests, is) in
+    let base = some_above (base_for pair.writer pair.reader at.act) n above in
+    base_is_claim from pair.writer pair.reader recording n base.0 at among base.1 base.2 asked
+  where
+    some_above : (o : Option ℕ) (n : ℕ) → n < unwrap_or o 0 → (m : ℕ) × (o ≡ Some m) × (n < m)
+    some_above None n lt = absurd (omega arith)
+    some_above (Some m) n lt = (m, refl, lt)
+
+-- and the other way round
+claim_passes : (from : ℕ) (pair : Pair) (recording : List (List ℕ)) (j n : ℕ) → Claims from (speech_of pair.writer pair.reader recording) j n
+    → (at : PlacedValue) × Contains (placed_in recording) at × (claims pair.writer pair.reader n at ≡ true) × (at.datagram ≡ j + 1)
+claim_passes from pair recording j n is =
+    let there = claim_is_base from pair.writer pair.reader recording j n is in
+    let above = there.4 in
+    let said : base_said pair.writer pair.reader there.0 ≡ there.1 = ap (λ o. unwrap_or o 0) there.3 in
+    (there.0, there.2, grind (arith, nat_tests, said, above), there.5)
+
+-- ---- received is certain
+
+certain : (from : ℕ) (pair : Pair) (recording : List (List ℕ)) (n : ℕ) (claim : Option PlacedValue) → IsAsked from n → first_claiming pair.writer pair.reader n (placed_in recording) ≡ claim
+    → is_certain_by pair.writer pair.reader n (placed_in recording) claim ≡ true
+    → (end : DeliveryState) → Ends from (speech_of pair.writer pair.reader recording) end → HoldsPayload end n
+certain from pair recording n None asked found is end ends = absurd (let no : false ≡ true = is in cc)
+certain from pair recording n (Some claim) asked found is end ends =
+    let there = found_is_there (claims pair.writer pair.reader n) (placed_in recording) claim found in
+    let here = claim_there from pair recording n claim asked there.0 there.1 in
+    let held = held_from_before (speech_of pair.writer pair.reader recording) end here.0 n ends here.1 in
+    by held here.2 held.word refl
+  where
+    never : list_any (withdraws_before pair.writer pair.reader n claim.datagram) (placed_in recording) ≡ false
+    never = not_true (list_any (withdraws_before pair.writer pair.reader n claim.datagram) (placed_in recording))
+      (parts (list_any (sends_before pair.writer pair.reader n claim.datagram) (placed_in recording)) _ is).1
+
+    by : {j : ℕ} (held : HoldsFrom from (speech_of pair.writer pair.reader recording) end j n) → claim.datagram ≡ j + 1 → (word : Word) → held.word ≡ word → HoldsPayload end n
+    by held at (Told payload) same = (payload, subst (λ (w : Word). Contains end.held (n, w)) same held.held)
+    by {j} held at Gone same =
+        let gives : Gives from (speech_of pair.writer pair.reader recording) held.place held.act n Gone = subst (λ (w : Word). Gives from (speech_of pair.writer pair.reader recording) held.place held.act n w) same held.gives in
+        let teller = given_is_word from pair.writer pair.reader recording held.place held.act n Gone gives in
+        let place = teller.3 in
+        let earlier = held.earlier in
+        absurd (none_passes (withdraws_before pair.writer pair.reader n claim.datagram) (placed_in recording) teller.0 never teller.1
+          (passes_gone pair.writer pair.reader n claim.datagram teller.0 (omega arith) teller.2))
+
+-- ---- and what is not, is not
+
+-- a datagram before the claim tells n gone
+gone_there : (from : ℕ) (pair : Pair) (recording : List (List ℕ)) (n datagram j : ℕ) → IsAsked from n → datagram ≤ j + 1
+    → list_any (withdraws_before pair.writer pair.reader n datagram) (placed_in recording) ≡ true → IsGoneBefore from (speech_of pair.writer pair.reader recording) j n
+gone_there from pair recording n datagram j asked le some =
+    let teller = some_passes (withdraws_before pair.writer pair.reader n datagram) (placed_in recording) some in
+    let tests = parts (nat_lt teller.0.datagram datagram) (withdraws pair.writer pair.reader n teller.0) teller.2 in
+    let early : teller.0.datagram < datagram = (let is = tests.0 in grind (arith, nat_tests, is)) in
+    let given = word_is_given from pair.writer pair.reader recording n Gone teller.0 teller.1 (gone_word (word_for pair.writer pair.reader teller.0.act n) tests.1) asked in
+    let place = given.3 in
+    record { place = given.0; act = given.1; earlier = omega arith; gives = given.2 }
+
+-- a claim of n stands behind a datagram that tells it gone
+gone_before_claim : (from : ℕ) (pair : Pair) (recording : List (List ℕ)) (n : ℕ) (claim : Option PlacedValue) → IsAsked from n → HasRun from (speech_of pair.writer pair.reader recording)
+    → first_claiming pair.writer pair.reader n (placed_in recording) ≡ claim → is_certain_by pair.writer pair.reader n (placed_in recording) claim ≡ false
+    → (j : ℕ) → Claims from (speech_of pair.writer pair.reader recording) j n → IsGoneBefore from (speech_of pair.writer pair.reader recording) j n
+gone_before_claim from pair recording n None asked run found is j claim =
+    let there = claim_passes from pair recording j n claim in
+    absurd (none_found (claims pair.writer pair.reader n) (placed_in recording) there.0 found there.1 there.2)
+gone_before_claim from pair recording n (Some first) asked run found is j claim =
+    by (list_any (withdraws_before pair.writer pair.reader n first.datagram) (placed_in recording)) refl
+  where
+    no_later : first.datagram ≤ j + 1
+    no_later =
+        let there = claim_passes from pair recording j n claim in
+        let place = there.3 in
+        let le = first_is_first (claims pair.writer pair.reader n) 1 (placed_in recording) there.0 first (placed_ordered 0 recording) found there.1 there.2 in
+        omega arith
+
+    unsent : (b : Bool) → list_any (withdraws_before pair.writer pair.reader n first.datagram) (placed_in recording) ≡ false → list_any (sends_before pair.writer pair.reader n first.datagram) (placed_in recording) ≡ b
+        → (b && not (list_any (withdraws_before pair.writer pair.reader n first.datagram) (placed_in recording))) ≡ false → b ≡ false
+    unsent false none same e = refl
+    unsent true none same e = absurd (let no : not false ≡ false = ap not (sym none) ∙ e in let yes : not false ≡ true = refl in cc)
+
+    told : (i : ℕ) (k : ℕ) (word : Word) → i + 1 < first.datagram → Gives from (speech_of pair.writer pair.reader recording) i k n word → list_any (withdraws_before pair.writer pair.reader n first.datagram) (placed_in recording) ≡ false
+        → IsGoneBefore from (speech_of pair.writer pair.reader recording) j n
+    told i k Gone lt gives none = let le = no_later in record { place = i; act = k; earlier = omega arith; gives = gives }
+    told i k (Told payload) lt gives none =
+        let teller = given_is_word from pair.writer pair.reader recording i k n (Told payload) gives in
+        let place = teller.3 in
+        absurd (none_passes (sends_before pair.writer pair.reader n first.datagram) (placed_in recording) teller.0
+          (unsent (list_any (sends_before pair.writer pair.reader n first.datagram) (placed_in recording)) none refl is) teller.1
+          (passes_sent pair.writer pair.reader n first.datagram teller.0 payload (omega arith) teller.2))
+
+    by : (b : Bool) → list_any (withdraws_before pair.writer pair.reader n first.datagram) (placed_in recording) ≡ b → IsGoneBefore from (speech_of pair.writer pair.reader recording) j n
+    by true some = gone_there from pair recording n first.datagram j asked no_later some
+    by false none =
+        let there = found_is_there (claims pair.writer pair.reader n) (placed_in recording) first found in
+        let here = claim_there from pair recording n first asked there.0 there.1 in
+        let word = run_is_founded from (speech_of pair.writer pair.reader recording) run here.0 n here.1 in
+        let place = here.2 in
+        let earlier = word.earlier in
+        told word.place word.act word.word (omega arith) word.gives none
+
+pub received_is_exact : ReceivedIsExact
+received_is_exact from pair recording n asked run = record {
+  certain = certain from pair recording n (first_claiming pair.writer pair.reader n (placed_in recording)) asked refl;
+  uncertain = λ is. run_without_payload n (speech_of pair.writer pair.reader recording) (run_is_founded from (speech_of pair.writer pair.reader recording) run)
+    (gone_before_claim from pair recording n (first_claiming pair.writer pair.reader n (placed_in recording)) asked run refl is);
+}

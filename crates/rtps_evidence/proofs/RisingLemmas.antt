@@ -1,0 +1,188 @@
+-- Stretches whose beginnings and ends rise: made of sorted ones, and looked at by a key.
+use Rattle.std.proofs.Common.{◌≡◌, ℕ, ◌+◌, ◌-◌, ◌<◌, ◌≤◌, ◌&&◌, ◌||◌, Bool, true, false, nat_le, nat_lt, max, List, [], ◌∷◌, ◌++◌, length, take, get_or, refl, sym, ap, ◌∙◌, arith, inl, inr, subst}
+use Rattle.std.specs.Prelude.{Contains}
+use Rattle.std.specs.List.{list_any}
+use Rattle.std.specs.List.Sorted.{IsNonDecreasingBy, IsPartitionPoint}
+use Rattle.std.proofs.lemmas.Bool.{cases_lt}
+use Rattle.std.proofs.lemmas.Bool.Decides.{nat_tests}
+use Rattle.std.proofs.lemmas.List.{get_or_default, length-append, take_more, get_or_push}
+use Rattle.std.proofs.lemmas.List.Folds.{list_any-append, list_any-from_Any}
+use Rattle.std.proofs.lemmas.List.Sorted.{IsNonDecreasingBy-push}
+use Rattle.rtps_evidence.specs.Rising.{AreRising, reaches, some_reaches}
+use Rattle.rtps_evidence.specs.declared.amount.Stretch.{Stretch}
+use Rattle.rtps_evidence.proofs.PlacedOrder.{some_passes}
+
+-- an element that passes
+pub passes_at : {X : Type 0} (test : X → Bool) (xs : List X) (i : ℕ) (d : X) → i < length xs → test (get_or xs i d) ≡ true → list_any test xs ≡ true
+passes_at test xs i d lt is = list_any-from_Any test xs (i, get_or xs i d, lt, get_or_default xs i (get_or xs i d) d lt, is)
+
+-- what the first `i` sorted stretches are made to, where `hi` is the greatest of their ends
+pub record IsRisen (sorted : List Stretch) (i hi : ℕ) (risen : List Stretch) : Type 0 where
+  pub count : length risen ≡ i
+  pub rising : AreRising risen
+  pub same : (key n : ℕ) → some_reaches risen key n ≡ some_reaches (take i sorted) key n
+  pub none : i ≡ 0 → hi ≡ 0
+  pub last_lo : (d : Stretch) → 0 < i → (get_or risen (i - 1) d).lo ≡ (get_or sorted (i - 1) d).lo
+  pub last_hi : (d : Stretch) → 0 < i → (get_or risen (i - 1) d).hi ≡ hi
+
+no_stretch : Stretch
+no_stretch = record { lo = 0; hi = 0 }
+
+-- up to the end before, all is reached already
+one_more : (a : Bool) (lo key n hi end top : ℕ) → top ≡ max end hi → (lo ≤ key → n < hi → a ≡ true) → (a || (nat_le lo key && nat_lt n top)) ≡ (a || (nat_le lo key && nat_lt n end))
+one_more true lo key n hi end top is h = refl
+one_more false lo key n hi end top is h = elim (cases_lt key lo) [
+  | inl before ↦ let late : nat_le lo key ≡ false = grind (arith, nat_tests) in rw late refl
+  | inr begun ↦ elim (cases_lt n hi) [
+    | inl reached ↦ absurd (let no = h begun reached in cc)
+    | inr past ↦ let same : nat_lt n top ≡ nat_lt n end = grind (arith, nat_tests) in ap (λ b. nat_le lo key && b) same
+  ]
+]
+
+or_false : (b : Bool) → (b || false) ≡ b
+or_false true = refl
+or_false false = refl
+
+pub risen_more : (sorted : List Stretch) (i hi : ℕ) (risen new : List Stretch) (x : Stretch) (top : ℕ) → IsNonDecreasingBy (λ (s : Stretch). s.lo) sorted → i < length sorted → x ≡ get_or sorted i x
+    → new ≡ risen ++ record { lo = x.lo; hi = top } ∷ [] → top ≡ max x.hi hi → IsRisen sorted i hi risen → IsRisen sorted (i + 1) top new
+risen_more sorted i hi risen new x top in_order lt at is greatest so_far =
+    subst (IsRisen sorted (i + 1) top) (sym is) (record {
+      count = length-append risen (added ∷ []) ∙ (let count = so_far.count in omega arith);
+      rising = record {
+        lo = IsNonDecreasingBy-push (λ (s : Stretch). s.lo) risen added so_far.rising.lo (λ d some. lo_up d some);
+        hi = IsNonDecreasingBy-push (λ (s : Stretch). s.hi) risen added so_far.rising.hi (λ d some. hi_up d some);
+      };
+      same = λ key n.
+          list_any-append (reaches key n) risen (added ∷ [])
+          ∙ ap (λ b. some_reaches risen key n || b) (or_false (reaches key n added))
+          ∙ one_more (some_reaches risen key n) x.lo key n hi x.hi top greatest (covered key n)
+          ∙ ap (λ b. b || reaches key n x) (so_far.same key n)
+          ∙ sym (ap (λ b. some_reaches (take i sorted) key n || b) (or_false (reaches key n x)))
+          ∙ sym (list_any-append (reaches key n) (take i sorted) (x ∷ []))
+          ∙ ap (λ y. some_reaches (take i sorted ++ y ∷ []) key n) at
+          ∙ sym (ap (λ l. some_reaches l key n) (take_more sorted i x lt));
+      none = λ zero. absurd (omega arith);
+      last_lo = λ d some. (let e : i + 1 - 1 ≡ i = omega arith in ap (λ k. (get_or (risen ++ added ∷ []) k d).lo) e) ∙ ap (λ (s : Stretch). s.lo) (here d) ∙ lo_at d;
+      last_hi = λ d some. (let e : i + 1 - 1 ≡ i = omega arith in ap (λ k. (get_or (risen ++ added ∷ []) k d).hi) e) ∙ ap (λ (s : Stretch). s.hi) (here d);
+    })
+  where
+    added : Stretch
+    added = record { lo = x.lo; hi = top }
+
+    here : (d : Stretch) → get_or (risen ++ added ∷ []) i d ≡ added
+    here d = get_or_push risen added d i so_far.count
+
+    lo_at : (d : Stretch) → x.lo ≡ (get_or sorted (i + 1 - 1) d).lo
+    lo_at d =
+        let e : i + 1 - 1 ≡ i = omega arith in
+        ap (λ (s : Stretch). s.lo) at ∙ ap (λ (s : Stretch). s.lo) (get_or_default sorted i x d lt) ∙ sym (ap (λ k. (get_or sorted k d).lo) e)
+
+    before_lo : (d : Stretch) → 0 < i → (get_or sorted (i - 1) d).lo ≤ x.lo
+    before_lo d some =
+        let le = in_order (i - 1) i d (omega arith) lt in
+        let e = ap (λ (s : Stretch). s.lo) at in
+        let f = ap (λ (s : Stretch). s.lo) (get_or_default sorted i x d lt) in
+        omega arith
+
+    lo_up : (d : Stretch) → 0 < length risen → (get_or risen (length risen - 1) d).lo ≤ x.lo
+    lo_up d some =
+        let count = so_far.count in
+        let e = ap (λ k. (get_or risen (k - 1) d).lo) count in
+        let last = so_far.last_lo d (omega arith) in
+        let le = before_lo d (omega arith) in
+        omega arith
+
+    hi_up : (d : Stretch) → 0 < length risen → (get_or risen (length risen - 1) d).hi ≤ top
+    hi_up d some =
+        let count = so_far.count in
+        let e = ap (λ k. (get_or risen (k - 1) d).hi) count in
+        let last = so_far.last_hi d (omega arith) in
+        omega arith
+
+    covered : (key n : ℕ) → x.lo ≤ key → n < hi → some_reaches risen key n ≡ true
+    covered key n begun reached = elim (cases_lt 0 i) [
+      | inl some ↦
+          let count = so_far.count in
+          let lo = so_far.last_lo no_stretch some in
+          let end = so_far.last_hi no_stretch some in
+          let le = before_lo no_stretch some in
+          let begins : (get_or risen (i - 1) no_stretch).lo ≤ key = omega arith in
+          let ends : n < (get_or risen (i - 1) no_stretch).hi = omega arith in
+          passes_at (reaches key n) risen (i - 1) no_stretch (omega arith) (grind (arith, nat_tests, begins, ends))
+      | inr none ↦ let zero : hi ≡ 0 = so_far.none (omega arith) in absurd (omega arith)
+    ]
+
+-- ---- by a key
+
+parts : (a b : Bool) → (a && b) ≡ true → (a ≡ true) × (b ≡ true)
+parts true b e = (refl, e)
+parts false b e = absurd (let no : false ≡ true = e in cc)
+
+-- a stretch that begins up to the key stands before the place
+stands_before : (stretches : List Stretch) (key place n : ℕ) → IsPartitionPoint (λ (s : Stretch). nat_le s.lo key ≡ true) (λ (s : Stretch). nat_le s.lo key ≡ false) stretches place → some_reaches stretches key n ≡ true
+    → (k : ℕ) × (k < place) × (k < length stretches) × (n < (get_or stretches k no_stretch).hi)
+stands_before stretches key place n point some = at (some_passes (reaches key n) stretches some)
+  where
+    at : (x : Stretch) × Contains stretches x × (reaches key n x ≡ true) → (k : ℕ) × (k < place) × (k < length stretches) × (n < (get_or stretches k no_stretch).hi)
+    at (x, (k, lt, e), passes) =
+        let tests = parts (nat_le x.lo key) (nat_lt n x.hi) passes in
+        let same : get_or stretches k no_stretch ≡ x = get_or_default stretches k no_stretch x lt ∙ e in
+        let lo = ap (λ (s : Stretch). nat_le s.lo key) same in
+        let hi = ap (λ (s : Stretch). s.hi) same in
+        let end : n < x.hi = (let is = tests.1 in grind (arith, nat_tests, is)) in
+        elim (cases_lt k place) [
+          | inl before ↦ (k, before, lt, omega arith)
+          | inr behind ↦ absurd (let no : nat_le (get_or stretches k no_stretch).lo key ≡ false = point.1 k no_stretch behind lt in let is = tests.0 in let clash : true ≡ false = sym is ∙ sym lo ∙ no in cc)
+        ]
+
+to_false : (b : Bool) → (b ≡ true → ⊥) → b ≡ false
+to_false true h = absurd (h refl)
+to_false false h = refl
+
+pub none_reaches : (stretches : List Stretch) (key place : ℕ) → IsPartitionPoint (λ (s : Stretch). nat_le s.lo key ≡ true) (λ (s : Stretch). nat_le s.lo key ≡ false) stretches place → place ≡ 0
+    → (n : ℕ) → nat_lt n 0 ≡ some_reaches stretches key n
+none_reaches stretches key place point zero n =
+    let not_before : nat_lt n 0 ≡ false = grind (arith, nat_tests) in
+    not_before ∙ sym (to_false (some_reaches stretches key n) (λ some. let at = stands_before stretches key place n point some in let lt = at.1 in omega arith))
+
+both_ways : (a b : Bool) → (a ≡ true → b ≡ true) → (b ≡ true → a ≡ true) → a ≡ b
+both_ways true b to from = sym (to refl)
+both_ways false true to from = from refl
+both_ways false false to from = refl
+
+pub last_reaches : (stretches : List Stretch) (key place : ℕ) (d : Stretch) → AreRising stretches → IsPartitionPoint (λ (s : Stretch). nat_le s.lo key ≡ true) (λ (s : Stretch). nat_le s.lo key ≡ false) stretches place
+    → 0 < place → place ≤ length stretches → (n : ℕ) → nat_lt n (get_or stretches (place - 1) d).hi ≡ some_reaches stretches key n
+last_reaches stretches key place d rising point some within n =
+    both_ways (nat_lt n (get_or stretches (place - 1) d).hi) (some_reaches stretches key n)
+    (λ is.
+        let begins : nat_le (get_or stretches (place - 1) d).lo key ≡ true = point.0 (place - 1) d (omega arith) (omega arith) in
+        passes_at (reaches key n) stretches (place - 1) d (omega arith) (ap (λ b. b && nat_lt n (get_or stretches (place - 1) d).hi) begins ∙ is))
+    (λ is.
+        let at = stands_before stretches key place n point is in
+        let before = at.1 in
+        let end = at.3 in
+        let e = ap (λ (s : Stretch). s.hi) (get_or_default stretches at.0 no_stretch d at.2) in
+        let up = rising.hi at.0 (place - 1) d (omega arith) (omega arith) in
+        let reached : n < (get_or stretches (place - 1) d).hi = omega arith in
+        grind (arith, nat_tests, reached))
+
+-- ---- the numbers up to an end
+
+-- what is reached from a key on is reached from a later one
+pub reached_on : (stretches : List Stretch) (key later n : ℕ) → key ≤ later → some_reaches stretches key n ≡ true → some_reaches stretches later n ≡ true
+reached_on stretches key later n le some =
+    let at = some_passes (reaches key n) stretches some in
+    let tests = parts (nat_le at.0.lo key) (nat_lt n at.0.hi) at.2 in
+    let lower : at.0.lo ≤ key = (let t = tests.0 in grind (arith, nat_tests, t)) in
+    let begins : nat_le at.0.lo later ≡ true = grind (arith, nat_tests, lower, le) in
+    list_any-from_Any (reaches later n) stretches (at.1.0, at.0, at.1.1, at.1.2, ap (λ b. b && nat_lt n at.0.hi) begins ∙ tests.1)
+
+-- the numbers below an end are in stretches, too
+pub within_more : (stretches : List Stretch) (from least end : ℕ) → least < end → ((n : ℕ) → from ≤ n → n < least → some_reaches stretches n n ≡ true) → ((n : ℕ) → nat_lt n end ≡ some_reaches stretches least n)
+    → (n : ℕ) → from ≤ n → n < end → some_reaches stretches n n ≡ true
+within_more stretches from least end lt below reach n low high = elim (cases_lt n least) [
+  | inl before ↦ below n low before
+  | inr past ↦
+      let ends : nat_lt n end ≡ true = grind (arith, nat_tests, high) in
+      reached_on stretches least n n past (sym (reach n) ∙ ends)
+]

@@ -1,0 +1,11 @@
+use Rattle.std.proofs.Common.{◌≡◌, ◌&&◌, ◌||◌, ◌-◌, ◌^◌, ℕ, nat_le}
+use Rattle.rtps_audit.specs.Speech.{is_in_gap_below}
+use Rattle.rtps_evidence.specs.Amount.{stretches_have}
+use Rattle.rtps_evidence.proofs.claimed.push_gap_from.Given as goal
+
+-- the numbers below that place are there
+abbrev pub invariant-apart : goal.invariant-apart
+invariant-apart l = (n : ℕ) → stretches_have l.stretches.items n ≡ (stretches_have l.fn.stretches.items n || (nat_le l.from n && is_in_gap_below l.gap l.at n))
+
+abbrev pub decreases-apart : goal.decreases-apart
+decreases-apart l = 2 ^ 64 - l.at

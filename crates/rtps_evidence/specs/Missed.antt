@@ -1,0 +1,90 @@
+-- Which numbers a reader missed. DDSI-RTPS 2.5, 8.3.8.1 "AckNack": the set of an ACKNACK names the numbers that the reader lacks.
+-- own: a number that is not received mostly came all the same; one that a reader was there for and asked for is the alarm.
+use Rattle.std.specs.Prelude.{ℕ, Bool, false, ◌+◌, ◌≡◌, ◌==◌, ◌&&◌, not, List, [], ◌∷◌, Option, Some, None}
+use Rattle.std.specs.List.{find, list_any}
+use Rattle.std.specs.Option.{option_map}
+use Rattle.rtps_ids.specs.NumberSet.{is_member}
+use Rattle.rtps_ids.specs.declared.identity.Guid.{Guid}
+use Rattle.rtps_receiver.specs.Speech.{is_answer}
+use Rattle.rtps_receiver.specs.Values.{ActBodyValue}
+use Rattle.rtps_receiver.specs.Values.ActBodyValue.{Data, Heartbeat, AckNack, Gap}
+use Rattle.rtps_discovery.specs.Endpoint.{EndpointValue}
+use Rattle.rtps_discovery.specs.Notice.{announcement_of as notice_of, endpoint_in}
+use Rattle.rtps_audit.specs.Placed.{PlacedValue, is_guid}
+use Rattle.rtps_audit.specs.declared.announced_places.AnnouncedPlace.{AnnouncedPlace}
+use Rattle.rtps_evidence.specs.Amount.{count_in}
+use Rattle.rtps_evidence.specs.Locations.{find_last, is_behind, location_of, sends, teller_at}
+use Rattle.rtps_evidence.specs.Received.{is_received, least_in, withdraws}
+use Rattle.rtps_evidence.specs.declared.location.Location.{Location}
+use Rattle.rtps_evidence.specs.declared.first_missed.FirstMissed.{FirstMissed}
+use Rattle.rtps_evidence.specs.declared.missed.Missed.{Missed}
+use Rattle.rtps_evidence.specs.declared.teller.Teller.{Teller}
+
+-- the set of an ACKNACK has n
+abbrev pub is_in_set : ActBodyValue → ℕ → Bool
+is_in_set (AckNack value) n = is_member value.set n
+is_in_set (Data value) n = false
+is_in_set (Heartbeat value) n = false
+is_in_set (Gap value) n = false
+
+-- the reader says to the writer that it lacks n
+abbrev pub asks_for : Guid → Guid → ℕ → PlacedValue → Bool
+asks_for writer reader n placed = is_answer placed.act reader writer && is_in_set placed.act.body n
+
+-- the endpoint, if there is one, has this GUID
+abbrev pub has_guid : Guid → Option EndpointValue → Bool
+has_guid guid (Some endpoint) = is_guid guid endpoint.guid
+has_guid guid None = false
+
+-- an act announces the endpoint of this GUID, as a writer or a reader of whatever topic
+abbrev pub announces : Guid → PlacedValue → Bool
+announces guid placed = has_guid guid (endpoint_in (notice_of placed.act))
+
+-- where it is announced first
+abbrev pub place_announced : Guid → List PlacedValue → Option Location
+place_announced guid acts = option_map location_of (find (announces guid) acts)
+
+-- the first of these places
+abbrev pub first_place : List AnnouncedPlace → Option Location
+first_place [] = None
+first_place (place ∷ places) = Some (record { datagram = place.datagram; at = place.at })
+
+-- the reader hears a payload for n from the writer, behind a place
+abbrev pub sends_behind : Option Location → Guid → Guid → ℕ → PlacedValue → Bool
+sends_behind place writer reader n placed = is_behind place placed && sends writer reader n placed
+
+-- n is missed: it is not received, the reader says that it lacks n, and of n a payload that the reader hears stands behind the
+-- first announcement of the reader
+abbrev pub is_missed : Guid → Guid → List PlacedValue → ℕ → Bool
+is_missed writer reader acts n =
+    not (is_received writer reader acts n) && (list_any (asks_for writer reader n) acts && list_any (sends_behind (place_announced reader acts) writer reader n) acts)
+
+-- these numbers have n
+abbrev pub numbers_have : List ℕ → ℕ → Bool
+numbers_have numbers n = list_any (λ number. number == n) numbers
+
+-- the reader hears, behind a place, that n will not come
+abbrev pub withdraws_behind : Location → Guid → Guid → ℕ → PlacedValue → Bool
+withdraws_behind place writer reader n placed = is_behind (Some place) placed && withdraws writer reader n placed
+
+-- the first act behind a place by which the reader hears that n will not come
+abbrev pub gone_behind : Location → Guid → Guid → ℕ → List PlacedValue → Option Teller
+gone_behind place writer reader n acts = option_map teller_at (find (withdraws_behind place writer reader n) acts)
+
+-- n as a number that is missed, by the last answer that asks for it, and by the first act behind that which tells it gone
+abbrev pub missed_at : Guid → Guid → ℕ → List PlacedValue → PlacedValue → FirstMissed
+missed_at writer reader n acts asking = record { number = n; asked = location_of asking; gone = gone_behind (location_of asking) writer reader n acts }
+
+-- the same of a number, if there is one
+abbrev pub missed_by : Guid → Guid → List PlacedValue → Option ℕ → Option FirstMissed
+missed_by writer reader acts None = None
+missed_by writer reader acts (Some n) = option_map (missed_at writer reader n acts) (find_last (asks_for writer reader n) acts)
+
+-- the least number from `from` on, up to the last one, that is missed
+abbrev pub first_missed_of : ℕ → ℕ → Guid → Guid → List PlacedValue → Option FirstMissed
+first_missed_of from last writer reader acts = missed_by writer reader acts (least_in (is_missed writer reader acts) from (last + 1))
+
+-- Of the numbers from `from` on, up to the last one: how many are missed, and the least of them.
+pub record AreMissed (from last : ℕ) (writer reader : Guid) (acts : List PlacedValue) (missed : Missed) : Type 0 where
+  pub count : missed.count ≡ count_in (is_missed writer reader acts) from (last + 1)
+  pub first : missed.first ≡ first_missed_of from last writer reader acts

@@ -1,0 +1,96 @@
+ghost use Rattle.std.specs.Prelude.{ℕ, ◌≡◌, ◌<◌, ◌^◌, map, List, Some};
+ghost use Rattle.std.specs.Option.{option_map};
+ghost use Rattle.rtps_audit.specs.Index.{IsIndexOf};
+ghost use Rattle.rtps_audit.specs.Placed.{placed_in, placed_value};
+ghost use Rattle.rtps_evidence.specs.Locations.{find_last, location_of as location_of_lem};
+ghost use Rattle.rtps_evidence.specs.Missed.{asks_for, gone_behind, missed_by, withdraws_behind as withdraws_behind_lem};
+
+use crate::location::{Location, is_behind, location_of};
+use crate::not_received::withdraws;
+use crate::teller::{Teller, teller_at};
+use rtps_audit::{Index, Placed};
+use rtps_discovery::Pair;
+use rtps_receiver::ActBody;
+
+/// A number that the reader missed.
+#[derive(Clone, Copy, PartialEq, Eq, Debug)]
+pub struct FirstMissed {
+    pub number: u64,
+    /// The last answer by which the reader asks for it.
+    pub asked: Location,
+    /// The first act behind that answer by which the reader hears that the number will not come; None where there is none.
+    pub gone: Option<Teller>,
+}
+
+/// Whether the pair's reader asks its writer for the number by an act.
+fn asks(placed: &Placed<'_>, pair: Pair, number: u64) -> bool
+    requires { number < 2 ^ 63 }
+    ensures { result ≡ asks_for pair.writer pair.reader number (placed_value placed.now) }
+{
+    if !placed.act.answers(pair.reader, pair.writer) {
+        return false;
+    }
+    match &placed.act.body {
+        ActBody::AckNack(ack_nack) => ack_nack.set.contains(number.cast_signed()),
+        ActBody::Data(_) => false,
+        ActBody::Heartbeat(_) => false,
+        ActBody::Gap(_) => false,
+    }
+}
+
+/// Where the last of these acts stands by which the pair's reader asks its writer for the number.
+fn last_asking(acts: &[Placed<'_>], pair: Pair, number: u64) -> Option<Location>
+    requires { number < 2 ^ 63 }
+    ensures { result ≡ option_map location_of_lem (find_last (asks_for pair.writer pair.reader number) (map placed_value acts.now)) }
+{
+    let mut last = None;
+    for placed in acts {
+        if asks(placed, pair, number) {
+            last = Some(location_of(placed));
+        }
+    }
+    last
+}
+
+/// Whether the reader hears by an act, behind a place, that the number will not come.
+fn withdraws_behind(placed: &Placed<'_>, pair: Pair, number: u64, place: Location) -> bool
+    requires { number < 2 ^ 63 }
+    ensures { result ≡ withdraws_behind_lem place pair.writer pair.reader number (placed_value placed.now) }
+{
+    is_behind(Some(place), placed) && withdraws(placed, pair, number)
+}
+
+/// The first of these acts, behind a place, by which the reader hears that the number will not come.
+fn first_gone_behind(
+    acts: &[Placed<'_>],
+    pair: Pair,
+    number: u64,
+    place: Location,
+) -> Option<Teller>
+    requires { number < 2 ^ 63 }
+    ensures { result ≡ gone_behind place pair.writer pair.reader number (map placed_value acts.now) }
+{
+    for placed in acts {
+        if withdraws_behind(placed, pair, number, place) {
+            return Some(teller_at(placed));
+        }
+    }
+    None
+}
+
+/// The number as one that is missed; None where the pair's reader never asks its writer for it.
+pub(crate) fn first_missed_at(index: &Index<'_>, pair: Pair, number: u64) -> Option<FirstMissed>
+    requires { number < 2 ^ 63 }
+    ensures { (recording : List (List ℕ)) → IsIndexOf recording index.now
+        → result ≡ missed_by pair.writer pair.reader (placed_in recording) (Some number) }
+{
+    let Some(asked) = last_asking(index.acts_of(pair.reader), pair, number) else {
+        return None;
+    };
+    let gone = first_gone_behind(index.acts_of(pair.writer), pair, number, asked);
+    Some(FirstMissed {
+        number,
+        asked,
+        gone,
+    })
+}

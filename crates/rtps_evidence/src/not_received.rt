@@ -1,0 +1,99 @@
+ghost use Rattle.std.specs.Prelude.{ℕ, ◌≡◌, ◌<◌, ◌^◌, map, nat_lt, List};
+ghost use Rattle.std.specs.List.{find};
+ghost use Rattle.rtps_audit.specs.Index.{IsIndexOf};
+ghost use Rattle.rtps_audit.specs.Placed.{placed_in, placed_value};
+ghost use Rattle.rtps_audit.specs.Speech.{natural};
+ghost use Rattle.rtps_evidence.specs.Locations.{claim_in as claim_in_lem};
+ghost use Rattle.rtps_evidence.specs.Received.{first_claiming, gone_before, kept_by, withdraws as withdraws_lem, withdraws_before as withdraws_before_lem};
+
+use crate::acknowledgement::{Claim, claim_in};
+use crate::location::Location;
+use crate::teller::{Teller, gap_has, teller_at};
+use rtps_audit::{Answer, Index, Placed};
+use rtps_discovery::Pair;
+use rtps_receiver::ActBody;
+
+/// A number that may not be received, and what keeps it from being certain.
+#[derive(Clone, Copy, PartialEq, Eq, Debug)]
+pub struct NotReceived {
+    pub number: u64,
+    /// The first act in a datagram before that of the claim by which the reader hears that the number will not come; None where
+    /// nothing told it before, and where no answer claims it.
+    pub gone: Option<Teller>,
+    /// The first answer that claims the number; None where no answer does.
+    pub acknowledged: Option<Location>,
+}
+
+/// The first of these answers that claims the number.
+fn first_claim(answers: &[Answer], number: u64) -> Option<Claim>
+    ensures { result ≡ find (λ claim. nat_lt number (natural claim.below)) (map claim_in_lem answers.now) }
+{
+    for answer in answers {
+        if number < answer.natural_base() {
+            return Some(claim_in(answer));
+        }
+    }
+    None
+}
+
+/// Whether the reader hears, by an act, that the number will not come.
+pub(crate) fn withdraws(placed: &Placed<'_>, pair: Pair, number: u64) -> bool
+    requires { number < 2 ^ 63 }
+    ensures { result ≡ withdraws_lem pair.writer pair.reader number (placed_value placed.now) }
+{
+    if !placed.act.spoken_by(pair.writer) || !placed.act.heard_by(pair.reader) {
+        return false;
+    }
+    match &placed.act.body {
+        ActBody::Heartbeat(heartbeat) => number < heartbeat.first.get().cast_unsigned(),
+        ActBody::Gap(gap) => gap_has(gap, number),
+        ActBody::Data(_) => false,
+        ActBody::AckNack(_) => false,
+    }
+}
+
+/// Whether the reader hears that in a datagram before this one.
+fn withdraws_before(placed: &Placed<'_>, pair: Pair, number: u64, datagram: u64) -> bool
+    requires { number < 2 ^ 63 }
+    ensures { result ≡ withdraws_before_lem pair.writer pair.reader number datagram (placed_value placed.now) }
+{
+    (placed.datagram as u64) < datagram && withdraws(placed, pair, number)
+}
+
+/// The first of these acts, in a datagram before that one, by which the reader hears that the number will not come.
+fn first_gone(
+    acts: &[Placed<'_>],
+    pair: Pair,
+    number: u64,
+    datagram: u64,
+) -> Option<Teller>
+    requires { number < 2 ^ 63 }
+    ensures { result ≡ gone_before pair.writer pair.reader number datagram (map placed_value acts.now) }
+{
+    for placed in acts {
+        if withdraws_before(placed, pair, number, datagram) {
+            return Some(teller_at(placed));
+        }
+    }
+    None
+}
+
+/// The number as one that is not received, and what keeps it from being so.
+pub(crate) fn not_received_at(index: &Index<'_>, pair: Pair, number: u64) -> NotReceived
+    requires { number < 2 ^ 63 }
+    ensures { (recording : List (List ℕ)) → IsIndexOf recording index.now
+        → result ≡ kept_by pair.writer pair.reader number (placed_in recording) (first_claiming pair.writer pair.reader number (placed_in recording)) }
+{
+    let Some(claim) = first_claim(index.answers_of(pair), number) else {
+        return NotReceived {
+            number,
+            gone: None,
+            acknowledged: None,
+        };
+    };
+    NotReceived {
+        number,
+        gone: first_gone(index.acts_of(pair.writer), pair, number, claim.place.datagram),
+        acknowledged: Some(claim.place),
+    }
+}

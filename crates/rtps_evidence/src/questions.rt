@@ -1,0 +1,86 @@
+ghost use Rattle.std.specs.Prelude.{ℕ, ◌≡◌, map, List, None};
+ghost use Rattle.std.specs.List.{last_or};
+ghost use Rattle.std.specs.Option.{option_map};
+ghost use Rattle.rtps_receiver.specs.Values.{act_body_value};
+ghost use Rattle.rtps_audit.specs.Index.{IsIndexOf};
+ghost use Rattle.rtps_audit.specs.Placed.{placed_in, placed_value};
+ghost use Rattle.rtps_evidence.specs.Questions.{AreAsked, AreQuestions, is_question as is_question_lem, place_of as place_of_lem, questions_behind};
+
+use crate::location::{Location, is_behind, location_of};
+use rtps_audit::{Answer, Index, Placed};
+use rtps_discovery::Pair;
+use rtps_receiver::ActBody;
+
+/// HEARTBEATs that ask for an answer.
+#[derive(Clone, Copy, Debug)]
+pub(crate) struct Questions {
+    pub(crate) count: u64,
+    /// Where the last of them stands.
+    pub(crate) last: Option<Location>,
+}
+
+/// Whether an act is a HEARTBEAT that asks for an answer.
+fn is_question(body: &ActBody<'_>) -> bool
+    ensures { result ≡ is_question_lem (act_body_value body.now) }
+{
+    match body {
+        ActBody::Heartbeat(heartbeat) => !heartbeat.is_final,
+        ActBody::Data(_) => false,
+        ActBody::AckNack(_) => false,
+        ActBody::Gap(_) => false,
+    }
+}
+
+/// Whether the pair's writer asks its reader by an act, behind a place.
+fn asks_behind(placed: &Placed<'_>, pair: Pair, place: Option<Location>) -> bool
+    ensures { result ≡ questions_behind place pair.writer pair.reader (placed_value placed.now) }
+{
+    is_behind(place, placed)
+        && placed.act.spoken_by(pair.writer)
+        && placed.act.heard_by(pair.reader)
+        && is_question(&placed.act.body)
+}
+
+/// How often the pair's writer asks its reader by these acts, behind a place.
+fn questions_among(acts: &[Placed<'_>], pair: Pair, place: Option<Location>) -> Questions
+    ensures { AreAsked place pair.writer pair.reader (map placed_value acts.now) result }
+{
+    let mut count = 0;
+    let mut last = None;
+    for placed in acts {
+        if asks_behind(placed, pair, place) {
+            count += 1;
+            last = Some(location_of(placed));
+        }
+    }
+    Questions { count, last }
+}
+
+/// Where an answer stands.
+fn place_of(answer: &Answer) -> Location
+    ensures { result ≡ place_of_lem answer.now }
+{
+    Location {
+        datagram: answer.datagram as u64,
+        at: answer.at,
+    }
+}
+
+/// Where the last of these answers stands.
+fn last_place(answers: &[Answer]) -> Option<Location>
+    ensures { result ≡ option_map place_of_lem (last_or None answers.now) }
+{
+    let mut last = None;
+    for answer in answers {
+        last = Some(place_of(answer));
+    }
+    last
+}
+
+/// How often a pair's writer asked its reader since the reader's last answer.
+pub(crate) fn questions_since(index: &Index<'_>, pair: Pair) -> Questions
+    ensures { (recording : List (List ℕ)) → IsIndexOf recording index.now → AreQuestions pair.writer pair.reader (placed_in recording) result }
+{
+    let place = last_place(index.answers_of(pair));
+    questions_among(index.acts_of(pair.writer), pair, place)
+}

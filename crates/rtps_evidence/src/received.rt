@@ -1,0 +1,163 @@
+ghost use Rattle.std.specs.Prelude.{ℕ, ◌≡◌, ◌≤◌, ◌<◌, true, false, ◌^◌, ◌&&◌, ◌||◌, map, IfOk, IfSome, OnOk, List};
+ghost use Rattle.std.specs.List.{list_any};
+ghost use Rattle.rtps_audit.specs.Index.{IsIndexOf};
+ghost use Rattle.rtps_audit.specs.Placed.{placed_in, placed_value};
+ghost use Rattle.rtps_evidence.specs.Amount.{stretches_have};
+ghost use Rattle.rtps_evidence.specs.Claimed.{certain_at, is_at};
+ghost use Rattle.rtps_evidence.specs.Locations.{sends};
+ghost use Rattle.rtps_evidence.specs.Received.{AreReceived, is_received};
+ghost use Rattle.rtps_evidence.specs.Rising.{AreRising};
+
+use crate::amount::{AskedNumbers, Stretch, count_of};
+use crate::claimed::Certainty;
+use crate::not_received::{NotReceived, not_received_at};
+use crate::rising::{end_at, rising};
+use rtps_audit::{Index, Placed};
+use rtps_discovery::Pair;
+use rtps_ids::Memory;
+use rtps_receiver::ActBody;
+use std::alloc::Global;
+
+/// The number of the payload that the pair's reader hears by an act.
+pub(crate) fn number_sent(placed: &Placed<'_>, pair: Pair) -> Option<u64>
+    ensures number { (n : ℕ) → sends pair.writer pair.reader n (placed_value placed.now) ≡ is_at n result }
+    ensures in_range { IfSome result (λ number. number < 2 ^ 63) }
+{
+    if !placed.act.spoken_by(pair.writer) || !placed.act.heard_by(pair.reader) {
+        return None;
+    }
+    match &placed.act.body {
+        ActBody::Data(data) => Some(data.number.get().cast_unsigned()),
+        _ => None,
+    }
+}
+
+/// Appends the number of the payload that the pair's reader hears by an act, where it is certain to be received. After `Memory`
+/// the numbers are of no use.
+fn push_received(
+    received: &mut Vec<Stretch>,
+    placed: &Placed<'_>,
+    pair: Pair,
+    certainty: &Certainty,
+) -> Result<(), Memory>
+    requires claims { AreRising certainty.now.claims.items }
+    requires gone { AreRising certainty.now.gone.items }
+    ensures { OnOk result ((n : ℕ) → stretches_have received.new.items n
+        ≡ (stretches_have received.old.items n
+        || (certain_at certainty.now placed.now.datagram n && sends pair.writer pair.reader n (placed_value placed.now)))) }
+{
+    let Some(number) = number_sent(placed, pair) else {
+        return Ok(());
+    };
+    if certainty.covers(placed.datagram as u64, number) {
+        received.push(Stretch {
+            lo: number,
+            hi: number + 1,
+        })?;
+    }
+    Ok(())
+}
+
+/// The numbers of the payloads that the pair's reader hears by these acts, where they are certain to be received.
+fn received_among(
+    alloc: Global,
+    acts: &[Placed<'_>],
+    pair: Pair,
+    certainty: &Certainty,
+) -> Result<Vec<Stretch>, Memory>
+    requires claims { AreRising certainty.now.claims.items }
+    requires gone { AreRising certainty.now.gone.items }
+    ensures { IfOk result (λ received. (n : ℕ) → stretches_have received.items n
+        ≡ list_any (λ at. certain_at certainty.now at.datagram n && sends pair.writer pair.reader n at) (map placed_value acts.now)) }
+{
+    let mut received = Vec::new(alloc);
+    for placed in acts {
+        push_received(&mut received, placed, pair, certainty)?;
+    }
+    Ok(received)
+}
+
+/// The numbers that a pair's reader received for certain, also those that are not asked for.
+fn find_received(
+    alloc: Global,
+    index: &Index<'_>,
+    pair: Pair,
+) -> Result<Vec<Stretch>, Memory>
+    ensures { (recording : List (List ℕ)) → IsIndexOf recording index.now → IfOk result (λ received. (n : ℕ)
+        → stretches_have received.items n ≡ is_received pair.writer pair.reader (placed_in recording) n) }
+{
+    let acts = index.acts_of(pair.writer);
+    let answers = index.answers_of(pair);
+    if answers.is_empty() {
+        return Ok(Vec::new(alloc));
+    }
+    let certainty = Certainty::of(alloc, acts, answers, pair)?;
+    let received = received_among(alloc, acts, pair, &certainty)?;
+    Ok(received)
+}
+
+/// The least number from `from` on that no stretch has.
+fn least_outside(stretches: &[Stretch], from: u64) -> u64
+    requires { AreRising stretches.now }
+    ensures onward { from ≤ result }
+    ensures outside { stretches_have stretches.now result ≡ false }
+    ensures between { (n : ℕ) → from ≤ n → n < result → stretches_have stretches.now n ≡ true }
+{
+    let mut least = from;
+    let mut end = end_at(stretches, least);
+    'within: while least < end {
+        least = end;
+        end = end_at(stretches, least);
+    }
+    least
+}
+
+/// Of the numbers that are asked for: how many are received, and the least one that is not.
+#[derive(Clone, Copy, Debug)]
+pub(crate) struct Received {
+    pub(crate) count: u64,
+    pub(crate) not_received: Option<NotReceived>,
+}
+
+/// The numbers that a pair's reader received for certain, as stretches that rise.
+pub(crate) fn received_numbers(
+    alloc: Global,
+    index: &Index<'_>,
+    pair: Pair,
+) -> Result<Vec<Stretch>, Memory>
+    ensures rising { IfOk result (λ received. AreRising received.items) }
+    ensures received { (recording : List (List ℕ)) → IsIndexOf recording index.now → IfOk result (λ received. (n : ℕ)
+        → stretches_have received.items n ≡ is_received pair.writer pair.reader (placed_in recording) n) }
+{
+    let mut received = find_received(alloc, index, pair)?;
+    let received = rising(alloc, &mut received)?;
+    Ok(received)
+}
+
+/// Of the numbers that are asked for: how many are received, and the least one that is not, where these are received. It puts
+/// them in another order.
+pub(crate) fn count_received(
+    received: &mut Vec<Stretch>,
+    index: &Index<'_>,
+    pair: Pair,
+    asked: &AskedNumbers,
+) -> Result<Received, Memory>
+    requires { AreRising received.old.items }
+    ensures { (recording : List (List ℕ)) → IsIndexOf recording index.now
+        → ((n : ℕ) → stretches_have received.old.items n ≡ is_received pair.writer pair.reader (placed_in recording) n)
+        → IfOk result (AreReceived asked.now.from asked.now.last pair.writer pair.reader (placed_in recording)) }
+{
+    let first = asked.from.get().cast_unsigned();
+    let end = asked.last + 1;
+    let least = least_outside(received, first);
+    let count = count_of(received, first, end)?;
+    let not_received = if least < end {
+        Some(not_received_at(index, pair, least))
+    } else {
+        None
+    };
+    Ok(Received {
+        count,
+        not_received,
+    })
+}
