@@ -9,8 +9,8 @@ ghost use Rattle.rtps_audit.specs.Placed.{answers_among, is_from, placed_in, pla
 ghost use Rattle.rtps_audit.specs.Report.{is_undirected as is_undirected_lem};
 ghost use Rattle.rtps_audit.specs.Speech.{speech_of};
 
-use crate::answer::{Answer, AnswerKey, note_answers};
 use crate::announced_places::{AnnouncedPlace, note_places};
+use crate::answer::{Answer, AnswerKey, note_answers};
 use crate::groups::Groups;
 use crate::placed::{Placed, note_acts};
 use crate::report::Counts;

@@ -19,6 +19,7 @@ loop-datagram-init c = record {
   place = refl;
   acts = λ origin. ap (map placed_value) (c.new-acts.ensures origin);
   answers = λ pair. c.new-answers.ensures (key_of pair);
+  announced = λ guid. c.new-announced.ensures guid;
   map = c.new-directory.ensures.map;
   datagrams = refl;
   refused = refl;
@@ -48,7 +49,7 @@ loop-datagram-preserved c =
       acts = λ origin. acts_joined origin [] _ _ placed _ (old.acts origin) (c.in_ok-note_acts.ensures origin) ∙ ap (filter (is_from origin)) more;
       answers = λ pair. answers_joined pair [] _ _ placed _ (old.answers pair) (c.in_ok-note_answers.ensures pair) ∙ ap (answers_among pair) answered;
       announced = λ guid. places_joined guid [] (values_at guid_cmp c.loop-datagram.announced.map guid) (values_at guid_cmp c.note_places.new.places.map guid) placed
-        (placed_at (c.loop-datagram.place + 1) (map act_value c.acts-in-loop-datagram-2.result.now)) (old.announced guid) (c.in_ok-note_places.ensures guid) ∙ ap (announced_among guid) noted;
+          (placed_at (c.loop-datagram.place + 1) (map act_value c.acts-in-loop-datagram-2.result.now)) (old.announced guid) (c.in_ok-note_places.ensures guid) ∙ ap (announced_among guid) noted;
       map = subst (λ l. IsMapOf l c.note_all.new.self) (ap (λ l. before ++ l) heard ∙ sym (acts_in_more recording i _ c.loop-datagram-test.true)) (c.in_ok-note_all.ensures.map before old.map);
       datagrams = old.datagrams;
       refused = grind (arith, common_steps);
