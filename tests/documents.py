@@ -24,7 +24,7 @@ PAGES = {'README.md': 130, 'CONTRIBUTING.md': 120, 'CHANGELOG.md': None, 'docs/G
          'docs/PROOFS.md': None, 'docs/PERFORMANCE.md': None, 'docs/DECISIONS.md': 120}
 EXAMPLES = sorted(name for name in os.listdir(os.path.join(ROOT, 'examples')) if name.endswith(('.rec', '.pcap')))
 COMMANDS = 'bin/rtps-audit ', 'grep ', 'head '
-ANSWERS = re.compile(r'(pairs?|announced|acknowledged|payloads|number|claimed|datagrams) ["0-9a-z]|\{"pairs"|[0-9a-f]{24}\.[0-9a-f]{8} ')
+ANSWERS = re.compile(r'(pairs?|announced|acknowledged|payloads|received|missed|number|claimed|datagrams) ["0-9a-z]|\{"pairs"|[0-9a-f]{24}\.[0-9a-f]{8} ')
 LINKS = re.compile(r'\]\(([^)#]+)\)')
 NAMED = re.compile(r'`((?:bin|bench|tests|docs|examples|crates|package)/[a-zA-Z0-9_./-]+)`')
 

@@ -46,8 +46,8 @@ pub row_tokens : (a b c d e : List Member)
 row_tokens a b c d e =
     ap (λ rest. begin_object ∷ rest)
     (front a (b ++ (c ++ (d ++ e)))
-      ∙ ap (λ rest. tokens_of a ++ rest) (front b (c ++ (d ++ e))
-        ∙ ap (λ rest. tokens_of b ++ rest) (front c (d ++ e) ∙ ap (λ rest. tokens_of c ++ rest) (front d e ∙ ap (λ rest. tokens_of d ++ rest) (whole e)))))
+    ∙ ap (λ rest. tokens_of a ++ rest) (front b (c ++ (d ++ e))
+    ∙ ap (λ rest. tokens_of b ++ rest) (front c (d ++ e) ∙ ap (λ rest. tokens_of c ++ rest) (front d e ∙ ap (λ rest. tokens_of d ++ rest) (whole e)))))
 
 -- an object of a member and two parts
 pub report_tokens : (a : Member) (b c : List Member) → json_tokens (object_of (a ∷ (b ++ c))) ≡ begin_object ∷ (tokens_of_member a ++ (tokens_of b ++ (tokens_of c ++ end_object ∷ [])))

@@ -137,10 +137,14 @@ abbrev pub delivery_members : EvidenceValue → List Member
 delivery_members evidence = (codes "received", count_json evidence.received) ∷ (codes "not_received", not_received_json evidence.not_received)
     ∷ (codes "missed", count_json evidence.missed) ∷ first_missed_members evidence.first_missed
 
+-- what an open verdict rests on
+abbrev pub open_members : EvidenceValue → List Member
+open_members evidence = (codes "told", teller_json evidence.teller) ∷ (codes "asked_since", count_json evidence.asked_since) ∷ (codes "last_asked", place_json evidence.last_asked) ∷ []
+
 -- what the verdict rests on
 abbrev pub shown_members : Verdict → EvidenceValue → List Member
 shown_members (Complete last) evidence = []
-shown_members (Open n) evidence = (codes "told", teller_json evidence.teller) ∷ (codes "asked_since", count_json evidence.asked_since) ∷ (codes "last_asked", place_json evidence.last_asked) ∷ []
+shown_members (Open n) evidence = open_members evidence
 shown_members (Conflict n) evidence = (codes "sent", array_of (sent_json evidence.first_sent ∷ sent_json evidence.other_sent ∷ [])) ∷ []
 shown_members (Unfounded datagram n) evidence = (codes "claimed", claim_json evidence.claim) ∷ (codes "told", teller_json evidence.teller) ∷ []
 

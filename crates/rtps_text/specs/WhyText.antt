@@ -95,27 +95,42 @@ place_comma place = place_text place ++ codes ","
 abbrev pub received_line : ℕ → ℕ → List ℕ
 received_line received numbers = inner_line (codes "received" ∷ decimal received ∷ codes "of" ∷ decimal numbers ∷ [])
 
--- a number that is missed, the answer that asks for it last, and what told it gone since
-abbrev pub asked_fields : FirstMissed → Option Teller → List (List ℕ)
-asked_fields first None = codes "number" ∷ decimal first.number ∷ codes "asked for" ∷ place_comma first.asked ∷ codes "not told gone since" ∷ []
-asked_fields first (Some teller) =
-    codes "number" ∷ decimal first.number ∷ codes "asked for" ∷ place_comma first.asked ∷ codes "told gone by" ∷ kind_text teller.kind ∷ place_text teller.place ∷ []
+-- the line of how many numbers are missed
+abbrev pub missed_line : ℕ → List ℕ
+missed_line missed = inner_line (codes "missed" ∷ decimal missed ∷ [])
 
--- how many numbers are missed, and the least of them behind four spaces; nothing where none is
+-- what told a number gone since it was asked for
+unfoldable pub since_text : Option Teller → List ℕ
+since_text None = codes "not told gone since"
+since_text (Some teller) = codes "told gone by " ++ (kind_text teller.kind ++ 32 ∷ place_text teller.place)
+
+-- the line of a number that is missed, behind four spaces: the answer that asks for it last, and what told it gone since
+abbrev pub asked_line : FirstMissed → List ℕ
+asked_line first = 32 ∷ 32 ∷ inner_line (codes "number" ∷ decimal first.number ∷ codes "asked for" ∷ place_comma first.asked ∷ since_text first.gone ∷ [])
+
+-- how many numbers are missed, and the least of them; nothing where none is
 abbrev pub missed_lines : ℕ → Option FirstMissed → List ℕ
 missed_lines missed None = []
-missed_lines missed (Some first) = inner_line (codes "missed" ∷ decimal missed ∷ []) ++ (32 ∷ 32 ∷ inner_line (asked_fields first first.gone))
+missed_lines missed (Some first) = missed_line missed ++ asked_line first
+
+-- that a number was told gone before it was acknowledged, and by what
+unfoldable pub gone_text : Teller → Location → List ℕ
+gone_text teller claim = codes "told gone by " ++ (kind_text teller.kind ++ 32 ∷ (place_comma teller.place ++ (codes " acknowledged " ++ place_text claim)))
+
+-- that nothing told it before, or what told it gone
+unfoldable pub told_before_text : Option Teller → Location → List ℕ
+told_before_text None claim = codes "told nothing before datagram " ++ (decimal claim.datagram ++ (codes " at " ++ decimal claim.at))
+told_before_text (Some teller) claim = gone_text teller claim
 
 -- what keeps a number from being received
-abbrev pub kept_fields : Option Teller → Option Location → List (List ℕ)
-kept_fields gone None = codes "not acknowledged" ∷ []
-kept_fields None (Some claim) = codes "told nothing before datagram" ∷ decimal claim.datagram ∷ codes "at" ∷ decimal claim.at ∷ []
-kept_fields (Some teller) (Some claim) = codes "told gone by" ∷ kind_text teller.kind ∷ place_comma teller.place ∷ codes "acknowledged" ∷ place_text claim ∷ []
+unfoldable pub kept_text : Option Teller → Option Location → List ℕ
+kept_text gone None = codes "not acknowledged"
+kept_text gone (Some claim) = told_before_text gone claim
 
 -- the least number that is not received, and what keeps it; nothing where all are received
 abbrev pub not_received_line : Option NotReceived → List ℕ
 not_received_line None = []
-not_received_line (Some kept) = inner_line (codes "number" ∷ decimal kept.number ∷ codes "may not be received:" ∷ kept_fields kept.gone kept.acknowledged)
+not_received_line (Some kept) = inner_line (codes "number" ∷ decimal kept.number ∷ codes "may not be received:" ∷ kept_text kept.gone kept.acknowledged ∷ [])
 
 -- how often the writer asked for an answer since the last one
 abbrev pub questions_line : ℕ → Option Location → List ℕ

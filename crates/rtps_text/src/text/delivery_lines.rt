@@ -1,51 +1,67 @@
-ghost use Rattle.std.specs.Prelude.{◌≡◌, ◌+◌, Some};
-ghost use Rattle.rtps_text.specs.WhyText.{missed_lines, not_received_line, questions_line, received_line};
+ghost use Rattle.std.specs.Prelude.{◌≡◌, Some};
+ghost use Rattle.rtps_text.specs.WhyText.{asked_line, gone_text, kept_text, missed_line, not_received_line, place_comma, questions_line, received_line, since_text, told_before_text};
 
 use crate::text::why_lines::{PlaceText, kind_name};
-use rtps_evidence::{Evidence, FirstMissed, Location, NotReceived};
+use rtps_evidence::{FirstMissed, Location, NotReceived, Teller};
 use std::fmt;
 
-/// The line of how many of the numbers asked about are received.
+/// The line of how many of so many numbers are received.
 #[derive(Drop)]
-pub(crate) struct ReceivedLine<'a>(pub(crate) &'a Evidence<'a>);
+pub(crate) struct ReceivedLine(pub(crate) u64, pub(crate) u128);
 
-impl fmt::Display for ReceivedLine<'_> {
-    ghost output = { λ line. Some (received_line line.0.now.received (line.0.now.payloads + line.0.now.gone + line.0.now.untold)) };
+impl fmt::Display for ReceivedLine {
+    ghost output = { λ line. Some (received_line line.0 line.1) };
 
     fn fmt<W: fmt::Write>(&self, f: &mut fmt::Formatter<W>) -> fmt::Result {
-        let evidence = self.0;
-        let numbers = u128::from(evidence.payloads)
-            + u128::from(evidence.gone)
-            + u128::from(evidence.untold);
-        writeln!(f, "  received {} of {}", evidence.received, numbers)
+        writeln!(f, "  received {} of {}", self.0, self.1)
     }
 }
 
-/// The lines of how many numbers are missed and of the least of them; nothing where none is.
+/// The line of how many numbers are missed.
 #[derive(Drop)]
-pub(crate) struct MissedLines(pub(crate) u64, pub(crate) Option<FirstMissed>);
+pub(crate) struct MissedLine(pub(crate) u64);
 
-impl fmt::Display for MissedLines {
-    ghost output = { λ lines. Some (missed_lines lines.0 lines.1) };
+impl fmt::Display for MissedLine {
+    ghost output = { λ line. Some (missed_line line.0) };
 
     fn fmt<W: fmt::Write>(&self, f: &mut fmt::Formatter<W>) -> fmt::Result {
-        let Some(first) = self.1 else {
-            return Ok(());
-        };
-        match first.gone {
-            None => writeln!(
+        writeln!(f, "  missed {}", self.0)
+    }
+}
+
+/// The line of the least number that is missed.
+#[derive(Drop)]
+pub(crate) struct AskedLine(pub(crate) FirstMissed);
+
+impl fmt::Display for AskedLine {
+    ghost output = { λ line. Some (asked_line line.0) };
+
+    fn fmt<W: fmt::Write>(&self, f: &mut fmt::Formatter<W>) -> fmt::Result {
+        let first = self.0;
+        writeln!(
+            f,
+            "    number {} asked for {} {}",
+            first.number,
+            PlaceComma(first.asked),
+            SinceText(first.gone)
+        )
+    }
+}
+
+/// What told a number gone since it was asked for.
+#[derive(Drop)]
+struct SinceText(Option<Teller>);
+
+impl fmt::Display for SinceText {
+    ghost output = { λ text. Some (since_text text.0) };
+
+    #[tactic(auto, unfolding(crate::specs::WhyText::since_text))]
+    fn fmt<W: fmt::Write>(&self, f: &mut fmt::Formatter<W>) -> fmt::Result {
+        match self.0 {
+            None => write!(f, "not told gone since"),
+            Some(teller) => write!(
                 f,
-                "  missed {}\n    number {} asked for {}, not told gone since",
-                self.0,
-                first.number,
-                PlaceText(first.asked)
-            ),
-            Some(teller) => writeln!(
-                f,
-                "  missed {}\n    number {} asked for {}, told gone by {} {}",
-                self.0,
-                first.number,
-                PlaceText(first.asked),
+                "told gone by {} {}",
                 kind_name(teller.kind),
                 PlaceText(teller.place)
             ),
@@ -61,27 +77,84 @@ impl fmt::Display for NotReceivedLine {
     ghost output = { λ line. Some (not_received_line line.0) };
 
     fn fmt<W: fmt::Write>(&self, f: &mut fmt::Formatter<W>) -> fmt::Result {
-        let Some(kept) = self.0 else {
-            return Ok(());
-        };
-        let number = kept.number;
-        let Some(claim) = kept.acknowledged else {
-            return writeln!(f, "  number {number} may not be received: not acknowledged");
-        };
-        match kept.gone {
-            None => writeln!(
+        match self.0 {
+            None => Ok(()),
+            Some(kept) => writeln!(
                 f,
-                "  number {number} may not be received: told nothing before datagram {} at {}",
-                claim.datagram, claim.at
-            ),
-            Some(teller) => writeln!(
-                f,
-                "  number {number} may not be received: told gone by {} {}, acknowledged {}",
-                kind_name(teller.kind),
-                PlaceText(teller.place),
-                PlaceText(claim)
+                "  number {} may not be received: {}",
+                kept.number,
+                KeptText(kept.gone, kept.acknowledged)
             ),
         }
+    }
+}
+
+/// What keeps a number from being received.
+#[derive(Drop)]
+struct KeptText(Option<Teller>, Option<Location>);
+
+impl fmt::Display for KeptText {
+    ghost output = { λ text. Some (kept_text text.0 text.1) };
+
+    #[tactic(auto, unfolding(crate::specs::WhyText::kept_text))]
+    fn fmt<W: fmt::Write>(&self, f: &mut fmt::Formatter<W>) -> fmt::Result {
+        match self.1 {
+            None => write!(f, "not acknowledged"),
+            Some(claim) => write!(f, "{}", ToldBefore(self.0, claim)),
+        }
+    }
+}
+
+/// What told a number gone before it was acknowledged there, or that nothing told it.
+#[derive(Drop)]
+struct ToldBefore(Option<Teller>, Location);
+
+impl fmt::Display for ToldBefore {
+    ghost output = { λ text. Some (told_before_text text.0 text.1) };
+
+    #[tactic(auto, unfolding(crate::specs::WhyText::told_before_text))]
+    fn fmt<W: fmt::Write>(&self, f: &mut fmt::Formatter<W>) -> fmt::Result {
+        let claim = self.1;
+        match self.0 {
+            None => write!(
+                f,
+                "told nothing before datagram {} at {}",
+                claim.datagram, claim.at
+            ),
+            Some(teller) => write!(f, "{}", GoneBefore(teller, claim)),
+        }
+    }
+}
+
+/// What told a number gone before it was acknowledged there.
+#[derive(Drop)]
+struct GoneBefore(Teller, Location);
+
+impl fmt::Display for GoneBefore {
+    ghost output = { λ text. Some (gone_text text.0 text.1) };
+
+    #[tactic(auto, unfolding(crate::specs::WhyText::gone_text))]
+    fn fmt<W: fmt::Write>(&self, f: &mut fmt::Formatter<W>) -> fmt::Result {
+        let teller = self.0;
+        write!(
+            f,
+            "told gone by {} {} acknowledged {}",
+            kind_name(teller.kind),
+            PlaceComma(teller.place),
+            PlaceText(self.1)
+        )
+    }
+}
+
+/// Where a submessage stands, and a comma.
+#[derive(Drop)]
+struct PlaceComma(Location);
+
+impl fmt::Display for PlaceComma {
+    ghost output = { λ text. Some (place_comma text.0) };
+
+    fn fmt<W: fmt::Write>(&self, f: &mut fmt::Formatter<W>) -> fmt::Result {
+        write!(f, "{},", PlaceText(self.0))
     }
 }
 

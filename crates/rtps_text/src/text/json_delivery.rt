@@ -1,10 +1,10 @@
-//! Appends which numbers are received and which are missed to an object of JSON.
+//! Appends which numbers are received and which are missed, and what is said of an open verdict, to an object of JSON.
 
-ghost use Rattle.std.specs.Prelude.{◌≡◌, ◌++◌, ◌∷◌, OnOk, codes};
+ghost use Rattle.std.specs.Prelude.{◌≡◌, ◌++◌, ◌∷◌, OnOk};
 ghost use Rattle.json.specs.Token.{key};
 ghost use Rattle.json.specs.Tree.{json_tokens};
 ghost use Rattle.rtps_evidence.specs.Explanation.{evidence_value};
-ghost use Rattle.rtps_text.specs.JsonText.{delivery_members, first_missed_members, not_received_json, tokens_of};
+ghost use Rattle.rtps_text.specs.JsonText.{delivery_members, first_missed_members, not_received_json, open_members, tokens_of};
 
 use crate::text::json_members::{push_count, push_standing, push_teller};
 use json::Writer;
@@ -12,11 +12,15 @@ use rtps_evidence::{Evidence, FirstMissed, NotReceived};
 use std::alloc::AllocError;
 
 /// Appends the least number that is not received, and what keeps it.
-fn push_not_received(writer: &mut Writer, kept: Option<NotReceived>) -> Result<(), AllocError>
-    ensures tokens { OnOk result (writer.new.tokens ≡ writer.old.tokens ++ key (codes "not_received") ∷ json_tokens (not_received_json kept)) }
+fn push_not_received(
+    writer: &mut Writer,
+    name: &str,
+    kept: Option<NotReceived>,
+) -> Result<(), AllocError>
+    ensures tokens { OnOk result (writer.new.tokens ≡ writer.old.tokens ++ key name.now ∷ json_tokens (not_received_json kept)) }
     ensures before { writer.new.before ≡ writer.old.before }
 {
-    writer.key("not_received")?;
+    writer.key(name)?;
     let Some(kept) = kept else {
         return writer.null();
     };
@@ -49,7 +53,17 @@ pub(crate) fn push_delivery(writer: &mut Writer, evidence: &Evidence<'_>) -> Res
     ensures before { writer.new.before ≡ writer.old.before }
 {
     push_count(writer, "received", evidence.received)?;
-    push_not_received(writer, evidence.not_received)?;
+    push_not_received(writer, "not_received", evidence.not_received)?;
     push_count(writer, "missed", evidence.missed)?;
     push_first_missed(writer, evidence.first_missed)
+}
+
+/// Appends what an open verdict rests on.
+pub(crate) fn push_open(writer: &mut Writer, evidence: &Evidence<'_>) -> Result<(), AllocError>
+    ensures tokens { OnOk result (writer.new.tokens ≡ writer.old.tokens ++ tokens_of (open_members (evidence_value evidence.now))) }
+    ensures before { writer.new.before ≡ writer.old.before }
+{
+    push_teller(writer, "told", evidence.teller)?;
+    push_count(writer, "asked_since", evidence.asked_since)?;
+    push_standing(writer, "last_asked", evidence.last_asked)
 }

@@ -9,9 +9,9 @@ ghost use Rattle.rtps_text.specs.JsonText.{IsJsonLine, IsJsonTextFrom, counts_me
 
 use crate::recording::Recording;
 use crate::text::Ending;
-use crate::text::json_delivery::push_delivery;
+use crate::text::json_delivery::{push_delivery, push_open};
 use crate::text::json_members::{
-    push_claim, push_count, push_evidence, push_guid, push_name, push_number, push_sent, push_standing,
+    push_claim, push_count, push_evidence, push_guid, push_name, push_number, push_sent,
     push_teller, push_text, push_total,
 };
 use crate::text::why_text::{ending_of, explained_of};
@@ -165,11 +165,7 @@ fn push_shown(writer: &mut Writer, evidence: &Evidence<'_>) -> Result<(), AllocE
 {
     match evidence.verdict {
         Verdict::Complete { .. } => Ok(()),
-        Verdict::Open { .. } => {
-            push_teller(writer, "told", evidence.teller)?;
-            push_count(writer, "asked_since", evidence.asked_since)?;
-            push_standing(writer, "last_asked", evidence.last_asked)
-        }
+        Verdict::Open { .. } => push_open(writer, evidence),
         Verdict::Conflict { .. } => {
             writer.key("sent")?;
             writer.begin_array()?;

@@ -1,17 +1,17 @@
-ghost use Rattle.std.specs.Prelude.{◌≡◌, ◌++◌, IfOk, OnOk, map};
+ghost use Rattle.std.specs.Prelude.{◌≡◌, ◌+◌, ◌++◌, IfOk, OnOk, map};
 ghost use Rattle.std.specs.List.{flat_map};
 ghost use Rattle.std.specs.Option.{option_map};
 ghost use Rattle.std.specs.String.{string_bytes};
 ghost use Rattle.rtps_evidence.specs.Locations.{sent_value};
 ghost use Rattle.rtps_evidence.specs.Explanation.{IsExplainedFrom, evidence_value, explanation_value};
-ghost use Rattle.rtps_text.specs.WhyText.{IsExplainedTextFrom, ending_of_rows, explained_text, explanation_text, rest_lines, sent_line, shown_by};
+ghost use Rattle.rtps_text.specs.WhyText.{IsExplainedTextFrom, ending_of_rows, explained_text, explanation_text, missed_lines, received_line, rest_lines, sent_line, shown_by};
 
 use crate::recording::Recording;
 use crate::text::Ending;
 use crate::text::audit_lines::{PairsLine, ReportCountsLine};
 use crate::text::audit_text::{datagrams_of, is_complete};
 use crate::text::delivery_lines::{
-    MissedLines, NotReceivedLine, QuestionsLine, ReceivedLine,
+    AskedLine, MissedLine, NotReceivedLine, QuestionsLine, ReceivedLine,
 };
 use crate::text::parts::{push_field, push_payload};
 use crate::text::why_lines::{
@@ -19,7 +19,7 @@ use crate::text::why_lines::{
     ToldLine,
 };
 use rtps_audit::{Verdict, Watch};
-use rtps_evidence::{Evidence, Explained, Explanation, Sent, explain_from};
+use rtps_evidence::{Evidence, Explained, Explanation, FirstMissed, Sent, explain_from};
 use rtps_ids::{Memory, SeqNum};
 use std::alloc::{AllocError, Global};
 
@@ -94,10 +94,37 @@ fn push_row(text: &mut String, row: &Explanation<'_>) -> Result<(), AllocError>
 fn push_rest(text: &mut String, evidence: &Evidence<'_>) -> Result<(), AllocError>
     ensures { OnOk result (string_bytes text.new ≡ string_bytes text.old ++ rest_lines (evidence_value evidence.now)) }
 {
-    write!(text, "{}", ReceivedLine(evidence))?;
-    write!(text, "{}", MissedLines(evidence.missed, evidence.first_missed))?;
+    push_received(text, evidence)?;
+    push_missed(text, evidence.missed, evidence.first_missed)?;
     write!(text, "{}", NotReceivedLine(evidence.not_received))?;
     push_shown(text, evidence)
+}
+
+/// Appends the line of how many of the numbers asked about are received.
+fn push_received(text: &mut String, evidence: &Evidence<'_>) -> Result<(), AllocError>
+    ensures { OnOk result (string_bytes text.new ≡ string_bytes text.old
+        ++ received_line evidence.now.received (evidence.now.payloads + evidence.now.gone + evidence.now.untold)) }
+{
+    let numbers = sum_of(evidence.payloads, evidence.gone, evidence.untold);
+    write!(text, "{}", ReceivedLine(evidence.received, numbers))
+}
+
+/// The sum of three numbers.
+fn sum_of(one: u64, two: u64, three: u64) -> u128
+    ensures { result ≡ one + two + three }
+{
+    u128::from(one) + u128::from(two) + u128::from(three)
+}
+
+/// Appends the lines of how many numbers are missed and of the least of them; nothing where none is.
+fn push_missed(text: &mut String, missed: u64, first: Option<FirstMissed>) -> Result<(), AllocError>
+    ensures { OnOk result (string_bytes text.new ≡ string_bytes text.old ++ missed_lines missed first) }
+{
+    let Some(first) = first else {
+        return Ok(());
+    };
+    write!(text, "{}", MissedLine(missed))?;
+    write!(text, "{}", AskedLine(first))
 }
 
 /// Appends the lines of what the verdict rests on.
@@ -109,7 +136,11 @@ fn push_shown(text: &mut String, evidence: &Evidence<'_>) -> Result<(), AllocErr
         Verdict::Complete { .. } => Ok(()),
         Verdict::Open { number } => {
             write!(text, "{}", ToldLine(number, evidence.teller))?;
-            write!(text, "{}", QuestionsLine(evidence.asked_since, evidence.last_asked))
+            write!(
+                text,
+                "{}",
+                QuestionsLine(evidence.asked_since, evidence.last_asked)
+            )
         }
         Verdict::Conflict { number } => {
             push_sent(text, number, evidence.first_sent)?;

@@ -12,5 +12,5 @@ returns c =
     on_ok_weaker c.push_shown.result
     (four_parts (string_bytes c.args.text.now) (received_line evidence.received (evidence.payloads + evidence.gone + evidence.untold)) (missed_lines evidence.missed evidence.first_missed)
     (not_received_line evidence.not_received) (shown_by evidence.verdict evidence)
-    c.in_ok-write.ensures.bytes c.in_ok-write-2.ensures.bytes c.in_ok-write-3.ensures.bytes)
+    c.in_ok-push_received.ensures c.in_ok-push_missed.ensures c.in_ok-write.ensures.bytes)
     c.push_shown.ensures
