@@ -1,5 +1,5 @@
 -- What is claimed up to a datagram, and what is received by that.
-use Rattle.std.proofs.Common.{◌≡◌, ◌∙◌, ℕ, ◌+◌, ◌<◌, ◌≤◌, ◌==◌, ◌&&◌, ◌||◌, Bool, true, false, nat_le, nat_lt, not, max, map, filter, List, [], ◌∷◌, ◌++◌, Option, Some, None, refl, sym, ap, arith, inl, inr}
+use Rattle.std.proofs.Common.{◌≡◌, ◌∙◌, ℕ, ◌<◌, ◌≤◌, ◌==◌, ◌&&◌, ◌||◌, Bool, true, false, nat_le, nat_lt, not, max, map, filter, List, [], ◌∷◌, ◌++◌, Option, Some, None, refl, sym, ap, arith, inl, inr}
 use Rattle.std.specs.Prelude.{Contains, is_some, unwrap_or, if◌then◌else◌}
 use Rattle.std.specs.List.{cons_option, list_any}
 use Rattle.std.specs.Option.{option_map}
@@ -153,12 +153,12 @@ no_claim_before : (pair : Pair) (recording : List (List ℕ)) (answers : List An
     → first_claiming pair.writer pair.reader n (placed_in recording) ≡ Some claim → datagram < claim.datagram → some_reaches certainty.claims.items datagram n ≡ false
 no_claim_before pair recording answers certainty datagram n claim same is found before =
     to_false (some_reaches certainty.claims.items datagram n) (λ some.
-        let any = sym (is datagram n ∙ ap (list_any (claims_up_to datagram n)) same ∙ claimed_same pair (placed_in recording) datagram n) ∙ some in
-        let at = some_passes (λ (at : PlacedValue). nat_le at.datagram datagram && claims pair.writer pair.reader n at) (placed_in recording) any in
-        let tests = parts (nat_le at.0.datagram datagram) (claims pair.writer pair.reader n at.0) at.2 in
-        let le = first_is_first (claims pair.writer pair.reader n) 1 (placed_in recording) at.0 claim (placed_ordered 0 recording) found at.1 tests.1 in
-        let up_to : at.0.datagram ≤ datagram = (let t = tests.0 in grind (arith, nat_tests, t)) in
-        omega arith)
+    let any = sym (is datagram n ∙ ap (list_any (claims_up_to datagram n)) same ∙ claimed_same pair (placed_in recording) datagram n) ∙ some in
+    let at = some_passes (λ (at : PlacedValue). nat_le at.datagram datagram && claims pair.writer pair.reader n at) (placed_in recording) any in
+    let tests = parts (nat_le at.0.datagram datagram) (claims pair.writer pair.reader n at.0) at.2 in
+    let le = first_is_first (claims pair.writer pair.reader n) 1 (placed_in recording) at.0 claim (placed_ordered 0 recording) found at.1 tests.1 in
+    let up_to : at.0.datagram ≤ datagram = (let t = tests.0 in grind (arith, nat_tests, t)) in
+    omega arith)
 
 -- what is found to be received is
 pub received_same : (pair : Pair) (recording : List (List ℕ)) (acts : List PlacedValue) (answers : List Answer) (certainty : Certainty) (n : ℕ) → acts ≡ filter (is_from pair.writer) (placed_in recording) → answers ≡ answers_among pair (placed_in recording)
@@ -239,8 +239,8 @@ received_same pair recording acts answers certainty n of_writer of_reader is =
         none_found (claims pair.writer pair.reader n) (placed_in recording) claim.0 found claim.1 claim.2)
     by (Some claim) found =
         both_ways (list_any (λ (at : PlacedValue). certain_at certainty at.datagram n && sends pair.writer pair.reader n at) (placed_in recording)) (is_certain_by pair.writer pair.reader n (placed_in recording) (Some claim))
-          (λ some. to_received claim found (some_passes (λ (at : PlacedValue). certain_at certainty at.datagram n && sends pair.writer pair.reader n at) (placed_in recording) some))
-          (λ received. from_received claim found received)
+        (λ some. to_received claim found (some_passes (λ (at : PlacedValue). certain_at certainty at.datagram n && sends pair.writer pair.reader n at) (placed_in recording) some))
+        (λ received. from_received claim found received)
 
 -- the first act that tells a number gone is one that the writer says
 pub gone_same_before : (writer reader : Guid) (n datagram : ℕ) (placed : List PlacedValue) → gone_before writer reader n datagram (filter (is_from writer) placed) ≡ gone_before writer reader n datagram placed

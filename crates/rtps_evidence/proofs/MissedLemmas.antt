@@ -1,10 +1,9 @@
 -- The numbers that are asked for and missed.
-use Rattle.std.proofs.Common.{◌≡◌, ◌∙◌, ℕ, ◌+◌, ◌<◌, ◌≤◌, ◌==◌, ◌&&◌, ◌||◌, ◌⊎◌, Bool, true, false, cond, nat_le, nat_lt, max, not, filter, get_or, length, take, List, [], ◌∷◌, ◌++◌, Option, Some, None, refl, sym, ap, arith, inl, inr}
+use Rattle.std.proofs.Common.{◌≡◌, ◌∙◌, ℕ, ◌+◌, ◌<◌, ◌≤◌, ◌==◌, ◌&&◌, ◌||◌, Bool, true, false, cond, nat_le, nat_lt, not, filter, get_or, length, take, List, [], ◌∷◌, ◌++◌, Option, Some, None, refl, sym, ap, arith, inl, inr}
 use Rattle.std.specs.List.{cons_option, find, last_or, list_any}
 use Rattle.std.specs.Option.{option_map}
 use Rattle.std.proofs.lemmas.Bool.{cases_lt}
 use Rattle.std.proofs.lemmas.Bool.Decides.{nat_tests}
-use Rattle.std.proofs.lemmas.List.{take_more}
 use Rattle.std.proofs.lemmas.List.Folds.{list_any-append}
 use Rattle.rtps_ids.specs.declared.identity.Guid.{Guid}
 use Rattle.rtps_ids.specs.NumberSet.{NumberSetValue, is_member}
@@ -18,7 +17,7 @@ use Rattle.rtps_audit.specs.AnnouncedPlaces.{announced_among, announced_at}
 use Rattle.rtps_audit.specs.Placed.{PlacedValue, is_from, is_guid}
 use Rattle.rtps_audit.specs.declared.announced_places.AnnouncedPlace.{AnnouncedPlace}
 use Rattle.rtps_audit.proofs.Offered.{answerer_is_origin}
-use Rattle.rtps_evidence.specs.Amount.{count_in, stretch_has, stretches_have}
+use Rattle.rtps_evidence.specs.Amount.{count_in, stretches_have}
 use Rattle.rtps_evidence.specs.Locations.{find_last, is_behind, location_of, sends, teller_at}
 use Rattle.rtps_evidence.specs.Missed.{AreMissed, announces, asks_for, first_place, gone_behind, has_guid, is_in_set, is_missed, missed_at, missed_by, numbers_have, place_announced, sends_behind, withdraws_behind}
 use Rattle.rtps_evidence.specs.Received.{is_received, withdraws}
@@ -26,7 +25,6 @@ use Rattle.rtps_evidence.specs.declared.amount.Stretch.{Stretch}
 use Rattle.rtps_evidence.specs.declared.first_missed.FirstMissed.{FirstMissed}
 use Rattle.rtps_evidence.specs.declared.teller.Teller.{Teller}
 use Rattle.rtps_evidence.specs.declared.location.Location.{Location}
-
 use Rattle.rtps_evidence.proofs.ClaimedLemmas.{sender, withdrawer}
 use Rattle.rtps_evidence.proofs.CountLemmas.{count_same}
 use Rattle.rtps_evidence.proofs.FindLemmas.{any_filter, find_filter}
@@ -160,12 +158,12 @@ pub missed_same : (pair : Pair) (placed writer_acts reader_acts : List PlacedVal
     → (asked && sent) ≡ is_missed pair.writer pair.reader placed n
 missed_same pair placed writer_acts reader_acts announced n received asked sent of_writer of_reader place known asks sends_it =
     ap (λ b. b && sent) (asks ∙ ap (list_any (asks_for pair.writer pair.reader n)) of_reader ∙ any_filter (asks_for pair.writer pair.reader n) (is_from pair.reader)
-      (λ at passes. answerer_is_origin pair.reader pair.writer at (parts (is_answer at.act pair.reader pair.writer) (is_in_set at.act.body n) passes).0) placed)
+    (λ at passes. answerer_is_origin pair.reader pair.writer at (parts (is_answer at.act pair.reader pair.writer) (is_in_set at.act.body n) passes).0) placed)
     ∙ ap (λ b. list_any (asks_for pair.writer pair.reader n) placed && b)
-      (sends_it ∙ any_and (sends_behind announced pair.writer pair.reader n) (not received) writer_acts
-      ∙ ap (λ b. b && not received) (ap (list_any (sends_behind announced pair.writer pair.reader n)) of_writer
-        ∙ any_filter (sends_behind announced pair.writer pair.reader n) (is_from pair.writer) (λ at passes. sender pair.writer pair.reader n at (parts (is_behind announced at) (sends pair.writer pair.reader n at) passes).1) placed
-        ∙ ap (λ p. list_any (sends_behind p pair.writer pair.reader n) placed) place))
+    (sends_it ∙ any_and (sends_behind announced pair.writer pair.reader n) (not received) writer_acts
+    ∙ ap (λ b. b && not received) (ap (list_any (sends_behind announced pair.writer pair.reader n)) of_writer
+    ∙ any_filter (sends_behind announced pair.writer pair.reader n) (is_from pair.writer) (λ at passes. sender pair.writer pair.reader n at (parts (is_behind announced at) (sends pair.writer pair.reader n at) passes).1) placed
+    ∙ ap (λ p. list_any (sends_behind p pair.writer pair.reader n) placed) place))
     ∙ turned (list_any (asks_for pair.writer pair.reader n) placed) (list_any (sends_behind (place_announced pair.reader placed) pair.writer pair.reader n) placed) (not received)
     ∙ ap (λ b. not b && (list_any (asks_for pair.writer pair.reader n) placed && list_any (sends_behind (place_announced pair.reader placed) pair.writer pair.reader n) placed)) known
 
@@ -178,11 +176,11 @@ pub some_missed : (from last least count : ℕ) (pair : Pair) (placed : List Pla
 some_missed from last least count pair placed items lent first same is low inside below counted high found = record {
   count = counted ∙ count_same (stretches_have items) (is_missed pair.writer pair.reader placed) from (last + 1) (λ n a b. is n);
   first =
-    found
-    ∙ sym (ap (missed_by pair.writer pair.reader placed)
+      found
+      ∙ sym (ap (missed_by pair.writer pair.reader placed)
       (least_found (is_missed pair.writer pair.reader placed) from (last + 1) least low high
-        (sym (is least) ∙ sym (ap (λ l. stretches_have l least) same) ∙ inside)
-        (λ m begun before. sym (is m) ∙ sym (ap (λ l. stretches_have l m) same) ∙ below m begun before)));
+      (sym (is least) ∙ sym (ap (λ l. stretches_have l least) same) ∙ inside)
+      (λ m begun before. sym (is m) ∙ sym (ap (λ l. stretches_have l m) same) ∙ below m begun before)));
 }
 
 pub none_missed : (from last least count : ℕ) (pair : Pair) (placed : List PlacedValue) (items lent : List Stretch) → lent ≡ items
@@ -191,9 +189,9 @@ pub none_missed : (from last least count : ℕ) (pair : Pair) (placed : List Pla
 none_missed from last least count pair placed items lent same is below counted high = record {
   count = counted ∙ count_same (stretches_have items) (is_missed pair.writer pair.reader placed) from (last + 1) (λ n a b. is n);
   first =
-    sym (ap (missed_by pair.writer pair.reader placed)
+      sym (ap (missed_by pair.writer pair.reader placed)
       (least_none (is_missed pair.writer pair.reader placed) from (last + 1)
-        (λ m begun before. sym (is m) ∙ sym (ap (λ l. stretches_have l m) same) ∙ below m begun (omega arith))));
+      (λ m begun before. sym (is m) ∙ sym (ap (λ l. stretches_have l m) same) ∙ below m begun (omega arith))));
 }
 
 -- ---- who asked for it last, and what told it gone since
@@ -202,7 +200,7 @@ none_missed from last least count pair placed items lent same is below counted h
 pub asking_same : (writer reader : Guid) (n : ℕ) (placed : List PlacedValue) → option_map location_of (find_last (asks_for writer reader n) (filter (is_from reader) placed)) ≡ option_map location_of (find_last (asks_for writer reader n) placed)
 asking_same writer reader n placed =
     ap (λ l. option_map location_of (last_or None l)) (filter_filter (asks_for writer reader n) (is_from reader)
-      (λ at passes. answerer_is_origin reader writer at (parts (is_answer at.act reader writer) (is_in_set at.act.body n) passes).0) placed)
+    (λ at passes. answerer_is_origin reader writer at (parts (is_answer at.act reader writer) (is_in_set at.act.body n) passes).0) placed)
 
 pub gone_same_behind : (place : Location) (writer reader : Guid) (n : ℕ) (placed : List PlacedValue) → gone_behind place writer reader n (filter (is_from writer) placed) ≡ gone_behind place writer reader n placed
 gone_same_behind place writer reader n placed =

@@ -70,11 +70,11 @@ pub some_not_received : (from last least count : ℕ) (pair : Pair) (placed : Li
 some_not_received from last least count pair placed items lent found same is low outside between counted high kept = record {
   count = counted ∙ count_same (stretches_have items) (is_received pair.writer pair.reader placed) from (last + 1) (λ n a b. is n);
   not_received =
-    ap Some kept
-    ∙ sym (ap (option_map (λ n. kept_by pair.writer pair.reader n placed (first_claiming pair.writer pair.reader n placed)))
+      ap Some kept
+      ∙ sym (ap (option_map (λ n. kept_by pair.writer pair.reader n placed (first_claiming pair.writer pair.reader n placed)))
       (least_found (λ n. not (is_received pair.writer pair.reader placed n)) from (last + 1) least low high
-        (ap not (sym (is least) ∙ sym (ap (λ l. stretches_have l least) same) ∙ outside))
-        (λ m begun before. ap not (sym (is m) ∙ sym (ap (λ l. stretches_have l m) same) ∙ between m begun before))));
+      (ap not (sym (is least) ∙ sym (ap (λ l. stretches_have l least) same) ∙ outside))
+      (λ m begun before. ap not (sym (is m) ∙ sym (ap (λ l. stretches_have l m) same) ∙ between m begun before))));
 }
 
 pub all_received : (from last least count : ℕ) (pair : Pair) (placed : List PlacedValue) (items lent : List Stretch) → lent ≡ items
@@ -83,7 +83,7 @@ pub all_received : (from last least count : ℕ) (pair : Pair) (placed : List Pl
 all_received from last least count pair placed items lent same is between counted high = record {
   count = counted ∙ count_same (stretches_have items) (is_received pair.writer pair.reader placed) from (last + 1) (λ n a b. is n);
   not_received =
-    sym (ap (option_map (λ n. kept_by pair.writer pair.reader n placed (first_claiming pair.writer pair.reader n placed)))
+      sym (ap (option_map (λ n. kept_by pair.writer pair.reader n placed (first_claiming pair.writer pair.reader n placed)))
       (least_none (λ n. not (is_received pair.writer pair.reader placed n)) from (last + 1)
-        (λ m begun before. ap not (sym (is m) ∙ sym (ap (λ l. stretches_have l m) same) ∙ between m begun (omega arith)))));
+      (λ m begun before. ap not (sym (is m) ∙ sym (ap (λ l. stretches_have l m) same) ∙ between m begun (omega arith)))));
 }

@@ -150,4 +150,4 @@ asked_same place writer reader placed questions is = record { count = is.count �
   where
     same : filter (questions_behind place writer reader) (filter (is_from writer) placed) ≡ filter (questions_behind place writer reader) placed
     same = filter_filter (questions_behind place writer reader) (is_from writer) (λ at passes. speaker_is_origin writer at
-      (parts (is_spoken_by at.act writer) (is_heard_by at.act reader && is_question at.act.body) (parts (is_behind place at) (is_spoken_by at.act writer && (is_heard_by at.act reader && is_question at.act.body)) passes).1).0) placed
+        (parts (is_spoken_by at.act writer) (is_heard_by at.act reader && is_question at.act.body) (parts (is_behind place at) (is_spoken_by at.act writer && (is_heard_by at.act reader && is_question at.act.body)) passes).1).0) placed

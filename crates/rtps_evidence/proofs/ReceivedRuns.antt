@@ -137,7 +137,7 @@ certain from pair recording n (Some claim) asked found is end ends =
   where
     never : list_any (withdraws_before pair.writer pair.reader n claim.datagram) (placed_in recording) ≡ false
     never = not_true (list_any (withdraws_before pair.writer pair.reader n claim.datagram) (placed_in recording))
-      (parts (list_any (sends_before pair.writer pair.reader n claim.datagram) (placed_in recording)) _ is).1
+        (parts (list_any (sends_before pair.writer pair.reader n claim.datagram) (placed_in recording)) _ is).1
 
     by : {j : ℕ} (held : HoldsFrom from (speech_of pair.writer pair.reader recording) end j n) → claim.datagram ≡ j + 1 → (word : Word) → held.word ≡ word → HoldsPayload end n
     by held at (Told payload) same = (payload, subst (λ (w : Word). Contains end.held (n, w)) same held.held)
@@ -147,7 +147,7 @@ certain from pair recording n (Some claim) asked found is end ends =
         let place = teller.3 in
         let earlier = held.earlier in
         absurd (none_passes (withdraws_before pair.writer pair.reader n claim.datagram) (placed_in recording) teller.0 never teller.1
-          (passes_gone pair.writer pair.reader n claim.datagram teller.0 (omega arith) teller.2))
+        (passes_gone pair.writer pair.reader n claim.datagram teller.0 (omega arith) teller.2))
 
 -- ---- and what is not, is not
 
@@ -191,8 +191,8 @@ gone_before_claim from pair recording n (Some first) asked run found is j claim 
         let teller = given_is_word from pair.writer pair.reader recording i k n (Told payload) gives in
         let place = teller.3 in
         absurd (none_passes (sends_before pair.writer pair.reader n first.datagram) (placed_in recording) teller.0
-          (unsent (list_any (sends_before pair.writer pair.reader n first.datagram) (placed_in recording)) none refl is) teller.1
-          (passes_sent pair.writer pair.reader n first.datagram teller.0 payload (omega arith) teller.2))
+        (unsent (list_any (sends_before pair.writer pair.reader n first.datagram) (placed_in recording)) none refl is) teller.1
+        (passes_sent pair.writer pair.reader n first.datagram teller.0 payload (omega arith) teller.2))
 
     by : (b : Bool) → list_any (withdraws_before pair.writer pair.reader n first.datagram) (placed_in recording) ≡ b → IsGoneBefore from (speech_of pair.writer pair.reader recording) j n
     by true some = gone_there from pair recording n first.datagram j asked no_later some
@@ -208,5 +208,5 @@ pub received_is_exact : ReceivedIsExact
 received_is_exact from pair recording n asked run = record {
   certain = certain from pair recording n (first_claiming pair.writer pair.reader n (placed_in recording)) asked refl;
   uncertain = λ is. run_without_payload n (speech_of pair.writer pair.reader recording) (run_is_founded from (speech_of pair.writer pair.reader recording) run)
-    (gone_before_claim from pair recording n (first_claiming pair.writer pair.reader n (placed_in recording)) asked run refl is);
+      (gone_before_claim from pair recording n (first_claiming pair.writer pair.reader n (placed_in recording)) asked run refl is);
 }

@@ -155,16 +155,16 @@ pub last_reaches : (stretches : List Stretch) (key place : ℕ) (d : Stretch) �
 last_reaches stretches key place d rising point some within n =
     both_ways (nat_lt n (get_or stretches (place - 1) d).hi) (some_reaches stretches key n)
     (λ is.
-        let begins : nat_le (get_or stretches (place - 1) d).lo key ≡ true = point.0 (place - 1) d (omega arith) (omega arith) in
-        passes_at (reaches key n) stretches (place - 1) d (omega arith) (ap (λ b. b && nat_lt n (get_or stretches (place - 1) d).hi) begins ∙ is))
+    let begins : nat_le (get_or stretches (place - 1) d).lo key ≡ true = point.0 (place - 1) d (omega arith) (omega arith) in
+    passes_at (reaches key n) stretches (place - 1) d (omega arith) (ap (λ b. b && nat_lt n (get_or stretches (place - 1) d).hi) begins ∙ is))
     (λ is.
-        let at = stands_before stretches key place n point is in
-        let before = at.1 in
-        let end = at.3 in
-        let e = ap (λ (s : Stretch). s.hi) (get_or_default stretches at.0 no_stretch d at.2) in
-        let up = rising.hi at.0 (place - 1) d (omega arith) (omega arith) in
-        let reached : n < (get_or stretches (place - 1) d).hi = omega arith in
-        grind (arith, nat_tests, reached))
+    let at = stands_before stretches key place n point is in
+    let before = at.1 in
+    let end = at.3 in
+    let e = ap (λ (s : Stretch). s.hi) (get_or_default stretches at.0 no_stretch d at.2) in
+    let up = rising.hi at.0 (place - 1) d (omega arith) (omega arith) in
+    let reached : n < (get_or stretches (place - 1) d).hi = omega arith in
+    grind (arith, nat_tests, reached))
 
 -- ---- the numbers up to an end
 

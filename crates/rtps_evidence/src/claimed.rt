@@ -79,11 +79,7 @@ fn claims_of(alloc: Global, answers: &[Answer]) -> Result<Vec<Stretch>, Memory>
 }
 
 /// Appends the numbers from `from` on that a GAP says will not come. After `Memory` the stretches are of no use.
-fn push_gap_from(
-    stretches: &mut Vec<Stretch>,
-    gap: &GapBody,
-    from: u64,
-) -> Result<(), Memory>
+fn push_gap_from(stretches: &mut Vec<Stretch>, gap: &GapBody, from: u64) -> Result<(), Memory>
     ensures { OnOk result ((n : ℕ) → stretches_have stretches.new.items n
         ≡ (stretches_have stretches.old.items n || (nat_le from n && is_in_gap gap.now n))) }
 {

@@ -98,13 +98,14 @@ impl<'a> Evidence<'a> {
             → IfOk result (IsEvidenceFrom summary.now.asked.from row.pair recording) }
     {
         let acts = index.acts_of(row.pair.writer);
+        let answers = index.answers_of(row.pair);
         let amounts = summary.amounts(alloc, index, row.pair.reader)?;
-        let mut numbers = received_numbers(alloc, index, row.pair)?;
+        let mut numbers = received_numbers(alloc, acts, answers, row.pair)?;
         let listener = Listener::of(index, row.pair);
         let mut missed = find_missed(alloc, index, &listener, &numbers)?;
         let missed = count_missed(&mut missed, index, row.pair, &summary.asked)?;
         let received = count_received(&mut numbers, index, row.pair, &summary.asked)?;
-        let questions = questions_since(index, row.pair);
+        let questions = questions_since(acts, answers, row.pair);
         Ok(Evidence {
             verdict: row.verdict,
             announcement: summary.announcement,

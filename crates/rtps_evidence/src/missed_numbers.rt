@@ -69,11 +69,7 @@ fn push_set(stretches: &mut Vec<Stretch>, set: &NumberSet) -> Result<(), Memory>
 }
 
 /// Appends the numbers that the pair's reader asks its writer for by an act. After `Memory` the stretches are of no use.
-fn push_asked(
-    stretches: &mut Vec<Stretch>,
-    placed: &Placed<'_>,
-    pair: Pair,
-) -> Result<(), Memory>
+fn push_asked(stretches: &mut Vec<Stretch>, placed: &Placed<'_>, pair: Pair) -> Result<(), Memory>
     ensures { OnOk result ((n : ℕ) → stretches_have stretches.new.items n
         ≡ (stretches_have stretches.old.items n || asks_for pair.writer pair.reader n (placed_value placed.now))) }
 {
@@ -89,11 +85,7 @@ fn push_asked(
 }
 
 /// The numbers that the pair's reader asks its writer for by these acts.
-fn asked_among(
-    alloc: Global,
-    acts: &[Placed<'_>],
-    pair: Pair,
-) -> Result<Vec<Stretch>, Memory>
+fn asked_among(alloc: Global, acts: &[Placed<'_>], pair: Pair) -> Result<Vec<Stretch>, Memory>
     ensures { IfOk result (λ asked. (n : ℕ) → stretches_have asked.items n ≡ list_any (asks_for pair.writer pair.reader n) (map placed_value acts.now)) }
 {
     let mut asked = Vec::new(alloc);
@@ -156,11 +148,7 @@ fn sent_unreceived(
 }
 
 /// Those of these numbers that are asked for.
-fn asked_of(
-    alloc: Global,
-    numbers: &[u64],
-    asked: &[Stretch],
-) -> Result<Vec<Stretch>, Memory>
+fn asked_of(alloc: Global, numbers: &[u64], asked: &[Stretch]) -> Result<Vec<Stretch>, Memory>
     requires { AreRising asked.now }
     ensures { IfOk result (λ missed. (n : ℕ) → stretches_have missed.items n ≡ (stretches_have asked.now n && numbers_have numbers.now n)) }
 {
@@ -172,11 +160,7 @@ fn asked_of(
 }
 
 /// Appends the number, where it is asked for. After `Memory` the stretches are of no use.
-fn push_number(
-    missed: &mut Vec<Stretch>,
-    number: u64,
-    asked: &[Stretch],
-) -> Result<(), Memory>
+fn push_number(missed: &mut Vec<Stretch>, number: u64, asked: &[Stretch]) -> Result<(), Memory>
     requires { AreRising asked.now }
     ensures { OnOk result ((n : ℕ) → stretches_have missed.new.items n ≡ (stretches_have missed.old.items n || (stretches_have asked.now n && (number == n)))) }
 {
@@ -202,6 +186,9 @@ pub(crate) fn find_missed(
 {
     let pair = listener.pair;
     let numbers = sent_unreceived(alloc, index.acts_of(pair.writer), listener, received)?;
+    if numbers.is_empty() {
+        return Ok(Vec::new(alloc));
+    }
     let mut asked = asked_among(alloc, index.acts_of(pair.reader), pair)?;
     let asked = rising(alloc, &mut asked)?;
     let missed = asked_of(alloc, &numbers, &asked)?;

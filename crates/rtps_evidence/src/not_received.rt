@@ -61,12 +61,7 @@ fn withdraws_before(placed: &Placed<'_>, pair: Pair, number: u64, datagram: u64)
 }
 
 /// The first of these acts, in a datagram before that one, by which the reader hears that the number will not come.
-fn first_gone(
-    acts: &[Placed<'_>],
-    pair: Pair,
-    number: u64,
-    datagram: u64,
-) -> Option<Teller>
+fn first_gone(acts: &[Placed<'_>], pair: Pair, number: u64, datagram: u64) -> Option<Teller>
     requires { number < 2 ^ 63 }
     ensures { result ≡ gone_before pair.writer pair.reader number datagram (map placed_value acts.now) }
 {
@@ -93,7 +88,12 @@ pub(crate) fn not_received_at(index: &Index<'_>, pair: Pair, number: u64) -> Not
     };
     NotReceived {
         number,
-        gone: first_gone(index.acts_of(pair.writer), pair, number, claim.place.datagram),
+        gone: first_gone(
+            index.acts_of(pair.writer),
+            pair,
+            number,
+            claim.place.datagram,
+        ),
         acknowledged: Some(claim.place),
     }
 }

@@ -1,7 +1,7 @@
-ghost use Rattle.std.specs.Prelude.{ℕ, ◌≡◌, ◌≤◌, ◌<◌, true, false, ◌^◌, ◌&&◌, ◌||◌, map, IfOk, IfSome, OnOk, List};
+ghost use Rattle.std.specs.Prelude.{ℕ, ◌≡◌, ◌≤◌, ◌<◌, true, false, ◌^◌, ◌&&◌, ◌||◌, filter, map, IfOk, IfSome, OnOk, List};
 ghost use Rattle.std.specs.List.{list_any};
 ghost use Rattle.rtps_audit.specs.Index.{IsIndexOf};
-ghost use Rattle.rtps_audit.specs.Placed.{placed_in, placed_value};
+ghost use Rattle.rtps_audit.specs.Placed.{answers_among, is_from, placed_in, placed_value};
 ghost use Rattle.rtps_evidence.specs.Amount.{stretches_have};
 ghost use Rattle.rtps_evidence.specs.Claimed.{certain_at, is_at};
 ghost use Rattle.rtps_evidence.specs.Locations.{sends};
@@ -12,7 +12,7 @@ use crate::amount::{AskedNumbers, Stretch, count_of};
 use crate::claimed::Certainty;
 use crate::not_received::{NotReceived, not_received_at};
 use crate::rising::{end_at, rising};
-use rtps_audit::{Index, Placed};
+use rtps_audit::{Answer, Index, Placed};
 use rtps_discovery::Pair;
 use rtps_ids::Memory;
 use rtps_receiver::ActBody;
@@ -77,17 +77,18 @@ fn received_among(
     Ok(received)
 }
 
-/// The numbers that a pair's reader received for certain, also those that are not asked for.
+/// The numbers that a pair's reader received for certain, also those that are not asked for, by what its writer says and its
+/// answers.
 fn find_received(
     alloc: Global,
-    index: &Index<'_>,
+    acts: &[Placed<'_>],
+    answers: &[Answer],
     pair: Pair,
 ) -> Result<Vec<Stretch>, Memory>
-    ensures { (recording : List (List ℕ)) → IsIndexOf recording index.now → IfOk result (λ received. (n : ℕ)
+    ensures { (recording : List (List ℕ)) → map placed_value acts.now ≡ filter (is_from pair.writer) (placed_in recording)
+        → answers.now ≡ answers_among pair (placed_in recording) → IfOk result (λ received. (n : ℕ)
         → stretches_have received.items n ≡ is_received pair.writer pair.reader (placed_in recording) n) }
 {
-    let acts = index.acts_of(pair.writer);
-    let answers = index.answers_of(pair);
     if answers.is_empty() {
         return Ok(Vec::new(alloc));
     }
@@ -119,17 +120,19 @@ pub(crate) struct Received {
     pub(crate) not_received: Option<NotReceived>,
 }
 
-/// The numbers that a pair's reader received for certain, as stretches that rise.
+/// The numbers that a pair's reader received for certain, as stretches that rise, by what its writer says and its answers.
 pub(crate) fn received_numbers(
     alloc: Global,
-    index: &Index<'_>,
+    acts: &[Placed<'_>],
+    answers: &[Answer],
     pair: Pair,
 ) -> Result<Vec<Stretch>, Memory>
     ensures rising { IfOk result (λ received. AreRising received.items) }
-    ensures received { (recording : List (List ℕ)) → IsIndexOf recording index.now → IfOk result (λ received. (n : ℕ)
+    ensures received { (recording : List (List ℕ)) → map placed_value acts.now ≡ filter (is_from pair.writer) (placed_in recording)
+        → answers.now ≡ answers_among pair (placed_in recording) → IfOk result (λ received. (n : ℕ)
         → stretches_have received.items n ≡ is_received pair.writer pair.reader (placed_in recording) n) }
 {
-    let mut received = find_received(alloc, index, pair)?;
+    let mut received = find_received(alloc, acts, answers, pair)?;
     let received = rising(alloc, &mut received)?;
     Ok(received)
 }

@@ -10,15 +10,15 @@ pub returns-in_default : goal.returns-in_default
 returns-in_default c = λ recording is.
     never_asked c.args.pair.writer c.args.pair.reader c.args.number (placed_in recording) (find_last (asks_for c.args.pair.writer c.args.pair.reader c.args.number) (placed_in recording))
     (c.in_default.ensures
-      ∙ ap (λ (l : List PlacedValue). option_map location_of (find_last (asks_for c.args.pair.writer c.args.pair.reader c.args.number) l)) (c.acts_of.ensures recording is)
-      ∙ asking_same c.args.pair.writer c.args.pair.reader c.args.number (placed_in recording))
+    ∙ ap (λ (l : List PlacedValue). option_map location_of (find_last (asks_for c.args.pair.writer c.args.pair.reader c.args.number) l)) (c.acts_of.ensures recording is)
+    ∙ asking_same c.args.pair.writer c.args.pair.reader c.args.number (placed_in recording))
 
 pub returns : goal.returns
 returns c = λ recording is.
     asked_last c.args.pair.writer c.args.pair.reader c.args.number (placed_in recording) (find_last (asks_for c.args.pair.writer c.args.pair.reader c.args.number) (placed_in recording)) c.in-Some.asked c.first_gone_behind-gone.result
     (c.in-Some.ensures
-      ∙ ap (λ (l : List PlacedValue). option_map location_of (find_last (asks_for c.args.pair.writer c.args.pair.reader c.args.number) l)) (c.acts_of.ensures recording is)
-      ∙ asking_same c.args.pair.writer c.args.pair.reader c.args.number (placed_in recording))
+    ∙ ap (λ (l : List PlacedValue). option_map location_of (find_last (asks_for c.args.pair.writer c.args.pair.reader c.args.number) l)) (c.acts_of.ensures recording is)
+    ∙ asking_same c.args.pair.writer c.args.pair.reader c.args.number (placed_in recording))
     (c.first_gone_behind-gone.ensures
-      ∙ ap (gone_behind c.in-Some.asked c.args.pair.writer c.args.pair.reader c.args.number) (c.acts_of-2.ensures recording is)
-      ∙ gone_same_behind c.in-Some.asked c.args.pair.writer c.args.pair.reader c.args.number (placed_in recording))
+    ∙ ap (gone_behind c.in-Some.asked c.args.pair.writer c.args.pair.reader c.args.number) (c.acts_of-2.ensures recording is)
+    ∙ gone_same_behind c.in-Some.asked c.args.pair.writer c.args.pair.reader c.args.number (placed_in recording))

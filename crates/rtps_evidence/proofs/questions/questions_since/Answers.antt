@@ -8,9 +8,9 @@ use Rattle.rtps_evidence.proofs.QuestionLemmas.{asked_same, place_answered_same}
 use Rattle.rtps_evidence.proofs.questions.questions_since.Goals as goal
 
 pub returns : goal.returns
-returns c = λ recording is.
-    let place : c.last_place-place.result ≡ place_answered c.args.pair.writer c.args.pair.reader (placed_in recording) =
-    c.last_place-place.ensures ∙ ap (λ (l : List Answer). option_map place_of (last_or None l)) (c.answers_of.ensures recording is) ∙ place_answered_same c.args.pair (placed_in recording) in
-    let said = subst (λ (l : List PlacedValue). AreAsked c.last_place-place.result c.args.pair.writer c.args.pair.reader l c.questions_among.result) (c.acts_of.ensures recording is) c.questions_among.ensures in
+returns c = λ recording of_acts of_answers.
+    let place : c.last_place.result ≡ place_answered c.args.pair.writer c.args.pair.reader (placed_in recording) =
+    c.last_place.ensures ∙ ap (λ (l : List Answer). option_map place_of (last_or None l)) of_answers ∙ place_answered_same c.args.pair (placed_in recording) in
+    let said = subst (λ (l : List PlacedValue). AreAsked c.last_place.result c.args.pair.writer c.args.pair.reader l c.questions_among.result) of_acts c.questions_among.ensures in
     subst (λ p. AreAsked p c.args.pair.writer c.args.pair.reader (placed_in recording) c.questions_among.result) place
-    (asked_same c.last_place-place.result c.args.pair.writer c.args.pair.reader (placed_in recording) c.questions_among.result said)
+    (asked_same c.last_place.result c.args.pair.writer c.args.pair.reader (placed_in recording) c.questions_among.result said)

@@ -14,7 +14,7 @@ returns-then-least-end c = λ recording is same.
     let high : c.least_outside-least.result < c.args.asked.now.last + 1 = (let lt = c.if-least-end.true in omega (arith, lt)) in
     subst (λ n. AreReceived n c.args.asked.now.last c.args.pair.writer c.args.pair.reader (placed_in recording) given) first
     (some_not_received c.cast_unsigned-first.result c.args.asked.now.last c.least_outside-least.result c.in_ok-count.count c.args.pair (placed_in recording) c.args.received.now.items c.deref.result.now c.not_received_at.result
-      c.deref.ensures.value same found.onward found.outside found.between c.in_ok-count.ensures high (c.not_received_at.ensures recording is))
+    c.deref.ensures.value same found.onward found.outside found.between c.in_ok-count.ensures high (c.not_received_at.ensures recording is))
 
 pub returns-else-least-end : goal.returns-else-least-end
 returns-else-least-end c = λ recording is same.
@@ -24,4 +24,4 @@ returns-else-least-end c = λ recording is same.
     let high : c.args.asked.now.last + 1 ≤ c.least_outside-least.result = (let ge = c.if-least-end.false in omega (arith, ge)) in
     subst (λ n. AreReceived n c.args.asked.now.last c.args.pair.writer c.args.pair.reader (placed_in recording) given) first
     (all_received c.cast_unsigned-first.result c.args.asked.now.last c.least_outside-least.result c.in_ok-count.count c.args.pair (placed_in recording) c.args.received.now.items c.deref.result.now
-      c.deref.ensures.value same found.between c.in_ok-count.ensures high)
+    c.deref.ensures.value same found.between c.in_ok-count.ensures high)

@@ -8,12 +8,12 @@ use Rattle.rtps_evidence.proofs.ClaimedLemmas.{received_same, unanswered}
 use Rattle.rtps_evidence.proofs.received.find_received.Goals as goal
 
 pub returns : goal.returns
-returns c = λ recording is n.
+returns c = λ recording of_acts of_answers n.
     c.in_ok-received.ensures n
-    ∙ received_same c.args.pair recording (map placed_value c.acts_of-acts.result.now) c.answers_of-answers.result.now c.in_ok-certainty.certainty n (c.acts_of-acts.ensures recording is) (c.answers_of-answers.ensures recording is) c.in_ok-certainty.ensures
+    ∙ received_same c.args.pair recording (map placed_value c.args.acts.now) c.args.answers.now c.in_ok-certainty.certainty n of_acts of_answers c.in_ok-certainty.ensures
 
 pub returns-then-is_empty : goal.returns-then-is_empty
-returns-then-is_empty c = λ recording is n.
-    let none : c.answers_of-answers.result.now ≡ [] = nil_from_length c.answers_of-answers.result.now (let zero = c.if-is_empty.ensures in grind (arith, nat_tests, zero)) in
+returns-then-is_empty c = λ recording of_acts of_answers n.
+    let none : c.args.answers.now ≡ [] = nil_from_length c.args.answers.now (let zero = c.if-is_empty.ensures in grind (arith, nat_tests, zero)) in
     ap (λ (l : List Stretch). stretches_have l n) c.new.ensures.items
-    ∙ unanswered c.args.pair (placed_in recording) n (sym (c.answers_of-answers.ensures recording is) ∙ none)
+    ∙ unanswered c.args.pair (placed_in recording) n (sym of_answers ∙ none)

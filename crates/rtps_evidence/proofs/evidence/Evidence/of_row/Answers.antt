@@ -20,19 +20,20 @@ returns-clause-evidence c = λ recording is summary judged.
     let reader = row.pair.reader in
     let all = placed_in recording in
     let acts : map placed_value c.acts_of-acts.result.now ≡ filter (is_from writer) all = c.acts_of-acts.ensures recording is in
+    let answers = c.answers_of-answers.ensures recording is in
     let last : c.args.summary.now.asked.last ≡ last_announced_from from (speech_of writer reader recording) = summary.last reader ∙ ap (λ (w : Guid). last_announced_from from (speech_of w reader recording)) c.requires in
     let pair = c.of-listener.ensures.pair in
     let place = c.of-listener.ensures.announced recording is ∙ ap (λ (p : Pair). place_announced p.reader all) (sym pair) in
-    let known = λ (n : ℕ). ap (λ l. stretches_have l n) c.deref.ensures.value ∙ c.in_ok-numbers.ensures.received recording is n ∙ ap (λ (p : Pair). is_received p.writer p.reader all n) (sym pair) in
+    let known = λ (n : ℕ). ap (λ l. stretches_have l n) c.deref.ensures.value ∙ c.in_ok-numbers.ensures.received recording acts answers n ∙ ap (λ (p : Pair). is_received p.writer p.reader all n) (sym pair) in
     record {
       verdict = judged;
       announcement = summary.announcement ∙ ap (λ (w : Guid). announcement_of from w c.args.summary.now.asked.last all) c.requires ∙ ap (λ n. announcement_of from writer n all) last;
       acknowledgement = c.find_acknowledgement.ensures recording is;
       amounts = subst (λ n. AreAmounts from n writer reader all c.in_ok-amounts.amounts) last (subst (λ (w : Guid). AreAmounts from c.args.summary.now.asked.last w reader all c.in_ok-amounts.amounts) c.requires (c.in_ok-amounts.ensures recording is summary));
-      received = subst (λ n. AreReceived from n writer reader all c.in_ok-received.received) last (c.in_ok-received.ensures recording is (c.in_ok-numbers.ensures.received recording is));
+      received = subst (λ n. AreReceived from n writer reader all c.in_ok-received.received) last (c.in_ok-received.ensures recording is (c.in_ok-numbers.ensures.received recording acts answers));
       missed = subst (λ n. AreMissed from n writer reader all c.in_ok-missed-2.missed) last
-        (c.in_ok-missed-2.ensures recording is (λ n. c.in_ok-missed.ensures recording is place known n ∙ ap (λ (p : Pair). is_missed p.writer p.reader all n) pair));
-      questions = c.questions_since-questions.ensures recording is;
+          (c.in_ok-missed-2.ensures recording is (λ n. c.in_ok-missed.ensures recording is place known n ∙ ap (λ (p : Pair). is_missed p.writer p.reader all n) pair));
+      questions = c.questions_since-questions.ensures recording acts answers;
       teller = c.teller_of.ensures ∙ ap (teller_by row.verdict writer reader) acts ∙ teller_by_same row.verdict writer reader all;
       claim = c.claim_of.ensures recording is;
       first = c.first_of.ensures ∙ ap (first_by row.verdict writer reader) acts ∙ first_by_same row.verdict writer reader all;
