@@ -209,9 +209,10 @@ def shown(recording, w, r, first, bound, verdict):
                 place = f'in datagram {i} at {act["at"]}'
                 if has_word(held, n):
                     tellers.setdefault(n, f'number {n} told by {act["kind"]} {place}')
-                # The first payload, and the first place by which there is a second one.
-                for payload in sorted(payloads(held, n), key=len):
-                    before = sent.setdefault(n, [])
+                # A payload of the first place that has one, and another of the first place by which there are two. All that
+                # are new at a place are of one kind and size, since a piece is of one shape.
+                before = sent.setdefault(n, [])
+                for payload in payloads(held, n):
                     if len(before) < 2 and all(payload != other for other, _ in before):
                         before.append((payload, place))
     asked = range(first, min(last, bound) + 1)
