@@ -1,7 +1,8 @@
 #!/usr/bin/env python3
 """The verdict by runs in which a reader takes fragments one by one, compared with reference.py, which goes by rules.
 
-    fragment_runs.py rows                  the rows below: what is wanted, what the rules say and what the runs say
+    fragment_runs.py rows                  the rows below: what is wanted, what the rules say and what the runs say; and which
+                                           submessages are pieces
     fragment_runs.py runs [COUNT [SEED]]   the same on COUNT small random recordings, from some numbers on
     fragment_runs.py compare PROGRAM [COUNT [SEED]]
                                            runs PROGRAM with --fragments on COUNT random recordings, and says where it differs
@@ -29,7 +30,8 @@ import subprocess
 import sys
 
 import reference
-from reference import A, B, C, GREATEST, START, answered, heard, kept, last_number, sn, spoken, u
+from fragments import payloads_told
+from reference import A, B, C, GREATEST, START, answered, heard, kept, sn, spoken, u
 
 GONE = ('gone',)
 # Recordings that tell a reader more things than this are not tried: each set of things is a state.
@@ -56,6 +58,11 @@ def things_of(act, bound):
     return [(n, GONE) for n in told]
 
 
+def announced(act):
+    """the number that an act of a writer announces, or 0"""
+    return {'heartbeat': act.get('last'), 'gap': 0}.get(act['kind'], act.get('number'))
+
+
 class Told:
     """what a recording says of a writer and a reader about the numbers from `first` on: of each datagram the things that the
     reader hears and the numbers that it claims, and the last announced number. All numbers that are told or claimed are below
@@ -68,7 +75,7 @@ class Told:
             gives, claims = set(), set()
             for act in acts:
                 if spoken(act, w):
-                    self.last = max(self.last, last_number(act))
+                    self.last = max(self.last, announced(act))
                     if heard(act, r):
                         gives |= {(n, thing) for n, thing in things_of(act, bound) if n >= first}
                 elif answered(act, w, r):
@@ -198,7 +205,7 @@ class Runs:
 
 def shown(recording, w, r, first, bound, verdict):
     """the lines that `why` has of the words of a pair, where all numbers from `first` on are below `bound`"""
-    last = max([first - 1] + [last_number(act) for acts in recording for act in acts if spoken(act, w)])
+    last = max([first - 1] + [announced(act) for acts in recording for act in acts if spoken(act, w)])
     held, tellers, sent = set(), {}, {}
     for i, acts in enumerate(recording, 1):
         for act in acts:
@@ -228,20 +235,41 @@ def shown(recording, w, r, first, bound, verdict):
     return lines
 
 
+def pieces_of(recording):
+    """the pieces of a recording by writer, and the things of each writer's pieces, whoever hears them"""
+    pieces, held = {}, {}
+    for act in (act for acts in recording for act in acts if act['kind'] == 'data_frag'):
+        pieces.setdefault((act['source'], act['writer']), []).append(act)
+        held.setdefault((act['source'], act['writer']), set()).update(things_of(act, GREATEST + 1))
+    return pieces, held
+
+
 def pieces_without_sample(recording):
     """how many pieces are of numbers of which no whole sample is in the recording"""
-    held = {}
-    pieces = [act for acts in recording for act in acts if act['kind'] == 'data_frag']
-    for act in pieces:
-        held.setdefault((act['source'], act['writer']), set()).update(things_of(act, GREATEST + 1))
-    return sum(not any(samples(held[act['source'], act['writer']], act['number'])) for act in pieces)
+    pieces, held = pieces_of(recording)
+    return sum(not any(samples(held[writer], act['number'])) for writer in pieces for act in pieces[writer])
+
+
+def announces_fitly(recording):
+    """whether what a reader that hears everything is told of a number is something that it can put together: nothing just
+    where that is nothing, and two payloads just where there are two"""
+    pieces, held = pieces_of(recording)
+    for writer in pieces:
+        told = {}
+        for act, more in zip(pieces[writer], payloads_told(pieces[writer])):
+            told.setdefault(act['number'], set()).update(more)
+        for n in told:
+            possible = payloads(held[writer], n)
+            if not told[n] <= possible or min(2, len(told[n])) != min(2, len(possible)):
+                return False
+    return True
 
 
 # ---- the rows
 
-def piece(n, start, count, size, sample, octets, flags=0, entity='00000103'):
-    """the submessage of a piece in hexadecimal, big-endian"""
-    body = f'0000001c00000000{entity}{n:016x}{start:08x}{count:04x}{size:04x}{sample:08x}{octets}'
+def piece(n, start, count, size, sample, octets, flags=0, offset=28):
+    """a DATA_FRAG in hexadecimal, big-endian"""
+    body = f'0000{offset:04x}0000000000000103{n:016x}{start:08x}{count:04x}{size:04x}{sample:08x}{octets}'
     return f'16{flags:02x}{len(body) // 2:04x}{body}'
 
 
@@ -282,7 +310,57 @@ ROWS = [
     ('HA+GK+HK, HA+D1, HB+TA+A2', 'conflict 1', '5 0 0 0 0 0'),
 ]
 
+# A submessage behind HA, and what show says of it: the line from `number` on, or None where it is skipped.
+EIGHT = '0000000000000001'
+GREATEST_FRAGMENT = 2 ** 32 - 1
+PIECE_ROWS = [
+    (piece(1, 1, 2, 4, 8, EIGHT), 'be number 1 start 1 count 2 size 4 sample 8 qos 0 key 0 octets 8'),
+    ('16012800 00001c00 00000000 00000103 00000000 01000000 01000000 0200 0400 08000000' + EIGHT,
+     'le number 1 start 1 count 2 size 4 sample 8 qos 0 key 0 octets 8'),
+    ('16000000' + piece(1, 1, 2, 4, 8, EIGHT)[8:], 'be number 1 start 1 count 2 size 4 sample 8 qos 0 key 0 octets 8'),
+    (piece(2 ** 63 - 1, 2, 1, 4, 5, '01'), 'be number 9223372036854775807 start 2 count 1 size 4 sample 5 qos 0 key 0 octets 1'),
+    (piece(1, 1, 2, 4, 8, EIGHT, 4), 'be number 1 start 1 count 2 size 4 sample 8 qos 0 key 1 octets 8'),
+    (piece(1, 1, 2, 4, 8, EIGHT, 0xf8), 'be number 1 start 1 count 2 size 4 sample 8 qos 0 key 0 octets 8'),
+    (piece(1, 1, 2, 4, 8, '8001000401020304' + '00010000' + EIGHT, 2),
+     'be number 1 start 1 count 2 size 4 sample 8 qos 12 key 0 octets 8'),
+    (piece(1, 1, 2, 4, 8, '80010004' + EIGHT, 2), None),  # no sentinel: the list does not end
+    (piece(1, 1, 2, 4, 8, '00010000' + EIGHT[2:], 2), None),  # too few octets behind the list
+    (piece(1, 1, 2, 4, 8, 'ffffffff' + EIGHT, 0, 32), 'be number 1 start 1 count 2 size 4 sample 8 qos 0 key 0 octets 8'),
+    (piece(1, 1, 2, 4, 8, EIGHT, 0, 27), None),
+    (piece(1, 1, 2, 4, 8, EIGHT, 0, 29), None),
+    (piece(1, 1, 2, 4, 8, EIGHT, 0, 37), None),
+    (piece(1, 1, 2, 4, 8, EIGHT + 'ff'), 'be number 1 start 1 count 2 size 4 sample 8 qos 0 key 0 octets 8'),
+    (piece(1, 1, 2, 4, 8, EIGHT[2:]), None),
+    (piece(1, 1, 2, 4, 7, EIGHT[2:]), 'be number 1 start 1 count 2 size 4 sample 7 qos 0 key 0 octets 7'),
+    (piece(1, 2, 1, 4, 8, EIGHT[8:]), 'be number 1 start 2 count 1 size 4 sample 8 qos 0 key 0 octets 4'),
+    (piece(1, 2, 2, 4, 8, EIGHT), None),
+    (piece(1, 3, 1, 4, 8, EIGHT), None),
+    (piece(1, 1, 3, 4, 8, EIGHT + '00000000'), None),
+    (piece(1, 1, 1, 65535, 1, '00'), 'be number 1 start 1 count 1 size 65535 sample 1 qos 0 key 0 octets 1'),
+    (piece(1, GREATEST_FRAGMENT, 1, 1, GREATEST_FRAGMENT, '00'),
+     'be number 1 start 4294967295 count 1 size 1 sample 4294967295 qos 0 key 0 octets 1'),
+    (piece(1, GREATEST_FRAGMENT, 2, 1, GREATEST_FRAGMENT, '0000'), None),
+    (piece(0, 1, 2, 4, 8, EIGHT), None),
+    (piece(2 ** 64 - 1, 1, 2, 4, 8, EIGHT), None),
+    (piece(1, 0, 2, 4, 8, EIGHT), None),
+    (piece(1, 1, 0, 4, 8, EIGHT), None),
+    (piece(1, 1, 2, 0, 8, EIGHT), None),
+    (piece(1, 1, 2, 4, 0, EIGHT), None),
+    ('1600001f' + piece(1, 1, 1, 1, 1, '')[8:-2], None),
+    ('16000004 00000000', None),
+    ('12' + piece(1, 1, 2, 4, 8, EIGHT)[2:], None),
+    ('13' + piece(1, 1, 2, 4, 8, EIGHT)[2:], None),
+]
+
 W, R = A + b'\0\0\1\3', B + b'\0\0\1\4'
+
+
+def piece_line(octets, wanted):
+    """the line of show for a submessage behind HA"""
+    if wanted is None:
+        return f'skipped 20 id {octets[:2]}'
+    order, fields = wanted.split(' ', 1)
+    return f'data_frag 20 {order} reader 00000000 writer 00000103 {fields} from {A.hex()} to all time none'
 
 
 def row_datagrams(row):
@@ -300,7 +378,12 @@ def rows():
         fits = said == (verdict, counts, verdict) and runs.agrees_with_events()
         differing += not fits
         print(f'{"agree " if fits else "DIFFER"} {row}: wanted {verdict}; {counts}, rules {said[0]}; {said[1]}, runs {said[2]}')
-    print(f'{len(ROWS)} rows, {differing} differences')
+    for octets, wanted in PIECE_ROWS:
+        shown_line = reference.show([bytes.fromhex(PIECES['HA'] + octets)], True)[1]
+        if shown_line != piece_line(octets, wanted):
+            differing += 1
+            print(f'DIFFER {octets}: wanted {piece_line(octets, wanted)}, rules {shown_line}')
+    print(f'{len(ROWS)} rows and {len(PIECE_ROWS)} submessages, {differing} differences')
     return int(differing > 0)
 
 
@@ -391,7 +474,8 @@ class Some:
         order, start = self.order(), self.rng.choice([1, 2, 3])
         base = start + self.rng.choice([0, 0, 1])
         bits = self.rng.choice([0, 0, 1 << 31, 1 << 30])
-        return put(order, 8, 0, self.entity() + self.writer() + sn(order, start) + sn(order, base) + u(order, 4, 2) + u(order, 4, bits))
+        numbers = sn(order, start) + sn(order, base) + u(order, 4, 2) + u(order, 4, bits)
+        return put(order, 8, 0, self.entity() + self.writer() + numbers)
 
     def to(self):
         return put(self.order(), 0x0e, 0, self.rng.choice([B, B, C, bytes(12)]))
@@ -450,6 +534,11 @@ def some_datagrams(rng):
     for _ in range(rng.randint(1, 6)):
         kind = rng.random()
         datagrams += some.whole() if kind < 0.3 else [some.by_writer() if kind < 0.65 else some.by_reader()]
+    for at in range(len(datagrams) - 1, 0, -1):
+        if rng.random() < 0.15:  # both in one datagram, the second by INFO_SRC
+            d = datagrams.pop(at)
+            source = put('be', 0x0c, 0, bytes(4) + b'\2\5\0\0' + d[8:20])
+            datagrams[at - 1] += source + rng.choice([b'', put('be', 0x0e, 0, bytes(12))]) + d[20:]
     for d in reversed(START) if rng.random() < 0.95 else []:
         at = 0 if rng.random() < 0.8 else rng.randrange(len(datagrams) + 1)
         datagrams[at:at] = some.announced(d)
@@ -490,7 +579,8 @@ class Comparison:
                 self.differs(f'{name}: other states by events', datagrams)
         kind = by_runs.split()[0]
         self.verdicts[kind] = self.verdicts.get(kind, 0) + 1
-        self.fragmented += by_runs != reference.judge([[a for a in acts if a['kind'] != 'data_frag'] for acts in recording], W, reader, first)
+        without = [[act for act in acts if act['kind'] != 'data_frag'] for acts in recording]
+        self.fragmented += by_runs != reference.judge(without, W, reader, first)
         return True
 
     def of_recording(self, k, datagrams, recording, first):
@@ -498,6 +588,8 @@ class Comparison:
         skipped = sum(item['kind'] == 'skipped' and item['id'] == 0x16 for d in datagrams for item in reference.read(d, True)[1])
         if int(counted) != skipped + pieces_without_sample(recording):
             self.differs(f'recording {k}: another count of fragments', datagrams)
+        if not announces_fitly(recording):
+            self.differs(f'recording {k}: other payloads of a writer', datagrams)
         ids = {item['id'] for d in datagrams for item in reference.read(d)[1] if item['kind'] == 'skipped'}
         text = ''.join(d.hex() + '\n' for d in datagrams).encode()
         for view in reference.WITH_FRAGMENTS:
@@ -517,8 +609,9 @@ def runs(count, seed):
             continue
         comparison.of_recording(tried, datagrams, recording, max(asked))
         tried += 1
-    print(f'{count} recordings, {comparison.differing} differences; verdicts {comparison.verdicts}; {comparison.fragmented} are others '
-          f'without pieces; {comparison.by_events} by events too; {passed_over} recordings passed over, which tell too much')
+    print(f'{count} recordings, {comparison.differing} differences; verdicts {comparison.verdicts}, of which {comparison.fragmented} '
+          f'are others without pieces and {comparison.by_events} were found by events too; {passed_over} recordings passed over, '
+          f'which tell too much')
     return int(comparison.differing > 0)
 
 
