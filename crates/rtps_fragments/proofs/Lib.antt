@@ -1,0 +1,4 @@
+pub mod FragmentRuns
+pub mod FragmentSound
+pub mod FragmentSimulation
+pub mod FragmentVerdicts

@@ -1,0 +1,3 @@
+pub mod FragmentDelivery
+pub mod FragmentVerdict
+pub mod Laws
