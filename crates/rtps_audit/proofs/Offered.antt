@@ -24,6 +24,10 @@ use Rattle.rtps_audit.proofs.IndexSpeech.{all_have, get_mapped, gives_from, hear
 use Rattle.rtps_audit.proofs.PlacedActs.{kept_if_passed, made_from, makes, stands_there, stands_where}
 use Rattle.rtps_audit.proofs.PlacedLemmas.{both, bytes_eq-sym}
 
+-- lists: what stands first or behind, what stands among what a function gives
+pub use Rattle.rtps_audit.proofs.PlacedActs.{contains_cases, contains_head, contains_none, contains_tail, made_from, makes}
+pub use Rattle.rtps_audit.proofs.IndexSpeech.{contains_mapped, get_mapped, mapped_contains, mapped_get}
+
 -- ---- who an act is from
 
 pub speaker_is_origin : (writer : Guid) (placed : PlacedValue) → is_spoken_by placed.act writer ≡ true → is_from writer placed ≡ true
