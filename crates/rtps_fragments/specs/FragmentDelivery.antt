@@ -30,11 +30,27 @@ pub record Fragment : Type 0 where
   pub index : ℕ
   pub octets : List ℕ
 
--- what one datagram says of the writer and the reader: all that is said without fragments, and for each DATA_FRAG that the reader
--- hears from the writer, the fragments that it has
+-- a DATA_FRAG: the number and the shape of its sample, and the octets of consecutive fragments, the first of which has this number
+pub record Piece : Type 0 where
+  pub number : ℕ
+  pub shape : Shape
+  pub first : ℕ
+  pub parts : List (List ℕ)
+
+-- consecutive fragments of these octets, from this one on
+abbrev pub fragments_from : ℕ → Shape → ℕ → List (List ℕ) → List Fragment
+fragments_from n shape i [] = []
+fragments_from n shape i (octets ∷ parts) = record { number = n; shape = shape; index = i; octets = octets } ∷ fragments_from n shape (suc i) parts
+
+-- the fragments of a piece
+abbrev pub fragments_of : Piece → List Fragment
+fragments_of piece = fragments_from piece.number piece.shape piece.first piece.parts
+
+-- what one datagram says of the writer and the reader: all that is said without fragments, and the pieces that the reader hears from
+-- the writer
 pub record FragmentDatagram : Type 0 where
   pub said : Datagram
-  pub pieces : List (List Fragment)
+  pub pieces : List Piece
 
 -- the datagrams of a recording in the order of sending
 abbrev pub FragmentSpeech : Type 0
@@ -47,11 +63,11 @@ said_in speech = map (λ datagram. datagram.said) speech
 -- the piece at place k of the datagram at place i has this fragment, of a number that is asked for
 pub record GivesFragment (from : ℕ) (speech : FragmentSpeech) (i k : ℕ) (fragment : Fragment) : Type 0 where
   pub datagram : FragmentDatagram
-  pub piece : List Fragment
+  pub piece : Piece
   pub stands : slice_get speech i ≡ Some datagram
   pub speaks : slice_get datagram.pieces k ≡ Some piece
   pub asked : IsAsked from fragment.number
-  pub has : Contains piece fragment
+  pub has : Contains (fragments_of piece) fragment
 
 -- Of one shape, each fragment of number n is among those that there are, and the payload is their octets in order. A sample has
 -- one fragment or more.

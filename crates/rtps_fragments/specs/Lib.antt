@@ -1,3 +1,4 @@
 pub mod FragmentDelivery
 pub mod FragmentVerdict
+pub mod Samples
 pub mod Laws
