@@ -5,3 +5,4 @@ pub mod FragmentVerdicts
 pub mod Variants
 pub mod SampleLemmas
 pub mod ToldLemmas
+pub mod SamplesTell

@@ -5,7 +5,7 @@ use Rattle.std.specs.List.{concat, find}
 use Rattle.std.proofs.lemmas.List.{append_cancel_left, append_cancel_right, length-set}
 use Rattle.std.proofs.lemmas.Option.{slice_get_cases}
 use Rattle.rtps_audit.proofs.Offered.{contains_cases, contains_head, contains_none, contains_tail}
-use Rattle.rtps_fragments.specs.Samples.{first_of, is_other, parts_by, firsts_of, samples_by, samples_of}
+use Rattle.rtps_fragments.specs.Samples.{first_of, is_other, firsts_of, samples_by, samples_of}
 use Rattle.rtps_fragments.proofs.Variants.{parts_length, parts_get, parts_exist, parts_are, first_is_there, first_of_all, firsts_stay, other_stays, none_other, other_differs}
 
 -- ---- what more comes only adds
