@@ -5,4 +5,6 @@ pub mod FragmentVerdicts
 pub mod Variants
 pub mod SampleLemmas
 pub mod ToldLemmas
+pub mod FragmentsBefore
+pub mod AlikeBySamples
 pub mod SamplesTell
