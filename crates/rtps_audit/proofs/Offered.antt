@@ -12,7 +12,6 @@ use Rattle.rtps_receiver.specs.Values.ActBodyValue.{Data, Heartbeat, AckNack, Ga
 use Rattle.rtps_audit.specs.Delivery.{Claims, Datagram, DeliveryState, Ends, Gives, HasRun, Holds, IsAsked, Speech, Word, greatest, last_announced_from}
 use Rattle.rtps_audit.specs.PlainVerdict.{IsFounded, IsSpoken, IsUnclaimed}
 use Rattle.rtps_audit.specs.RunVerdict.{EndsWithout}
-use Rattle.rtps_audit.proofs.Greatest.{greatest_below}
 use Rattle.rtps_audit.proofs.Sound.{founded_from_run, held_from_claim, spoken_from_held}
 use Rattle.rtps_audit.proofs.Verdicts.{ends_without}
 use Rattle.rtps_audit.proofs.DeliveryRuns.{Ends-took, took}
@@ -24,9 +23,10 @@ use Rattle.rtps_audit.proofs.IndexSpeech.{all_have, get_mapped, gives_from, hear
 use Rattle.rtps_audit.proofs.PlacedActs.{kept_if_passed, made_from, makes, stands_there, stands_where}
 use Rattle.rtps_audit.proofs.PlacedLemmas.{both, bytes_eq-sym}
 
--- lists: what stands first or behind, what stands among what a function gives
-pub use Rattle.rtps_audit.proofs.PlacedActs.{contains_cases, contains_head, contains_none, contains_tail, made_from, makes}
-pub use Rattle.rtps_audit.proofs.IndexSpeech.{contains_mapped, get_mapped, mapped_contains, mapped_get}
+-- lists: what stands first or behind, what stands among what a function gives, what is below the greatest
+pub use Rattle.rtps_audit.proofs.PlacedActs.{contains_cases, contains_head, contains_none, contains_tail, kept_if_passed, kept_is_there, made_from, makes}
+pub use Rattle.rtps_audit.proofs.Greatest.{below_greatest, greatest_below}
+pub use Rattle.rtps_audit.proofs.IndexSpeech.{if_some, contains_mapped, get_mapped, mapped_contains, mapped_get}
 
 -- ---- who an act is from
 
