@@ -21,10 +21,11 @@ use Rattle.rtps_audit.specs.Placed.{PlacedValue, is_from, placed_in}
 use Rattle.rtps_audit.specs.Speech.{announced_for, announced_of_body, base_for, said_by, speech_of, word_for}
 use Rattle.rtps_audit.proofs.IndexSpeech.{all_have, get_mapped, gives_from, heard_from, if_some, its_have, last_from, mapped_get, spoken_is_from}
 use Rattle.rtps_audit.proofs.PlacedActs.{kept_if_passed, made_from, makes, stands_there, stands_where}
-use Rattle.rtps_audit.proofs.PlacedLemmas.{both, bytes_eq-sym}
+use Rattle.rtps_audit.proofs.PlacedLemmas.{bytes_eq-sym}
 
--- lists: what stands first or behind, what stands among what a function gives, what is below the greatest
+-- lists: what stands first or behind, what stands among what a function gives, what is below the greatest; tests of equal parts
 pub use Rattle.rtps_audit.proofs.PlacedActs.{contains_cases, contains_head, contains_none, contains_tail, kept_if_passed, kept_is_there, made_from, makes}
+pub use Rattle.rtps_audit.proofs.PlacedLemmas.{both}
 pub use Rattle.rtps_audit.proofs.Greatest.{below_greatest, greatest_below}
 pub use Rattle.rtps_audit.proofs.IndexSpeech.{if_some, contains_mapped, get_mapped, mapped_contains, mapped_get}
 
