@@ -8,3 +8,4 @@ pub mod ToldLemmas
 pub mod FragmentsBefore
 pub mod AlikeBySamples
 pub mod SamplesTell
+pub mod Audiences

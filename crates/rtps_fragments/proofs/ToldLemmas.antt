@@ -88,7 +88,7 @@ there_came n shape fragments one among =
     makes (came_of n shape) fragments (fragment_of n shape one) one among (ap (λ b. cond b (Some one) None) (own_shape n shape))
 
 -- no fragment of another sample came
-none_came : (n : ℕ) (shape : Shape) (number : ℕ) (other : Shape) (i : ℕ) (parts : List (List ℕ)) → is_of n shape number other ≡ false → filter_map (came_of n shape) (fragments_from number other i parts) ≡ []
+pub none_came : (n : ℕ) (shape : Shape) (number : ℕ) (other : Shape) (i : ℕ) (parts : List (List ℕ)) → is_of n shape number other ≡ false → filter_map (came_of n shape) (fragments_from number other i parts) ≡ []
 none_came n shape number other i [] e = refl
 none_came n shape number other i (octets ∷ parts) e =
     let first : Option (ℕ × List ℕ) = Some (i, octets) in
@@ -128,20 +128,20 @@ abbrev pub Tells : List (ℕ → Option Word) → ℕ → PayloadValue → Type 
 Tells acts n payload = (act : ℕ → Option Word) × Contains acts act × (act n ≡ Some (Told payload))
 
 -- by a piece more, what can be put together could be before, or is told
-put_or_told : (n : ℕ) (before : List Fragment) (piece : Piece) (payload : PayloadValue) → IsPut n (before ++ fragments_of piece) payload
-    → IsPut n before payload ⊎ Tells (map (tell piece.number) (told_by before piece)) n payload
-put_or_told n before piece payload (shape, among) = elim (cases_Bool (is_of n shape piece.number piece.shape)) [
+pub come_or_told : (n : ℕ) (shape : Shape) (before : List Fragment) (piece : Piece) (payload : PayloadValue) → Contains (payloads_of n shape (before ++ fragments_of piece)) payload
+    → Contains (payloads_of n shape before) payload ⊎ ((piece.number ≡ n) × (piece.shape ≡ shape) × Contains (told_by before piece) payload)
+come_or_told n shape before piece payload among = elim (cases_Bool (is_of n shape piece.number piece.shape)) [
   | inl is ↦ same (same_sample n shape piece.number piece.shape is)
-  | inr apart ↦ inl (shape, subst (λ came. Contains (map (payload_by shape) (samples_of (last_fragment shape) came)) payload) (other apart) among)
+  | inr apart ↦ inl (subst (λ came. Contains (map (payload_by shape) (samples_of (last_fragment shape) came)) payload) (other apart) among)
 ]
   where
-    same : (piece.number ≡ n) × (piece.shape ≡ shape) → IsPut n before payload ⊎ Tells (map (tell piece.number) (told_by before piece)) n payload
+    same : (piece.number ≡ n) × (piece.shape ≡ shape) → Contains (payloads_of n shape before) payload ⊎ ((piece.number ≡ n) × (piece.shape ≡ shape) × Contains (told_by before piece) payload)
     same (number, shapes) =
         let moved : Contains (payloads_of piece.number piece.shape (before ++ fragments_of piece)) payload =
         subst (λ m. Contains (payloads_of m piece.shape (before ++ fragments_of piece)) payload) (sym number) (subst (λ s. Contains (payloads_of n s (before ++ fragments_of piece)) payload) (sym shapes) among) in
         elim (Contains-append_cases (payloads_of piece.number piece.shape before) (told_by before piece) payload (subst (λ xs. Contains xs payload) (told_more before piece) moved)) [
-          | inl old ↦ inl (piece.shape, subst (λ m. Contains (payloads_of m piece.shape before) payload) number old)
-          | inr new ↦ inr (tell piece.number payload, mapped_contains (tell piece.number) (told_by before piece) payload new, ap (λ b. cond b (Some (Told payload)) None) ((Decides-eqb n piece.number).1 (sym number)))
+          | inl old ↦ inl (subst (λ s. Contains (payloads_of n s before) payload) shapes (subst (λ m. Contains (payloads_of m piece.shape before) payload) number old))
+          | inr new ↦ inr (number, shapes, new)
         ]
 
     other : is_of n shape piece.number piece.shape ≡ false → filter_map (came_of n shape) (before ++ fragments_of piece) ≡ filter_map (came_of n shape) before
@@ -149,6 +149,14 @@ put_or_told n before piece payload (shape, among) = elim (cases_Bool (is_of n sh
         filter_map-append (came_of n shape) before (fragments_of piece)
         ∙ ap (λ xs. filter_map (came_of n shape) before ++ xs) (none_came n shape piece.number piece.shape piece.first piece.parts apart)
         ∙ append-nil (filter_map (came_of n shape) before)
+
+put_or_told : (n : ℕ) (before : List Fragment) (piece : Piece) (payload : PayloadValue) → IsPut n (before ++ fragments_of piece) payload
+    → IsPut n before payload ⊎ Tells (map (tell piece.number) (told_by before piece)) n payload
+put_or_told n before piece payload (shape, among) = elim (come_or_told n shape before piece payload among) [
+  | inl old ↦ inl (shape, old)
+  | inr (number, shapes, new) ↦
+      inr (tell piece.number payload, mapped_contains (tell piece.number) (told_by before piece) payload new, ap (λ b. cond b (Some (Told payload)) None) ((Decides-eqb n piece.number).1 (sym number)))
+]
 
 -- and by pieces more
 pub put_or_acts : (n : ℕ) (before : List Fragment) (pieces : List Piece) (payload : PayloadValue) → IsPut n (before ++ flat_map fragments_of pieces) payload

@@ -1,4 +1,5 @@
 pub mod FragmentDelivery
 pub mod FragmentVerdict
 pub mod Samples
+pub mod SampleActs
 pub mod Laws
