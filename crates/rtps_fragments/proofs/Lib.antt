@@ -9,3 +9,5 @@ pub mod FragmentsBefore
 pub mod AlikeBySamples
 pub mod SamplesTell
 pub mod Audiences
+pub mod HeardLemmas
+pub mod SampleActLemmas

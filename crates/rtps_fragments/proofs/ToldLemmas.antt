@@ -44,7 +44,7 @@ same_shape one other e =
     let (fragment, key) = both_true (one.fragment == other.fragment) _ rest in
     shape_is one other ((Decides-eqb one.sample other.sample).0 sample) ((Decides-eqb one.fragment other.fragment).0 fragment) (same_flag one.is_key other.is_key key)
 
-and_true : (a b : Bool) → a ≡ true → b ≡ true → (a && b) ≡ true
+pub and_true : (a b : Bool) → a ≡ true → b ≡ true → (a && b) ≡ true
 and_true true true e f = refl
 and_true true false e f = cc
 and_true false b e f = cc
@@ -72,7 +72,7 @@ fragment_is f n shape one number same is =
     let c : ℕ × List ℕ → Fragment = λ p. fragment_of n shape p in
     ap a number ∙ ap b same ∙ ap c is
 
-if_then : {X : Type 0} (b : Bool) (x y : X) → cond b (Some x) None ≡ Some y → (b ≡ true) × (x ≡ y)
+pub if_then : {X : Type 0} (b : Bool) (x y : X) → cond b (Some x) None ≡ Some y → (b ≡ true) × (x ≡ y)
 if_then true x y e = (refl, (let h = e in cc))
 if_then false x y e = cc
 
@@ -172,15 +172,18 @@ put_or_acts n before (piece ∷ pieces) payload put =
     ]
 
 -- what a piece tells can be put together
+pub told_is_come : (n : ℕ) (before : List Fragment) (piece : Piece) (payload : PayloadValue) → piece.number ≡ n → Contains (told_by before piece) payload → IsPut n (before ++ fragments_of piece) payload
+told_is_come n before piece payload number there =
+    let put : Contains (payloads_of piece.number piece.shape (before ++ fragments_of piece)) payload =
+    subst (λ xs. Contains xs payload) (sym (told_more before piece)) (Contains-append_right (payloads_of piece.number piece.shape before) (told_by before piece) payload there) in
+    (piece.shape, subst (λ m. Contains (payloads_of m piece.shape (before ++ fragments_of piece)) payload) number put)
+
 told_is_put : (n : ℕ) (before : List Fragment) (piece : Piece) (act : ℕ → Option Word) (word : Word) → Contains (map (tell piece.number) (told_by before piece)) act → act n ≡ Some word
     → (payload : PayloadValue) × (word ≡ Told payload) × IsPut n (before ++ fragments_of piece) payload
 told_is_put n before piece act word among says =
     let (payload, there, is) = contains_mapped (tell piece.number) (told_by before piece) act among in
     let (test, told) = if_then (n == piece.number) (Told payload) word (ap (λ (f : ℕ → Option Word). f n) is ∙ says) in
-    let number = (Decides-eqb n piece.number).0 test in
-    let put : Contains (payloads_of piece.number piece.shape (before ++ fragments_of piece)) payload =
-    subst (λ xs. Contains xs payload) (sym (told_more before piece)) (Contains-append_right (payloads_of piece.number piece.shape before) (told_by before piece) payload there) in
-    (payload, sym told, (piece.shape, subst (λ m. Contains (payloads_of m piece.shape (before ++ fragments_of piece)) payload) (sym number) put))
+    (payload, sym told, told_is_come n before piece payload (sym ((Decides-eqb n piece.number).0 test)) there)
 
 -- and what pieces tell
 pub acts_are_put : (n : ℕ) (before : List Fragment) (pieces : List Piece) (act : ℕ → Option Word) (word : Word) → Contains (acts_told before pieces) act → act n ≡ Some word

@@ -1,14 +1,14 @@
 -- The samples of a recording, told as acts. DDSI-RTPS 2.5, 8.3.4 "The RTPS Message Receiver" and 8.3.8.3 "DataFrag". own: the
 -- fragments of one sample may be for several audiences, and a reader hears those that are for it; a sample is told to each audience
 -- that hears all of it, so that the same acts serve every reader.
-use Rattle.std.specs.Prelude.{ℕ, Bool, false, true, not, ◌==◌, ◌&&◌, ◌||◌, if◌then◌else◌, List, [], ◌∷◌, ◌++◌, filter, map, Option, Some, None}
+use Rattle.std.specs.Prelude.{ℕ, Bool, false, true, not, ◌&&◌, ◌||◌, if◌then◌else◌, List, [], ◌∷◌, ◌++◌, filter, map, Option, Some, None}
 use Rattle.std.specs.List.{filter_map, flat_map}
 use Rattle.rtps_ids.specs.declared.identity.EntityId.{EntityId}
 use Rattle.rtps_ids.specs.declared.identity.Guid.{Guid}
 use Rattle.rtps_ids.specs.declared.identity.GuidPrefix.{GuidPrefix}
 use Rattle.rtps_wire.specs.Values.{PayloadValue}
 use Rattle.rtps_receiver.specs.Speech.{entity_from, is_entity, is_for_all, is_heard_by, is_prefix, is_spoken_by, names, origin_of, reader_named, unknown_entity}
-use Rattle.rtps_receiver.specs.Values.{ActBodyValue, ActValue}
+use Rattle.rtps_receiver.specs.Values.{ActValue}
 use Rattle.rtps_receiver.specs.Values.ActBodyValue.{Data}
 use Rattle.rtps_audit.specs.Delivery.{Speech}
 use Rattle.rtps_audit.specs.Speech.{said_by}
