@@ -11,3 +11,4 @@ pub mod SamplesTell
 pub mod Audiences
 pub mod HeardLemmas
 pub mod SampleActLemmas
+pub mod ActsTell

@@ -35,7 +35,7 @@ spoken_is_origin act writer named spoken =
     ap from (prefix_is act.source writer.prefix prefix) ∙ ap of (entity_is (entity_from act.body) writer.entity (subst (λ o. names o writer.entity ≡ true) named entity))
 
 -- a sample is from where its act is from
-sample_spoken : (act : ActValue) (n : ℕ) (audience : Audience) (payload : PayloadValue) (writer : Guid) → NamesItsWriter act → is_spoken_by (sample_act act n audience payload) writer ≡ is_spoken_by act writer
+pub sample_spoken : (act : ActValue) (n : ℕ) (audience : Audience) (payload : PayloadValue) (writer : Guid) → NamesItsWriter act → is_spoken_by (sample_act act n audience payload) writer ≡ is_spoken_by act writer
 sample_spoken act n audience payload writer named = ap (λ o. is_prefix act.source writer.prefix && names o writer.entity) (sym named)
 
 and_if : (a b c : Bool) → (a ≡ true → b ≡ c) → (a && b) ≡ (a && c)

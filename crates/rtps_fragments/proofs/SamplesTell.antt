@@ -65,7 +65,7 @@ put_or_at n before (d ∷ speech) (suc j) payload put =
           inr (suc i, datagram, omega arith, at, subst (λ fs. Tells (acts_told fs datagram.pieces) n payload) (append_assoc before here (fragments_before speech i)) tells)
     ]
 
-none_put : (n : ℕ) (payload : PayloadValue) → IsPut n [] payload → ⊥
+pub none_put : (n : ℕ) (payload : PayloadValue) → IsPut n [] payload → ⊥
 none_put n payload (shape, among) = contains_none payload (subst (λ xs. Contains (map (payload_by shape) xs) payload) (none (last_fragment shape)) among)
   where
     none : (last : ℕ) → samples_of last [] ≡ []

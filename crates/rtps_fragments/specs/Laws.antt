@@ -1,14 +1,17 @@
 -- Laws over definitions alone, whatever the number is from which on numbers are asked for. own: what a reader of the definitions
 -- would ask of them.
-use Rattle.std.specs.Prelude.{ℕ, ◌<◌, ◌≤◌, ◌≡◌, ◌≢◌, ◌↔◌, length}
+use Rattle.std.specs.Prelude.{ℕ, ◌+◌, ◌<◌, ◌≤◌, ◌≡◌, ◌≢◌, ◌↔◌, length, List, map, Some, None, Contains}
+use Rattle.rtps_ids.specs.declared.identity.Guid.{Guid}
 use Rattle.rtps_wire.specs.Values.{PayloadValue}
 use Rattle.rtps_audit.specs.Delivery.{Speech, Claims, last_announced_from}
 use Rattle.rtps_audit.specs.RunVerdict.{IsTold, IsVerdictFrom}
 use Rattle.rtps_audit.specs.PlainVerdict.{SpeaksTwo}
+use Rattle.rtps_audit.specs.Speech.{announced_of_body}
 use Rattle.rtps_audit.specs.declared.verdict.Verdict.{Verdict}
-use Rattle.rtps_fragments.specs.FragmentDelivery.{Fragment, FragmentSpeech, GivesFragment, last_fragment, said_in}
+use Rattle.rtps_fragments.specs.FragmentDelivery.{Fragment, FragmentSpeech, GivesFragment, Piece, last_fragment, said_in}
 use Rattle.rtps_fragments.specs.FragmentVerdict.{IsPayloadBefore, IsWordBefore, IsFragmentVerdictFrom}
 use Rattle.rtps_fragments.specs.Samples.{told_in}
+use Rattle.rtps_fragments.specs.SampleActs.{PieceAct, acts_with_samples, fragment_speech_of, speech_by}
 
 -- of all that is given, two different payloads are told or can be put together for n
 abbrev pub GivesTwoPayloads : ℕ → FragmentSpeech → ℕ → Type 0
@@ -42,3 +45,33 @@ SamplesTellAlike = (from : ℕ) (speech : FragmentSpeech) → HasFragmentsWithin
 abbrev pub FragmentVerdictIsTold : Type 0
 FragmentVerdictIsTold =
     (from : ℕ) (speech : FragmentSpeech) (verdict : Verdict) → HasFragmentsWithin from speech → IsFragmentVerdictFrom from speech verdict ↔ IsVerdictFrom from (told_in speech) verdict
+
+-- An act with a piece announces the piece's number. The piece's fragments are some from 1 to the last one of its shape.
+pub record IsPart (part : PieceAct) (piece : Piece) : Type 0 where
+  pub announces : announced_of_body part.act.body ≡ Some piece.number
+  pub first : 0 < piece.first
+  pub last : piece.first + length piece.parts ≤ last_fragment piece.shape + 1
+
+-- that is so of each act with a piece
+abbrev pub AreParts : List (List PieceAct) → Type 0
+AreParts recording = (datagram : List PieceAct) (part : PieceAct) (piece : Piece) → Contains recording datagram → Contains datagram part → part.piece ≡ Some piece → IsPart part piece
+
+-- of any writer and reader, a recording with pieces and its acts with the samples among them tell alike
+abbrev pub ActsTellAlike : Type 0
+ActsTellAlike =
+    (from : ℕ) (writer reader : Guid) (recording : List (List PieceAct)) → AreParts recording
+    → TellsAlike from (fragment_speech_of writer reader recording) (speech_by writer reader (acts_with_samples recording))
+
+-- of any writer and reader, the verdict by runs that take fragments one by one is the verdict of the acts with the samples among them
+abbrev pub FragmentVerdictOfActs : Type 0
+FragmentVerdictOfActs =
+    (from : ℕ) (writer reader : Guid) (recording : List (List PieceAct)) (verdict : Verdict) → AreParts recording
+    → IsFragmentVerdictFrom from (fragment_speech_of writer reader recording) verdict ↔ IsVerdictFrom from (speech_by writer reader (acts_with_samples recording)) verdict
+
+-- no act has a piece
+abbrev pub HasNoPieces : List (List PieceAct) → Type 0
+HasNoPieces recording = (datagram : List PieceAct) (part : PieceAct) → Contains recording datagram → Contains datagram part → part.piece ≡ None
+
+-- where no act has a piece, no sample is told
+abbrev pub ActsStayWithoutPieces : Type 0
+ActsStayWithoutPieces = (recording : List (List PieceAct)) → HasNoPieces recording → acts_with_samples recording ≡ map (map (λ part. part.act)) recording

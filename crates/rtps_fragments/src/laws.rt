@@ -1,6 +1,6 @@
 //! Laws over definitions alone. Each function does nothing: its clause is the law, and its proof the law's proof.
 
-ghost use Rattle.rtps_fragments.specs.Laws.{FragmentsTellAlike, SamplesTellAlike, FragmentVerdictIsTold};
+ghost use Rattle.rtps_fragments.specs.Laws.{FragmentsTellAlike, SamplesTellAlike, FragmentVerdictIsTold, ActsTellAlike, FragmentVerdictOfActs, ActsStayWithoutPieces};
 
 use rtps_audit::laws::{runs_exist_where_founded, verdicts_agree};
 
@@ -27,3 +27,23 @@ pub fn fragment_verdict_is_told()
     fragments_tell_alike();
     samples_tell_alike();
 }
+
+/// Of any writer and reader, a recording with pieces and its acts with the samples among them tell alike, whoever hears which pieces of
+/// a sample.
+pub fn acts_tell_alike()
+    ensures { ActsTellAlike }
+{}
+
+/// Of any writer and reader, the verdict by all runs in which the reader takes fragments one by one is the verdict of the acts of the
+/// recording with the samples among them, with its numbers, from any number on.
+pub fn fragment_verdict_of_acts()
+    ensures { FragmentVerdictOfActs }
+{
+    fragments_tell_alike();
+    acts_tell_alike();
+}
+
+/// Where no act has a piece, no sample is told: the acts are as they are.
+pub fn acts_stay_without_pieces()
+    ensures { ActsStayWithoutPieces }
+{}
