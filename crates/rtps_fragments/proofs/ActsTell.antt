@@ -128,7 +128,7 @@ announcer_named (Heartbeat value) n e = refl
 announcer_named (Gap value) n e = refl
 announcer_named (AckNack value) n e = cc
 
-fragment_bounds : (n : ℕ) (shape : Shape) (i : ℕ) (parts : List (List ℕ)) (f : Fragment) → Contains (fragments_from n shape i parts) f → (i ≤ f.index) × (f.index < i + length parts) × (f.shape ≡ shape)
+pub fragment_bounds : (n : ℕ) (shape : Shape) (i : ℕ) (parts : List (List ℕ)) (f : Fragment) → Contains (fragments_from n shape i parts) f → (i ≤ f.index) × (f.index < i + length parts) × (f.shape ≡ shape)
 fragment_bounds n shape i [] f among = absurd (contains_none f among)
 fragment_bounds n shape i (octets ∷ parts) f among =
     let first : Fragment = record { number = n; shape = shape; index = i; octets = octets } in

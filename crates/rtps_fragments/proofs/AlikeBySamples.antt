@@ -1,5 +1,5 @@
 -- Where a recording without fragments tells just the samples that are put together of one with them, they tell alike.
-use Rattle.std.proofs.Common.{◌≡◌, ℕ, suc, ◌<◌, Bool, true, false, cond, List, length, sym, ◌∙◌, ap, subst, arith, inl, inr, ◌⊎◌}
+use Rattle.std.proofs.Common.{◌≡◌, ℕ, ◌<◌, Bool, true, false, cond, List, length, sym, subst, arith, inl, inr, ◌⊎◌}
 use Rattle.std.specs.Prelude.{Contains, ◌↔◌}
 use Rattle.std.specs.List.{concat, filter_map}
 use Rattle.std.proofs.lemmas.Option.{slice_get_cases, slice_get_within}
@@ -9,13 +9,14 @@ use Rattle.rtps_audit.specs.Delivery.{Word, Speech, IsAsked, Gives, Claims, last
 use Rattle.rtps_audit.specs.Delivery.Word.{Told, Gone}
 use Rattle.rtps_audit.specs.PlainVerdict.{IsSpoken, SpeaksTwo}
 use Rattle.rtps_audit.specs.RunVerdict.{IsTold}
-use Rattle.rtps_audit.proofs.Offered.{contains_mapped, mapped_contains}
+use Rattle.rtps_audit.proofs.Offered.{mapped_contains}
 use Rattle.rtps_fragments.specs.FragmentDelivery.{Shape, last_fragment, payload_by, Fragment, FragmentSpeech, IsPutTogether, said_in}
 use Rattle.rtps_fragments.specs.FragmentVerdict.{IsSaidBefore, IsSentBefore, IsPayloadBefore, IsWordBefore}
 use Rattle.rtps_fragments.specs.Laws.{GivesTwoPayloads, HasFragmentsWithin, TellsAlike}
 use Rattle.rtps_fragments.specs.Samples.{came_of, samples_of}
-use Rattle.rtps_fragments.proofs.SampleLemmas.{ArePicks, AreWithin, sample_is_picked, some_sample, two}
-use Rattle.rtps_fragments.proofs.ToldLemmas.{IsPut, came_is_there, fragment_of, there_came}
+use Rattle.rtps_fragments.proofs.SampleLemmas.{AreWithin, two}
+use Rattle.rtps_fragments.proofs.PutTogether.{EachOf, IsWithin, came_within, parts_picked, put_of, some_put}
+use Rattle.rtps_fragments.proofs.ToldLemmas.{IsPut}
 use Rattle.rtps_fragments.proofs.FragmentsBefore.{all_sent, fragments_before, sent_is_before}
 
 -- an act of a datagram before place j has the word for n
@@ -37,27 +38,18 @@ pub record TellsSamples (from : ℕ) (speech : FragmentSpeech) (told : Speech) :
   pub given : (j n : ℕ) (word : Word) → IsGivenBefore from told j n word → IsHadBefore from speech j n word
 
 module _ (from : ℕ) (speech : FragmentSpeech) (within : HasFragmentsWithin from speech) where
-  -- what came of a sample is of its fragments
-  came_within : (j n : ℕ) → IsAsked from n → (shape : Shape) (fragments : List Fragment) → ((f : Fragment) → Contains fragments f → IsAsked from f.number → IsSentBefore from speech j f)
-      → AreWithin (last_fragment shape) (filter_map (came_of n shape) fragments)
-  came_within j n asked shape fragments sent one among =
-      let there = sent (fragment_of n shape one) (came_is_there n shape fragments one among) asked in
-      within there.place there.piece (fragment_of n shape one) there.gives
+  -- fragments that are sent, where their number is asked for
+  abbrev pub AreSent : ℕ → List Fragment → Type 0
+  AreSent j fragments = (f : Fragment) → Contains fragments f → IsAsked from f.number → IsSentBefore from speech j f
 
-  pub put_together : (j n : ℕ) → IsAsked from n → (fragments : List Fragment) → ((f : Fragment) → Contains fragments f → IsAsked from f.number → IsSentBefore from speech j f)
-      → (payload : PayloadValue) → IsPut n fragments payload → IsPutTogether (IsSentBefore from speech j) n payload
-  put_together j n asked fragments sent payload (shape, among) =
-      let came = filter_map (came_of n shape) fragments in
-      let (octets, told, is) = contains_mapped (payload_by shape) (samples_of (last_fragment shape) came) payload among in
-      let (parts, all, some, picks, made) = sample_is_picked (last_fragment shape) came octets (came_within j n asked shape fragments sent) told in
-      record {
-        shape = shape;
-        parts = parts;
-        some = some;
-        all = all;
-        each = λ i part at. sent (fragment_of n shape (suc i, part)) (came_is_there n shape fragments (suc i, part) (picks i part at)) asked;
-        payload_is = sym is ∙ ap (payload_by shape) made;
-      }
+  each_sent : (j n : ℕ) → IsAsked from n → (fragments : List Fragment) → AreSent j fragments → EachOf n fragments (IsSentBefore from speech j)
+  each_sent j n asked fragments sent f among same = sent f among (subst (IsAsked from) (sym same) asked)
+
+  each_within : (j n : ℕ) → IsAsked from n → (fragments : List Fragment) → AreSent j fragments → EachOf n fragments IsWithin
+  each_within j n asked fragments sent f among same = let there = each_sent j n asked fragments sent f among same in within there.place there.piece f there.gives
+
+  pub put_together : (j n : ℕ) → IsAsked from n → (fragments : List Fragment) → AreSent j fragments → (payload : PayloadValue) → IsPut n fragments payload → IsPutTogether (IsSentBefore from speech j) n payload
+  put_together j n asked fragments sent = put_of (IsSentBefore from speech j) n fragments (each_sent j n asked fragments sent) (each_within j n asked fragments sent)
 
 module _ (from : ℕ) (speech : FragmentSpeech) (within : HasFragmentsWithin from speech) (told : Speech) (tells : TellsSamples from speech told) where
   -- ---- the parts of what is put together
@@ -68,18 +60,16 @@ module _ (from : ℕ) (speech : FragmentSpeech) (within : HasFragmentsWithin fro
     | inr past ↦ absurd (let some = put.some in let le = past.0 in omega arith)
   ]
 
-  parts_picked : (j n : ℕ) (payload : PayloadValue) (put : IsPutTogether (IsSentBefore from speech j) n payload) → ArePicks (filter_map (came_of n put.shape) (fragments_before speech j)) put.parts
-  parts_picked j n payload put i octets at =
-      there_came n put.shape (fragments_before speech j) (suc i, octets) (sent_is_before speech j (fragment_of n put.shape (suc i, octets)) (put.each i octets at))
+  -- it is put together of all fragments before
+  of_all : (j n : ℕ) (payload : PayloadValue) → IsPutTogether (IsSentBefore from speech j) n payload → IsPutTogether (Contains (fragments_before speech j)) n payload
+  of_all j n payload put =
+      record { shape = put.shape; parts = put.parts; some = put.some; all = put.all; each = λ i octets at. sent_is_before speech j _ (put.each i octets at); payload_is = put.payload_is }
 
   -- a payload of the sample is told
   some_told : (j n : ℕ) (payload : PayloadValue) → IsPutTogether (IsSentBefore from speech j) n payload → (other : PayloadValue) × IsGivenBefore from told j n (Told other)
   some_told j n payload put =
-      let came = filter_map (came_of n put.shape) (fragments_before speech j) in
-      let (octets, among) = some_sample came put.parts put.some (parts_picked j n payload put) in
-      let placed : Contains (samples_of (last_fragment put.shape) came) octets = subst (λ last. Contains (samples_of last came) octets) put.all among in
-      let other = payload_by put.shape octets in
-      (other, tells.put j n other (part_asked j n payload put) (put.shape, mapped_contains (payload_by put.shape) (samples_of (last_fragment put.shape) came) octets placed))
+      let (other, is) = some_put n (fragments_before speech j) payload (of_all j n payload put) in
+      (other, tells.put j n other (part_asked j n payload put) is)
 
   word_to : (j n : ℕ) → IsWordBefore from speech j n → IsTold from told j n
   word_to j n (inl gone) = let (i, k, lt, gives) = tells.said j n Gone gone in record { place = i; act = k; word = Gone; earlier = lt; gives = gives }
@@ -123,12 +113,13 @@ module _ (from : ℕ) (speech : FragmentSpeech) (within : HasFragmentsWithin fro
 
   -- whatever payload is put together is told, or two are told that differ
   spoken_or_two : (n : ℕ) (payload : PayloadValue) → IsPayloadBefore from speech (length speech) n payload → IsSpoken from told n (Told payload) ⊎ SpeaksTwo from told n
+  unfolding of_all
   spoken_or_two n payload (inl said) = inl (spoken_from (length speech) n (Told payload) (tells.said (length speech) n (Told payload) said))
   spoken_or_two n payload (inr put) =
       let count = length speech in
       let came = filter_map (came_of n put.shape) (fragments_before speech count) in
-      let bounds = came_within from speech within count n (part_asked count n payload put) put.shape (fragments_before speech count) (all_sent speech count) in
-      elim (two came put.parts put.some (parts_picked count n payload put) (subst (λ last. AreWithin last came) (sym put.all) bounds)) [
+      let bounds = came_within n put.shape (fragments_before speech count) (each_within from speech within count n (part_asked count n payload put) (fragments_before speech count) (all_sent speech count)) in
+      elim (two came put.parts put.some (parts_picked n (fragments_before speech count) payload (of_all count n payload put)) (subst (λ last. AreWithin last came) (sym put.all) bounds)) [
         | inl is ↦ inl (subst (λ p. IsSpoken from told n (Told p)) (sym put.payload_is) (speaks (concat put.parts) is))
         | inr (x, y, one, other, differ) ↦ inr (payload_by put.shape x, payload_by put.shape y, speaks x one, speaks y other, payloads_differ put.shape x y differ)
       ]

@@ -55,7 +55,7 @@ or_own false b e = sym e
 
 -- ---- lists
 
-any_or_none : {X : Type 0} (test : X → Bool) (xs : List X) → ((x : X) × Contains xs x × (test x ≡ true)) ⊎ ((x : X) → Contains xs x → test x ≡ false)
+pub any_or_none : {X : Type 0} (test : X → Bool) (xs : List X) → ((x : X) × Contains xs x × (test x ≡ true)) ⊎ ((x : X) → Contains xs x → test x ≡ false)
 any_or_none test [] = inr (λ x among. absurd (contains_none x among))
 any_or_none test (y ∷ ys) = elim (cases_Bool (test y)) [
   | inl passes ↦ inl (y, contains_head y ys, passes)

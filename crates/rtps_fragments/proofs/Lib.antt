@@ -5,6 +5,7 @@ pub mod FragmentVerdicts
 pub mod Variants
 pub mod SampleLemmas
 pub mod ToldLemmas
+pub mod PutTogether
 pub mod FragmentsBefore
 pub mod AlikeBySamples
 pub mod SamplesTell
@@ -12,3 +13,4 @@ pub mod Audiences
 pub mod HeardLemmas
 pub mod SampleActLemmas
 pub mod ActsTell
+pub mod PiecesLeft

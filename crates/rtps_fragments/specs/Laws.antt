@@ -1,17 +1,19 @@
 -- Laws over definitions alone, whatever the number is from which on numbers are asked for. own: what a reader of the definitions
 -- would ask of them.
-use Rattle.std.specs.Prelude.{ℕ, ◌+◌, ◌<◌, ◌≤◌, ◌≡◌, ◌≢◌, ◌↔◌, length, List, map, Some, None, Contains}
+use Rattle.std.specs.Prelude.{ℕ, ◌+◌, ◌<◌, ◌≤◌, ◌≡◌, ◌≢◌, ◌↔◌, length, List, map, flat_map, Some, None, true, Contains}
 use Rattle.rtps_ids.specs.declared.identity.Guid.{Guid}
 use Rattle.rtps_wire.specs.Values.{PayloadValue}
+use Rattle.rtps_receiver.specs.Speech.{origin_of}
 use Rattle.rtps_audit.specs.Delivery.{Speech, Claims, last_announced_from}
 use Rattle.rtps_audit.specs.RunVerdict.{IsTold, IsVerdictFrom}
 use Rattle.rtps_audit.specs.PlainVerdict.{SpeaksTwo}
 use Rattle.rtps_audit.specs.Speech.{announced_of_body}
 use Rattle.rtps_audit.specs.declared.verdict.Verdict.{Verdict}
-use Rattle.rtps_fragments.specs.FragmentDelivery.{Fragment, FragmentSpeech, GivesFragment, Piece, last_fragment, said_in}
+use Rattle.rtps_fragments.specs.FragmentDelivery.{Fragment, FragmentSpeech, GivesFragment, IsPutTogether, Piece, last_fragment, said_in}
 use Rattle.rtps_fragments.specs.FragmentVerdict.{IsPayloadBefore, IsWordBefore, IsFragmentVerdictFrom}
 use Rattle.rtps_fragments.specs.Samples.{told_in}
 use Rattle.rtps_fragments.specs.SampleActs.{PieceAct, acts_with_samples, fragment_speech_of, speech_by}
+use Rattle.rtps_fragments.specs.SamplesSent.{is_left, sent_by}
 
 -- of all that is given, two different payloads are told or can be put together for n
 abbrev pub GivesTwoPayloads : ℕ → FragmentSpeech → ℕ → Type 0
@@ -75,3 +77,16 @@ HasNoPieces recording = (datagram : List PieceAct) (part : PieceAct) → Contain
 -- where no act has a piece, no sample is told
 abbrev pub ActsStayWithoutPieces : Type 0
 ActsStayWithoutPieces = (recording : List (List PieceAct)) → HasNoPieces recording → acts_with_samples recording ≡ map (map (λ part. part.act)) recording
+
+-- and the verdict by runs that take fragments is that of the acts
+abbrev pub VerdictStaysWithoutPieces : Type 0
+VerdictStaysWithoutPieces =
+    (from : ℕ) (writer reader : Guid) (recording : List (List PieceAct)) (verdict : Verdict) → HasNoPieces recording
+    → IsFragmentVerdictFrom from (fragment_speech_of writer reader recording) verdict ↔ IsVerdictFrom from (speech_by writer reader (map (map (λ part. part.act)) recording)) verdict
+
+-- a piece is left exactly where of all fragments that its writer sends no payload of its number can be put together
+abbrev pub PiecesLeftAreOfNoSample : Type 0
+PiecesLeftAreOfNoSample =
+    (recording : List (List PieceAct)) → AreParts recording → (part : PieceAct) (piece : Piece) → Contains (flat_map (λ datagram. datagram) recording) part → part.piece ≡ Some piece
+    → (is_left (flat_map (λ datagram. datagram) recording) part.act part.piece ≡ true)
+    ↔ ((payload : PayloadValue) → ¬ IsPutTogether (Contains (sent_by (origin_of part.act) (flat_map (λ datagram. datagram) recording))) piece.number payload)

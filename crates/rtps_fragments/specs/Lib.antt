@@ -2,4 +2,5 @@ pub mod FragmentDelivery
 pub mod FragmentVerdict
 pub mod Samples
 pub mod SampleActs
+pub mod SamplesSent
 pub mod Laws

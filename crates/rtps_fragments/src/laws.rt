@@ -1,6 +1,6 @@
 //! Laws over definitions alone. Each function does nothing: its clause is the law, and its proof the law's proof.
 
-ghost use Rattle.rtps_fragments.specs.Laws.{FragmentsTellAlike, SamplesTellAlike, FragmentVerdictIsTold, ActsTellAlike, FragmentVerdictOfActs, ActsStayWithoutPieces};
+ghost use Rattle.rtps_fragments.specs.Laws.{FragmentsTellAlike, SamplesTellAlike, FragmentVerdictIsTold, ActsTellAlike, FragmentVerdictOfActs, ActsStayWithoutPieces, VerdictStaysWithoutPieces, PiecesLeftAreOfNoSample};
 
 use rtps_audit::laws::{runs_exist_where_founded, verdicts_agree};
 
@@ -46,4 +46,18 @@ pub fn fragment_verdict_of_acts()
 /// Where no act has a piece, no sample is told: the acts are as they are.
 pub fn acts_stay_without_pieces()
     ensures { ActsStayWithoutPieces }
+{}
+
+/// Where no act has a piece, the verdict by all runs in which the reader takes fragments is that of the acts as they are.
+pub fn verdict_stays_without_pieces()
+    ensures { VerdictStaysWithoutPieces }
+{
+    fragment_verdict_of_acts();
+    acts_stay_without_pieces();
+}
+
+/// A piece counts as left exactly where of all fragments that its writer sends, whoever hears them, no payload of its number can be put
+/// together.
+pub fn pieces_left_are_of_no_sample()
+    ensures { PiecesLeftAreOfNoSample }
 {}
