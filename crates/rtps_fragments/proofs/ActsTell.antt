@@ -122,7 +122,7 @@ put_at writer reader all named n shape payload before (first ∷ recording) (suc
 
 -- ---- parts
 
-announcer_named : (body : ActBodyValue) (n : ℕ) → announced_of_body body ≡ Some n → writer_named body ≡ Some (entity_from body)
+pub announcer_named : (body : ActBodyValue) (n : ℕ) → announced_of_body body ≡ Some n → writer_named body ≡ Some (entity_from body)
 announcer_named (Data value) n e = refl
 announcer_named (Heartbeat value) n e = refl
 announcer_named (Gap value) n e = refl

@@ -1,21 +1,20 @@
 -- Where a recording without fragments tells just the samples that are put together of one with them, they tell alike.
-use Rattle.std.proofs.Common.{◌≡◌, ℕ, ◌<◌, Bool, true, false, cond, List, length, sym, subst, arith, inl, inr, ◌⊎◌}
+use Rattle.std.proofs.Common.{◌≡◌, ℕ, ◌<◌, List, length, sym, subst, arith, inl, inr, ◌⊎◌}
 use Rattle.std.specs.Prelude.{Contains, ◌↔◌}
 use Rattle.std.specs.List.{concat, filter_map}
 use Rattle.std.proofs.lemmas.Option.{slice_get_cases, slice_get_within}
 use Rattle.rtps_wire.specs.Values.{PayloadValue}
-use Rattle.rtps_wire.specs.Values.PayloadValue.{Whole, Key}
 use Rattle.rtps_audit.specs.Delivery.{Word, Speech, IsAsked, Gives, Claims, last_announced_from}
 use Rattle.rtps_audit.specs.Delivery.Word.{Told, Gone}
 use Rattle.rtps_audit.specs.PlainVerdict.{IsSpoken, SpeaksTwo}
 use Rattle.rtps_audit.specs.RunVerdict.{IsTold}
 use Rattle.rtps_audit.proofs.Offered.{mapped_contains}
-use Rattle.rtps_fragments.specs.FragmentDelivery.{Shape, last_fragment, payload_by, Fragment, FragmentSpeech, IsPutTogether, said_in}
+use Rattle.rtps_fragments.specs.FragmentDelivery.{last_fragment, payload_by, Fragment, FragmentSpeech, IsPutTogether, said_in}
 use Rattle.rtps_fragments.specs.FragmentVerdict.{IsSaidBefore, IsSentBefore, IsPayloadBefore, IsWordBefore}
 use Rattle.rtps_fragments.specs.Laws.{GivesTwoPayloads, HasFragmentsWithin, TellsAlike}
 use Rattle.rtps_fragments.specs.Samples.{came_of, samples_of}
 use Rattle.rtps_fragments.proofs.SampleLemmas.{AreWithin, two}
-use Rattle.rtps_fragments.proofs.PutTogether.{EachOf, IsWithin, came_within, parts_picked, put_of, some_put}
+use Rattle.rtps_fragments.proofs.PutTogether.{EachOf, IsWithin, came_within, parts_picked, put_of, payloads_differ, some_put}
 use Rattle.rtps_fragments.proofs.ToldLemmas.{IsPut}
 use Rattle.rtps_fragments.proofs.FragmentsBefore.{all_sent, fragments_before, sent_is_before}
 
@@ -103,13 +102,6 @@ module _ (from : ℕ) (speech : FragmentSpeech) (within : HasFragmentsWithin fro
 
   spoken_from : (j n : ℕ) (word : Word) → IsGivenBefore from told j n word → IsSpoken from told n word
   spoken_from j n word (i, k, lt, gives) = record { place = i; act = k; gives = gives }
-
-  payloads_differ : (shape : Shape) (x y : List ℕ) → (x ≡ y → ⊥) → payload_by shape x ≡ payload_by shape y → ⊥
-  payloads_differ shape x y differ same = by shape.is_key same
-    where
-      by : (key : Bool) → cond key (Key x) (Whole x) ≡ cond key (Key y) (Whole y) → ⊥
-      by true e = differ (let h = e in cc)
-      by false e = differ (let h = e in cc)
 
   -- whatever payload is put together is told, or two are told that differ
   spoken_or_two : (n : ℕ) (payload : PayloadValue) → IsPayloadBefore from speech (length speech) n payload → IsSpoken from told n (Told payload) ⊎ SpeaksTwo from told n

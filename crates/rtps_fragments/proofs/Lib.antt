@@ -14,3 +14,4 @@ pub mod HeardLemmas
 pub mod SampleActLemmas
 pub mod ActsTell
 pub mod PiecesLeft
+pub mod Noted

@@ -78,7 +78,7 @@ fragment_number n shape i (octets ∷ parts) f among =
     ]
 
 -- a fragment of an act is of its piece
-of_its_piece : (o : Option Piece) (f : Fragment) → Contains (fragments_in o) f → (piece : Piece) × (o ≡ Some piece) × (piece.number ≡ f.number) × (piece.shape ≡ f.shape) × Contains (fragments_of piece) f
+pub of_its_piece : (o : Option Piece) (f : Fragment) → Contains (fragments_in o) f → (piece : Piece) × (o ≡ Some piece) × (piece.number ≡ f.number) × (piece.shape ≡ f.shape) × Contains (fragments_of piece) f
 of_its_piece None f among = absurd (contains_none f among)
 of_its_piece (Some piece) f among =
     let bounds = fragment_bounds piece.number piece.shape piece.first piece.parts f among in
@@ -89,7 +89,7 @@ module _ (all : List PieceAct) (writer : Guid) (n : ℕ) (parts : (part : PieceA
   abbrev finds : PieceAct → Bool
   finds other = is_spoken_by other.act writer && is_whole all writer n other.piece
 
-  sent_within : EachOf n (sent_by writer all) IsWithin
+  pub sent_within : EachOf n (sent_by writer all) IsWithin
   sent_within f among same =
       let (part, there, spoken, has) = heard_from (λ (p : PieceAct). is_spoken_by p.act writer) all f among in
       let (piece, is, number, shape, own) = of_its_piece part.piece f has in

@@ -1,8 +1,9 @@
 -- Payloads that fragments are put together to, by runs and by what came first.
-use Rattle.std.proofs.Common.{◌≡◌, ℕ, suc, ◌<◌, ◌≤◌, List, refl, sym, ◌∙◌, ap, subst}
+use Rattle.std.proofs.Common.{◌≡◌, ℕ, suc, Bool, true, false, cond, ◌<◌, ◌≤◌, List, refl, sym, ◌∙◌, ap, subst}
 use Rattle.std.specs.Prelude.{Contains}
 use Rattle.std.specs.List.{filter_map}
 use Rattle.rtps_wire.specs.Values.{PayloadValue}
+use Rattle.rtps_wire.specs.Values.PayloadValue.{Whole, Key}
 use Rattle.rtps_audit.proofs.Offered.{contains_mapped, mapped_contains}
 use Rattle.rtps_fragments.specs.FragmentDelivery.{Fragment, IsPutTogether, Shape, last_fragment, payload_by}
 use Rattle.rtps_fragments.specs.Samples.{came_of, payloads_of, samples_of}
@@ -49,3 +50,11 @@ some_of_shape n fragments payload put =
 
 pub some_put : (n : ℕ) (fragments : List Fragment) (payload : PayloadValue) → IsPutTogether (Contains fragments) n payload → (other : PayloadValue) × IsPut n fragments other
 some_put n fragments payload put = let (other, among) = some_of_shape n fragments payload put in (other, (put.shape, among))
+
+-- samples that differ are payloads that differ
+pub payloads_differ : (shape : Shape) (x y : List ℕ) → (x ≡ y → ⊥) → payload_by shape x ≡ payload_by shape y → ⊥
+payloads_differ shape x y differ same = by shape.is_key same
+  where
+    by : (key : Bool) → cond key (Key x) (Whole x) ≡ cond key (Key y) (Whole y) → ⊥
+    by true e = differ (let h = e in cc)
+    by false e = differ (let h = e in cc)

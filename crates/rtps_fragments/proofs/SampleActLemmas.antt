@@ -27,7 +27,7 @@ use Rattle.rtps_fragments.proofs.ToldLemmas.{IsPut, and_true, if_then, own_shape
 abbrev pub NamesItsWriter : ActValue → Type 0
 NamesItsWriter act = writer_named act.body ≡ Some (entity_from act.body)
 
-spoken_is_origin : (act : ActValue) (writer : Guid) → NamesItsWriter act → is_spoken_by act writer ≡ true → origin_of act ≡ writer
+pub spoken_is_origin : (act : ActValue) (writer : Guid) → NamesItsWriter act → is_spoken_by act writer ≡ true → origin_of act ≡ writer
 spoken_is_origin act writer named spoken =
     let (prefix, entity) = and_parts (is_prefix act.source writer.prefix) (names (writer_named act.body) writer.entity) spoken in
     let from : GuidPrefix → Guid = λ p. record { prefix = p; entity = entity_from act.body } in

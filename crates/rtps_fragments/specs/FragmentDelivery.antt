@@ -97,10 +97,11 @@ pub record FragmentState : Type 0 where
 abbrev pub fragment_start : FragmentState
 fragment_start = record { sent = 0; held = []; fragments = [] }
 
--- what the reader holds
+-- the reader holds the word of the number
 abbrev pub HoldsWord : FragmentState → ℕ → Word → Type 0
 HoldsWord state n word = Contains state.held (n, word)
 
+-- the reader holds the fragment
 abbrev pub HoldsFragment : FragmentState → Fragment → Type 0
 HoldsFragment state fragment = Contains state.fragments fragment
 

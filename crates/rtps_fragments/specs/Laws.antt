@@ -1,9 +1,9 @@
 -- Laws over definitions alone, whatever the number is from which on numbers are asked for. own: what a reader of the definitions
 -- would ask of them.
-use Rattle.std.specs.Prelude.{ℕ, ◌+◌, ◌<◌, ◌≤◌, ◌≡◌, ◌≢◌, ◌↔◌, length, List, map, flat_map, Some, None, true, Contains}
+use Rattle.std.specs.Prelude.{ℕ, ◌+◌, ◌<◌, ◌≤◌, ◌≡◌, ◌≢◌, ◌↔◌, ◌⊎◌, length, List, map, flat_map, Some, None, true, Contains}
 use Rattle.rtps_ids.specs.declared.identity.Guid.{Guid}
 use Rattle.rtps_wire.specs.Values.{PayloadValue}
-use Rattle.rtps_receiver.specs.Speech.{origin_of}
+use Rattle.rtps_receiver.specs.Speech.{is_spoken_by, origin_of}
 use Rattle.rtps_audit.specs.Delivery.{Speech, Claims, last_announced_from}
 use Rattle.rtps_audit.specs.RunVerdict.{IsTold, IsVerdictFrom}
 use Rattle.rtps_audit.specs.PlainVerdict.{SpeaksTwo}
@@ -12,8 +12,8 @@ use Rattle.rtps_audit.specs.declared.verdict.Verdict.{Verdict}
 use Rattle.rtps_fragments.specs.FragmentDelivery.{Fragment, FragmentSpeech, GivesFragment, IsPutTogether, Piece, last_fragment, said_in}
 use Rattle.rtps_fragments.specs.FragmentVerdict.{IsPayloadBefore, IsWordBefore, IsFragmentVerdictFrom}
 use Rattle.rtps_fragments.specs.Samples.{told_in}
-use Rattle.rtps_fragments.specs.SampleActs.{PieceAct, acts_with_samples, fragment_speech_of, speech_by}
-use Rattle.rtps_fragments.specs.SamplesSent.{is_left, sent_by}
+use Rattle.rtps_fragments.specs.SampleActs.{PieceAct, acts_with_samples, fragment_speech_of, sample_act, speech_by}
+use Rattle.rtps_fragments.specs.SamplesSent.{everyone, is_left, samples_sent, sent_by}
 
 -- of all that is given, two different payloads are told or can be put together for n
 abbrev pub GivesTwoPayloads : ℕ → FragmentSpeech → ℕ → Type 0
@@ -90,3 +90,18 @@ PiecesLeftAreOfNoSample =
     (recording : List (List PieceAct)) → AreParts recording → (part : PieceAct) (piece : Piece) → Contains (flat_map (λ datagram. datagram) recording) part → part.piece ≡ Some piece
     → (is_left (flat_map (λ datagram. datagram) recording) part.act part.piece ≡ true)
     ↔ ((payload : PayloadValue) → ¬ IsPutTogether (Contains (sent_by (origin_of part.act) (flat_map (λ datagram. datagram) recording))) piece.number payload)
+
+-- among these acts, the payload of n is to be noted as a sample of the writer
+abbrev pub IsNoted : List PieceAct → Guid → ℕ → PayloadValue → Type 0
+IsNoted all writer n payload =
+    (part : PieceAct) × Contains all part × (is_spoken_by part.act writer ≡ true) × Contains (samples_sent all part.act part.piece) (sample_act part.act n everyone payload)
+
+-- what is noted as a sample is put together of all fragments that the writer sends. What can be put together of them is noted, or two
+-- payloads are that differ
+abbrev pub NotedSamplesAreSent : Type 0
+NotedSamplesAreSent =
+    (recording : List (List PieceAct)) → AreParts recording → (writer : Guid) (n : ℕ) (payload : PayloadValue)
+    → (IsNoted (flat_map (λ datagram. datagram) recording) writer n payload → IsPutTogether (Contains (sent_by writer (flat_map (λ datagram. datagram) recording))) n payload)
+    × (IsPutTogether (Contains (sent_by writer (flat_map (λ datagram. datagram) recording))) n payload
+    → IsNoted (flat_map (λ datagram. datagram) recording) writer n payload
+    ⊎ ((x : PayloadValue) × (y : PayloadValue) × IsNoted (flat_map (λ datagram. datagram) recording) writer n x × IsNoted (flat_map (λ datagram. datagram) recording) writer n y × (x ≢ y)))

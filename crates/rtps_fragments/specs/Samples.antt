@@ -54,6 +54,7 @@ samples_of last came = samples_by (firsts_of came last) (find (is_other came) ca
 
 -- ---- what a reader is told
 
+-- two shapes are the same
 abbrev pub is_shape : Shape → Shape → Bool
 is_shape one other = (one.sample == other.sample) && ((one.fragment == other.fragment) && (if one.is_key then other.is_key else not other.is_key))
 

@@ -32,6 +32,7 @@ acts_to_note all = map (λ part. part.act) all ++ flat_map (λ part. samples_sen
 
 -- ---- fragments of no sample
 
+-- there is a payload
 abbrev pub is_some_payload : List PayloadValue → Bool
 is_some_payload [] = false
 is_some_payload (payload ∷ payloads) = true

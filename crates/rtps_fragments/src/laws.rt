@@ -1,6 +1,6 @@
 //! Laws over definitions alone. Each function does nothing: its clause is the law, and its proof the law's proof.
 
-ghost use Rattle.rtps_fragments.specs.Laws.{FragmentsTellAlike, SamplesTellAlike, FragmentVerdictIsTold, ActsTellAlike, FragmentVerdictOfActs, ActsStayWithoutPieces, VerdictStaysWithoutPieces, PiecesLeftAreOfNoSample};
+ghost use Rattle.rtps_fragments.specs.Laws.{FragmentsTellAlike, SamplesTellAlike, FragmentVerdictIsTold, ActsTellAlike, FragmentVerdictOfActs, ActsStayWithoutPieces, VerdictStaysWithoutPieces, PiecesLeftAreOfNoSample, NotedSamplesAreSent};
 
 use rtps_audit::laws::{runs_exist_where_founded, verdicts_agree};
 
@@ -60,4 +60,10 @@ pub fn verdict_stays_without_pieces()
 /// together.
 pub fn pieces_left_are_of_no_sample()
     ensures { PiecesLeftAreOfNoSample }
+{}
+
+/// What a directory is to note as a sample of a writer can be put together of all fragments that the writer sends, whoever hears them.
+/// What can be put together of them is noted, or two payloads are that differ.
+pub fn noted_samples_are_sent()
+    ensures { NotedSamplesAreSent }
 {}
