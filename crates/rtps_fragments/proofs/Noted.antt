@@ -1,7 +1,7 @@
 -- The samples that a directory is to note.
 use Rattle.std.proofs.Common.{◌≡◌, ℕ, suc, true, List, length, Option, Some, None, refl, sym, ap, subst, arith, inl, inr, ◌⊎◌}
 use Rattle.std.specs.Prelude.{Contains}
-use Rattle.std.specs.List.{concat, filter_map, flat_map}
+use Rattle.std.specs.List.{concat, filter_map}
 use Rattle.std.proofs.lemmas.Option.{slice_get_cases, some_pair_parts}
 use Rattle.rtps_ids.specs.declared.identity.Guid.{Guid}
 use Rattle.rtps_wire.specs.Values.{PayloadValue}
@@ -12,7 +12,7 @@ use Rattle.rtps_audit.proofs.Offered.{contains_mapped, contains_none, mapped_con
 use Rattle.rtps_fragments.specs.FragmentDelivery.{Fragment, IsPutTogether, Piece, last_fragment, payload_by}
 use Rattle.rtps_fragments.specs.Laws.{IsNoted, IsPart, NotedSamplesAreSent}
 use Rattle.rtps_fragments.specs.Samples.{came_of, payloads_of, samples_of}
-use Rattle.rtps_fragments.specs.SampleActs.{PieceAct, sample_act}
+use Rattle.rtps_fragments.specs.SampleActs.{PieceAct, parts_in, sample_act}
 use Rattle.rtps_fragments.specs.SamplesSent.{everyone, samples_sent, sent_by}
 use Rattle.rtps_fragments.proofs.ActsTell.{announcer_named}
 use Rattle.rtps_fragments.proofs.Audiences.{flat_from}
@@ -91,7 +91,7 @@ module _ (all : List PieceAct) (writer : Guid) (n : ℕ) (parts : (part : PieceA
 
 pub noted_samples_are_sent : NotedSamplesAreSent
 noted_samples_are_sent recording parts writer n payload =
-    let all = flat_map (λ (datagram : List PieceAct). datagram) recording in
+    let all = parts_in recording in
     let own : (part : PieceAct) (piece : Piece) → Contains all part → part.piece ≡ Some piece → IsPart part piece = λ part piece there has.
     let (datagram, stands, in_it) = flat_from (λ (d : List PieceAct). d) recording part there in parts datagram part piece stands in_it has in
     (noted_is_put all writer n own payload, put_is_noted all writer n own payload)

@@ -1,7 +1,7 @@
 -- Recordings without pieces, and pieces of no sample.
 use Rattle.std.proofs.Common.{◌≡◌, ℕ, suc, ◌≤◌, Bool, true, false, not, ◌&&◌, List, [], ◌∷◌, Option, Some, None, refl, sym, ◌∙◌, ap, subst, arith, inl, inr}
 use Rattle.std.specs.Prelude.{Contains, ◌==◌, ◌||◌}
-use Rattle.std.specs.List.{flat_map, list_any}
+use Rattle.std.specs.List.{list_any}
 use Rattle.std.proofs.lemmas.Bool.{cases_Bool}
 use Rattle.std.proofs.lemmas.Bool.Decides.{Decides-eqb}
 use Rattle.std.proofs.lemmas.Option.{slice_get_cases}
@@ -15,7 +15,7 @@ use Rattle.rtps_fragments.specs.FragmentDelivery.{Fragment, IsPutTogether, Piece
 use Rattle.rtps_fragments.specs.FragmentVerdict.{IsFragmentVerdictFrom}
 use Rattle.rtps_fragments.specs.Laws.{ActsStayWithoutPieces, AreParts, FragmentVerdictOfActs, HasNoPieces, IsPart, PiecesLeftAreOfNoSample, VerdictStaysWithoutPieces}
 use Rattle.rtps_fragments.specs.Samples.{payloads_of}
-use Rattle.rtps_fragments.specs.SampleActs.{PieceAct, fragment_speech_of, fragments_in, speech_by}
+use Rattle.rtps_fragments.specs.SampleActs.{PieceAct, fragment_speech_of, fragments_in, parts_in, speech_by}
 use Rattle.rtps_fragments.specs.SamplesSent.{is_left, is_some_payload, is_whole, sent_by}
 use Rattle.rtps_fragments.proofs.ActsTell.{fragment_bounds}
 use Rattle.rtps_fragments.proofs.Audiences.{and_parts, flat_from}
@@ -147,6 +147,6 @@ left_is_none all act piece parts = (
 
 pub pieces_left_are_of_no_sample : PiecesLeftAreOfNoSample
 pieces_left_are_of_no_sample recording parts part piece among is =
-    let all = flat_map (λ (datagram : List PieceAct). datagram) recording in
+    let all = parts_in recording in
     let same = left_is_none all part.act piece (λ other its there has. let (datagram, stands, in_it) = flat_from (λ (d : List PieceAct). d) recording other there in parts datagram other its stands in_it has) in
     (λ left. same.0 (subst (λ o. is_left all part.act o ≡ true) is left), λ none. subst (λ o. is_left all part.act o ≡ true) (sym is) (same.1 none))

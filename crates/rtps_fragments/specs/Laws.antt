@@ -1,6 +1,6 @@
 -- Laws over definitions alone, whatever the number is from which on numbers are asked for. own: what a reader of the definitions
 -- would ask of them.
-use Rattle.std.specs.Prelude.{ℕ, ◌+◌, ◌<◌, ◌≤◌, ◌≡◌, ◌≢◌, ◌↔◌, ◌⊎◌, length, List, map, flat_map, Some, None, true, Contains}
+use Rattle.std.specs.Prelude.{ℕ, ◌+◌, ◌<◌, ◌≤◌, ◌≡◌, ◌≢◌, ◌↔◌, ◌⊎◌, length, List, map, Some, None, true, Contains}
 use Rattle.rtps_ids.specs.declared.identity.Guid.{Guid}
 use Rattle.rtps_wire.specs.Values.{PayloadValue}
 use Rattle.rtps_receiver.specs.Speech.{is_spoken_by, origin_of}
@@ -12,7 +12,7 @@ use Rattle.rtps_audit.specs.declared.verdict.Verdict.{Verdict}
 use Rattle.rtps_fragments.specs.FragmentDelivery.{Fragment, FragmentSpeech, GivesFragment, IsPutTogether, Piece, last_fragment, said_in}
 use Rattle.rtps_fragments.specs.FragmentVerdict.{IsPayloadBefore, IsWordBefore, IsFragmentVerdictFrom}
 use Rattle.rtps_fragments.specs.Samples.{told_in}
-use Rattle.rtps_fragments.specs.SampleActs.{PieceAct, acts_with_samples, fragment_speech_of, sample_act, speech_by}
+use Rattle.rtps_fragments.specs.SampleActs.{PieceAct, acts_with_samples, fragment_speech_of, parts_in, sample_act, speech_by}
 use Rattle.rtps_fragments.specs.SamplesSent.{everyone, is_left, samples_sent, sent_by}
 
 -- of all that is given, two different payloads are told or can be put together for n
@@ -54,7 +54,7 @@ pub record IsPart (part : PieceAct) (piece : Piece) : Type 0 where
   pub first : 0 < piece.first
   pub last : piece.first + length piece.parts ≤ last_fragment piece.shape + 1
 
--- that is so of each act with a piece
+-- each act with a piece announces it, and has fragments of its shape
 abbrev pub AreParts : List (List PieceAct) → Type 0
 AreParts recording = (datagram : List PieceAct) (part : PieceAct) (piece : Piece) → Contains recording datagram → Contains datagram part → part.piece ≡ Some piece → IsPart part piece
 
@@ -74,11 +74,11 @@ FragmentVerdictOfActs =
 abbrev pub HasNoPieces : List (List PieceAct) → Type 0
 HasNoPieces recording = (datagram : List PieceAct) (part : PieceAct) → Contains recording datagram → Contains datagram part → part.piece ≡ None
 
--- where no act has a piece, no sample is told
+-- where no act has a piece, the acts are as they are
 abbrev pub ActsStayWithoutPieces : Type 0
 ActsStayWithoutPieces = (recording : List (List PieceAct)) → HasNoPieces recording → acts_with_samples recording ≡ map (map (λ part. part.act)) recording
 
--- and the verdict by runs that take fragments is that of the acts
+-- where no act has a piece, the verdict by runs that take fragments is that of the acts as they are
 abbrev pub VerdictStaysWithoutPieces : Type 0
 VerdictStaysWithoutPieces =
     (from : ℕ) (writer reader : Guid) (recording : List (List PieceAct)) (verdict : Verdict) → HasNoPieces recording
@@ -87,9 +87,9 @@ VerdictStaysWithoutPieces =
 -- a piece is left exactly where of all fragments that its writer sends no payload of its number can be put together
 abbrev pub PiecesLeftAreOfNoSample : Type 0
 PiecesLeftAreOfNoSample =
-    (recording : List (List PieceAct)) → AreParts recording → (part : PieceAct) (piece : Piece) → Contains (flat_map (λ datagram. datagram) recording) part → part.piece ≡ Some piece
-    → (is_left (flat_map (λ datagram. datagram) recording) part.act part.piece ≡ true)
-    ↔ ((payload : PayloadValue) → ¬ IsPutTogether (Contains (sent_by (origin_of part.act) (flat_map (λ datagram. datagram) recording))) piece.number payload)
+    (recording : List (List PieceAct)) → AreParts recording → (part : PieceAct) (piece : Piece) → Contains (parts_in recording) part → part.piece ≡ Some piece
+    → (is_left (parts_in recording) part.act part.piece ≡ true)
+    ↔ ((payload : PayloadValue) → ¬ IsPutTogether (Contains (sent_by (origin_of part.act) (parts_in recording))) piece.number payload)
 
 -- among these acts, the payload of n is to be noted as a sample of the writer
 abbrev pub IsNoted : List PieceAct → Guid → ℕ → PayloadValue → Type 0
@@ -101,7 +101,7 @@ IsNoted all writer n payload =
 abbrev pub NotedSamplesAreSent : Type 0
 NotedSamplesAreSent =
     (recording : List (List PieceAct)) → AreParts recording → (writer : Guid) (n : ℕ) (payload : PayloadValue)
-    → (IsNoted (flat_map (λ datagram. datagram) recording) writer n payload → IsPutTogether (Contains (sent_by writer (flat_map (λ datagram. datagram) recording))) n payload)
-    × (IsPutTogether (Contains (sent_by writer (flat_map (λ datagram. datagram) recording))) n payload
-    → IsNoted (flat_map (λ datagram. datagram) recording) writer n payload
-    ⊎ ((x : PayloadValue) × (y : PayloadValue) × IsNoted (flat_map (λ datagram. datagram) recording) writer n x × IsNoted (flat_map (λ datagram. datagram) recording) writer n y × (x ≢ y)))
+    → (IsNoted (parts_in recording) writer n payload → IsPutTogether (Contains (sent_by writer (parts_in recording))) n payload)
+    × (IsPutTogether (Contains (sent_by writer (parts_in recording))) n payload
+    → IsNoted (parts_in recording) writer n payload
+    ⊎ ((x : PayloadValue) × (y : PayloadValue) × IsNoted (parts_in recording) writer n x × IsNoted (parts_in recording) writer n y × (x ≢ y)))

@@ -20,6 +20,10 @@ pub record PieceAct : Type 0 where
   pub act : ActValue
   pub piece : Option Piece
 
+-- the acts of a recording, of all its datagrams
+abbrev pub parts_in : List (List PieceAct) → List PieceAct
+parts_in recording = flat_map (λ datagram. datagram) recording
+
 -- ---- what a recording says of a writer and a reader
 
 -- the piece, where the reader hears it from the writer
@@ -114,4 +118,4 @@ datagrams_and_samples all before (datagram ∷ recording) = acts_and_samples all
 
 -- the acts of a recording with its samples among them
 abbrev pub acts_with_samples : List (List PieceAct) → List (List ActValue)
-acts_with_samples recording = datagrams_and_samples (flat_map (λ datagram. datagram) recording) [] recording
+acts_with_samples recording = datagrams_and_samples (parts_in recording) [] recording
