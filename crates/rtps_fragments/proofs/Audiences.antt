@@ -11,7 +11,8 @@ use Rattle.rtps_ids.specs.declared.identity.GuidPrefix.{GuidPrefix}
 use Rattle.rtps_receiver.specs.Speech.{is_among, is_entity, is_for, is_for_all, is_heard_by, is_prefix, names, reader_named, unknown_entity}
 use Rattle.rtps_receiver.specs.Values.{ActValue}
 use Rattle.rtps_audit.proofs.Offered.{both, contains_cases, contains_head, contains_none, contains_tail, kept_if_passed, makes, mapped_contains}
-use Rattle.rtps_fragments.specs.SampleActs.{Audience, PieceAct, audiences_of, is_same_dest, once, reaches}
+use Rattle.rtps_receiver.specs.declared.speech.Audience.{Audience}
+use Rattle.rtps_fragments.specs.SampleActs.{PieceAct, audiences_among, is_same_dest, once, reaches}
 
 -- ---- tests
 
@@ -159,7 +160,7 @@ reader_for reader parts = elim (any_or_none (λ part. names (reader_named part.a
 -- The reader is of this audience, which is one of those of the sample. Of its parts, all of the audience hear those that the reader
 -- hears, and no others.
 pub record IsLeastAudience (reader : Guid) (parts : List PieceAct) (audience : Audience) : Type 0 where
-  pub among : Contains (audiences_of parts) audience
+  pub among : Contains (audiences_among parts) audience
   pub has : is_among audience.dest (Some audience.reader) reader ≡ true
   pub same : (part : PieceAct) → Contains parts part → reaches part.act audience ≡ is_heard_by part.act reader
 

@@ -16,7 +16,8 @@ use Rattle.rtps_audit.specs.Speech.{word_for, word_of}
 use Rattle.rtps_audit.proofs.Offered.{contains_cases, contains_head, contains_mapped, contains_none, contains_tail, if_some, kept_if_passed, mapped_contains}
 use Rattle.rtps_fragments.specs.FragmentDelivery.{Fragment, Piece, Shape, fragments_of}
 use Rattle.rtps_fragments.specs.Samples.{payloads_of, told_by}
-use Rattle.rtps_fragments.specs.SampleActs.{Audience, PieceAct, acts_and_samples, audiences_of, fragments_in, is_piece_of, parts_of, reaches, sample_act, samples_told, sent_to, told_to}
+use Rattle.rtps_receiver.specs.declared.speech.Audience.{Audience}
+use Rattle.rtps_fragments.specs.SampleActs.{PieceAct, acts_and_samples, audiences_among, fragments_in, is_piece_of, parts_of, reaches, sample_act, samples_told, sent_to, told_to}
 use Rattle.rtps_fragments.proofs.Audiences.{and_parts, entity_is, flat_from, flat_has, least_audience, prefix_is, reached_is_heard}
 use Rattle.rtps_fragments.proofs.HeardLemmas.{IsToldBy, came_alike, heard_from, heard_of, one_more, told_alike}
 use Rattle.rtps_fragments.proofs.ToldLemmas.{IsPut, and_true, if_then, own_shape, told_is_come}
@@ -47,7 +48,7 @@ abbrev told_for : Guid → List PieceAct → ActValue → Piece → Audience →
 told_for writer before act piece audience = cond (reaches act audience) (map (sample_act act piece.number audience) (told_by (sent_to writer audience before) piece)) []
 
 abbrev samples_for : Guid → List PieceAct → List PieceAct → ActValue → Piece → List ActValue
-samples_for writer all before act piece = flat_map (told_for writer before act piece) (audiences_of (parts_of writer piece.number piece.shape all))
+samples_for writer all before act piece = flat_map (told_for writer before act piece) (audiences_among (parts_of writer piece.number piece.shape all))
 
 -- each act with a piece names its writer
 abbrev pub NameTheirWriters : List PieceAct → Type 0
@@ -86,7 +87,7 @@ module _ (writer reader : Guid) where
       let made = mapped_contains (sample_act part.act piece.number audience) (told_by (sent_to writer audience before) piece) payload there in
       let one : Contains (told_for writer before part.act piece audience) act =
       subst (λ b. Contains (cond b (map (sample_act part.act piece.number audience) (told_by (sent_to writer audience before) piece)) []) act) (sym reached) made in
-      let every = flat_has (told_for writer before part.act piece) (audiences_of parts) audience act least.among one in
+      let every = flat_has (told_for writer before part.act piece) (audiences_among parts) audience act least.among one in
       let moved : Contains (samples_told all before part.act (Some piece)) act = subst (λ g. Contains (samples_for g all before part.act piece) act) (sym origin) every in (
         act,
         subst (λ o. Contains (samples_told all before part.act o) act) (sym is) moved,
@@ -146,7 +147,7 @@ if_there false xs x among = absurd (contains_none x among)
 sample_from : (all before : List PieceAct) (part : PieceAct) (parts : List PieceAct) (o : Option Piece) (act : ActValue) → part.piece ≡ o → Contains (samples_told all before part.act o) act → IsSampleOf before (part ∷ parts) act
 sample_from all before part parts None act is among = absurd (contains_none act among)
 sample_from all before part parts (Some piece) act is among =
-    let (audience, audiences, there) = flat_from (told_to before part.act piece) (audiences_of (parts_of (origin_of part.act) piece.number piece.shape all)) act among in
+    let (audience, audiences, there) = flat_from (told_to before part.act piece) (audiences_among (parts_of (origin_of part.act) piece.number piece.shape all)) act among in
     let (reached, made) = if_there (reaches part.act audience) (map (sample_act part.act piece.number audience) (told_by (sent_to (origin_of part.act) audience before) piece)) act there in
     let (payload, told, same) = contains_mapped (sample_act part.act piece.number audience) (told_by (sent_to (origin_of part.act) audience before) piece) act made in
     record {

@@ -3,13 +3,13 @@
 -- that hears all of it, so that the same acts serve every reader.
 use Rattle.std.specs.Prelude.{ℕ, Bool, false, true, not, ◌&&◌, ◌||◌, if◌then◌else◌, List, [], ◌∷◌, ◌++◌, filter, map, Option, Some, None}
 use Rattle.std.specs.List.{filter_map, flat_map}
-use Rattle.rtps_ids.specs.declared.identity.EntityId.{EntityId}
 use Rattle.rtps_ids.specs.declared.identity.Guid.{Guid}
 use Rattle.rtps_ids.specs.declared.identity.GuidPrefix.{GuidPrefix}
 use Rattle.rtps_wire.specs.Values.{PayloadValue}
 use Rattle.rtps_receiver.specs.Speech.{entity_from, is_entity, is_for_all, is_heard_by, is_prefix, is_spoken_by, names, origin_of, reader_named, unknown_entity}
 use Rattle.rtps_receiver.specs.Values.{ActValue}
 use Rattle.rtps_receiver.specs.Values.ActBodyValue.{Data}
+use Rattle.rtps_receiver.specs.declared.speech.Audience.{Audience}
 use Rattle.rtps_audit.specs.Delivery.{Speech}
 use Rattle.rtps_audit.specs.Speech.{said_by}
 use Rattle.rtps_fragments.specs.FragmentDelivery.{Fragment, FragmentSpeech, Piece, Shape, fragments_of}
@@ -41,11 +41,6 @@ speech_by writer reader recording = map (said_by writer reader) recording
 
 -- ---- audiences
 
--- those whom an act is for: everyone, or one participant; and every reader there, or the one that it names
-pub record Audience : Type 0 where
-  pub dest : Option GuidPrefix
-  pub reader : EntityId
-
 -- two destinations are the same
 abbrev pub is_same_dest : Option GuidPrefix → Option GuidPrefix → Bool
 is_same_dest (Some one) (Some other) = is_prefix one other
@@ -65,8 +60,8 @@ once same (x ∷ xs) = x ∷ filter (λ y. not (same x y)) (once same xs)
 
 -- the audiences to which a sample may be told: everyone and each destination of its parts, and in each every reader and each one that
 -- they name
-abbrev pub audiences_of : List PieceAct → List Audience
-audiences_of parts =
+abbrev pub audiences_among : List PieceAct → List Audience
+audiences_among parts =
     flat_map
     (λ dest. map (λ reader. record { dest = dest; reader = reader }) (once is_entity (unknown_entity ∷ filter_map (λ part. reader_named part.act.body) parts)))
     (once is_same_dest (None ∷ map (λ part. part.act.dest) parts))
@@ -103,7 +98,7 @@ told_to before act piece audience =
 
 -- the samples that an act tells: to each audience of the sample among all parts of the recording
 abbrev pub samples_told : List PieceAct → List PieceAct → ActValue → Option Piece → List ActValue
-samples_told all before act (Some piece) = flat_map (told_to before act piece) (audiences_of (parts_of (origin_of act) piece.number piece.shape all))
+samples_told all before act (Some piece) = flat_map (told_to before act piece) (audiences_among (parts_of (origin_of act) piece.number piece.shape all))
 samples_told all before act None = []
 
 -- acts, each with the samples that it tells behind it

@@ -6,10 +6,11 @@ use Rattle.std.specs.List.{flat_map, list_any}
 use Rattle.rtps_ids.specs.declared.identity.Guid.{Guid}
 use Rattle.rtps_receiver.specs.Speech.{is_spoken_by, origin_of, unknown_entity}
 use Rattle.rtps_receiver.specs.Values.{ActValue}
+use Rattle.rtps_receiver.specs.declared.speech.Audience.{Audience}
 use Rattle.rtps_wire.specs.Values.{PayloadValue}
 use Rattle.rtps_fragments.specs.FragmentDelivery.{Fragment, Piece}
 use Rattle.rtps_fragments.specs.Samples.{payloads_of}
-use Rattle.rtps_fragments.specs.SampleActs.{Audience, PieceAct, fragments_in, sample_act}
+use Rattle.rtps_fragments.specs.SampleActs.{PieceAct, fragments_in, sample_act}
 
 -- all fragments that a writer sends
 abbrev pub sent_by : Guid → List PieceAct → List Fragment
