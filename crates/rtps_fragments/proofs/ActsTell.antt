@@ -16,9 +16,9 @@ use Rattle.rtps_audit.specs.Speech.{announced_for, announced_of_body, base_for, 
 use Rattle.rtps_audit.proofs.Offered.{below_greatest, contains_cases, contains_head, contains_mapped, contains_none, contains_tail, get_mapped, greatest_below, if_some, made_from, makes, mapped_contains, mapped_get}
 use Rattle.rtps_fragments.specs.FragmentDelivery.{Fragment, FragmentDatagram, IsPutTogether, Piece, Shape, fragments_from, fragments_of, last_fragment, said_in}
 use Rattle.rtps_fragments.specs.FragmentVerdict.{IsSaidBefore, IsSentBefore}
-use Rattle.rtps_fragments.specs.Laws.{ActsStayWithoutPieces, ActsTellAlike, AreParts, HasFragmentsWithin, HasNoPieces, IsPart}
+use Rattle.rtps_fragments.specs.Laws.{ActsStayWithoutPieces, ActsTellAlike, ArePieceActs, HasFragmentsWithin, HasNoPieces, IsPieceAct}
 use Rattle.rtps_fragments.specs.Samples.{payloads_of}
-use Rattle.rtps_fragments.specs.SampleActs.{PieceAct, acts_and_samples, acts_with_samples, datagrams_and_samples, fragment_speech_of, fragments_in, parts_in, piece_for, samples_told, speech_by}
+use Rattle.rtps_fragments.specs.SampleActs.{PieceAct, acts_and_samples, acts_with_samples, datagrams_and_samples, fragment_speech_of, fragments_in, piece_acts_in, piece_for, samples_told, speech_by}
 use Rattle.rtps_fragments.proofs.AlikeBySamples.{IsGivenBefore, IsHadBefore, put_together, samples_alike}
 use Rattle.rtps_fragments.proofs.Audiences.{flat_from, flat_has}
 use Rattle.rtps_fragments.proofs.FragmentsBefore.{fragments_before, place_of, sent_by, there_at}
@@ -44,7 +44,7 @@ parts_from (first ∷ recording) (suc i) part among = elim (Contains-append_case
   | inr there ↦ let (k, datagram, lt, at, has) = parts_from recording i part there in (suc k, datagram, omega arith, at, has)
 ]
 
-in_all : (recording : List (List PieceAct)) (datagram : List PieceAct) (part : PieceAct) → Contains recording datagram → Contains datagram part → Contains (parts_in recording) part
+in_all : (recording : List (List PieceAct)) (datagram : List PieceAct) (part : PieceAct) → Contains recording datagram → Contains datagram part → Contains (piece_acts_in recording) part
 in_all recording datagram part there among = flat_has (λ (d : List PieceAct). d) recording datagram part there among
 
 -- ---- the datagrams with their samples
@@ -96,7 +96,7 @@ fragments_are writer reader (first ∷ recording) (suc i) =
 
 -- what can be put together before a place is told by a datagram before it
 put_at : (writer reader : Guid) (all : List PieceAct) → ((part : PieceAct) (piece : Piece) → Contains all part → part.piece ≡ Some piece → NamesItsWriter part.act) → (n : ℕ) (shape : Shape) (payload : PayloadValue) (before : List PieceAct)
-    (recording : List (List PieceAct)) (j : ℕ) → ((part : PieceAct) → Contains (before ++ parts_in recording) part → Contains all part)
+    (recording : List (List PieceAct)) (j : ℕ) → ((part : PieceAct) → Contains (before ++ piece_acts_in recording) part → Contains all part)
     → Contains (payloads_of n shape (heard_of (hears writer reader) (before ++ parts_before recording j))) payload
     → Contains (payloads_of n shape (heard_of (hears writer reader) before)) payload
     ⊎ ((i : ℕ) × (datagram : List PieceAct) × (i < j) × (slice_get recording i ≡ Some datagram) × TellsReader writer reader (acts_and_samples all (before ++ parts_before recording i) datagram) n payload)
@@ -104,12 +104,12 @@ put_at writer reader all named n shape payload before [] j known among = inl (su
 put_at writer reader all named n shape payload before (first ∷ recording) zero known among =
     inl (subst (λ ps. Contains (payloads_of n shape (heard_of (hears writer reader) ps)) payload) (append-nil before) among)
 put_at writer reader all named n shape payload before (first ∷ recording) (suc j) known among =
-    let assoc = append_assoc before first (parts_in recording) in
+    let assoc = append_assoc before first (piece_acts_in recording) in
     let moved = subst (λ ps. Contains (payloads_of n shape (heard_of (hears writer reader) ps)) payload) (sym (append_assoc before first (parts_before recording j))) among in
-    let more = λ (part : PieceAct) (there : Contains ((before ++ first) ++ parts_in recording) part). known part (subst (λ ps. Contains ps part) assoc there) in
+    let more = λ (part : PieceAct) (there : Contains ((before ++ first) ++ piece_acts_in recording) part). known part (subst (λ ps. Contains ps part) assoc there) in
     elim (put_at writer reader all named n shape payload (before ++ first) recording j more moved) [
       | inl earlier ↦
-          elim (put_or_sample writer reader all named n shape payload before first (λ part there. more part (Contains-append_left (before ++ first) (parts_in recording) part there)) earlier) [
+          elim (put_or_sample writer reader all named n shape payload before first (λ part there. more part (Contains-append_left (before ++ first) (piece_acts_in recording) part there)) earlier) [
             | inl old ↦ inl old
             | inr tells ↦ inr (0, first, omega arith, refl, subst (λ ps. TellsReader writer reader (acts_and_samples all ps first) n payload) (sym (append-nil before)) tells)
           ]
@@ -150,7 +150,7 @@ no_base true base e = cc
 no_base false base e = cc
 
 -- what these acts announce, their samples announce, and no other number
-announced_alike : (writer : Guid) (all before datagram : List PieceAct) → ((part : PieceAct) (piece : Piece) → Contains datagram part → part.piece ≡ Some piece → IsPart part piece)
+announced_alike : (writer : Guid) (all before datagram : List PieceAct) → ((part : PieceAct) (piece : Piece) → Contains datagram part → part.piece ≡ Some piece → IsPieceAct part piece)
     → greatest (filter_map (announced_for writer) (map (λ (part : PieceAct). part.act) datagram)) ≡ greatest (filter_map (announced_for writer) (acts_and_samples all before datagram))
 announced_alike writer all before datagram parts = same_greatest _ _ to from
   where
@@ -179,7 +179,7 @@ announced_alike writer all before datagram parts = same_greatest _ _ to from
           | inr sample ↦ of_sample act x sample is
         ]
 
-last_alike : (from : ℕ) (writer reader : Guid) (all before : List PieceAct) (recording : List (List PieceAct)) → AreParts recording
+last_alike : (from : ℕ) (writer reader : Guid) (all before : List PieceAct) (recording : List (List PieceAct)) → ArePieceActs recording
     → last_announced_from from (said_in (fragment_speech_of writer reader recording)) ≡ last_announced_from from (speech_by writer reader (datagrams_and_samples all before recording))
 last_alike from writer reader all before [] parts = refl
 last_alike from writer reader all before (first ∷ recording) parts =
@@ -189,8 +189,8 @@ last_alike from writer reader all before (first ∷ recording) parts =
 
 -- ---- all that is told
 
-module _ (from : ℕ) (writer reader : Guid) (recording : List (List PieceAct)) (parts : AreParts recording) where
-  names_all : (part : PieceAct) (piece : Piece) → Contains (parts_in recording) part → part.piece ≡ Some piece → NamesItsWriter part.act
+module _ (from : ℕ) (writer reader : Guid) (recording : List (List PieceAct)) (parts : ArePieceActs recording) where
+  names_all : (part : PieceAct) (piece : Piece) → Contains (piece_acts_in recording) part → part.piece ≡ Some piece → NamesItsWriter part.act
   names_all part piece among is =
       let (datagram, there, has) = flat_from (λ (d : List PieceAct). d) recording part among in
       announcer_named part.act.body piece.number (parts datagram part piece there has is).announces
@@ -208,22 +208,22 @@ module _ (from : ℕ) (writer reader : Guid) (recording : List (List PieceAct)) 
       (own, there, ap (λ (d : FragmentDatagram). d.said) made ∙ is)
 
   told_at : (i : ℕ) (datagram : List PieceAct) → slice_get recording i ≡ Some datagram
-      → slice_get (speech_by writer reader (acts_with_samples recording)) i ≡ Some (said_by writer reader (acts_and_samples (parts_in recording) (parts_before recording i) datagram))
+      → slice_get (speech_by writer reader (acts_with_samples recording)) i ≡ Some (said_by writer reader (acts_and_samples (piece_acts_in recording) (parts_before recording i) datagram))
   told_at i datagram at =
-      get_mapped (said_by writer reader) (acts_with_samples recording) i (acts_and_samples (parts_in recording) (parts_before recording i) datagram) (samples_at (parts_in recording) [] recording i datagram at)
+      get_mapped (said_by writer reader) (acts_with_samples recording) i (acts_and_samples (piece_acts_in recording) (parts_before recording i) datagram) (samples_at (piece_acts_in recording) [] recording i datagram at)
 
   told_from : (i : ℕ) (datagram : Datagram) → slice_get (speech_by writer reader (acts_with_samples recording)) i ≡ Some datagram
-      → (own : List PieceAct) × (slice_get recording i ≡ Some own) × (said_by writer reader (acts_and_samples (parts_in recording) (parts_before recording i) own) ≡ datagram)
+      → (own : List PieceAct) × (slice_get recording i ≡ Some own) × (said_by writer reader (acts_and_samples (piece_acts_in recording) (parts_before recording i) own) ≡ datagram)
   told_from i datagram at =
       let (acts, stands, is) = mapped_get (said_by writer reader) (acts_with_samples recording) i datagram at in
-      let (own, there, made) = samples_from (parts_in recording) [] recording i acts stands in
+      let (own, there, made) = samples_from (piece_acts_in recording) [] recording i acts stands in
       (own, there, ap (said_by writer reader) made ∙ is)
 
   -- an act with a word gives it
-  act_gives : (i n : ℕ) (word : Word) (datagram : List PieceAct) (act : ActValue) → slice_get recording i ≡ Some datagram → Contains (acts_and_samples (parts_in recording) (parts_before recording i) datagram) act
+  act_gives : (i n : ℕ) (word : Word) (datagram : List PieceAct) (act : ActValue) → slice_get recording i ≡ Some datagram → Contains (acts_and_samples (piece_acts_in recording) (parts_before recording i) datagram) act
       → word_for writer reader act n ≡ Some word → IsAsked from n → (k : ℕ) × Gives from (speech_by writer reader (acts_with_samples recording)) i k n word
   act_gives i n word datagram act at among says asked =
-      let acts = acts_and_samples (parts_in recording) (parts_before recording i) datagram in
+      let acts = acts_and_samples (piece_acts_in recording) (parts_before recording i) datagram in
       let (k, stands) = place_of acts act among in
       (k, record { datagram = said_by writer reader acts; act = word_for writer reader act; stands = told_at i datagram at; speaks = get_mapped (word_for writer reader) acts k act stands; asked = asked; says = says })
 
@@ -234,7 +234,7 @@ module _ (from : ℕ) (writer reader : Guid) (recording : List (List PieceAct)) 
       let speaks = subst (λ (d : Datagram). slice_get d.acts said.act ≡ Some gives.act) (sym is) gives.speaks in
       let (act, stands, made) = mapped_get (word_for writer reader) (map (λ (p : PieceAct). p.act) own) said.act gives.act speaks in
       let (part, there, same) = mapped_get (λ (p : PieceAct). p.act) own said.act act stands in
-      let among = act_there (parts_in recording) (parts_before recording said.place) own part (there_at own said.act part there) in
+      let among = act_there (piece_acts_in recording) (parts_before recording said.place) own part (there_at own said.act part there) in
       let says = ap (λ (a : ActValue). word_for writer reader a n) same ∙ ap (λ (f : ℕ → Option Word). f n) made ∙ gives.says in
       let (k, given) = act_gives said.place n word own part.act at among says gives.asked in
       (said.place, k, said.earlier, given)
@@ -243,7 +243,7 @@ module _ (from : ℕ) (writer reader : Guid) (recording : List (List PieceAct)) 
       → IsGivenBefore from (speech_by writer reader (acts_with_samples recording)) j n (Told payload)
   put_is_given j n payload asked (shape, among) =
       let heard = subst (λ fs. Contains (payloads_of n shape fs) payload) (fragments_are writer reader recording j) among in
-      elim (put_at writer reader (parts_in recording) names_all n shape payload [] recording j (λ part there. there) heard) [
+      elim (put_at writer reader (piece_acts_in recording) names_all n shape payload [] recording j (λ part there. there) heard) [
         | inl none ↦ absurd (none_put n payload (shape, none))
         | inr (i, datagram, lt, at, (act, there, says)) ↦ let (k, given) = act_gives i n (Told payload) datagram act at there says asked in (i, k, lt, given)
       ]
@@ -272,11 +272,11 @@ module _ (from : ℕ) (writer reader : Guid) (recording : List (List PieceAct)) 
   given_is_had : (j n : ℕ) (word : Word) → IsGivenBefore from (speech_by writer reader (acts_with_samples recording)) j n word → IsHadBefore from (fragment_speech_of writer reader recording) j n word
   given_is_had j n word (i, k, lt, gives) =
       let (own, at, is) = told_from i gives.datagram gives.stands in
-      let acts = acts_and_samples (parts_in recording) (parts_before recording i) own in
+      let acts = acts_and_samples (piece_acts_in recording) (parts_before recording i) own in
       let speaks = subst (λ (d : Datagram). slice_get d.acts k ≡ Some gives.act) (sym is) gives.speaks in
       let (act, stands, made) = mapped_get (word_for writer reader) acts k gives.act speaks in
       let says = ap (λ (f : ℕ → Option Word). f n) made ∙ gives.says in
-      elim (act_or_sample (parts_in recording) (parts_before recording i) own act (there_at acts k act stands)) [
+      elim (act_or_sample (piece_acts_in recording) (parts_before recording i) own act (there_at acts k act stands)) [
         | inl (part, among, same) ↦ inl (said own part at among (ap (λ (a : ActValue). word_for writer reader a n) same ∙ says) gives.asked)
         | inr sample ↦ inr (put own act at sample says gives.asked)
       ]
@@ -313,14 +313,14 @@ module _ (from : ℕ) (writer reader : Guid) (recording : List (List PieceAct)) 
   claims_to : (j n : ℕ) → Claims from (said_in (fragment_speech_of writer reader recording)) j n → Claims from (speech_by writer reader (acts_with_samples recording)) j n
   claims_to j n claims =
       let (own, at, is) = said_from j claims.datagram claims.stands in
-      let acts = acts_and_samples (parts_in recording) (parts_before recording j) own in
+      let acts = acts_and_samples (piece_acts_in recording) (parts_before recording j) own in
       let (act, there, base) = made_from (base_for writer reader) (map (λ (p : PieceAct). p.act) own) claims.base (subst (λ (d : Datagram). Contains d.bases claims.base) (sym is) claims.answers) in
       let (part, among, same) = contains_mapped (λ (p : PieceAct). p.act) own act there in
       record {
         datagram = said_by writer reader acts;
         base = claims.base;
         stands = told_at j own at;
-        answers = makes (base_for writer reader) acts part.act claims.base (act_there (parts_in recording) (parts_before recording j) own part among) (ap (base_for writer reader) same ∙ base);
+        answers = makes (base_for writer reader) acts part.act claims.base (act_there (piece_acts_in recording) (parts_before recording j) own part among) (ap (base_for writer reader) same ∙ base);
         asked = claims.asked;
         below = claims.below;
       }
@@ -328,13 +328,13 @@ module _ (from : ℕ) (writer reader : Guid) (recording : List (List PieceAct)) 
   claims_from : (j n : ℕ) → Claims from (speech_by writer reader (acts_with_samples recording)) j n → Claims from (said_in (fragment_speech_of writer reader recording)) j n
   claims_from j n claims =
       let (own, at, is) = told_from j claims.datagram claims.stands in
-      let acts = acts_and_samples (parts_in recording) (parts_before recording j) own in
+      let acts = acts_and_samples (piece_acts_in recording) (parts_before recording j) own in
       let (act, there, base) = made_from (base_for writer reader) acts claims.base (subst (λ (d : Datagram). Contains d.bases claims.base) (sym is) claims.answers) in
       record {
         datagram = said_by writer reader (map (λ (p : PieceAct). p.act) own);
         base = claims.base;
         stands = said_at j own at;
-        answers = elim (act_or_sample (parts_in recording) (parts_before recording j) own act there) [
+        answers = elim (act_or_sample (piece_acts_in recording) (parts_before recording j) own act there) [
           | inl (part, among, same) ↦ makes (base_for writer reader) (map (λ (p : PieceAct). p.act) own) part.act claims.base (mapped_contains (λ (p : PieceAct). p.act) own part among) (ap (base_for writer reader) same ∙ base)
           | inr sample ↦ absurd (no_base _ claims.base (subst (λ (a : ActValue). base_for writer reader a ≡ Some claims.base) (sym sample.is) base))
         ];
@@ -345,9 +345,9 @@ module _ (from : ℕ) (writer reader : Guid) (recording : List (List PieceAct)) 
 pub acts_tell_alike : ActsTellAlike
 acts_tell_alike from writer reader recording parts =
     samples_alike from (fragment_speech_of writer reader recording) (within from writer reader recording parts) (speech_by writer reader (acts_with_samples recording)) (record {
-      counted = length-map (acts_with_samples recording) (said_by writer reader) ∙ samples_length (parts_in recording) [] recording ∙ sym (length-map recording _);
+      counted = length-map (acts_with_samples recording) (said_by writer reader) ∙ samples_length (piece_acts_in recording) [] recording ∙ sym (length-map recording _);
       claims = λ j n. (claims_to from writer reader recording parts j n, claims_from from writer reader recording parts j n);
-      announced = last_alike from writer reader (parts_in recording) [] recording parts;
+      announced = last_alike from writer reader (piece_acts_in recording) [] recording parts;
       said = said_is_given from writer reader recording parts;
       put = put_is_given from writer reader recording parts;
       given = given_is_had from writer reader recording parts;
@@ -368,4 +368,4 @@ all_stay all before (first ∷ recording) none =
     ∙ ap (λ rest. map (λ (part : PieceAct). part.act) first ∷ rest) (all_stay all (before ++ first) recording (λ datagram part there among. none datagram part (contains_tail first recording datagram there) among))
 
 pub acts_stay_without_pieces : ActsStayWithoutPieces
-acts_stay_without_pieces recording none = all_stay (parts_in recording) [] recording none
+acts_stay_without_pieces recording none = all_stay (piece_acts_in recording) [] recording none

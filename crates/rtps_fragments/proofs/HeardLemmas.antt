@@ -51,7 +51,7 @@ heard_has hears parts part f among passes has = flat_has (λ (p : PieceAct). fra
 
 -- ---- tests that agree on the parts of a sample
 
-none_of : (n : ℕ) (shape : Shape) (b : Bool) (piece : Option Piece) → is_piece_of n shape piece ≡ false → filter_map (came_of n shape) (heard_one b piece) ≡ []
+pub none_of : (n : ℕ) (shape : Shape) (b : Bool) (piece : Option Piece) → is_piece_of n shape piece ≡ false → filter_map (came_of n shape) (heard_one b piece) ≡ []
 none_of n shape false piece e = refl
 none_of n shape true None e = refl
 none_of n shape true (Some piece) e = none_came n shape piece.number piece.shape piece.first piece.parts e

@@ -15,3 +15,5 @@ pub mod SampleActLemmas
 pub mod ActsTell
 pub mod PiecesLeft
 pub mod Noted
+pub mod FewFragments
+pub mod SamplesAlone

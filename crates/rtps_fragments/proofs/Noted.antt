@@ -10,9 +10,9 @@ use Rattle.rtps_receiver.specs.Values.{ActBodyValue, ActValue}
 use Rattle.rtps_receiver.specs.Values.ActBodyValue.{Data, Heartbeat, AckNack, Gap}
 use Rattle.rtps_audit.proofs.Offered.{contains_mapped, contains_none, mapped_contains}
 use Rattle.rtps_fragments.specs.FragmentDelivery.{Fragment, IsPutTogether, Piece, last_fragment, payload_by}
-use Rattle.rtps_fragments.specs.Laws.{IsNoted, IsPart, NotedSamplesAreSent}
+use Rattle.rtps_fragments.specs.Laws.{IsNoted, IsPieceAct, NotedSamplesAreSent}
 use Rattle.rtps_fragments.specs.Samples.{came_of, payloads_of, samples_of}
-use Rattle.rtps_fragments.specs.SampleActs.{PieceAct, parts_in, sample_act}
+use Rattle.rtps_fragments.specs.SampleActs.{PieceAct, piece_acts_in, sample_act}
 use Rattle.rtps_fragments.specs.SamplesSent.{everyone, samples_sent, sent_by}
 use Rattle.rtps_fragments.proofs.ActsTell.{announcer_named}
 use Rattle.rtps_fragments.proofs.Audiences.{flat_from}
@@ -29,7 +29,7 @@ data_of (Heartbeat value) = None
 data_of (AckNack value) = None
 data_of (Gap value) = None
 
-module _ (all : List PieceAct) (writer : Guid) (n : ℕ) (parts : (part : PieceAct) (piece : Piece) → Contains all part → part.piece ≡ Some piece → IsPart part piece) where
+module _ (all : List PieceAct) (writer : Guid) (n : ℕ) (parts : (part : PieceAct) (piece : Piece) → Contains all part → part.piece ≡ Some piece → IsPieceAct part piece) where
   origin : (part : PieceAct) (piece : Piece) → Contains all part → part.piece ≡ Some piece → is_spoken_by part.act writer ≡ true → origin_of part.act ≡ writer
   origin part piece among is spoken = spoken_is_origin part.act writer (announcer_named part.act.body piece.number (parts part piece among is).announces) spoken
 
@@ -91,7 +91,7 @@ module _ (all : List PieceAct) (writer : Guid) (n : ℕ) (parts : (part : PieceA
 
 pub noted_samples_are_sent : NotedSamplesAreSent
 noted_samples_are_sent recording parts writer n payload =
-    let all = parts_in recording in
-    let own : (part : PieceAct) (piece : Piece) → Contains all part → part.piece ≡ Some piece → IsPart part piece = λ part piece there has.
+    let all = piece_acts_in recording in
+    let own : (part : PieceAct) (piece : Piece) → Contains all part → part.piece ≡ Some piece → IsPieceAct part piece = λ part piece there has.
     let (datagram, stands, in_it) = flat_from (λ (d : List PieceAct). d) recording part there in parts datagram part piece stands in_it has in
     (noted_is_put all writer n own payload, put_is_noted all writer n own payload)

@@ -13,9 +13,9 @@ use Rattle.rtps_audit.specs.RunVerdict.{IsVerdictFrom}
 use Rattle.rtps_audit.proofs.Offered.{contains_cases, contains_head, contains_none, contains_tail}
 use Rattle.rtps_fragments.specs.FragmentDelivery.{Fragment, IsPutTogether, Piece, Shape, fragments_from, fragments_of, last_fragment}
 use Rattle.rtps_fragments.specs.FragmentVerdict.{IsFragmentVerdictFrom}
-use Rattle.rtps_fragments.specs.Laws.{ActsStayWithoutPieces, AreParts, FragmentVerdictOfActs, HasNoPieces, IsPart, PiecesLeftAreOfNoSample, VerdictStaysWithoutPieces}
+use Rattle.rtps_fragments.specs.Laws.{ActsStayWithoutPieces, ArePieceActs, FragmentVerdictOfActs, HasNoPieces, IsPieceAct, PiecesLeftAreOfNoSample, VerdictStaysWithoutPieces}
 use Rattle.rtps_fragments.specs.Samples.{payloads_of}
-use Rattle.rtps_fragments.specs.SampleActs.{PieceAct, fragment_speech_of, fragments_in, parts_in, speech_by}
+use Rattle.rtps_fragments.specs.SampleActs.{PieceAct, fragment_speech_of, fragments_in, piece_acts_in, speech_by}
 use Rattle.rtps_fragments.specs.SamplesSent.{is_left, is_some_payload, is_whole, sent_by}
 use Rattle.rtps_fragments.proofs.ActsTell.{fragment_bounds}
 use Rattle.rtps_fragments.proofs.Audiences.{and_parts, flat_from}
@@ -25,7 +25,7 @@ use Rattle.rtps_fragments.proofs.ToldLemmas.{and_true}
 
 -- ---- no pieces
 
-no_parts : (recording : List (List PieceAct)) → HasNoPieces recording → AreParts recording
+no_parts : (recording : List (List PieceAct)) → HasNoPieces recording → ArePieceActs recording
 no_parts recording none datagram part piece there among is = absurd (let clash : None ≡ Some piece = sym (none datagram part there among) ∙ is in cc)
 
 pub verdict_stays : FragmentVerdictOfActs → ActsStayWithoutPieces → VerdictStaysWithoutPieces
@@ -84,7 +84,7 @@ of_its_piece (Some piece) f among =
     let bounds = fragment_bounds piece.number piece.shape piece.first piece.parts f among in
     (piece, refl, sym (fragment_number piece.number piece.shape piece.first piece.parts f among), sym bounds.2, among)
 
-module _ (all : List PieceAct) (writer : Guid) (n : ℕ) (parts : (part : PieceAct) (piece : Piece) → Contains all part → part.piece ≡ Some piece → IsPart part piece) where
+module _ (all : List PieceAct) (writer : Guid) (n : ℕ) (parts : (part : PieceAct) (piece : Piece) → Contains all part → part.piece ≡ Some piece → IsPieceAct part piece) where
   -- the test that finds a whole sample
   abbrev finds : PieceAct → Bool
   finds other = is_spoken_by other.act writer && is_whole all writer n other.piece
@@ -132,7 +132,7 @@ not_true true e f = cc
 not_true false e f = cc
 
 -- the same of any act and its piece
-left_is_none : (all : List PieceAct) (act : ActValue) (piece : Piece) → ((part : PieceAct) (other : Piece) → Contains all part → part.piece ≡ Some other → IsPart part other)
+left_is_none : (all : List PieceAct) (act : ActValue) (piece : Piece) → ((part : PieceAct) (other : Piece) → Contains all part → part.piece ≡ Some other → IsPieceAct part other)
     → (is_left all act (Some piece) ≡ true → (payload : PayloadValue) → ¬ IsPutTogether (Contains (sent_by (origin_of act) all)) piece.number payload)
     × (((payload : PayloadValue) → ¬ IsPutTogether (Contains (sent_by (origin_of act) all)) piece.number payload) → is_left all act (Some piece) ≡ true)
 left_is_none all act piece parts = (
@@ -147,6 +147,6 @@ left_is_none all act piece parts = (
 
 pub pieces_left_are_of_no_sample : PiecesLeftAreOfNoSample
 pieces_left_are_of_no_sample recording parts part piece among is =
-    let all = parts_in recording in
+    let all = piece_acts_in recording in
     let same = left_is_none all part.act piece (λ other its there has. let (datagram, stands, in_it) = flat_from (λ (d : List PieceAct). d) recording other there in parts datagram other its stands in_it has) in
     (λ left. same.0 (subst (λ o. is_left all part.act o ≡ true) is left), λ none. subst (λ o. is_left all part.act o ≡ true) (sym is) (same.1 none))

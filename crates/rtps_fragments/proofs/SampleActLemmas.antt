@@ -17,7 +17,7 @@ use Rattle.rtps_audit.proofs.Offered.{contains_cases, contains_head, contains_ma
 use Rattle.rtps_fragments.specs.FragmentDelivery.{Fragment, Piece, Shape, fragments_of}
 use Rattle.rtps_fragments.specs.Samples.{payloads_of, told_by}
 use Rattle.rtps_receiver.specs.declared.speech.Audience.{Audience}
-use Rattle.rtps_fragments.specs.SampleActs.{PieceAct, acts_and_samples, audiences_among, fragments_in, is_piece_of, parts_of, reaches, sample_act, samples_told, sent_to, told_to}
+use Rattle.rtps_fragments.specs.SampleActs.{PieceAct, acts_and_samples, audiences_among, fragments_in, is_piece_of, acts_of_sample, reaches, sample_act, samples_told, sent_to, told_to}
 use Rattle.rtps_fragments.proofs.Audiences.{and_parts, entity_is, flat_from, flat_has, least_audience, prefix_is, reached_is_heard}
 use Rattle.rtps_fragments.proofs.HeardLemmas.{IsToldBy, came_alike, heard_from, heard_of, one_more, told_alike}
 use Rattle.rtps_fragments.proofs.ToldLemmas.{IsPut, and_true, if_then, own_shape, told_is_come}
@@ -48,7 +48,7 @@ abbrev told_for : Guid → List PieceAct → ActValue → Piece → Audience →
 told_for writer before act piece audience = cond (reaches act audience) (map (sample_act act piece.number audience) (told_by (sent_to writer audience before) piece)) []
 
 abbrev samples_for : Guid → List PieceAct → List PieceAct → ActValue → Piece → List ActValue
-samples_for writer all before act piece = flat_map (told_for writer before act piece) (audiences_among (parts_of writer piece.number piece.shape all))
+samples_for writer all before act piece = flat_map (told_for writer before act piece) (audiences_among (acts_of_sample writer piece.number piece.shape all))
 
 -- each act with a piece names its writer
 abbrev pub NameTheirWriters : List PieceAct → Type 0
@@ -77,7 +77,7 @@ module _ (writer reader : Guid) where
   sample_there all before part piece payload n is named among known passes number told =
       let (spoken, heard) = and_parts (is_spoken_by part.act writer) (is_heard_by part.act reader) passes in
       let origin = spoken_is_origin part.act writer named spoken in
-      let parts = parts_of writer piece.number piece.shape all in
+      let parts = acts_of_sample writer piece.number piece.shape all in
       let (audience, least) = least_audience reader parts in
       let reached = least.same part (in_parts part among spoken (subst (λ o. is_piece_of piece.number piece.shape o ≡ true) (sym is) (own_shape piece.number piece.shape))) ∙ heard in
       let agree = came_alike piece.number piece.shape hears (all_hear audience) before (λ other there its.
@@ -94,7 +94,7 @@ module _ (writer reader : Guid) where
         sample_word part.act piece.number audience payload n (sample_spoken part.act piece.number audience payload writer named ∙ spoken) least.has number,
       )
     where
-      in_parts : (other : PieceAct) → Contains all other → is_spoken_by other.act writer ≡ true → is_piece_of piece.number piece.shape other.piece ≡ true → Contains (parts_of writer piece.number piece.shape all) other
+      in_parts : (other : PieceAct) → Contains all other → is_spoken_by other.act writer ≡ true → is_piece_of piece.number piece.shape other.piece ≡ true → Contains (acts_of_sample writer piece.number piece.shape all) other
       in_parts other there speaks its =
           kept_if_passed (λ (p : PieceAct). is_spoken_by p.act writer && is_piece_of piece.number piece.shape p.piece) all other there (and_true (is_spoken_by other.act writer) _ speaks its)
 
@@ -147,7 +147,7 @@ if_there false xs x among = absurd (contains_none x among)
 sample_from : (all before : List PieceAct) (part : PieceAct) (parts : List PieceAct) (o : Option Piece) (act : ActValue) → part.piece ≡ o → Contains (samples_told all before part.act o) act → IsSampleOf before (part ∷ parts) act
 sample_from all before part parts None act is among = absurd (contains_none act among)
 sample_from all before part parts (Some piece) act is among =
-    let (audience, audiences, there) = flat_from (told_to before part.act piece) (audiences_among (parts_of (origin_of part.act) piece.number piece.shape all)) act among in
+    let (audience, audiences, there) = flat_from (told_to before part.act piece) (audiences_among (acts_of_sample (origin_of part.act) piece.number piece.shape all)) act among in
     let (reached, made) = if_there (reaches part.act audience) (map (sample_act part.act piece.number audience) (told_by (sent_to (origin_of part.act) audience before) piece)) act there in
     let (payload, told, same) = contains_mapped (sample_act part.act piece.number audience) (told_by (sent_to (origin_of part.act) audience before) piece) act made in
     record {

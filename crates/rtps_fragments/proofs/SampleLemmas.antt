@@ -61,7 +61,7 @@ set_differs (part ∷ parts) zero first octets at differ same =
     differ (sym is ∙ append_cancel_right part octets (concat parts) same)
 set_differs (part ∷ parts) (suc j) first octets at differ same = set_differs parts j first octets at differ (append_cancel_left part (concat parts) (concat (set parts j octets)) same)
 
-firsts_get : (came : List (ℕ × List ℕ)) (last : ℕ) (parts : List (List ℕ)) → firsts_of came last ≡ Some parts
+pub firsts_get : (came : List (ℕ × List ℕ)) (last : ℕ) (parts : List (List ℕ)) → firsts_of came last ≡ Some parts
     → (length parts ≡ last) × (0 < last) × ((i : ℕ) (octets : List ℕ) → slice_get parts i ≡ Some octets → first_of came (suc i) ≡ Some octets)
 firsts_get came zero parts e = cc
 firsts_get came (suc last) parts e = (parts_length (λ i. first_of came (suc i)) (suc last) parts e, omega arith, parts_get (λ i. first_of came (suc i)) (suc last) parts e)

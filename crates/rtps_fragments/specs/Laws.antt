@@ -1,18 +1,19 @@
 -- Laws over definitions alone, whatever the number is from which on numbers are asked for. own: what a reader of the definitions
 -- would ask of them.
-use Rattle.std.specs.Prelude.{ℕ, ◌+◌, ◌<◌, ◌≤◌, ◌≡◌, ◌≢◌, ◌↔◌, ◌⊎◌, length, List, map, Some, None, true, Contains}
+use Rattle.std.specs.Prelude.{ℕ, ◌+◌, ◌<◌, ◌≤◌, ◌≡◌, ◌≢◌, ◌↔◌, ◌⊎◌, length, List, [], map, Some, None, true, Contains}
 use Rattle.rtps_ids.specs.declared.identity.Guid.{Guid}
 use Rattle.rtps_wire.specs.Values.{PayloadValue}
 use Rattle.rtps_receiver.specs.Speech.{is_spoken_by, origin_of}
+use Rattle.rtps_receiver.specs.Values.{ActValue}
 use Rattle.rtps_audit.specs.Delivery.{Speech, Claims, last_announced_from}
 use Rattle.rtps_audit.specs.RunVerdict.{IsTold, IsVerdictFrom}
 use Rattle.rtps_audit.specs.PlainVerdict.{SpeaksTwo}
 use Rattle.rtps_audit.specs.Speech.{announced_of_body}
 use Rattle.rtps_audit.specs.declared.verdict.Verdict.{Verdict}
-use Rattle.rtps_fragments.specs.FragmentDelivery.{Fragment, FragmentSpeech, GivesFragment, IsPutTogether, Piece, last_fragment, said_in}
+use Rattle.rtps_fragments.specs.FragmentDelivery.{Fragment, FragmentSpeech, GivesFragment, IsPutTogether, Piece, Shape, last_fragment, said_in}
 use Rattle.rtps_fragments.specs.FragmentVerdict.{IsPayloadBefore, IsWordBefore, IsFragmentVerdictFrom}
-use Rattle.rtps_fragments.specs.Samples.{told_in}
-use Rattle.rtps_fragments.specs.SampleActs.{PieceAct, acts_with_samples, fragment_speech_of, parts_in, sample_act, speech_by}
+use Rattle.rtps_fragments.specs.Samples.{payloads_of, told_in}
+use Rattle.rtps_fragments.specs.SampleActs.{PieceAct, acts_with_samples, fragment_speech_of, piece_acts_in, acts_of_sample, sample_act, samples_told, speech_by}
 use Rattle.rtps_fragments.specs.SamplesSent.{everyone, is_left, samples_sent, sent_by}
 
 -- of all that is given, two different payloads are told or can be put together for n
@@ -49,59 +50,69 @@ FragmentVerdictIsTold =
     (from : ℕ) (speech : FragmentSpeech) (verdict : Verdict) → HasFragmentsWithin from speech → IsFragmentVerdictFrom from speech verdict ↔ IsVerdictFrom from (told_in speech) verdict
 
 -- An act with a piece announces the piece's number. The piece's fragments are some from 1 to the last one of its shape.
-pub record IsPart (part : PieceAct) (piece : Piece) : Type 0 where
-  pub announces : announced_of_body part.act.body ≡ Some piece.number
+pub record IsPieceAct (one : PieceAct) (piece : Piece) : Type 0 where
+  pub announces : announced_of_body one.act.body ≡ Some piece.number
   pub first : 0 < piece.first
   pub last : piece.first + length piece.parts ≤ last_fragment piece.shape + 1
 
 -- each act with a piece announces it, and has fragments of its shape
-abbrev pub AreParts : List (List PieceAct) → Type 0
-AreParts recording = (datagram : List PieceAct) (part : PieceAct) (piece : Piece) → Contains recording datagram → Contains datagram part → part.piece ≡ Some piece → IsPart part piece
+abbrev pub ArePieceActs : List (List PieceAct) → Type 0
+ArePieceActs recording = (datagram : List PieceAct) (one : PieceAct) (piece : Piece) → Contains recording datagram → Contains datagram one → one.piece ≡ Some piece → IsPieceAct one piece
 
 -- of any writer and reader, a recording with pieces and its acts with the samples among them tell alike
 abbrev pub ActsTellAlike : Type 0
 ActsTellAlike =
-    (from : ℕ) (writer reader : Guid) (recording : List (List PieceAct)) → AreParts recording
+    (from : ℕ) (writer reader : Guid) (recording : List (List PieceAct)) → ArePieceActs recording
     → TellsAlike from (fragment_speech_of writer reader recording) (speech_by writer reader (acts_with_samples recording))
 
 -- of any writer and reader, the verdict by runs that take fragments one by one is the verdict of the acts with the samples among them
 abbrev pub FragmentVerdictOfActs : Type 0
 FragmentVerdictOfActs =
-    (from : ℕ) (writer reader : Guid) (recording : List (List PieceAct)) (verdict : Verdict) → AreParts recording
+    (from : ℕ) (writer reader : Guid) (recording : List (List PieceAct)) (verdict : Verdict) → ArePieceActs recording
     → IsFragmentVerdictFrom from (fragment_speech_of writer reader recording) verdict ↔ IsVerdictFrom from (speech_by writer reader (acts_with_samples recording)) verdict
 
 -- no act has a piece
 abbrev pub HasNoPieces : List (List PieceAct) → Type 0
-HasNoPieces recording = (datagram : List PieceAct) (part : PieceAct) → Contains recording datagram → Contains datagram part → part.piece ≡ None
+HasNoPieces recording = (datagram : List PieceAct) (one : PieceAct) → Contains recording datagram → Contains datagram one → one.piece ≡ None
 
 -- where no act has a piece, the acts are as they are
 abbrev pub ActsStayWithoutPieces : Type 0
-ActsStayWithoutPieces = (recording : List (List PieceAct)) → HasNoPieces recording → acts_with_samples recording ≡ map (map (λ part. part.act)) recording
+ActsStayWithoutPieces = (recording : List (List PieceAct)) → HasNoPieces recording → acts_with_samples recording ≡ map (map (λ one. one.act)) recording
 
 -- where no act has a piece, the verdict by runs that take fragments is that of the acts as they are
 abbrev pub VerdictStaysWithoutPieces : Type 0
 VerdictStaysWithoutPieces =
     (from : ℕ) (writer reader : Guid) (recording : List (List PieceAct)) (verdict : Verdict) → HasNoPieces recording
-    → IsFragmentVerdictFrom from (fragment_speech_of writer reader recording) verdict ↔ IsVerdictFrom from (speech_by writer reader (map (map (λ part. part.act)) recording)) verdict
+    → IsFragmentVerdictFrom from (fragment_speech_of writer reader recording) verdict ↔ IsVerdictFrom from (speech_by writer reader (map (map (λ one. one.act)) recording)) verdict
 
 -- a piece is left exactly where of all fragments that its writer sends no payload of its number can be put together
 abbrev pub PiecesLeftAreOfNoSample : Type 0
 PiecesLeftAreOfNoSample =
-    (recording : List (List PieceAct)) → AreParts recording → (part : PieceAct) (piece : Piece) → Contains (parts_in recording) part → part.piece ≡ Some piece
-    → (is_left (parts_in recording) part.act part.piece ≡ true)
-    ↔ ((payload : PayloadValue) → ¬ IsPutTogether (Contains (sent_by (origin_of part.act) (parts_in recording))) piece.number payload)
+    (recording : List (List PieceAct)) → ArePieceActs recording → (one : PieceAct) (piece : Piece) → Contains (piece_acts_in recording) one → one.piece ≡ Some piece
+    → (is_left (piece_acts_in recording) one.act one.piece ≡ true)
+    ↔ ((payload : PayloadValue) → ¬ IsPutTogether (Contains (sent_by (origin_of one.act) (piece_acts_in recording))) piece.number payload)
 
 -- among these acts, the payload of n is to be noted as a sample of the writer
 abbrev pub IsNoted : List PieceAct → Guid → ℕ → PayloadValue → Type 0
 IsNoted all writer n payload =
-    (part : PieceAct) × Contains all part × (is_spoken_by part.act writer ≡ true) × Contains (samples_sent all part.act part.piece) (sample_act part.act n everyone payload)
+    (one : PieceAct) × Contains all one × (is_spoken_by one.act writer ≡ true) × Contains (samples_sent all one.act one.piece) (sample_act one.act n everyone payload)
 
 -- what is noted as a sample is put together of all fragments that the writer sends. What can be put together of them is noted, or two
 -- payloads are that differ
 abbrev pub NotedSamplesAreSent : Type 0
 NotedSamplesAreSent =
-    (recording : List (List PieceAct)) → AreParts recording → (writer : Guid) (n : ℕ) (payload : PayloadValue)
-    → (IsNoted (parts_in recording) writer n payload → IsPutTogether (Contains (sent_by writer (parts_in recording))) n payload)
-    × (IsPutTogether (Contains (sent_by writer (parts_in recording))) n payload
-    → IsNoted (parts_in recording) writer n payload
-    ⊎ ((x : PayloadValue) × (y : PayloadValue) × IsNoted (parts_in recording) writer n x × IsNoted (parts_in recording) writer n y × (x ≢ y)))
+    (recording : List (List PieceAct)) → ArePieceActs recording → (writer : Guid) (n : ℕ) (payload : PayloadValue)
+    → (IsNoted (piece_acts_in recording) writer n payload → IsPutTogether (Contains (sent_by writer (piece_acts_in recording))) n payload)
+    × (IsPutTogether (Contains (sent_by writer (piece_acts_in recording))) n payload
+    → IsNoted (piece_acts_in recording) writer n payload
+    ⊎ ((x : PayloadValue) × (y : PayloadValue) × IsNoted (piece_acts_in recording) writer n x × IsNoted (piece_acts_in recording) writer n y × (x ≢ y)))
+
+-- fewer fragments than a sample has make no payload of it
+abbrev pub FewFragmentsMakeNoSample : Type 0
+FewFragmentsMakeNoSample = (n : ℕ) (shape : Shape) (fragments : List Fragment) → length fragments < last_fragment shape → payloads_of n shape fragments ≡ []
+
+-- what an act tells of a sample depends on the acts with its pieces alone
+abbrev pub SamplesStandAlone : Type 0
+SamplesStandAlone =
+    (all before : List PieceAct) (act : ActValue) (piece : Piece)
+    → samples_told all before act (Some piece) ≡ samples_told (acts_of_sample (origin_of act) piece.number piece.shape all) (acts_of_sample (origin_of act) piece.number piece.shape before) act (Some piece)

@@ -15,25 +15,25 @@ use Rattle.rtps_audit.specs.Speech.{said_by}
 use Rattle.rtps_fragments.specs.FragmentDelivery.{Fragment, FragmentSpeech, Piece, Shape, fragments_of}
 use Rattle.rtps_fragments.specs.Samples.{is_of, told_by}
 
--- an act, and its piece where it is a DATA_FRAG that is one
+-- an act with its piece, where it is a DATA_FRAG that is one
 pub record PieceAct : Type 0 where
   pub act : ActValue
   pub piece : Option Piece
 
--- the acts of a recording, of all its datagrams
-abbrev pub parts_in : List (List PieceAct) → List PieceAct
-parts_in recording = flat_map (λ datagram. datagram) recording
+-- the acts of all datagrams of a recording
+abbrev pub piece_acts_in : List (List PieceAct) → List PieceAct
+piece_acts_in recording = flat_map (λ datagram. datagram) recording
 
 -- ---- what a recording says of a writer and a reader
 
 -- the piece, where the reader hears it from the writer
 abbrev pub piece_for : Guid → Guid → PieceAct → Option Piece
-piece_for writer reader part = if is_spoken_by part.act writer && is_heard_by part.act reader then part.piece else None
+piece_for writer reader one = if is_spoken_by one.act writer && is_heard_by one.act reader then one.piece else None
 
 -- the acts of the datagrams of a recording, each with its piece, as what they say with fragments
 abbrev pub fragment_speech_of : Guid → Guid → List (List PieceAct) → FragmentSpeech
 fragment_speech_of writer reader recording =
-    map (λ datagram. record { said = said_by writer reader (map (λ part. part.act) datagram); pieces = filter_map (piece_for writer reader) datagram }) recording
+    map (λ datagram. record { said = said_by writer reader (map (λ one. one.act) datagram); pieces = filter_map (piece_for writer reader) datagram }) recording
 
 -- acts alone, as what they say
 abbrev pub speech_by : Guid → Guid → List (List ActValue) → Speech
@@ -58,13 +58,13 @@ abbrev pub once : {X : Type 0} → (X → X → Bool) → List X → List X
 once same [] = []
 once same (x ∷ xs) = x ∷ filter (λ y. not (same x y)) (once same xs)
 
--- the audiences to which a sample may be told: everyone and each destination of its parts, and in each every reader and each one that
+-- the audiences to which a sample may be told: everyone and each destination of its acts, and in each every reader and each one that
 -- they name
 abbrev pub audiences_among : List PieceAct → List Audience
-audiences_among parts =
+audiences_among acts =
     flat_map
-    (λ dest. map (λ reader. record { dest = dest; reader = reader }) (once is_entity (unknown_entity ∷ filter_map (λ part. reader_named part.act.body) parts)))
-    (once is_same_dest (None ∷ map (λ part. part.act.dest) parts))
+    (λ dest. map (λ reader. record { dest = dest; reader = reader }) (once is_entity (unknown_entity ∷ filter_map (λ one. reader_named one.act.body) acts)))
+    (once is_same_dest (None ∷ map (λ one. one.act.dest) acts))
 
 -- ---- samples
 
@@ -73,9 +73,9 @@ abbrev pub is_piece_of : ℕ → Shape → Option Piece → Bool
 is_piece_of n shape (Some piece) = is_of n shape piece.number piece.shape
 is_piece_of n shape None = false
 
--- the parts of a sample of a writer
-abbrev pub parts_of : Guid → ℕ → Shape → List PieceAct → List PieceAct
-parts_of writer n shape parts = filter (λ part. is_spoken_by part.act writer && is_piece_of n shape part.piece) parts
+-- the acts of a writer with the pieces of a sample
+abbrev pub acts_of_sample : Guid → ℕ → Shape → List PieceAct → List PieceAct
+acts_of_sample writer n shape acts = filter (λ one. is_spoken_by one.act writer && is_piece_of n shape one.piece) acts
 
 -- the fragments of a piece, where there is one
 abbrev pub fragments_in : Option Piece → List Fragment
@@ -84,7 +84,7 @@ fragments_in None = []
 
 -- the fragments that a writer sends to all of an audience
 abbrev pub sent_to : Guid → Audience → List PieceAct → List Fragment
-sent_to writer audience parts = flat_map (λ part. fragments_in part.piece) (filter (λ part. is_spoken_by part.act writer && reaches part.act audience) parts)
+sent_to writer audience acts = flat_map (λ one. fragments_in one.piece) (filter (λ one. is_spoken_by one.act writer && reaches one.act audience) acts)
 
 -- a sample as a DATA for an audience, from where this act is from
 abbrev pub sample_act : ActValue → ℕ → Audience → PayloadValue → ActValue
@@ -96,15 +96,15 @@ abbrev pub told_to : List PieceAct → ActValue → Piece → Audience → List 
 told_to before act piece audience =
     if reaches act audience then map (sample_act act piece.number audience) (told_by (sent_to (origin_of act) audience before) piece) else []
 
--- the samples that an act tells: to each audience of the sample among all parts of the recording
+-- the samples that an act tells: to each audience of the sample among all acts of the recording
 abbrev pub samples_told : List PieceAct → List PieceAct → ActValue → Option Piece → List ActValue
-samples_told all before act (Some piece) = flat_map (told_to before act piece) (audiences_among (parts_of (origin_of act) piece.number piece.shape all))
+samples_told all before act (Some piece) = flat_map (told_to before act piece) (audiences_among (acts_of_sample (origin_of act) piece.number piece.shape all))
 samples_told all before act None = []
 
 -- acts, each with the samples that it tells behind it
 abbrev pub acts_and_samples : List PieceAct → List PieceAct → List PieceAct → List ActValue
 acts_and_samples all before [] = []
-acts_and_samples all before (part ∷ parts) = part.act ∷ (samples_told all before part.act part.piece ++ acts_and_samples all (before ++ part ∷ []) parts)
+acts_and_samples all before (one ∷ acts) = one.act ∷ (samples_told all before one.act one.piece ++ acts_and_samples all (before ++ one ∷ []) acts)
 
 -- those of each datagram behind these
 abbrev pub datagrams_and_samples : List PieceAct → List PieceAct → List (List PieceAct) → List (List ActValue)
@@ -113,4 +113,4 @@ datagrams_and_samples all before (datagram ∷ recording) = acts_and_samples all
 
 -- the acts of a recording with its samples among them
 abbrev pub acts_with_samples : List (List PieceAct) → List (List ActValue)
-acts_with_samples recording = datagrams_and_samples (parts_in recording) [] recording
+acts_with_samples recording = datagrams_and_samples (piece_acts_in recording) [] recording

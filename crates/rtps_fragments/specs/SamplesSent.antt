@@ -14,7 +14,7 @@ use Rattle.rtps_fragments.specs.SampleActs.{PieceAct, fragments_in, sample_act}
 
 -- all fragments that a writer sends
 abbrev pub sent_by : Guid → List PieceAct → List Fragment
-sent_by writer parts = flat_map (λ part. fragments_in part.piece) (filter (λ part. is_spoken_by part.act writer) parts)
+sent_by writer acts = flat_map (λ one. fragments_in one.piece) (filter (λ one. is_spoken_by one.act writer) acts)
 
 -- ---- what samples of built-in writers announce
 
@@ -29,7 +29,7 @@ samples_sent all act None = []
 
 -- the acts of a recording, and behind them its samples: what a directory notes of them
 abbrev pub acts_to_note : List PieceAct → List ActValue
-acts_to_note all = map (λ part. part.act) all ++ flat_map (λ part. samples_sent all part.act part.piece) all
+acts_to_note all = map (λ one. one.act) all ++ flat_map (λ one. samples_sent all one.act one.piece) all
 
 -- ---- fragments of no sample
 
@@ -50,4 +50,4 @@ is_left all act None = false
 
 -- how many pieces are of no sample
 abbrev pub pieces_left : List PieceAct → ℕ
-pieces_left all = count_by (λ part. is_left all part.act part.piece) all
+pieces_left all = count_by (λ one. is_left all one.act one.piece) all

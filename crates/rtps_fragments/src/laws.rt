@@ -1,6 +1,6 @@
 //! Laws over definitions alone. Each function does nothing: its clause is the law, and its proof the law's proof.
 
-ghost use Rattle.rtps_fragments.specs.Laws.{FragmentsTellAlike, SamplesTellAlike, FragmentVerdictIsTold, ActsTellAlike, FragmentVerdictOfActs, ActsStayWithoutPieces, VerdictStaysWithoutPieces, PiecesLeftAreOfNoSample, NotedSamplesAreSent};
+ghost use Rattle.rtps_fragments.specs.Laws.{FragmentsTellAlike, SamplesTellAlike, FragmentVerdictIsTold, ActsTellAlike, FragmentVerdictOfActs, ActsStayWithoutPieces, VerdictStaysWithoutPieces, PiecesLeftAreOfNoSample, NotedSamplesAreSent, FewFragmentsMakeNoSample, SamplesStandAlone};
 
 use rtps_audit::laws::{runs_exist_where_founded, verdicts_agree};
 
@@ -66,4 +66,14 @@ pub fn pieces_left_are_of_no_sample()
 /// What can be put together of them is noted, or two payloads are that differ.
 pub fn noted_samples_are_sent()
     ensures { NotedSamplesAreSent }
+{}
+
+/// Fewer fragments than a sample has make no payload of it, so that nothing is put together before as many came.
+pub fn few_fragments_make_no_sample()
+    ensures { FewFragmentsMakeNoSample }
+{}
+
+/// What an act tells of a sample depends on the acts with its pieces alone: those of its writer, its number and its shape.
+pub fn samples_stand_alone()
+    ensures { SamplesStandAlone }
 {}
