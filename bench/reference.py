@@ -7,12 +7,15 @@
                                            the same, of the numbers from N on
     reference.py compare PROGRAM [COUNT [SEED]]
                                            runs PROGRAM on COUNT random recordings, and says where it differs
+    reference.py runs [COUNT [SEED]]       compares verdicts and received numbers with those of all runs, on COUNT random
+                                           deliveries, and says where they differ
     reference.py texts PROGRAM [COUNT [SEED]]
                                            the same on COUNT random texts, most of which are no recordings, that come
                                            through a pipe in pieces
 
 It is written for clearness: every verdict of a small recording is found by trying what a reader may take
-(`verdict_by_runs`), and that of a large one by the plain conditions.
+(`verdict_by_runs`), and so are the numbers that it received (`received_by_runs`); those of a large one by the plain
+conditions.
 """
 import json
 import random
@@ -510,11 +513,10 @@ def judge(recording, w, r, first=1):
     return f'complete {last}'
 
 
-def verdict_by_runs(recording, w, r, bound, first=1):
-    """the verdict of a recording whose numbers are all below `bound`, by trying what the reader may take of those from
-    `first` on"""
-    said, last = speech(recording, w, r)
-    last = max(last, first - 1)
+def ends_of_runs(recording, w, r, bound, first=1):
+    """what the reader may hold at the end of a run, of a recording whose numbers are all below `bound`, by trying what it may
+    take of those from `first` on; or, where there is no run, the line of the verdict"""
+    said, _ = speech(recording, w, r)
     gives = [{(n, word.payload or 'gone') for word in words for lo, hi in word.spans for n in range(max(lo, first), min(hi, bound))} for words, _ in said]
     # a state is how many datagrams were sent and which (number, word) are held; all that can be reached
     states = {frozenset()}
@@ -528,6 +530,15 @@ def verdict_by_runs(recording, w, r, bound, first=1):
         states = sendable
         for item in {item for g in gives[:j + 1] for item in g}:
             states = states | {s | {item} for s in states}
+    return states
+
+
+def verdict_by_runs(recording, w, r, bound, first=1):
+    """the verdict of a recording whose numbers are all below `bound`, by all runs"""
+    states = ends_of_runs(recording, w, r, bound, first)
+    if isinstance(states, str):
+        return states
+    last = max(speech(recording, w, r)[1], first - 1)
     conflicts = {n for s in states for n, a in s for m, b in s if n == m and a != b and 'gone' not in (a, b)}
     if conflicts:
         return f'conflict {min(conflicts)}'
@@ -535,6 +546,15 @@ def verdict_by_runs(recording, w, r, bound, first=1):
     if missing:
         return f'open {min(missing)}'
     return f'complete {last}'
+
+
+def received_by_runs(recording, w, r, bound, first=1):
+    """the numbers from `first` to the last one for which every run ends with a payload, or None where there is no run"""
+    states = ends_of_runs(recording, w, r, bound, first)
+    if isinstance(states, str):
+        return None
+    last = min(speech(recording, w, r)[1], bound)
+    return {n for n in range(first, last + 1) if all(any(m == n and word != 'gone' for m, word in s) for s in states)}
 
 
 def audit(datagrams, first=1):
@@ -577,50 +597,141 @@ def payload_words(payload):
     return 'absent' if payload[0] == 'absent' else f'{payload[0]} {len(payload[1])}'
 
 
+def announces(act, guid):
+    """whether an act announces the endpoint of this GUID, as a writer or a reader"""
+    what = BUILTIN.get(act['writer']) if act['kind'] == 'data' and act['payload'][0] == 'whole' else None
+    said = announcement(act['payload'][1], what) if what in ('writer', 'reader') else 'no announcement'
+    return not isinstance(said, str) and said[0] == guid
+
+
+class Delivery:
+    """what a writer and a reader said to each other, of the numbers from `first` on. An act stands with its place: its
+    datagram and its first octet"""
+    def __init__(self, recording, w, r, first):
+        self.first = first
+        self.placed = [((i, act['at']), act) for i, acts in enumerate(recording, 1) for act in acts]
+        self.said = [(place, act) for place, act in self.placed if spoken(act, w)]
+        self.told = [(place, act, Words(act)) for place, act in self.said if heard(act, r)]
+        self.answers = [(place, act['set']) for place, act in self.placed if answered(act, w, r)]
+        self.last = max([first - 1] + [last_number(act) for _, act in self.said])
+        self.announced = next((place for place, act in self.placed if announces(act, r)), (0, 0))
+        self.received = {n for n in self.sent() if self.is_received(n)}
+        asked = {n for _, found in self.answers for n in members(*found[:3])}
+        self.missed = sorted(n for n in self.sent(self.announced) if n in asked and n not in self.received)
+
+    def sent(self, behind=(0, 0)):
+        """the numbers with a payload behind a place"""
+        return {act['number'] for place, act, _ in self.told if act['kind'] == 'data' and place > behind and self.first <= act['number'] <= self.last}
+
+    def words_for(self, n):
+        """the acts with a word for a number, and whether that is that it will not come"""
+        return [(place, act, words.payload is None) for place, act, words in self.told if any(lo <= n < hi for lo, hi in words.spans)]
+
+    def claim(self, n):
+        """the place of the first answer that claims a number"""
+        return next((place for place, (base, *_) in self.answers if base > n), None)
+
+    def is_received(self, n):
+        claim = self.claim(n)
+        before = [gone for (i, _), _, gone in self.words_for(n) if claim and i < claim[0]]
+        return bool(before) and not any(before)
+
+    def least_not_received(self):
+        n = self.first
+        while n in self.received:
+            n += 1
+        return n
+
+    def gone(self, n, passes):
+        """the kind and the place of the first act at a place that passes which tells a number gone"""
+        return next(((act['kind'], place) for place, act, gone in self.words_for(n) if gone and passes(place)), None)
+
+
+def standing(place):
+    return f'in datagram {place[0]} at {place[1]}'
+
+
+def kept_line(delivery):
+    """what keeps the least number that is not received from being so"""
+    n = delivery.least_not_received()
+    claim = delivery.claim(n)
+    head = f'number {n} may not be received:'
+    if claim is None:
+        return f'{head} not acknowledged'
+    gone = delivery.gone(n, lambda place: place[0] < claim[0])
+    if gone is None:
+        return f'{head} told nothing before datagram {claim[0]} at {claim[1]}'
+    return f'{head} told gone by {gone[0]} {standing(gone[1])}, acknowledged {standing(claim)}'
+
+
+def missed_line(delivery):
+    """the least number that is missed: who asked for it last, and what told it gone since"""
+    n = delivery.missed[0]
+    asked = [place for place, found in delivery.answers if n in members(*found[:3])][-1]
+    gone = delivery.gone(n, lambda place: place > asked)
+    since = f'told gone by {gone[0]} {standing(gone[1])}' if gone else 'not told gone since'
+    return f'  number {n} asked for {standing(asked)}, {since}'
+
+
+def asked_line(delivery):
+    """whether the writer asked for an answer since the last one"""
+    answered_at = max((place for place, _ in delivery.answers), default=(0, 0))
+    asks = [place for place, act, _ in delivery.told if act['kind'] == 'heartbeat' and not act['final'] and place > answered_at]
+    return f'asked {len(asks)} times since its last answer, last {standing(asks[-1])}' if asks else 'not asked since its last answer'
+
+
+def delivery_lines(delivery):
+    """how many numbers are received, which are missed, and what keeps the first other one from being received"""
+    numbers = delivery.last + 1 - delivery.first
+    lines = [f'received {len(delivery.received)} of {numbers}']
+    if delivery.missed:
+        lines += [f'missed {len(delivery.missed)}', missed_line(delivery)]
+    if len(delivery.received) < numbers:
+        lines.append(kept_line(delivery))
+    return lines
+
+
+def verdict_lines(delivery, verdict):
+    """the lines that a verdict has of its own"""
+    def teller(n):
+        words = delivery.words_for(n)
+        return f'number {n} told by {words[0][1]["kind"]} {standing(words[0][0])}' if words else f'number {n} told nowhere'
+
+    kind, *numbers = verdict.split()
+    if kind == 'open':
+        return [teller(int(numbers[0])), asked_line(delivery)]
+    if kind == 'conflict':
+        n = int(numbers[0])
+        sent = [(place, act) for place, act, _ in delivery.told if act['kind'] == 'data' and act['number'] == n]
+        other = next(one for one in sent if one[1]['payload'] != sent[0][1]['payload'])
+        return [f'number {n} payload {payload_words(act["payload"])} {standing(place)}' for place, act in (sent[0], other)]
+    if kind == 'unfounded':
+        datagram, n = map(int, numbers)
+        place, base = next((place, found[0]) for place, found in delivery.answers if place[0] == datagram and found[0] > n)
+        return [f'claimed below {base} {standing(place)}', teller(n)]
+    return []
+
+
 def evidence(recording, w, r, first=1):
     """the lines of a pair behind its names: what the verdict rests on, of the numbers from `first` on"""
-    placed = [(i, act) for i, acts in enumerate(recording, 1) for act in acts]
-    said = [(i, act) for i, act in placed if spoken(act, w)]
-    told = [(i, act, Words(act)) for i, act in said if heard(act, r)]
-    answers = [(i, act['set'][0], act['at']) for i, act in placed if answered(act, w, r)]
-
-    def teller(n):
-        for i, act, words in told:
-            if any(lo <= n < hi for lo, hi in words.spans):
-                return f'number {n} told by {act["kind"]} in datagram {i} at {act["at"]}'
-        return f'number {n} told nowhere'
-
-    lines = []
-    last = max([first - 1] + [last_number(act) for _, act in said])
+    delivery = Delivery(recording, w, r, first)
+    last, lines = delivery.last, []
     if last >= first:
-        i, act = next((i, act) for i, act in said if last_number(act) == last)
-        lines.append(f'announced {last} by {act["kind"]} in datagram {i} at {act["at"]}')
+        place, act = next((place, act) for place, act in delivery.said if last_number(act) == last)
+        lines.append(f'announced {last} by {act["kind"]} {standing(place)}')
     else:
         lines.append('announced nothing')
-    base = max([0] + [base for _, base, _ in answers])
+    base = max([0] + [found[0] for _, found in delivery.answers])
     if base > first:
-        i, at = next((i, at) for i, b, at in answers if b == base)
-        lines.append(f'acknowledged below {base} in datagram {i} at {at}')
+        place = next(place for place, found in delivery.answers if found[0] == base)
+        lines.append(f'acknowledged below {base} {standing(place)}')
     else:
         lines.append('acknowledged nothing')
-    all_told = covered([span for _, _, words in told for span in words.spans], first, last + 1)
-    payloads = covered([span for _, _, words in told if words.payload is not None for span in words.spans], first, last + 1)
+    told = [words for _, _, words in delivery.told]
+    all_told = covered([span for words in told for span in words.spans], first, last + 1)
+    payloads = covered([span for words in told if words.payload is not None for span in words.spans], first, last + 1)
     lines.append(f'payloads {payloads} gone {all_told - payloads} untold {last + 1 - first - all_told}')
-    verdict, *numbers = judge(recording, w, r, first).split()
-    if verdict == 'open':
-        lines.append(teller(int(numbers[0])))
-    elif verdict == 'conflict':
-        n = int(numbers[0])
-        sent = [(i, act) for i, act, _ in told if act['kind'] == 'data' and act['number'] == n]
-        other = next(one for one in sent if one[1]['payload'] != sent[0][1]['payload'])
-        for i, act in (sent[0], other):
-            lines.append(f'number {n} payload {payload_words(act["payload"])} in datagram {i} at {act["at"]}')
-    elif verdict == 'unfounded':
-        datagram, n = map(int, numbers)
-        base, at = next((b, at) for i, b, at in answers if i == datagram and b > n)
-        lines.append(f'claimed below {base} in datagram {datagram} at {at}')
-        lines.append(teller(n))
-    return lines
+    return lines + delivery_lines(delivery) + verdict_lines(delivery, judge(recording, w, r, first))
 
 
 def why(datagrams, first=1):
@@ -657,10 +768,43 @@ def sent_of(line):
     return {'payload': form, 'octets': int(octets[0]) if octets else 0, **place_of(line)}
 
 
+def part_of(line, start):
+    """what stands behind some words in a line, up to the next comma"""
+    return line.split(start)[1].split(',')[0]
+
+
+def gone_of(line):
+    if 'told gone by' not in line:
+        return None
+    part = part_of(line, 'told gone by ')
+    return {'by': part.split()[0], **place_of(part)}
+
+
+def not_received_of(line):
+    claim = None if 'not acknowledged' in line else place_of(line)
+    return {'number': int(line.split()[1]), 'gone': gone_of(line), 'acknowledged': claim}
+
+
+def missed_values(lines):
+    """the members on missed numbers, from the lines on them"""
+    if not lines:
+        return {'missed': 0}
+    count, first = lines
+    asked = place_of(part_of(first, 'asked for '))
+    return {'missed': int(count.split()[1]), 'first_missed': {'number': int(first.split()[1]), 'asked': asked, 'gone': gone_of(first)}}
+
+
+def asked_values(line):
+    """the members on questions since the last answer"""
+    if line.startswith('not asked'):
+        return {'asked_since': 0, 'last_asked': None}
+    return {'asked_since': int(line.split()[1]), 'last_asked': place_of(line)}
+
+
 def evidence_values(verdict, lines):
     """the members of a pair behind its names, from its verdict and the lines of its evidence"""
     kind, *numbers = verdict
-    announced, acknowledged, counts, *shown = lines
+    announced, acknowledged, counts, received, *shown = lines
     values = {'verdict': kind, 'number': int(numbers[-1])}
     if kind == 'unfounded':
         values['datagram'] = int(numbers[0])
@@ -669,8 +813,14 @@ def evidence_values(verdict, lines):
     values['acknowledged'] = None if acknowledged == 'acknowledged nothing' else claim_of(acknowledged)
     counts = counts.split()
     values |= {name: int(count) for name, count in zip(counts[::2], counts[1::2])}
+    values['received'] = int(received.split()[1])
+    missed = shown[:2] if shown and shown[0].startswith('missed ') else []
+    shown = shown[len(missed):]
+    kept = shown[:1] if shown and 'may not be received' in shown[0] else []
+    shown = shown[len(kept):]
+    values |= {'not_received': not_received_of(kept[0]) if kept else None} | missed_values(missed)
     if kind == 'open':
-        values['told'] = told_by(shown[0])
+        values |= {'told': told_by(shown[0])} | asked_values(shown[1])
     elif kind == 'conflict':
         values['sent'] = [sent_of(line) for line in shown]
     elif kind == 'unfounded':
@@ -874,6 +1024,121 @@ def some_recording(rng):
     return text[:-1] if text and rng.random() < 0.1 else text
 
 
+class Told:
+    """a writer and a reader that speak of few numbers, as a random recording has it. What the reader answers is mostly true,
+    and what is lost on the way is as if it never came"""
+    def __init__(self, rng):
+        self.rng, self.first, self.last, self.held = rng, 1, 0, set()
+
+    def submessage(self, sid, flags, *parts):
+        reader = self.rng.choice([bytes(4), bytes(4), b'\0\0\1\4'] if sid != 0x06 else [b'\0\0\1\4'])
+        body = (b'\0\0\0\x10' if sid == 0x15 else b'') + reader + b'\0\0\1\3' + b''.join(parts)
+        return bytes([sid, flags]) + u('be', 2, len(body)) + body
+
+    def take(self, numbers):
+        if self.rng.random() < 0.7:
+            self.held |= set(numbers)
+
+    def data(self, n):
+        self.take([n])
+        flags, payload = (4, b'\0\0\0\0abcd') if self.rng.random() < 0.97 else (self.rng.choice([0, 4, 8]), b'\0\0\0\0ef')
+        return self.submessage(0x15, flags, sn('be', n), payload if flags else b'')
+
+    def heartbeat(self):
+        self.take(range(1, self.first))
+        return self.submessage(0x07, self.rng.choice([0, 0, 0, 2]), sn('be', self.first), sn('be', max(self.last, self.first - 1)), bytes(4))
+
+    def gap(self):
+        start, base = sorted(self.rng.randrange(1, 5) for _ in range(2))
+        listed = {base + i for i in range(2) if self.rng.random() < 0.3}
+        self.take({*range(start, base), *listed})
+        return self.submessage(0x08, 0, sn('be', start), self.set_of(base, listed))
+
+    @staticmethod
+    def set_of(base, numbers):
+        bits = sum(1 << 31 - (n - base) for n in numbers)
+        return sn('be', base) + (u('be', 4, 8) + u('be', 4, bits) if numbers else u('be', 4, 0))
+
+    def answer(self):
+        base = 1
+        while base in self.held:
+            base += 1
+        if self.rng.random() < 0.1:
+            base = self.rng.randrange(1, 6)
+        lacked = {n for n in range(base, max(self.last + 1, base)) if n not in self.held and self.rng.random() < 0.8}
+        if self.rng.random() < 0.05:
+            lacked = {n for n in range(base, base + 3) if self.rng.random() < 0.5}
+        return self.submessage(0x06, self.rng.choice([0, 2]), self.set_of(base, lacked), bytes(4))
+
+    def next(self):
+        """the next submessage, and whether the writer says it"""
+        kind = self.rng.random()
+        if kind < 0.3 and self.last < 4:
+            self.last += 1
+            if self.rng.random() < 0.1:
+                return self.heartbeat(), True
+            return self.data(self.last), True
+        if kind < 0.5 and self.first <= self.last:
+            return self.data(self.rng.randrange(self.first, self.last + 1)), True
+        if kind < 0.62:
+            if self.rng.random() < 0.5 and self.first <= self.last:
+                self.first += 1
+            return self.heartbeat(), True
+        return (self.gap(), True) if kind < 0.67 else (self.answer(), False)
+
+
+def some_delivery(rng):
+    """what a writer and a reader say of the numbers 1 to 4, with resends, first numbers that move on, GAPs and what is asked
+    for"""
+    told, datagrams = Told(rng), []
+    for _ in range(rng.randrange(3, 18)):
+        octets, by_writer = told.next()
+        prefix, dest = (A, rng.choice([b'', b'', b'\x0e\0\0\x0c' + B])) if by_writer else (B, b'\x0e\0\0\x0c' + A)
+        if datagrams and rng.random() < 0.25 and datagrams[-1][8:20] == prefix:
+            datagrams[-1] += dest + octets
+        else:
+            datagrams.append(b'RTPS\2\5\0\0' + prefix + dest + octets)
+    for d in START if rng.random() < 0.5 else START[:1]:
+        datagrams.insert(0 if rng.random() < 0.7 else rng.randrange(len(datagrams) + 1), d)
+    if START[1] not in datagrams:
+        datagrams.insert(rng.randrange(len(datagrams) + 1), START[1])
+    return datagrams
+
+
+def text_of_datagrams(datagrams):
+    return b''.join(d.hex().encode() + b'\n' for d in datagrams)
+
+
+def differing_from_runs(recording, w, r, bound, first):
+    """where what is found by conditions is not what the runs say, of a recording whose numbers are all below `bound`"""
+    found = []
+    if judge(recording, w, r, first) != verdict_by_runs(recording, w, r, bound, first):
+        found.append('verdict')
+    by_runs = received_by_runs(recording, w, r, bound, first)
+    if by_runs is not None and Delivery(recording, w, r, first).received != by_runs:
+        found.append('received numbers')
+    return found
+
+
+def runs(count, seed):
+    rng, differing, tried, verdicts, numbers, received, missed = random.Random(seed), 0, 0, {}, 0, 0, 0
+    w, r = A + b'\0\0\1\3', B + b'\0\0\1\4'
+    for k in range(count):
+        datagrams = some_delivery(rng)
+        recording = [acts_of(d) for d in datagrams]
+        for first in (1, rng.randrange(2, 7)):
+            for what in differing_from_runs(recording, w, r, 12, first):
+                differing += 1
+                print(f'the {what} by runs from {first} on differ on recording {k}, kept in {kept(text_of_datagrams(datagrams))}')
+            tried += 1
+        kind = judge(recording, w, r).split()[0]
+        verdicts[kind] = verdicts.get(kind, 0) + 1
+        delivery = Delivery(recording, w, r, 1)
+        numbers, received, missed = numbers + delivery.last, received + len(delivery.received), missed + len(delivery.missed)
+    print(f'{count} recordings, {differing} differences; verdicts {verdicts}; of {numbers} numbers {received} received, {missed} missed')
+    return int(differing > 0)
+
+
 def kept(text):
     with tempfile.NamedTemporaryFile(delete=False, suffix='.rec') as f:
         f.write(text)
@@ -883,7 +1148,7 @@ def kept(text):
 def compare(program, count, seed):
     rng, differing, verdicts = random.Random(seed), 0, {}
     for k in range(count):
-        text = some_recording(rng)
+        text = some_recording(rng) if rng.random() < 0.5 else text_of_datagrams(some_delivery(rng))
         first = rng.choice([1, 2, 3, 4, 5, 6, GREATEST])
         for view, start in [*((view, None) for view in VIEWS), *((view, first) for view in REPORTS)]:
             words = words_of(view) + (['--from', str(start)] if start else [])
@@ -902,9 +1167,10 @@ def compare(program, count, seed):
             said, _ = speech(recording, w, r)
             few = len({(n, x.payload) for words, _ in said for x in words for lo, hi in x.spans for n in range(lo, min(hi, 12))}) <= 8
             for first in range(1, 7):
-                if few and all(hi < 12 for words, _ in said for x in words for _, hi in x.spans) and judge(recording, w, r, first) != verdict_by_runs(recording, w, r, 12, first):
-                    differing += 1
-                    print(f'the plain conditions and the runs from {first} on differ on recording {k}')
+                if few and all(hi < 12 for words, _ in said for x in words for _, hi in x.spans):
+                    for what in differing_from_runs(recording, w, r, 12, first):
+                        differing += 1
+                        print(f'the {what} by runs from {first} on differ on recording {k}, kept in {kept(text)}')
     print(f'{count} recordings, {differing} differences; verdicts {verdicts}')
     return int(differing > 0)
 
@@ -982,6 +1248,9 @@ def texts(program, count, seed):
 
 
 def main():
+    if sys.argv[1] == 'runs':
+        count, seed = (int(word) for word in sys.argv[2:4] + ['1000', '1'][len(sys.argv[2:4]):])
+        return runs(count, seed)
     if sys.argv[1] in ('compare', 'texts'):
         count = int(sys.argv[3]) if len(sys.argv) > 3 else 1000
         run = compare if sys.argv[1] == 'compare' else texts
