@@ -11,6 +11,7 @@ import time
 WORDS = ['--headless', '--no-sandbox', '--disable-gpu', '--no-first-run', '--disable-background-networking', '--disable-component-update',
          '--disable-extensions', '--disable-sync', '--disable-dev-shm-usage', '--hide-scrollbars', '--remote-debugging-pipe']
 PATIENCE = 60
+SHIFT = 8
 # What a browser tells of a page that is not as it should be, and of what it asks others for.
 COMPLAINTS = 'Runtime.consoleAPICalled', 'Runtime.exceptionThrown', 'Log.entryAdded'
 KEYS = {'Tab': 9, 'Enter': 13, 'Escape': 27, ' ': 32, 'ArrowLeft': 37, 'ArrowUp': 38, 'ArrowRight': 39, 'ArrowDown': 40}

@@ -33,24 +33,24 @@ const OPEN = [
   },
   {
     fits: ({ row }) => row.told === null,
-    means: ({ row }) => `Number ${row.number} is announced, but this recording does not send it to this reader.`,
+    means: ({ row }) => `Sample ${row.number} is announced, but this recording does not send it to this reader.`,
     todo: () => 'Look at “fragments” and “ignored”; else it was not sent.',
   },
   {
     fits: ({ row }) => asksForIt(row) && asksForIt(row).gone !== null,
-    means: ({ row }) => `The reader asked for ${row.number} in ${inDatagram(row.first_missed.asked)}: at that moment it did not have it. `
+    means: ({ row }) => `The reader asked for sample ${row.number} in ${inDatagram(row.first_missed.asked)}: at that moment it did not have it. `
       + `Then it was told that ${row.number} is gone, in ${inDatagram(row.first_missed.gone)}.`,
     todo: () => `The reader did not answer that yet: record longer. ${KEEP_MORE}`,
   },
   {
     fits: ({ row, report }) => asksForIt(row) && sentBehind(report, row, row.number, row.first_missed.asked),
-    means: ({ row, report }) => `The reader asked for ${row.number} in ${inDatagram(row.first_missed.asked)}: at that moment it did not `
+    means: ({ row, report }) => `The reader asked for sample ${row.number} in ${inDatagram(row.first_missed.asked)}: at that moment it did not `
       + `have it. It was sent again in datagram ${sentBehind(report, row, row.number, row.first_missed.asked)[0]}.`,
     todo: () => 'The reader did not answer that yet: record longer. Else look at the reader and the network.',
   },
   {
     fits: ({ row, report }) => asksForIt(row) && report.actsOf(row),
-    means: ({ row }) => `The reader asked for ${row.number} in ${inDatagram(row.first_missed.asked)}: at that moment it did not have it. `
+    means: ({ row }) => `The reader asked for sample ${row.number} in ${inDatagram(row.first_missed.asked)}: at that moment it did not have it. `
       + 'Nothing in the recording sends it again.',
     todo: () => 'The writer does not resend: look at the writer.',
   },
@@ -75,7 +75,7 @@ const OPEN = [
 const CONFLICT = [
   {
     fits: () => true,
-    means: ({ row }) => `Number ${row.number} was sent with one payload in ${inDatagram(row.sent[0])} and with another in ${inDatagram(row.sent[1])}.`,
+    means: ({ row }) => `Sample ${row.number} was sent with one payload in ${inDatagram(row.sent[0])} and with another in ${inDatagram(row.sent[1])}.`,
     todo: () => 'Do both come from one address and port? If not, two processes use one GUID: two machines have the same disk image, or a '
       + 'restart kept the GUID. If the second is a resend, its octets must be those of the first: the writer has a defect.',
   },
@@ -92,18 +92,18 @@ const UNFOUNDED = [
   },
   {
     fits: ({ row }) => row.told !== null,
-    means: ({ row }) => `Number ${row.number} is told in ${inDatagram(row.told)} only, behind the answer. The datagrams are out of order, as in `
+    means: ({ row }) => `Sample ${row.number} is told in ${inDatagram(row.told)} only, behind the answer. The datagrams are out of order, as in `
       + 'captures of two hosts that were merged; or the copy that the reader received is not in the recording.',
     todo: () => 'Record at the writer’s side, on one interface, and see whether tcpdump dropped packets.',
   },
   {
     fits: ({ report }) => isAbove(report.counts.fragments, 0) || isAbove(report.counts.ignored || 0, 0),
-    means: ({ row }) => `Nothing in the recording tells number ${row.number}. The sample may have come in fragments, or in a frame that gave no datagram.`,
+    means: ({ row }) => `Nothing in the recording tells sample ${row.number}. It may have come in fragments, or in a frame that gave no datagram.`,
     todo: () => IN_FRAGMENTS,
   },
   {
     fits: ({ row }) => row.announced === null || isAbove(row.number, row.announced.number),
-    means: ({ row }) => `The reader acknowledges number ${row.number}, which nobody announced.`,
+    means: ({ row }) => `The reader acknowledges sample ${row.number}, which nobody announced.`,
     todo: () => 'It is a defect, or another writer had this GUID before.',
   },
   {
@@ -113,7 +113,7 @@ const UNFOUNDED = [
   },
   {
     fits: () => true,
-    means: ({ row }) => `Nothing in the recording tells number ${row.number}.`,
+    means: ({ row }) => `Nothing in the recording sends sample ${row.number} or says that it is gone.`,
     todo: () => 'Frames were dropped: see what tcpdump says at its end; or these samples took another way (shared memory).',
   },
 ];
@@ -126,13 +126,13 @@ const COMPLETE = [
   },
   {
     fits: ({ row }) => row.kind === 'missed',
-    means: ({ row }) => `The reader asked for number ${row.first_missed.number} in ${inDatagram(row.first_missed.asked)}, so it lacked it. `
+    means: ({ row }) => `The reader asked for sample ${row.first_missed.number} in ${inDatagram(row.first_missed.asked)}, so it lacked it. `
       + (row.first_missed.gone ? `Then it was told that it is gone, in ${inDatagram(row.first_missed.gone)}.` : 'Nothing shows that it got it.'),
     todo: () => KEEP_MORE,
   },
   {
     fits: ({ row }) => row.kind === 'gone',
-    means: ({ row }) => `The reader did not get ${plural(row.gone, 'number')}: ${String(row.gone) === '1' ? 'it was' : 'they were'} only said to be gone.`,
+    means: ({ row }) => `The reader did not get ${plural(row.gone, 'sample')}: ${String(row.gone) === '1' ? 'it was' : 'they were'} only said to be gone.`,
     todo: () => 'It is no fault if the reader joined late and they are older (--from leaves them out), or if its content filter does not '
       + 'want them. Else raise the writer’s history depth or lifespan.',
   },
@@ -214,12 +214,25 @@ function warningsOf(report) {
       means: 'These ACKNACKs name no participant as destination, so they acknowledge nothing here: their rows stay open.',
       todo: 'Read these rows with care.',
     },
+    report.keptApart.length > 0 && {
+      count: plural(new Set(report.keptApart.map(({ writer }) => writer.topic)).size, 'topic kept apart', 'topics kept apart'),
+      means: `A writer and a reader do not match, so they are in no pair: ${apartTexts(report)}`,
+      todo: 'Let the writer offer what the reader asks for, and both have one type.',
+    },
     gone.length > 0 && {
       count: plural(gone.length, 'complete pair with numbers gone', 'complete pairs with numbers gone'),
       means: 'Complete does not always mean received. Their readers did not get these numbers: they were only said to be gone.',
       todo: 'It is no fault if the reader joined late and they are older (--from leaves them out). Else raise the writer’s history depth or lifespan.',
     },
   ].filter(Boolean);
+}
+
+// The first of the topics whose writers and readers do not match, and why.
+function apartTexts(report) {
+  const texts = report.keptApart.slice(0, 3).map(({ writer, reader, reasons }) => `${shownTopic(writer.topic)} (${reasons.map((member) => (member === 'type'
+    ? `the types are ${rosType(writer.type) || writer.type} and ${rosType(reader.type) || reader.type}`
+    : `the reader asks for ${reader[member]}, the writer offers ${writer[member]}`)).join('; ')})`);
+  return `${texts.join(', ')}${report.keptApart.length > 3 ? ', and others, below' : ''}.`;
 }
 
 // Why there may be no pair at all.

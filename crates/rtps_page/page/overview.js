@@ -29,11 +29,11 @@ function askedText(options) {
 
 function explanation(report) {
   const text = 'A pair is a reliable writer and a reliable reader of one topic that match. It is complete if the reader acknowledged '
-    + 'every number that the writer announced.';
+    + 'every sample that the writer announced.';
   if (!report.hasReceived()) return [text];
   const asked = report.rows.reduce((sum, row) => sum + askedAbout(row), 0n);
   const missed = sumOf(report.rows, 'missed');
-  const received = ` ${counted(sumOf(report.rows, 'received'))} of ${plural(asked, 'number')} were surely received`;
+  const received = ` ${counted(sumOf(report.rows, 'received'))} of ${plural(asked, 'sample')} were surely received`;
   return [text, missed > 0n ? `${received}; ${counted(missed)} ${missed === 1n ? 'was' : 'were'} missed.` : `${received}.`];
 }
 
@@ -51,8 +51,7 @@ function findings(report) {
     cases.get(advice).rows.push(row);
   }
   const lines = [...found.values()].flatMap((cases) => [...cases.values()]);
-  const rank = (line) => KINDS.indexOf(line.kind);
-  return lines.sort((a, b) => rank(a) - rank(b) || b.rows.length - a.rows.length || a.rows[0].at - b.rows[0].at);
+  return lines.sort((a, b) => a.rows[0].rank - b.rows[0].rank || b.rows.length - a.rows.length || a.rows[0].at - b.rows[0].at);
 }
 
 function showTopics(report) {
@@ -109,11 +108,11 @@ function earliest(rows) {
 
 function manySentence({ kind, rows }) {
   const readers = plural(new Set(rows.map((row) => row.reader)).size, 'reader');
-  if (kind === 'unfounded') return `${readers} acknowledged numbers that nothing before in the recording told.`;
-  if (kind === 'conflict') return `${readers} heard two different payloads for one number.`;
-  if (kind === 'open') return `${readers} may lack numbers that are announced and were never acknowledged.`;
-  if (kind === 'missed') return `${readers} missed ${plural(sumOf(rows, 'missed'), 'number')}: asked for, and never seen to come.`;
-  return `${readers} did not get ${plural(sumOf(rows, 'gone'), 'number')}: they were only said to be gone.`;
+  if (kind === 'unfounded') return `${readers} acknowledged samples that nothing before in the recording told.`;
+  if (kind === 'conflict') return `${readers} heard two different payloads for one sample.`;
+  if (kind === 'open') return `${readers} may lack samples that are announced and were never acknowledged.`;
+  if (kind === 'missed') return `${readers} missed ${plural(sumOf(rows, 'missed'), 'sample')}: asked for, and never seen to come.`;
+  return `${readers} did not get ${plural(sumOf(rows, 'gone'), 'sample')}: they were only said to be gone.`;
 }
 
 function pairLink(report, row) {

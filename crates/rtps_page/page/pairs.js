@@ -8,7 +8,7 @@ const MORE_ROWS = 500;
 const byNumber = (member) => (a, b) => compareNumbers(member(a), member(b));
 const byText = (member) => (a, b) => (a[member] < b[member] ? -1 : Number(a[member] > b[member]));
 const byCount = (member) => byNumber((row) => row[member]);
-const worse = (a, b) => KINDS.indexOf(a.kind) - KINDS.indexOf(b.kind);
+const worse = (a, b) => a.rank - b.rank;
 
 // Where no number is announced or acknowledged, 0 stands in the order and a dash on the page.
 const announcedOf = (row) => (row.announced ? row.announced.number : 0);

@@ -9,9 +9,8 @@ const NAMED_MATCHES = 3;
 function showParticipants(report) {
   const section = document.getElementById('participants');
   const participants = [...report.participants.values()];
-  const apart = report.endpoints.filter((endpoint) => !othersOf(report, endpoint).some((found) => found.apart.length === 0)).length;
   section.append(make('p', null, `${plural(participants.length, 'participant')}, mostly one process each, with ${plural(report.endpoints.length, 'endpoint')}. `
-    + (apart === 0 ? 'Each endpoint has a match.' : `${counted(apart)} of them ${apart === 1 ? 'has' : 'have'} no match.`)
+    + 'A node that no other node asks anything has services without a match.'
     + (report.faults ? ` ${plural(report.faults, 'announcement')} could not be read.` : '')));
   if (participants.length === 0) return;
   const table = make('table', { class: 'endpoints' }, make('caption', { class: 'hidden' }, 'Endpoints by participant'),
@@ -44,21 +43,20 @@ function participantBody(report, participant) {
 }
 
 function endpointRow(report, endpoint) {
-  const others = othersOf(report, endpoint);
-  const matches = others.filter(({ apart }) => apart.length === 0);
+  const { matches, apart } = othersOf(report, endpoint);
   return make('tr', { class: matches.length ? 'matched' : 'unmatched' },
     make('th', { scope: 'row' }, endpoint.side, ' ', make('code', { class: 'guid' }, entityOf(endpoint.guid))),
     make('td', null, make('div', null, ...topicName(endpoint.topic)), make('div', { class: 'type' }, ...typeName(endpoint.type))),
     make('td', null, `${endpoint.reliability}, ${endpoint.durability}`),
-    make('td', null, matchText(report, endpoint, matches), ...others.filter(({ apart }) => apart.length > 0).map((found) => apartText(report, endpoint, found))));
+    make('td', null, matchText(report, endpoint, matches), ...apart.map((found) => apartText(report, endpoint, found))));
 }
 
 const otherSide = (endpoint) => (endpoint.side === 'writer' ? 'reader' : 'writer');
 
 function matchText(report, endpoint, matches) {
-  const members = matches.flatMap(({ other }) => other.members);
+  const members = matches.flatMap((other) => other.members);
   if (members.length === 0) return make('p', null, badge('none', 'no match'), ` No ${otherSide(endpoint)} of this topic matches.`);
-  const reliable = matches.filter(({ other }) => other.reliability === 'reliable' && endpoint.reliability === 'reliable').reduce((sum, { other }) => sum + other.members.length, 0);
+  const reliable = members.filter((other) => other.reliability === 'reliable' && endpoint.reliability === 'reliable').length;
   const rest = members.length - reliable;
   const note = rest === 0 ? '' : reliable === 0 ? ' (best-effort: not audited)' : ` (${counted(rest)} best-effort: not audited)`;
   return make('p', null, `${plural(members.length, otherSide(endpoint))}: `, ...participantLinks(report, members), note);
@@ -73,12 +71,12 @@ function participantLinks(report, members) {
 }
 
 // What keeps an endpoint apart from the others of a class.
-function apartText(report, endpoint, { other, apart }) {
+function apartText(report, endpoint, { other, reasons }) {
   const [writer, reader] = endpoint.side === 'writer' ? [endpoint, other] : [other, endpoint];
-  const reasons = apart.map((member) => (member === 'type'
+  const texts = reasons.map((member) => (member === 'type'
     ? [`the type of the ${other.side} is `, ...typeName(other.type)]
     : [`the reader asks for ${reader[member]}, and the writer offers ${writer[member]}`]));
   const many = other.members.length === 1 ? `A ${other.side}` : plural(other.members.length, other.side);
   return make('p', { class: 'apart' }, `${many} of this topic ${other.members.length === 1 ? 'does' : 'do'} not match (`, ...participantLinks(report, other.members), '): ',
-    ...reasons.flatMap((reason, at) => (at > 0 ? ['; ', ...reason] : reason)), '.');
+    ...texts.flatMap((text, at) => (at > 0 ? ['; ', ...text] : text)), '.');
 }

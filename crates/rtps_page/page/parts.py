@@ -5,7 +5,8 @@
 
 The page is head, rows, middle, data and tail. Rows are the plain lines of the report that are shown without scripts, and data
 is an object of JSON. What stands in page.html for the two is a small stored report to work on the page with, and is left out.
-Style and scripts stand in the page itself, and its policy allows these alone, by their hashes, and no connection.
+Style and scripts stand in the page itself, without their comments and indents, and its policy allows these alone, by their
+hashes, and no connection.
 """
 import base64
 import hashlib
@@ -25,6 +26,16 @@ def file_of(name):
         return f.read()
 
 
+# Comments stand on lines of their own.
+COMMENTS = {'style': re.compile(r'/\*.*?\*/', re.DOTALL), 'script': re.compile(r'^ *//.*$', re.MULTILINE), 'html': re.compile(r'<!--.*?-->', re.DOTALL)}
+
+
+def without_comments(text, kind):
+    """a text without its comments, indents and empty lines"""
+    lines = (line.strip() for line in COMMENTS[kind].sub('', text).split('\n'))
+    return ''.join(f'{line}\n' for line in lines if line)
+
+
 def hash_of(text):
     return f"'sha256-{base64.b64encode(hashlib.sha256(text.encode()).digest()).decode()}'"
 
@@ -34,7 +45,7 @@ def inlined(page, pattern, tag):
     hashes = []
 
     def element(found):
-        text = file_of(found.group(1))
+        text = without_comments(file_of(found.group(1)), tag)
         # A script or a style ends at its closing tag alone, as long as no comment of HTML begins in it.
         assert f'</{tag}' not in text and '<!--' not in text, found.group(1)
         hashes.append(hash_of(text))
@@ -45,7 +56,7 @@ def inlined(page, pattern, tag):
 
 def parts():
     """head, middle and tail"""
-    page, styles = inlined(file_of('page.html'), STYLE, 'style')
+    page, styles = inlined(without_comments(file_of('page.html'), 'html'), STYLE, 'style')
     page, scripts = inlined(page, SCRIPT, 'script')
     policy = f"default-src 'none'; style-src {' '.join(styles)}; script-src {' '.join(scripts)}; base-uri 'none'; form-action 'none'"
     meta = '<meta charset="utf-8">\n'

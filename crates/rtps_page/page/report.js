@@ -11,16 +11,22 @@ const KIND_WORDS = {
   missed: 'complete, missed', gone: 'complete, gone', complete: 'complete',
 };
 
-// Integers of 16 digits and more can pass what a number of JavaScript holds.
-const LARGE = /[:,[]\d{16,}[,\]}]/;
+// A string of JSON, or an integer that can pass what a number of JavaScript holds.
 const STRING_OR_LARGE = /"(?:[^"\\]|\\.)*"|\d{16,}/g;
 
-// The value of a text of JSON. A large integer becomes a string of its digits; what stands in a string stays as it is.
+const isLarge = (n) => n > Number.MAX_SAFE_INTEGER;
+
+// Whether a number of a row was rounded when it was read. All others of the page are below one of these.
+function isRounded({ number, announced, acknowledged }) {
+  return isLarge(number) || (announced !== null && isLarge(announced.number)) || (acknowledged !== null && isLarge(acknowledged.below));
+}
+
+// The value of a text of JSON. Where a number is too large, each such becomes a string of its digits; what stands in a string
+// stays as it is.
 function valueOf(text) {
-  if (LARGE.test(text)) {
-    text = text.replace(STRING_OR_LARGE, (found) => (found[0] === '"' ? found : `"${found}"`));
-  }
-  return JSON.parse(text);
+  const value = JSON.parse(text);
+  if (!isLarge(value.options.from) && !value.report.pairs.some(isRounded)) return value;
+  return JSON.parse(text.replace(STRING_OR_LARGE, (found) => (found[0] === '"' ? found : `"${found}"`)));
 }
 
 // Compares two integers, each a number or a string of digits.
@@ -76,14 +82,16 @@ class Report {
     this.malformed = data.malformed;
     this.faults = data.faults;
     this.endpoints = data.endpoints;
-    this.rows = data.report.pairs.map((row, at) => ({ ...row, at, kind: kindOf(row) }));
+    this.rows = data.report.pairs;
     this.groups = groupsOf(this.rows);
     this.acts = new Map(data.writers.map((writer) => [writer.guid, writer.acts]));
-    this.bases = new Map(data.answers.map((answer) => [`${answer.writer} ${answer.reader}`, answer.bases]));
+    this.answers = data.answers;
+    this.bases = null;
     this.dataOf = new Map();
     this.endpointOf = new Map(data.endpoints.map((endpoint) => [endpoint.guid, endpoint]));
     this.participants = participantsOf(data);
-    this.byTopic = endpointsByName(data.endpoints);
+    this.classes = classesOf(data.endpoints);
+    this.keptApart = keptApart(this);
   }
 
   // whether the rows have what is surely received, and what was missed
@@ -98,6 +106,7 @@ class Report {
 
   // what the reader of a row answered, or undefined where the page has no room for it
   basesOf(row) {
+    if (this.bases === null) this.bases = new Map(this.answers.map((answer) => [`${answer.writer} ${answer.reader}`, answer.bases]));
     return this.bases.get(`${row.writer} ${row.reader}`);
   }
 
@@ -127,10 +136,13 @@ function dataByNumber(acts) {
   return found;
 }
 
-// The rows by topic and type, in the order of their first row.
+// The rows by topic and type, in the order of their first row. Each row gets its place, its kind, how bad it is, and its group.
 function groupsOf(rows) {
   const groups = new Map();
-  for (const row of rows) {
+  for (const [at, row] of rows.entries()) {
+    row.at = at;
+    row.kind = kindOf(row);
+    row.rank = KINDS.indexOf(row.kind);
     const key = `${row.topic}\n${row.type}`;
     let group = groups.get(key);
     if (!group) {
@@ -161,8 +173,8 @@ function participantsOf(data) {
   return participants;
 }
 
-// Endpoints by topic, and in it by type, side, reliability and durability: endpoints of one such class match alike.
-function endpointsByName(endpoints) {
+// Classes of endpoints by topic: those of one class have the same type, side, reliability and durability, and match alike.
+function classesOf(endpoints) {
   const topics = new Map();
   for (const endpoint of endpoints) {
     if (!topics.has(endpoint.topic)) topics.set(endpoint.topic, new Map());
@@ -183,13 +195,30 @@ function differences(writer, reader) {
   return found;
 }
 
-// The classes of endpoints of the same topic on the other side, each with what keeps it apart from this endpoint.
+// So many classes are told at most of those that an endpoint, or a topic, is kept apart from.
+const MOST_APART = 5;
+
+// The classes that an endpoint matches, and the first of those of its topic that it is kept apart from, each with the reasons.
 function othersOf(report, endpoint) {
-  const found = [];
-  for (const other of report.byTopic.get(endpoint.topic).values()) {
+  const [matches, apart] = [[], []];
+  for (const other of report.classes.get(endpoint.topic).values()) {
     if (other.side === endpoint.side) continue;
-    const apart = endpoint.side === 'writer' ? differences(endpoint, other) : differences(other, endpoint);
-    found.push({ other, apart });
+    const reasons = endpoint.side === 'writer' ? differences(endpoint, other) : differences(other, endpoint);
+    if (reasons.length === 0) matches.push(other);
+    else if (apart.length < MOST_APART) apart.push({ other, reasons });
   }
-  return found;
+  return { matches, apart };
+}
+
+// The first classes of writers and readers of each topic that do not match, and the reasons.
+function keptApart(report) {
+  return [...report.classes.values()].flatMap((classes) => {
+    const found = [];
+    const sides = [...classes.values()];
+    for (const writer of sides.filter(({ side }) => side === 'writer')) {
+      if (found.length >= MOST_APART) break;
+      for (const { other, reasons } of othersOf(report, writer).apart) found.push({ writer, reader: other, reasons });
+    }
+    return found.slice(0, MOST_APART);
+  });
 }

@@ -14,9 +14,9 @@ const actText = (act) => `${KIND_OF_ACT[act.by] || act.by} in ${placeText(act)}`
 function verdictSentence(report, row) {
   const { number } = row;
   if (row.verdict === 'unfounded') {
-    return `In datagram ${row.datagram} the reader acknowledged number ${number}, but nothing before that sent it ${number} or said that ${number} is gone.`;
+    return `In datagram ${row.datagram} the reader acknowledged sample ${number}, but nothing before that sent it ${number} or said that ${number} is gone.`;
   }
-  if (row.verdict === 'conflict') return `The writer sent two different payloads for number ${number} to this reader.`;
+  if (row.verdict === 'conflict') return `The writer sent two different payloads for sample ${number} to this reader.`;
   if (row.verdict === 'open') return openSentence(row);
   return completeSentence(row, report.options.from);
 }
@@ -24,14 +24,14 @@ function verdictSentence(report, row) {
 // All numbers from that of the verdict on are not acknowledged.
 function openSentence(row) {
   const { number, announced } = row;
-  if (number === announced.number) return `The reader may lack number ${number}: it is announced, and the reader never acknowledged it.`;
-  return `The reader may lack numbers ${number} to ${announced.number}: they are announced, and the reader never acknowledged them.`;
+  if (number === announced.number) return `The reader may lack sample ${number}: it is announced, and the reader never acknowledged it.`;
+  return `The reader may lack samples ${number} to ${announced.number}: they are announced, and the reader never acknowledged them.`;
 }
 
 function completeSentence(row, from) {
   if (row.announced === null) return from === 1 ? 'The writer announced no number.' : `The writer announced no number from ${from} on.`;
-  const all = `The reader acknowledged each number from ${from} to ${row.number}`;
-  if (row.kind === 'missed') return `${all}, but it missed ${row.missed === 1 ? `number ${row.first_missed.number}` : `${counted(row.missed)} of them`}.`;
+  const all = `The reader acknowledged each sample from ${from} to ${row.number}`;
+  if (row.kind === 'missed') return `${all}, but it missed ${row.missed === 1 ? `sample ${row.first_missed.number}` : `${counted(row.missed)} of them`}.`;
   if (row.kind === 'gone') return `${all}, but ${counted(row.gone)} of them ${String(row.gone) === '1' ? 'was' : 'were'} only said to be gone.`;
   return `${all}.`;
 }
