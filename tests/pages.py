@@ -165,7 +165,7 @@ class PageTests(Counts):
             self.leave(name, tab)
 
     def outcome(self):
-        wanted = {'robot': '2 of 4 pairs are complete', 'none': 'No pair was audited', 'open.rec': 'The only pair is not complete',
+        wanted = {'robot': '2 of 4 pairs are complete, and 1 sample was missed', 'none': 'No pair was audited', 'open.rec': 'The only pair is not complete, and 1 sample was missed', 'gone.rec': 'The only pair is complete',
                   'pose.rec': 'The only pair is complete', 'unmatched': 'No pair was audited'}
         for name, sentence in wanted.items():
             tab = self.open(name)
@@ -420,7 +420,7 @@ class PageTests(Counts):
         print(f'90,000 pairs: {os.path.getsize(self.path("many")):,} octets, seen after {first:.2f} s of processor time, filtered in {slowest * 1000:.0f} ms')
         self.holds('90,000 pairs: first sight', True, first < FIRST_SIGHT)
         self.holds('90,000 pairs: a filter', True, slowest < FILTERED)
-        self.holds('90,000 pairs: what is shown', '90,000 pairs; the first 200 are shown.', tab.evaluate("document.getElementById('shown').textContent"))
+        self.holds('90,000 pairs: what is shown', '90,000 pairs; the first 100 are shown.', tab.evaluate("document.getElementById('shown').textContent"))
         tab.click('button.more')
         tab.evaluate("location.hash = '#pair-77777'")
         tab.settle()

@@ -70,10 +70,23 @@ function endpointName(report, guid) {
   return [short || null, node || null, short ? ' ' : null, guidText(guid)];
 }
 
+// So many topics are named of those that a participant writes, and of those that it reads.
+const NAMED_TOPICS = 4;
+
 // The nodes of a participant, at most two by name.
 function nodesText(participant) {
   const { nodes } = participant;
   return nodes.length < 3 ? nodes.join(', ') : `${nodes[0]}, ${nodes[1]} and ${nodes.length - 2} more`;
+}
+
+// What a participant writes and reads, so that one knows it by its topics.
+function topicsText(participant) {
+  const part = (side, verb) => {
+    const topics = [...new Set(participant.endpoints.filter((endpoint) => endpoint.side === side).map(({ topic }) => shownTopic(topic)))].filter((topic) => !/ \(service /.test(topic)).sort();
+    if (topics.length === 0) return null;
+    return `${verb} ${topics.slice(0, NAMED_TOPICS).join(', ')}${topics.length > NAMED_TOPICS ? ` and ${topics.length - NAMED_TOPICS} more` : ''}`;
+  };
+  return [part('writer', 'writes'), part('reader', 'reads')].filter(Boolean).join('; ');
 }
 
 function badge(kind, words) {

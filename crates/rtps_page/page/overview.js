@@ -9,7 +9,7 @@ function showOverview(report) {
   document.title = `${outcome}: rtps-audit`;
   fill(document.getElementById('asked'), 'rtps-audit, a report of ', askedText(report.options));
   fill(document.getElementById('outcome'), outcome);
-  fill(document.getElementById('explained'), explanation(report));
+  document.getElementById('explained').textContent = explanation(report);
   showTopics(report);
   showWarnings(report);
   showCounts(report);
@@ -30,11 +30,11 @@ function askedText(options) {
 function explanation(report) {
   const text = 'A pair is a reliable writer and a reliable reader of one topic that match. It is complete if the reader acknowledged '
     + 'every sample that the writer announced.';
-  if (!report.hasReceived()) return [text];
+  if (!report.hasReceived()) return text;
   const asked = report.rows.reduce((sum, row) => sum + askedAbout(row), 0n);
-  const missed = sumOf(report.rows, 'missed');
-  const received = ` ${counted(sumOf(report.rows, 'received'))} of ${plural(asked, 'sample')} were surely received`;
-  return [text, missed > 0n ? `${received}; ${counted(missed)} ${missed === 1n ? 'was' : 'were'} missed.` : `${received}.`];
+  const received = sumOf(report.rows, 'received');
+  const proved = `${text} The recording proves ${counted(received)} of ${plural(asked, 'sample')} received`;
+  return received === asked ? `${proved}.` : `${proved}; most of the others may have come, too.`;
 }
 
 // ---- the topics

@@ -25,9 +25,10 @@ function adviceBox({ means, todo }) {
 
 function endpointList(report, row) {
   const part = (side, guid) => {
-    const endpoint = report.endpointOf.get(guid);
+    const [endpoint, participant] = [report.endpointOf.get(guid), report.participantOf(guid)];
     return [make('dt', null, side), make('dd', null, ...endpointName(report, guid),
-      endpoint ? make('span', { class: 'qos' }, ` ${endpoint.reliability}, ${endpoint.durability}`) : null)];
+      endpoint ? make('div', { class: 'qos' }, `${endpoint.reliability}, ${endpoint.durability}`) : null,
+      participant ? make('div', { class: 'qos' }, `${participant.name} ${topicsText(participant)}`) : null)];
   };
   return make('dl', { class: 'ends-list' }, ...part('Writer', row.writer), ...part('Reader', row.reader),
     make('dt', null, 'Type'), make('dd', null, ...typeName(row.type)));

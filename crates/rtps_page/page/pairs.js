@@ -2,7 +2,7 @@
 // The table of pairs, grouped by topic: filter, order, and the pair that is chosen.
 
 // So many rows are shown at first, and so many more each time.
-const FIRST_ROWS = 200;
+const FIRST_ROWS = 100;
 const MORE_ROWS = 500;
 
 const byNumber = (member) => (a, b) => compareNumbers(member(a), member(b));
@@ -130,9 +130,10 @@ class Pairs {
     });
     this.table = make('table', { class: 'pairs' }, make('caption', { class: 'hidden' }, 'Pairs by topic'), this.heads());
     this.table.addEventListener('click', (event) => this.clicked(event));
-    document.getElementById('pairs').append(
-      make('div', { class: 'tools' }, make('label', { for: 'filter' }, 'Filter'), this.filter, make('label', { for: 'order' }, 'Order'), this.select, this.turn),
-      this.status, make('div', { class: 'wide' }, this.table), this.more);
+    const tools = make('div', { class: 'tools' }, make('label', { for: 'filter' }, 'Filter'), this.filter, make('label', { for: 'order' }, 'Order'), this.select, this.turn);
+    const wide = make('div', { class: 'wide' }, this.table);
+    tools.hidden = wide.hidden = this.report.rows.length === 0;
+    document.getElementById('pairs').append(tools, this.status, wide, this.more);
     this.buildVerdicts();
   }
 
@@ -177,7 +178,7 @@ class Pairs {
 
   statusText(found, shown) {
     const all = this.report.rows.length;
-    if (all === 0) return 'There is none.';
+    if (all === 0) return 'There is none: see what weakens this report.';
     const of = found === all ? plural(all, 'pair') : `${counted(found)} of ${plural(all, 'pair')}`;
     return shown < found ? `${of}; the first ${counted(shown)} are shown.` : `${of}.`;
   }

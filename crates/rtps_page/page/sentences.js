@@ -38,13 +38,13 @@ function completeSentence(row, from) {
 
 // Since which datagram a row has its problem, and what happened in it; null where it has none.
 function sinceOf(row) {
-  if (row.verdict === 'unfounded') return { datagram: row.datagram, what: 'acknowledged too early' };
-  if (row.verdict === 'conflict') return { datagram: row.sent[1].datagram, what: 'sent with another payload' };
-  if (row.verdict === 'open') {
-    return row.told ? { datagram: row.told.datagram, what: row.told.by === 'data' ? 'first sent' : 'first told' } : { datagram: row.announced.datagram, what: `${row.announced.number} announced` };
-  }
-  if (row.kind === 'missed') return { datagram: row.first_missed.asked.datagram, what: 'asked for' };
-  if (row.kind === 'gone' && row.not_received && row.not_received.gone) return { datagram: row.not_received.gone.datagram, what: 'told gone' };
+  const { number, told, announced } = row;
+  if (row.verdict === 'unfounded') return { datagram: row.datagram, what: `${number} acknowledged too early` };
+  if (row.verdict === 'conflict') return { datagram: row.sent[1].datagram, what: `${number} sent with another payload` };
+  if (row.verdict === 'open' && told) return { datagram: told.datagram, what: `${number} first ${told.by === 'data' ? 'sent' : 'told'}` };
+  if (row.verdict === 'open') return { datagram: announced.datagram, what: `${announced.number} announced` };
+  if (row.kind === 'missed') return { datagram: row.first_missed.asked.datagram, what: `${row.first_missed.number} asked for` };
+  if (row.kind === 'gone' && row.not_received && row.not_received.gone) return { datagram: row.not_received.gone.datagram, what: `${row.not_received.number} told gone` };
   return null;
 }
 
@@ -67,7 +67,7 @@ function commonSentences(row) {
 
 function receivedSentences(report, row) {
   if (row.received === undefined) return [];
-  const found = [`${counted(row.received)} of ${plural(askedAbout(row), 'number')} ${String(row.received) === '1' ? 'was' : 'were'} surely received.`];
+  const found = [`The recording proves ${counted(row.received)} of ${plural(askedAbout(row), 'number')} received.`];
   if (isAbove(row.missed, 0)) {
     const { number, asked, gone } = row.first_missed;
     found.push(`The reader missed ${plural(row.missed, 'number')}: it asked for ${number} in ${placeText(asked)}, `
@@ -108,6 +108,13 @@ function payloadText(sent) {
 
 // The outcome of the report.
 function outcomeSentence(report) {
+  const missed = report.hasReceived() ? sumOf(report.rows, 'missed') : 0n;
+  const complete = completePairs(report);
+  if (missed === 0n) return complete;
+  return `${complete}, and ${plural(missed, 'sample')} ${missed === 1n ? 'was' : 'were'} missed`;
+}
+
+function completePairs(report) {
   const all = report.rows.length;
   const complete = report.rows.reduce((sum, row) => sum + (row.verdict === 'complete'), 0);
   if (all === 0) return 'No pair was audited';
