@@ -127,7 +127,7 @@ def plain_rows(rows):
         announced = row['announced']['number'] if row['announced'] else '-'
         below = row['acknowledged']['below'] if row['acknowledged'] else '-'
         fields = [row['verdict'], row['number'], announced, below, row['payloads'], row['gone'], row['untold'],
-                  row['writer'], row['reader'], plain_name(row['topic']), plain_name(row['type'])]
+                  plain_name(row['topic']), plain_name(row['type']), row['writer'], row['reader']]
         lines.append('\t'.join(map(str, fields)) + '\n')
     return ''.join(lines)
 

@@ -140,6 +140,9 @@ class PageTests(Counts):
             self.holds(f'{name}: a page is its parts', head + rows + middle + data + tail, page.page_text(values))
             self.holds(f'{name}: no octet of a recording begins markup', [], [c for c in '<>&' if c in rows + data])
             self.holds(f'{name}: the data is read back', values, json.loads(data))
+        values = self.values('robot')
+        stored = parts.stored(page.plain_rows(values['report']['pairs']), page.data_text(values))
+        self.holds('page.html has the page of recorded.py robot: run bench/page.py stored', stored, parts.file_of('page.html'))
         for name in EXAMPLES:
             self.holds(f'{name}: its size', True, os.path.getsize(self.path(name)) <= EXAMPLE_SIZE)
         self.holds('90,000 pairs: their size', True, os.path.getsize(self.path('many')) <= MANY_SIZE)
@@ -163,6 +166,16 @@ class PageTests(Counts):
             counts = {key: counted(n) for key, n in self.values(name)['report'].items() if key != 'pairs'}
             self.holds(f'{name}: each count is that of the report', counts, tab.evaluate('countsShown()'))
             self.leave(name, tab)
+
+    def working_copy(self):
+        """page.html as it lies in its folder, with style and scripts in files of their own"""
+        tab = Tab(self.browser)
+        tab.open(os.path.join(parts.FOLDER, 'page.html'))
+        tab.evaluate(PROBE)
+        shown = [last_names(row) for row in tab.evaluate('rowsShown()')]
+        self.holds('page.html is shown as it lies there', [row_wanted(at, row) for at, row in enumerate(self.rows('robot'))], sorted(shown, key=lambda row: int(row['id'][5:])))
+        self.holds('page.html: nothing is said', [], tab.complaints())
+        tab.close()
 
     def outcome(self):
         wanted = {'robot': '2 of 4 pairs are complete, and 1 sample was missed', 'none': 'No pair was audited', 'open.rec': 'The only pair is not complete, and 1 sample was missed', 'gone.rec': 'The only pair is complete',
@@ -391,14 +404,17 @@ class PageTests(Counts):
             for width in (360, 390, 768, 1280, 1920):
                 tab = self.open(name, '#pair-1', width=width)
                 self.holds(f'{name}: it fits in {width} pixels', width, tab.evaluate('document.documentElement.scrollWidth'))
+                hidden = tab.evaluate("[...document.querySelectorAll('tr.pair, table.endpoints tr, table.topics tbody tr')].filter((row) => row.getClientRects().length === 0).length")
+                self.holds(f'{name}: each row is in sight at {width} pixels', 0, hidden)
                 tab.close()
 
     def paper(self):
         tab = self.open('robot', '#pair-2', dark=True)
         self.holds('it is printed', b'%PDF', tab.print()[:4])
         tab.send('Emulation.setEmulatedMedia', media='print', features=[{'name': 'prefers-color-scheme', 'value': 'dark'}])
-        tab.resize(760, 1100)
+        tab.resize(700, 1000)
         tab.settle()
+        self.holds('it fits on paper', 700, tab.evaluate('document.documentElement.scrollWidth'))
         shown = tab.evaluate('''Object.fromEntries(['.tools', '.controls', 'table.pairs', 'tr.detail', 'canvas', 'td.payloads'].map((name) =>
             [name, document.querySelector(name).getClientRects().length > 0]))''')
         self.holds('what is on paper', {'.tools': False, '.controls': False, 'table.pairs': True, 'tr.detail': True, 'canvas': True, 'td.payloads': True}, shown)
@@ -415,8 +431,8 @@ class PageTests(Counts):
         tab.settle()
         first = self.thread_time(tab) - before
         tab.evaluate(PROBE)
-        times = {text: tab.evaluate(f'timeToFilter({json.dumps(text)})') / 1000 for text in ('000a07', 'unfounded', 'p1', 'nothing', '')}
-        slowest = max(times.values())
+        tab.evaluate("timeToFilter('')")
+        slowest = max(self.time_to_filter(tab, text) for text in ('000a07', 'unfounded', 'p1', 'nothing', ''))
         print(f'90,000 pairs: {os.path.getsize(self.path("many")):,} octets, seen after {first:.2f} s of processor time, filtered in {slowest * 1000:.0f} ms')
         self.holds('90,000 pairs: first sight', True, first < FIRST_SIGHT)
         self.holds('90,000 pairs: a filter', True, slowest < FILTERED)
@@ -427,6 +443,11 @@ class PageTests(Counts):
         shown = [last_names(row) for row in tab.evaluate('rowsShown()')]
         self.holds('90,000 pairs: one by its address', [row_wanted(77776, self.rows('many')[77776])], shown)
         self.leave('many', tab)
+
+    def time_to_filter(self, tab, text):
+        before = self.thread_time(tab)
+        tab.evaluate(f'timeToFilter({json.dumps(text)})')
+        return self.thread_time(tab) - before
 
     @staticmethod
     def thread_time(tab):
@@ -460,7 +481,7 @@ def is_heard(act, reader):
 
 
 WITHOUT_BROWSER = 'text_of_a_page', 'rows_with_charts'
-IN_BROWSER = ('each_row', 'outcome', 'first_screen', 'weaknesses', 'chosen_pairs', 'participants', 'kept_apart', 'hostile_names', 'without_scripts', 'filters', 'orders',
+IN_BROWSER = ('each_row', 'working_copy', 'outcome', 'first_screen', 'weaknesses', 'chosen_pairs', 'participants', 'kept_apart', 'hostile_names', 'without_scripts', 'filters', 'orders',
               'clicks', 'keyboard', 'charts', 'pointer', 'charts_left_out', 'contrast', 'widths', 'paper', 'many_pairs')
 
 

@@ -1,4 +1,8 @@
-"""Recordings for the tests of the page, each as its datagrams; and rows of which no recording is made, since they are too many."""
+#!/usr/bin/env python3
+"""Recordings for the tests of the page, each as its datagrams; and rows of which no recording is made, since they are too many.
+
+    recorded.py robot > robot.rec       writes one of these recordings
+"""
 import os
 import sys
 
@@ -218,3 +222,7 @@ def some_verdict(at):
     if at % 1000 == 1:
         return {'verdict': 'unfounded', 'number': 12, 'datagram': 11} | common | counts | {'claimed': {'below': 13, 'datagram': 11, 'at': 36}, 'told': told}
     return {'verdict': 'open', 'number': 12} | common | counts | {'told': told, 'asked_since': 0, 'last_asked': None}
+
+
+if __name__ == '__main__':
+    print('\n'.join(datagram.hex() for datagram in {'robot': robot, 'hostile': hostile, 'greatest': greatest, 'chatty': chatty, 'unmatched': unmatched}[sys.argv[1]]()))

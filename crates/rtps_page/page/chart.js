@@ -47,8 +47,9 @@ function bandsOf(acts) {
   for (const [datagram, , , from, to] of acts) {
     const [low, high] = [Number(from), Number(to)];
     if (high <= below) continue;
-    bands.push({ x: datagram, low: low <= below + 1 ? below + 1 : low, high });
-    if (low <= below + 1) below = high;
+    const follows = low <= below + 1;
+    bands.push({ x: datagram, low: follows ? below + 1 : low, high, follows });
+    if (follows) below = high;
   }
   return bands;
 }
@@ -335,11 +336,16 @@ class Chart {
   drawBands() {
     const { pen } = this;
     pen.fillStyle = this.colour('--band');
+    pen.strokeStyle = this.colour('--band-edge');
+    pen.lineWidth = 1;
     const right = this.pixelX(this.all.x1);
-    for (const { x, low, high } of this.marks.bands) {
-      const [top, bottom] = [this.pixelY(high + 0.5), this.pixelY(low - 0.5)];
-      pen.fillRect(this.pixelX(x), top, right - this.pixelX(x), Math.max(1, bottom - top));
+    for (const { x, low, high, follows } of this.marks.bands) {
+      const [left, top, bottom] = [this.pixelX(x), this.pixelY(high + 0.5), this.pixelY(low - 0.5)];
+      pen.fillRect(left, top, right - left, Math.max(1, bottom - top));
+      if (!follows) pen.strokeRect(left, top, right - left, bottom - top);
     }
+    const edge = this.marks.bands.filter(({ follows }) => follows).map(({ x, high }) => ({ x, y: high + 0.5 }));
+    this.drawSteps(edge, '--band-edge', 1);
   }
 
   drawSteps(steps, colour, thickness) {

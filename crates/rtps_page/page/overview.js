@@ -34,7 +34,7 @@ function explanation(report) {
   const asked = report.rows.reduce((sum, row) => sum + askedAbout(row), 0n);
   const received = sumOf(report.rows, 'received');
   const proved = `${text} The recording proves ${counted(received)} of ${plural(asked, 'sample')} received`;
-  return received === asked ? `${proved}.` : `${proved}; most of the others may have come, too.`;
+  return received === asked ? `${proved}.` : `${proved}; of the others it does not tell.`;
 }
 
 // ---- the topics
@@ -61,6 +61,7 @@ function showTopics(report) {
   if (section.hidden) return;
   const body = make('tbody', null, ...lines.slice(0, FIRST_LINES).map((line) => topicLine(report, line)));
   section.append(make('div', { class: 'wide' }, make('table', { class: 'topics' },
+    make('caption', { class: 'hidden' }, 'Topics with something to look at'),
     make('thead', null, make('tr', null, ...['Topic', 'What happened', 'Since', 'What to do'].map((head) => make('th', { scope: 'col' }, head)))),
     body)));
   if (lines.length > FIRST_LINES) section.append(moreButton(lines.length - FIRST_LINES, 'line', () => {

@@ -29,4 +29,9 @@ function listenForColours() {
   window.addEventListener('afterprint', onPaper(false));
 }
 
-start();
+try {
+  start();
+} catch (error) {
+  document.body.append(make('p', null, `This report cannot be shown here: ${error}`));
+  throw error;
+}

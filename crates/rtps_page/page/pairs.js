@@ -120,7 +120,7 @@ class Pairs {
     this.filter.addEventListener('focus', () => this.prepare());
     this.select = make('select', { id: 'order' }, ...this.orders.map(({ name, head }) => make('option', { value: name }, head)));
     this.select.addEventListener('change', () => this.setOrder(this.orders.find(({ name }) => name === this.select.value)));
-    this.turn = make('button', { type: 'button' }, 'Turn round');
+    this.turn = make('button', { type: 'button' }, 'Reverse');
     this.turn.addEventListener('click', () => this.setOrder(this.order));
     this.status = make('p', { id: 'shown', role: 'status' });
     this.more = make('button', { type: 'button', class: 'more' }, 'Show more');
