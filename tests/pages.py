@@ -186,6 +186,16 @@ class PageTests(Counts):
             self.holds(f'{name}: the title', f'{sentence}: rtps-audit', tab.evaluate('document.title'))
             tab.close()
 
+    def asked(self):
+        """the options that were given"""
+        given = {'from': 7, 'any': True, 'fragments': True, 'observed': True, 'strict': True, 'topics': ["rt/*", "<&'"], 'expect': 9}
+        self.made['asked'] = self.values('robot') | {'options': given}
+        tab = self.open('asked')
+        self.holds('the options are told', "rtps-audit, a report of the numbers from 7 on, with --from 7 --any --fragments --observed --strict --topic 'rt/*' --topic '<&'' --expect 9",
+                   tab.evaluate("document.getElementById('asked').textContent"))
+        self.holds('fewer pairs than expected', '4 pairs. 9 were expected.', tab.evaluate("document.querySelector('#warnings li').textContent").split(' See')[0])
+        self.leave('asked', tab)
+
     def first_screen(self):
         """of a report with an open and an unfounded pair: which topics, since when, and what to do"""
         tab = self.open('robot')
@@ -410,7 +420,9 @@ class PageTests(Counts):
 
     def paper(self):
         tab = self.open('robot', '#pair-2', dark=True)
+        tab.evaluate("addEventListener('beforeprint', () => { window.drawnFor = chartInSight.colour('--paper'); })")
         self.holds('it is printed', b'%PDF', tab.print()[:4])
+        self.holds('the chart is drawn for paper, and then for the screen', ['#ffffff', '#14171a'], tab.evaluate("[window.drawnFor, chartInSight.colour('--paper')]"))
         tab.send('Emulation.setEmulatedMedia', media='print', features=[{'name': 'prefers-color-scheme', 'value': 'dark'}])
         tab.resize(700, 1000)
         tab.settle()
@@ -481,7 +493,7 @@ def is_heard(act, reader):
 
 
 WITHOUT_BROWSER = 'text_of_a_page', 'rows_with_charts'
-IN_BROWSER = ('each_row', 'working_copy', 'outcome', 'first_screen', 'weaknesses', 'chosen_pairs', 'participants', 'kept_apart', 'hostile_names', 'without_scripts', 'filters', 'orders',
+IN_BROWSER = ('each_row', 'working_copy', 'outcome', 'asked', 'first_screen', 'weaknesses', 'chosen_pairs', 'participants', 'kept_apart', 'hostile_names', 'without_scripts', 'filters', 'orders',
               'clicks', 'keyboard', 'charts', 'pointer', 'charts_left_out', 'contrast', 'widths', 'paper', 'many_pairs')
 
 

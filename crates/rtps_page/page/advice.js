@@ -97,7 +97,7 @@ const UNFOUNDED = [
     todo: () => 'Record at the writer’s side, on one interface, and see whether tcpdump dropped packets.',
   },
   {
-    fits: ({ report }) => isAbove(report.counts.fragments, 0) || isAbove(report.counts.ignored || 0, 0),
+    fits: ({ report: { counts, options } }) => (isAbove(counts.fragments, 0) && !options.fragments) || (isAbove(counts.ignored || 0, 0) && !options.any),
     means: ({ row }) => `Nothing in the recording tells sample ${row.number}. It may have come in fragments, or in a frame that gave no datagram.`,
     todo: () => IN_FRAGMENTS,
   },

@@ -291,8 +291,8 @@ class Chart {
     this.drawSteps(this.marks.announced, '--announced', 1.25);
     this.drawSteps(this.marks.acknowledged, '--acknowledged', 3.5);
     this.drawAnswers();
-    this.drawDots();
     this.drawMarks();
+    this.drawDots();
     this.drawDrag();
     this.pen.restore();
   }
@@ -399,6 +399,18 @@ class Chart {
     pen.beginPath();
     pen.arc(this.pixelX(this.at.x), this.pixelY(this.at.y), 7, 0, 7);
     pen.stroke();
+    this.drawDotWords();
+  }
+
+  // Beside the chosen dot, where there is room.
+  drawDotWords() {
+    const { pen, width, at } = this;
+    const isRight = this.pixelX(at.x) > width / 2;
+    pen.fillStyle = this.colour('--ink');
+    pen.font = `12px ${this.style.fontFamily}`;
+    pen.textAlign = isRight ? 'right' : 'left';
+    pen.textBaseline = 'middle';
+    this.words(`${at.number} in datagram ${at.x}, octet ${at.at}`, this.pixelX(at.x) + (isRight ? -12 : 12), Math.max(EDGES.top + 4, this.pixelY(at.y)));
   }
 
   // The number of the verdict and the datagram of `unfounded`, as dashed lines with their words.

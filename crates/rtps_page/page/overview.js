@@ -9,6 +9,7 @@ function showOverview(report) {
   document.title = `${outcome}: rtps-audit`;
   fill(document.getElementById('asked'), 'rtps-audit, a report of ', askedText(report.options));
   fill(document.getElementById('outcome'), outcome);
+  fill(document.getElementById('line'), make('a', { href: '#counts' }, 'Counts'), `: ${countsText(report)}`);
   document.getElementById('explained').textContent = explanation(report);
   showTopics(report);
   showWarnings(report);
@@ -137,6 +138,13 @@ function showWarnings(report) {
 
 // ---- the counts
 
+const countNames = (report) => Object.keys(report.counts).filter((name) => name !== 'pairs');
+
+// The counts as the last line of the report has them.
+function countsText(report) {
+  return countNames(report).map((name) => `${name} ${counted(report.counts[name])}`).join(', ');
+}
+
 // What each count of the recording counts.
 const MEANINGS = {
   datagrams: 'datagrams in the recording',
@@ -152,8 +160,7 @@ const MEANINGS = {
 };
 
 function showCounts(report) {
-  const names = Object.keys(report.counts).filter((name) => name !== 'pairs');
-  const list = names.map((name) => make('div', null,
+  const list = countNames(report).map((name) => make('div', null,
     make('dt', null, name), make('dd', { class: 'count' }, counted(report.counts[name])), make('dd', null, MEANINGS[name] || '')));
   document.getElementById('counts').append(make('dl', { class: 'counts' }, ...list));
 }
