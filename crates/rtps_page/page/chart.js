@@ -5,8 +5,9 @@ const CHART_HEIGHT = 320;
 const EDGES = { left: 64, right: 14, top: 18, bottom: 34 };
 // A dot is found from so many pixels away, and a drag of fewer is none.
 const REACH = 12;
-// Above so many dots in sight they are small squares.
+// Above so many dots in sight they are small, and above so many answers there are no strokes.
 const MANY_DOTS = 3000;
+const MANY_ANSWERS = 150;
 
 // What is drawn of a row: dots for DATA that its reader hears, bands for numbers told gone, steps for what HEARTBEATs announce and
 // for what the reader acknowledged, and marks for the numbers and the datagram that its verdict is about.
@@ -80,6 +81,8 @@ class Chart {
     this.view = this.all;
     this.at = null;
     this.drag = null;
+    this.width = 0;
+    this.still = document.createElement('canvas');
     this.canvas = make('canvas', { tabindex: '0', role: 'application', 'aria-label': this.description(row), 'aria-describedby': 'chart-help' });
     this.readout = make('p', { class: 'readout', role: 'status' }, 'Point at a dot to read it.');
     this.element = make('figure', { class: 'chart' }, this.canvas, this.controls(), this.readout, legend(), this.help());
@@ -135,10 +138,6 @@ class Chart {
   }
 
   // ---- where things are
-
-  get width() {
-    return this.canvas.clientWidth;
-  }
 
   pixelX(x) {
     return EDGES.left + (x - this.view.x0) / (this.view.x1 - this.view.x0) * (this.width - EDGES.left - EDGES.right);
@@ -210,13 +209,13 @@ class Chart {
     this.readout.textContent = dot
       ? `DATA of number ${dot.number} in datagram ${dot.x}, octet ${dot.at}${dot.again ? ', sent again' : ''}.`
       : 'Point at a dot to read it.';
-    this.draw();
+    this.paint();
   }
 
   pointed({ offsetX, offsetY }) {
     if (this.drag) {
       [this.drag.x1, this.drag.y1] = [offsetX, offsetY];
-      this.draw();
+      this.paint();
     } else {
       this.choose(this.nearest(offsetX, offsetY));
     }
@@ -242,7 +241,7 @@ class Chart {
       this.show(this.within(sides));
     } else {
       this.choose(this.nearest(offsetX, offsetY));
-      this.draw();
+      this.paint();
     }
   }
 
@@ -273,28 +272,44 @@ class Chart {
 
   // ---- drawing
 
+  // Draws all anew, as where the window, the size or the colours have changed.
   draw() {
+    const { canvas, still } = this;
+    this.width = canvas.clientWidth;
+    if (this.width === 0) return;
     const scale = Math.max(2, window.devicePixelRatio || 1);
-    const { canvas, width } = this;
-    if (width === 0) return;
-    canvas.width = Math.round(width * scale);
-    canvas.height = CHART_HEIGHT * scale;
-    this.pen = canvas.getContext('2d');
-    this.pen.scale(scale, scale);
+    for (const each of [canvas, still]) [each.width, each.height] = [Math.round(this.width * scale), CHART_HEIGHT * scale];
     this.style = getComputedStyle(canvas);
+    this.pen = still.getContext('2d');
+    this.pen.scale(scale, scale);
     this.axes();
-    this.pen.save();
-    this.pen.beginPath();
-    this.pen.rect(EDGES.left, EDGES.top - 6, width - EDGES.left - EDGES.right, CHART_HEIGHT - EDGES.top - EDGES.bottom + 6);
-    this.pen.clip();
+    this.clip();
     this.drawBands();
     this.drawSteps(this.marks.announced, '--announced', 1.25);
     this.drawSteps(this.marks.acknowledged, '--acknowledged', 3.5);
     this.drawAnswers();
     this.drawMarks();
     this.drawDots();
+    this.paint();
+  }
+
+  // Shows what is drawn, and over it the chosen dot and the frame of a drag.
+  paint() {
+    if (!this.style || !this.width) return;
+    const { canvas, still } = this;
+    this.pen = canvas.getContext('2d');
+    this.pen.setTransform(1, 0, 0, 1, 0, 0);
+    this.pen.clearRect(0, 0, canvas.width, canvas.height);
+    this.pen.drawImage(still, 0, 0);
+    this.pen.scale(canvas.width / this.width, canvas.height / CHART_HEIGHT);
+    this.drawChosen();
     this.drawDrag();
-    this.pen.restore();
+  }
+
+  clip() {
+    this.pen.beginPath();
+    this.pen.rect(EDGES.left, EDGES.top - 6, this.width - EDGES.left - EDGES.right, CHART_HEIGHT - EDGES.top - EDGES.bottom + 6);
+    this.pen.clip();
   }
 
   colour(name) {
@@ -320,11 +335,11 @@ class Chart {
       this.line(EDGES.left, this.pixelY(y), width - EDGES.right, this.pixelY(y));
       pen.fillText(shortNumber(y), EDGES.left - 8, this.pixelY(y));
     }
-    pen.textAlign = 'center';
     pen.textBaseline = 'top';
     for (const x of ticks(view.x0, view.x1, Math.max(2, width / 110))) {
       this.line(this.pixelX(x), CHART_HEIGHT - EDGES.bottom, this.pixelX(x), CHART_HEIGHT - EDGES.bottom + 4);
-      pen.fillText(shortNumber(x), this.pixelX(x), CHART_HEIGHT - EDGES.bottom + 6);
+      pen.textAlign = this.pixelX(x) > width - 30 ? 'right' : 'center';
+      pen.fillText(shortNumber(x), Math.min(this.pixelX(x), width - 4), CHART_HEIGHT - EDGES.bottom + 6);
     }
     pen.textAlign = 'right';
     pen.fillText('datagram', width - EDGES.right, CHART_HEIGHT - 13);
@@ -338,66 +353,85 @@ class Chart {
     pen.fillStyle = this.colour('--band');
     pen.strokeStyle = this.colour('--band-edge');
     pen.lineWidth = 1;
+    this.outline(this.marks.bands.filter(({ follows }) => follows).map(({ x, high }) => ({ x, y: high + 0.5 })));
+    pen.lineTo(this.pixelX(this.all.x1), this.pixelY(0));
+    pen.fill();
+    pen.stroke();
     const right = this.pixelX(this.all.x1);
-    for (const { x, low, high, follows } of this.marks.bands) {
+    const drawn = new Set();
+    for (const { x, low, high } of this.marks.bands.filter(({ follows }) => !follows)) {
       const [left, top, bottom] = [this.pixelX(x), this.pixelY(high + 0.5), this.pixelY(low - 0.5)];
+      const key = `${Math.round(left)} ${Math.round(top)} ${Math.round(bottom)}`;
+      if (drawn.has(key) || left > this.width) continue;
+      drawn.add(key);
       pen.fillRect(left, top, right - left, Math.max(1, bottom - top));
-      if (!follows) pen.strokeRect(left, top, right - left, bottom - top);
+      pen.strokeRect(left, top, right - left, bottom - top);
     }
-    const edge = this.marks.bands.filter(({ follows }) => follows).map(({ x, high }) => ({ x, y: high + 0.5 }));
-    this.drawSteps(edge, '--band-edge', 1);
+  }
+
+  // The path of steps: of those that fall on one column of pixels, the last.
+  outline(steps) {
+    const { pen } = this;
+    pen.beginPath();
+    let [y, column] = [this.pixelY(0), null];
+    steps.forEach((step, at) => {
+      const x = this.pixelX(step.x);
+      if (column === null) pen.moveTo(x, y);
+      column = Math.round(x);
+      if (at + 1 < steps.length && Math.round(this.pixelX(steps[at + 1].x)) === column) return;
+      pen.lineTo(x, y);
+      y = this.pixelY(step.y);
+      pen.lineTo(x, y);
+    });
+    if (column !== null) pen.lineTo(this.pixelX(this.all.x1), y);
   }
 
   drawSteps(steps, colour, thickness) {
-    const { pen } = this;
-    if (steps.length === 0) return;
-    pen.strokeStyle = this.colour(colour);
-    pen.lineWidth = thickness;
-    pen.beginPath();
-    pen.moveTo(this.pixelX(steps[0].x), this.pixelY(0));
-    let y = 0;
-    for (const step of steps) {
-      pen.lineTo(this.pixelX(step.x), this.pixelY(y));
-      y = step.y;
-      pen.lineTo(this.pixelX(step.x), this.pixelY(y));
-    }
-    pen.lineTo(this.pixelX(this.all.x1), this.pixelY(y));
-    pen.stroke();
+    this.pen.strokeStyle = this.colour(colour);
+    this.pen.lineWidth = thickness;
+    this.outline(steps);
+    this.pen.stroke();
   }
 
-  // Each answer of the reader as a stroke across its line.
+  // Each answer of the reader as a stroke across its line, unless they are too many to be told apart.
   drawAnswers() {
+    const answers = this.marks.answers.filter((answer) => this.isInSight(answer));
+    if (answers.length > MANY_ANSWERS) return;
     this.pen.strokeStyle = this.colour('--acknowledged');
     this.pen.lineWidth = 1.25;
-    for (const { x, y } of this.marks.answers) {
-      if (x < this.view.x0 || x > this.view.x1) continue;
+    for (const { x, y } of answers) {
       this.line(this.pixelX(x), this.pixelY(y) - 6, this.pixelX(x), this.pixelY(y) + 6);
     }
   }
 
+  // Where there are many, one of those that fall on one pixel.
   drawDots() {
     const { pen } = this;
     const dots = this.marks.dots.filter((dot) => this.isInSight(dot));
+    const radius = dots.length > MANY_DOTS ? 1.2 : dots.length > 400 ? 2.2 : 3.2;
+    const drawn = new Set();
     pen.fillStyle = this.colour('--data');
     pen.strokeStyle = this.colour('--data');
     pen.lineWidth = 1.25;
-    const radius = dots.length > 400 ? 2.2 : 3.2;
     for (const dot of dots) {
       const [x, y] = [this.pixelX(dot.x), this.pixelY(dot.y)];
-      if (dots.length > MANY_DOTS && !dot.again) {
-        pen.fillRect(x - 1, y - 1, 2, 2);
-        continue;
-      }
+      const key = (Math.round(x) * CHART_HEIGHT + Math.round(y)) * 2 + Number(dot.again);
+      if (dots.length > MANY_DOTS && drawn.has(key)) continue;
+      drawn.add(key);
       pen.beginPath();
       pen.arc(x, y, dot.again ? radius + 0.8 : radius, 0, 7);
       if (dot.again) pen.stroke();
       else pen.fill();
     }
-    if (!this.at || !this.isInSight(this.at)) return;
+  }
+
+  drawChosen() {
+    const { pen, at } = this;
+    if (!at || !this.isInSight(at)) return;
     pen.strokeStyle = this.colour('--ink');
     pen.lineWidth = 2;
     pen.beginPath();
-    pen.arc(this.pixelX(this.at.x), this.pixelY(this.at.y), 7, 0, 7);
+    pen.arc(this.pixelX(at.x), this.pixelY(at.y), 7, 0, 7);
     pen.stroke();
     this.drawDotWords();
   }
