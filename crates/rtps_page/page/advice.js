@@ -25,6 +25,10 @@ function sentBehind(report, row, number, place) {
 // Whether a row asks for the number of its verdict, as far as it says.
 const asksForIt = (row) => row.first_missed && row.first_missed.number === row.number && row.first_missed;
 
+function askedForText({ number, first_missed: missed }) {
+  return `The reader asked for sample ${number} in ${inDatagram(missed.asked)}: at that moment it did not have it.`;
+}
+
 const OPEN = [
   {
     fits: ({ row, report }) => row.acknowledged === null && (report.basesOf(row) || []).length === 0,
@@ -38,20 +42,20 @@ const OPEN = [
   },
   {
     fits: ({ row }) => asksForIt(row) && asksForIt(row).gone !== null,
-    means: ({ row }) => `The reader asked for sample ${row.number} in ${inDatagram(row.first_missed.asked)}: at that moment it did not have it. `
-      + `Then it was told that ${row.number} is gone, in ${inDatagram(row.first_missed.gone)}.`,
+    means: ({ row }) => `${askedForText(row)} Then it was told that ${row.number} is gone, in ${inDatagram(row.first_missed.gone)}.`,
     todo: () => `The reader did not answer that yet: record longer. ${KEEP_MORE}`,
   },
   {
     fits: ({ row, report }) => asksForIt(row) && sentBehind(report, row, row.number, row.first_missed.asked),
-    means: ({ row, report }) => `The reader asked for sample ${row.number} in ${inDatagram(row.first_missed.asked)}: at that moment it did not `
-      + `have it. It was sent again in datagram ${sentBehind(report, row, row.number, row.first_missed.asked)[0]}.`,
+    means: ({ row, report }) => {
+      const [datagram] = sentBehind(report, row, row.number, row.first_missed.asked);
+      return `${askedForText(row)} It was sent again in datagram ${datagram}.`;
+    },
     todo: () => 'The reader did not answer that yet: record longer. Else look at the reader and the network.',
   },
   {
     fits: ({ row, report }) => asksForIt(row) && report.actsOf(row),
-    means: ({ row }) => `The reader asked for sample ${row.number} in ${inDatagram(row.first_missed.asked)}: at that moment it did not have it. `
-      + 'Nothing in the recording sends it again.',
+    means: ({ row }) => `${askedForText(row)} Nothing in the recording sends it again.`,
     todo: () => 'The writer does not resend: look at the writer.',
   },
   {
@@ -61,7 +65,8 @@ const OPEN = [
   },
   {
     fits: ({ row }) => row.asked_since !== undefined,
-    means: ({ row }) => `The reader was asked ${plural(row.asked_since, 'time')} since its last answer, last in ${inDatagram(row.last_asked)}.`,
+    means: ({ row }) => `The reader was asked ${plural(row.asked_since, 'time')} since its last answer, last in `
+      + `${inDatagram(row.last_asked)}.`,
     todo: () => 'The reader has ended, or nothing reaches it, or its answers take another way: look at the reader and the network.',
   },
   {
@@ -75,7 +80,8 @@ const OPEN = [
 const CONFLICT = [
   {
     fits: () => true,
-    means: ({ row }) => `Sample ${row.number} was sent with one payload in ${inDatagram(row.sent[0])} and with another in ${inDatagram(row.sent[1])}.`,
+    means: ({ row }) => `Sample ${row.number} was sent with one payload in ${inDatagram(row.sent[0])} and with another in `
+      + `${inDatagram(row.sent[1])}.`,
     todo: () => 'Do both come from one address and port? If not, two processes use one GUID: two machines have the same disk image, or a '
       + 'restart kept the GUID. If the second is a resend, its octets must be those of the first: the writer has a defect.',
   },
@@ -83,6 +89,8 @@ const CONFLICT = [
 
 // Numbers that are 1 or little more: those before them were sent before the recording began, or before the reader joined.
 const LITTLE_MORE = 10;
+
+const notSentText = ({ number }) => `Nothing in the recording sends sample ${number} or says that it is gone.`;
 
 const UNFOUNDED = [
   {
@@ -92,13 +100,15 @@ const UNFOUNDED = [
   },
   {
     fits: ({ row }) => row.told !== null,
-    means: ({ row }) => `Sample ${row.number} is told in ${inDatagram(row.told)} only, behind the answer. The datagrams are out of order, as in `
-      + 'captures of two hosts that were merged; or the copy that the reader received is not in the recording.',
+    means: ({ row }) => `Sample ${row.number} was first ${row.told.by === 'data' ? 'sent' : 'told'} in ${inDatagram(row.told)}, behind the `
+      + 'answer. The datagrams are out of order, as in captures of two hosts that were merged; or the copy that the reader received is not '
+      + 'in the recording.',
     todo: () => 'Record at the writer’s side, on one interface, and see whether tcpdump dropped packets.',
   },
   {
-    fits: ({ report: { counts, options } }) => (isAbove(counts.fragments, 0) && !options.fragments) || (isAbove(counts.ignored || 0, 0) && !options.any),
-    means: ({ row }) => `Nothing in the recording tells sample ${row.number}. It may have come in fragments, or in a frame that gave no datagram.`,
+    fits: ({ report: { counts, options } }) => (isAbove(counts.fragments, 0) && !options.fragments)
+      || (isAbove(counts.ignored || 0, 0) && !options.any),
+    means: ({ row }) => `${notSentText(row)} It may have come in fragments, or in a frame that gave no datagram.`,
     todo: () => IN_FRAGMENTS,
   },
   {
@@ -109,11 +119,12 @@ const UNFOUNDED = [
   {
     fits: ({ row, from }) => BigInt(row.number) - BigInt(from) < LITTLE_MORE,
     means: () => 'The recording began too late, or the reader joined late.',
-    todo: ({ row }) => `Begin to record before the participants start. If the reader joined late, try --from ${BigInt(row.number) + BigInt(row.untold)}.`,
+    todo: ({ row }) => 'Begin to record before the participants start. If the reader joined late, try '
+      + `--from ${BigInt(row.number) + BigInt(row.untold)}.`,
   },
   {
     fits: () => true,
-    means: ({ row }) => `Nothing in the recording sends sample ${row.number} or says that it is gone.`,
+    means: ({ row }) => notSentText(row),
     todo: () => 'Frames were dropped: see what tcpdump says at its end; or these samples took another way (shared memory).',
   },
 ];
@@ -132,7 +143,8 @@ const COMPLETE = [
   },
   {
     fits: ({ row }) => row.kind === 'gone',
-    means: ({ row }) => `The reader did not get ${plural(row.gone, 'sample')}: ${String(row.gone) === '1' ? 'it was' : 'they were'} only said to be gone.`,
+    means: ({ row }) => `The reader did not get ${plural(row.gone, 'sample')}: ${String(row.gone) === '1' ? 'it was' : 'they were'} only `
+      + 'said to be gone.',
     todo: () => 'It is no fault if the reader joined late and they are older (--from leaves them out), or if its content filter does not '
       + 'want them. Else raise the writer’s history depth or lifespan.',
   },
@@ -175,79 +187,118 @@ function adviceOf(report, row) {
 
 const RECORD_EARLY = 'Begin to record before the participants start: the report knows them by discovery.';
 
-// Each: how many there are, what they are, and what to do. Those of which there are none are left out.
-function warningsOf(report) {
-  const { counts, options } = report;
-  const gone = report.rows.filter((row) => row.verdict === 'complete' && isAbove(row.gone, 0));
-  const kinds = ['pieces', 'cut', 'other'].filter((name) => counts[name] !== undefined).map((name) => `${name} ${counted(counts[name])}`);
-  return [
-    report.rows.length === 0 && { count: 'No pairs', ...noPairs(report) },
-    options.expect !== null && report.rows.length < options.expect && {
-      count: plural(report.rows.length, 'pair'),
-      means: `${counted(options.expect)} were expected.`,
-      todo: 'See below which endpoints have no match, and what keeps them apart.',
-    },
-    isAbove(counts.ignored || 0, 0) && {
-      count: plural(counts.ignored, 'frame ignored', 'frames ignored'),
-      means: `They gave no datagram${kinds.length ? ` (${kinds.join(', ')})` : ''}: samples or announcements may be in them. ARP, TCP and ICMP do no harm.`,
-      todo: options.any
-        ? 'Record without a snap length (tcpdump -s), and to the end.'
-        : 'IP fragments, IPv6 and VLAN tags are read with --any, or make a text with tshark. Record without a snap length.',
-    },
-    isAbove(counts.fragments, 0) && {
-      count: plural(counts.fragments, 'fragment'),
-      means: 'Submessages of fragmented samples were not read as samples. Their rows are unfounded or open, also if all is well.',
-      todo: options.fragments ? 'Their samples never came whole. Record from before the start, and look for dropped frames.' : IN_FRAGMENTS,
-    },
-    isAbove(counts.unsettled, 0) && {
-      count: plural(counts.unsettled, 'unsettled endpoint'),
-      means: 'Their announcements differ, so they are in no pair: a restart with the same GUID, or a QoS that changed.',
-      todo: 'Let each start make a GUID of its own, and keep the QoS.',
-    },
-    isAbove(report.malformed, 0) && {
-      count: plural(report.malformed, 'malformed datagram'),
-      means: 'What stands before the fault is used, and what stands behind it is not.',
-      todo: '“rtps-audit show” names the fault of each, in a line that begins with “refused”.',
-    },
-    isAbove(counts.undirected, 0) && {
-      count: plural(counts.undirected, 'undirected answer'),
-      means: 'These ACKNACKs name no participant as destination, so they acknowledge nothing here: their rows stay open.',
-      todo: 'Read these rows with care.',
-    },
-    report.keptApart.length > 0 && {
-      count: plural(new Set(report.keptApart.map(({ writer }) => writer.topic)).size, 'topic kept apart', 'topics kept apart'),
-      means: `A writer and a reader do not match, so they are in no pair: ${apartTexts(report)}`,
-      todo: 'Let the writer offer what the reader asks for, and both have one type.',
-    },
-    gone.length > 0 && {
-      count: plural(gone.length, 'complete pair with numbers gone', 'complete pairs with numbers gone'),
-      means: 'Complete does not always mean received. Their readers did not get these numbers: they were only said to be gone.',
-      todo: 'It is no fault if the reader joined late and they are older (--from leaves them out). Else raise the writer’s history depth or lifespan.',
-    },
-  ].filter(Boolean);
-}
+// Each: how many there are, what they are, and what to do; null where there is none.
+const WARNINGS = [
+  noPairs, tooFewPairs, ignoredFrames, fragments, unsettledEndpoints, malformedDatagrams, undirectedAnswers, topicsKeptApart,
+  pairsWithNumbersGone,
+];
 
-// The first of the topics whose writers and readers do not match, and why.
-function apartTexts(report) {
-  const texts = report.keptApart.slice(0, 3).map(({ writer, reader, reasons }) => `${shownTopic(writer.topic)} (${reasons.map((member) => (member === 'type'
-    ? `the types are ${rosType(writer.type) || writer.type} and ${rosType(reader.type) || reader.type}`
-    : `the reader asks for ${reader[member]}, the writer offers ${writer[member]}`)).join('; ')})`);
-  return `${texts.join(', ')}${report.keptApart.length > 3 ? ', and others, below' : ''}.`;
+function warningsOf(report) {
+  return WARNINGS.map((warning) => warning(report)).filter(Boolean);
 }
 
 // Why there may be no pair at all.
-function noPairs(report) {
-  if (report.rows.length === 0 && report.options.topics.length > 0) {
-    return { means: 'No topic that was asked for has a reliable pair here.', todo: 'See below which topics there are.' };
+function noPairs({ rows, options, endpoints }) {
+  if (rows.length > 0) return null;
+  const count = 'No pairs';
+  if (options.topics.length > 0) {
+    return { count, means: 'No topic that was asked for has a reliable pair here.', todo: 'See below which topics there are.' };
   }
-  if (report.endpoints.length === 0) {
+  if (endpoints.length === 0) {
     return {
+      count,
       means: 'No writer and no reader is announced in this recording, so nothing was audited.',
       todo: `${RECORD_EARLY} A process with many endpoints may announce them in IP fragments: use --any, or make a text with tshark.`,
     };
   }
   return {
+    count,
     means: 'No reliable writer has a reliable reader that matches, so nothing was audited.',
-    todo: 'See below what keeps them apart. Else an announcement is not in the recording: it began too late, or it came in IP fragments (--any).',
+    todo: 'See below what keeps them apart. Else an announcement is not in the recording: it began too late, or it came in IP fragments '
+      + '(--any).',
+  };
+}
+
+function tooFewPairs({ rows, options }) {
+  if (options.expect === null || !isAbove(options.expect, rows.length)) return null;
+  return {
+    count: plural(rows.length, 'pair'),
+    means: `${counted(options.expect)} were expected.`,
+    todo: 'See below which endpoints have no match, and what keeps them apart.',
+  };
+}
+
+function ignoredFrames({ counts, options }) {
+  if (!isAbove(counts.ignored || 0, 0)) return null;
+  const kinds = ['pieces', 'cut', 'other'].filter((name) => counts[name] !== undefined).map((name) => `${name} ${counted(counts[name])}`);
+  return {
+    count: plural(counts.ignored, 'frame ignored', 'frames ignored'),
+    means: `They gave no datagram${kinds.length ? ` (${kinds.join(', ')})` : ''}: samples or announcements may be in them. ARP, TCP and `
+      + 'ICMP do no harm.',
+    todo: options.any
+      ? 'Record without a snap length (tcpdump -s), and to the end.'
+      : 'IP fragments, IPv6 and VLAN tags are read with --any, or make a text with tshark. Record without a snap length.',
+  };
+}
+
+function fragments({ counts, options }) {
+  if (!isAbove(counts.fragments, 0)) return null;
+  return {
+    count: plural(counts.fragments, 'fragment'),
+    means: 'Submessages of fragmented samples were not read as samples. Their rows are unfounded or open, also if all is well.',
+    todo: options.fragments ? 'Their samples never came whole. Record from before the start, and look for dropped frames.' : IN_FRAGMENTS,
+  };
+}
+
+function unsettledEndpoints({ counts }) {
+  if (!isAbove(counts.unsettled, 0)) return null;
+  return {
+    count: plural(counts.unsettled, 'unsettled endpoint'),
+    means: 'Their announcements differ, so they are in no pair: a restart with the same GUID, or a QoS that changed.',
+    todo: 'Let each start make a GUID of its own, and keep the QoS.',
+  };
+}
+
+function malformedDatagrams({ malformed }) {
+  if (!isAbove(malformed, 0)) return null;
+  return {
+    count: plural(malformed, 'malformed datagram'),
+    means: 'What stands before the fault is used, and what stands behind it is not.',
+    todo: '“rtps-audit show” names the fault of each, in a line that begins with “refused”.',
+  };
+}
+
+function undirectedAnswers({ counts }) {
+  if (!isAbove(counts.undirected, 0)) return null;
+  return {
+    count: plural(counts.undirected, 'undirected answer'),
+    means: 'These ACKNACKs name no participant as destination, so they acknowledge nothing here: their rows stay open.',
+    todo: 'Read these rows with care.',
+  };
+}
+
+// The first of the topics whose writers and readers do not match, and why.
+function topicsKeptApart({ keptApart: apart }) {
+  if (apart.length === 0) return null;
+  const reasonText = (writer, reader) => (member) => (member === 'type'
+    ? `the types are ${rosType(writer.type) || writer.type} and ${rosType(reader.type) || reader.type}`
+    : `the reader asks for ${reader[member]}, the writer offers ${writer[member]}`);
+  const texts = apart.slice(0, 3).map(({ writer, reader, reasons }) => (
+    `${shownTopic(writer.topic)} (${reasons.map(reasonText(writer, reader)).join('; ')})`));
+  return {
+    count: plural(new Set(apart.map(({ writer }) => writer.topic)).size, 'topic kept apart', 'topics kept apart'),
+    means: `A writer and a reader do not match, so they are in no pair: ${texts.join(', ')}${apart.length > 3 ? ', and others, below' : ''}.`,
+    todo: 'Let the writer offer what the reader asks for, and both have one type.',
+  };
+}
+
+function pairsWithNumbersGone({ rows }) {
+  const count = rows.filter((row) => row.verdict === 'complete' && isAbove(row.gone, 0)).length;
+  if (count === 0) return null;
+  return {
+    count: plural(count, 'complete pair with numbers gone', 'complete pairs with numbers gone'),
+    means: 'Complete does not always mean received. Their readers did not get these numbers: they were only said to be gone.',
+    todo: 'It is no fault if the reader joined late and they are older (--from leaves them out). Else raise the writer’s history depth or '
+      + 'lifespan.',
   };
 }

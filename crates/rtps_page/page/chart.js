@@ -83,7 +83,9 @@ class Chart {
     this.drag = null;
     this.width = 0;
     this.still = document.createElement('canvas');
-    this.canvas = make('canvas', { tabindex: '0', role: 'application', 'aria-label': this.description(row), 'aria-describedby': 'chart-help' });
+    this.canvas = make('canvas', {
+      tabindex: '0', role: 'application', 'aria-label': this.description(row), 'aria-describedby': 'chart-help',
+    });
     this.readout = make('p', { class: 'readout', role: 'status' }, 'Point at a dot to read it.');
     this.element = make('figure', { class: 'chart' }, this.canvas, this.controls(), this.readout, legend(), this.help());
     this.listen();
@@ -252,9 +254,14 @@ class Chart {
 
   key(event) {
     const acts = {
-      '+': () => this.zoom(0.5), '=': () => this.zoom(0.5), '-': () => this.zoom(2), '−': () => this.zoom(2), 0: () => this.show(this.all),
-      ArrowLeft: () => (event.shiftKey ? this.pan(-0.2, 0) : this.step(-1)), ArrowRight: () => (event.shiftKey ? this.pan(0.2, 0) : this.step(1)),
-      ArrowUp: event.shiftKey && (() => this.pan(0, 0.2)), ArrowDown: event.shiftKey && (() => this.pan(0, -0.2)),
+      '+': () => this.zoom(0.5),
+      '=': () => this.zoom(0.5),
+      '-': () => this.zoom(2),
+      0: () => this.show(this.all),
+      ArrowLeft: () => (event.shiftKey ? this.pan(-0.2, 0) : this.step(-1)),
+      ArrowRight: () => (event.shiftKey ? this.pan(0.2, 0) : this.step(1)),
+      ArrowUp: event.shiftKey && (() => this.pan(0, 0.2)),
+      ArrowDown: event.shiftKey && (() => this.pan(0, -0.2)),
     };
     if (event.ctrlKey || event.metaKey || event.altKey || !Object.hasOwn(acts, event.key) || !acts[event.key]) return;
     event.preventDefault();
@@ -444,7 +451,8 @@ class Chart {
     pen.font = `12px ${this.style.fontFamily}`;
     pen.textAlign = isRight ? 'right' : 'left';
     pen.textBaseline = 'middle';
-    this.words(`${at.number} in datagram ${at.x}, octet ${at.at}`, this.pixelX(at.x) + (isRight ? -12 : 12), Math.max(EDGES.top + 4, this.pixelY(at.y)));
+    const [x, y] = [this.pixelX(at.x) + (isRight ? -12 : 12), Math.max(EDGES.top + 4, this.pixelY(at.y))];
+    this.words(`${at.number} in datagram ${at.x}, octet ${at.at}`, x, y);
   }
 
   // The number of the verdict and the datagram of `unfounded`, as dashed lines with their words.
@@ -520,6 +528,7 @@ function legend() {
     item('sent again', drawn('circle', { class: 'again', cx: 12, cy: 7, r: 4.5 })),
     item('told gone', drawn('rect', { class: 'band', x: 2, y: 1, width: 20, height: 12 })),
     item('announced by HEARTBEATs', drawn('path', { class: 'announced', d: 'M1 12H11V3H23' })),
-    item('acknowledged, a stroke for each answer', drawn('path', { class: 'acknowledged', d: 'M1 7H23' }), drawn('path', { class: 'answer', d: 'M8 1V13M17 1V13' })),
+    item('acknowledged, a stroke for each answer',
+      drawn('path', { class: 'acknowledged', d: 'M1 7H23' }), drawn('path', { class: 'answer', d: 'M8 1V13M17 1V13' })),
     item('what the verdict is about', drawn('path', { class: 'mark', d: 'M1 7H23' })));
 }

@@ -16,6 +16,8 @@ function rosType(type) {
   return name === undefined ? null : `${before}::${name}`.replaceAll('::', '/');
 }
 
+const isOfService = (topic) => /^r[qr]\//.test(topic);
+
 // The name of a topic that is shown first: that of ROS 2 where there is one.
 function shownTopic(topic) {
   return rosTopic(topic) || topic;
@@ -82,11 +84,16 @@ function nodesText(participant) {
 // What a participant writes and reads, so that one knows it by its topics.
 function topicsText(participant) {
   const part = (side, verb) => {
-    const topics = [...new Set(participant.endpoints.filter((endpoint) => endpoint.side === side).map(({ topic }) => shownTopic(topic)))].filter((topic) => !/ \(service /.test(topic)).sort();
-    if (topics.length === 0) return null;
-    return `${verb} ${topics.slice(0, NAMED_TOPICS).join(', ')}${topics.length > NAMED_TOPICS ? ` and ${topics.length - NAMED_TOPICS} more` : ''}`;
+    const ends = participant.endpoints.filter((endpoint) => endpoint.side === side && !isOfService(endpoint.topic));
+    const topics = [...new Set(ends.map(({ topic }) => shownTopic(topic)))].sort();
+    const more = topics.length > NAMED_TOPICS ? ` and ${topics.length - NAMED_TOPICS} more` : '';
+    return topics.length === 0 ? null : `${verb} ${topics.slice(0, NAMED_TOPICS).join(', ')}${more}`;
   };
   return [part('writer', 'writes'), part('reader', 'reads')].filter(Boolean).join('; ');
+}
+
+function tableHead(...heads) {
+  return make('thead', null, make('tr', null, ...heads.map((head) => make('th', { scope: 'col' }, head))));
 }
 
 function badge(kind, words) {

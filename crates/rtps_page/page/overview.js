@@ -63,8 +63,7 @@ function showTopics(report) {
   const body = make('tbody', null, ...lines.slice(0, FIRST_LINES).map((line) => topicLine(report, line)));
   section.append(make('div', { class: 'wide' }, make('table', { class: 'topics' },
     make('caption', { class: 'hidden' }, 'Topics with something to look at'),
-    make('thead', null, make('tr', null, ...['Topic', 'What happened', 'Since', 'What to do'].map((head) => make('th', { scope: 'col' }, head)))),
-    body)));
+    tableHead('Topic', 'What happened', 'Since', 'What to do'), body)));
   if (lines.length > FIRST_LINES) section.append(moreButton(lines.length - FIRST_LINES, 'line', () => {
     body.append(...lines.slice(FIRST_LINES).map((line) => topicLine(report, line)));
   }));
@@ -83,7 +82,7 @@ function moreButton(count, noun, show) {
 function topicLine(report, line) {
   const [first] = line.rows;
   const { group, rows } = line;
-  const advice = adviceOf(report, first);
+  const { means, todo } = adviceOf(report, first);
   const since = earliest(rows);
   return make('tr', { class: line.kind },
     make('th', { scope: 'row' }, make('div', null, ...topicName(group.topic)), make('div', { class: 'type' }, ...typeName(group.type))),
@@ -93,11 +92,9 @@ function topicLine(report, line) {
       make('ul', { class: 'which' }, ...rows.slice(0, 3).map((row) => make('li', null, pairLink(report, row))),
         rows.length > 3 ? make('li', null, `and ${counted(rows.length - 3)} more`) : null)),
     make('td', { class: 'since' }, since ? [make('b', null, `datagram ${since.datagram}`), make('br'), since.what] : '–'),
-    make('td', null, make('p', null, rows.length === 1 ? advice.means : CASE_OF_MANY(advice, first)), advice.todo && make('p', { class: 'todo' }, advice.todo)));
+    // Of several rows the first is an example.
+    make('td', null, make('p', null, rows.length === 1 ? means : `Of pair ${first.at + 1}: ${means}`), todo && make('p', { class: 'todo' }, todo)));
 }
-
-// What is said of several rows of one case: the first as an example.
-const CASE_OF_MANY = (advice, first) => `Of pair ${first.at + 1}: ${advice.means}`;
 
 function earliest(rows) {
   let found = null;
@@ -148,7 +145,8 @@ function countsText(report) {
 // What each count of the recording counts.
 const MEANINGS = {
   datagrams: 'datagrams in the recording',
-  refused: 'malformed datagrams. What stands before the fault is used. One of one octet is harmless: Cyclone DDS sends itself one when it ends',
+  refused: 'malformed datagrams. What stands before the fault is used. One of one octet is harmless: Cyclone DDS sends itself one when '
+    + 'it ends',
   skipped: 'submessages that are not read: padding, vendors’ own, security',
   fragments: 'submessages of fragmented samples that were not read as samples',
   undirected: 'ACKNACKs that name no participant as destination',

@@ -11,8 +11,12 @@ const byCount = (member) => byNumber((row) => row[member]);
 const worse = (a, b) => a.rank - b.rank;
 
 // Where no number is announced or acknowledged, 0 stands in the order and a dash on the page.
-const announcedOf = (row) => (row.announced ? row.announced.number : 0);
-const belowOf = (row) => (row.acknowledged ? row.acknowledged.below : 0);
+function placeColumn(name, head, numberOf) {
+  return {
+    name, head, class: 'count', compare: byNumber(numberOf),
+    cell: (report, row) => (row[name] ? String(numberOf(row)) : '–'),
+  };
+}
 
 function countColumn(name, head, isBad) {
   return {
@@ -26,8 +30,8 @@ const COLUMNS = [
   { name: 'verdict', head: 'Verdict', compare: (a, b) => worse(a, b) || compareNumbers(a.number, b.number), cell: verdictCell },
   { name: 'writer', head: 'Writer', compare: byText('writer'), cell: (report, row) => endpointName(report, row.writer) },
   { name: 'reader', head: 'Reader', compare: byText('reader'), cell: (report, row) => endpointName(report, row.reader) },
-  { name: 'announced', head: 'Last announced', class: 'count', compare: byNumber(announcedOf), cell: (report, row) => (row.announced ? String(row.announced.number) : '–') },
-  { name: 'acknowledged', head: 'Acknowledged below', class: 'count', compare: byNumber(belowOf), cell: (report, row) => (row.acknowledged ? String(row.acknowledged.below) : '–') },
+  placeColumn('announced', 'Last announced', ({ announced }) => (announced ? announced.number : 0)),
+  placeColumn('acknowledged', 'Acknowledged below', ({ acknowledged }) => (acknowledged ? acknowledged.below : 0)),
   countColumn('payloads', 'Payloads', false),
   countColumn('gone', 'Gone', true),
   countColumn('untold', 'Untold', true),
@@ -115,7 +119,9 @@ class Pairs {
   // ---- the parts of the page
 
   build() {
-    this.filter = make('input', { type: 'search', id: 'filter', autocomplete: 'off', spellcheck: 'false', placeholder: 'topic, node, verdict, GUID' });
+    this.filter = make('input', {
+      type: 'search', id: 'filter', autocomplete: 'off', spellcheck: 'false', placeholder: 'topic, node, verdict, GUID',
+    });
     this.filter.addEventListener('input', () => this.setFilter(this.filter.value));
     this.filter.addEventListener('focus', () => this.prepare());
     this.select = make('select', { id: 'order' }, ...this.orders.map(({ name, head }) => make('option', { value: name }, head)));
@@ -130,7 +136,9 @@ class Pairs {
     });
     this.table = make('table', { class: 'pairs' }, make('caption', { class: 'hidden' }, 'Pairs by topic'), this.heads());
     this.table.addEventListener('click', (event) => this.clicked(event));
-    const tools = make('div', { class: 'tools' }, make('label', { for: 'filter' }, 'Filter'), this.filter, make('label', { for: 'order' }, 'Order'), this.select, this.turn);
+    const tools = make('div', { class: 'tools' },
+      make('label', { for: 'filter' }, 'Filter'), this.filter,
+      make('label', { for: 'order' }, 'Order'), this.select, this.turn);
     const wide = make('div', { class: 'wide' }, this.table);
     tools.hidden = wide.hidden = this.report.rows.length === 0;
     document.getElementById('pairs').append(tools, this.status, wide, this.more);
@@ -149,7 +157,8 @@ class Pairs {
   // A button for each kind that there is, which shows these alone.
   buildVerdicts() {
     const buttons = KINDS.filter((kind) => this.report.countOf(kind) > 0).map((kind) => {
-      const button = make('button', { type: 'button', class: `badge ${kind}`, 'aria-pressed': 'false' }, `${counted(this.report.countOf(kind))} ${KIND_WORDS[kind]}`);
+      const button = make('button', { type: 'button', class: `badge ${kind}`, 'aria-pressed': 'false' },
+        `${counted(this.report.countOf(kind))} ${KIND_WORDS[kind]}`);
       button.addEventListener('click', () => {
         this.toggleKind(kind);
         button.setAttribute('aria-pressed', String(this.kinds.has(kind)));
@@ -253,7 +262,8 @@ class Pairs {
     if (!line) return;
     line.classList.add('chosen');
     line.querySelector('th a').setAttribute('aria-expanded', 'true');
-    line.after(make('tr', { class: 'detail' }, make('td', { colspan: this.columns.length }, pairDetail(this.report, this.report.rows[this.chosen]))));
+    line.after(make('tr', { class: 'detail' },
+      make('td', { colspan: this.columns.length }, pairDetail(this.report, this.report.rows[this.chosen]))));
     redrawChart();
   }
 }

@@ -9,14 +9,21 @@ const NAMED_MATCHES = 3;
 function showParticipants(report) {
   const section = document.getElementById('participants');
   const participants = [...report.participants.values()];
-  section.append(make('p', null, `${plural(participants.length, 'participant')}, mostly one process each, with ${plural(report.endpoints.length, 'endpoint')}. `
-    + 'A node that no other node asks anything has services without a match.'
-    + (report.faults ? ` ${plural(report.faults, 'announcement')} could not be read.` : '')));
+  section.append(make('p', null, participantsText(report, participants.length)));
   if (participants.length === 0) return;
   const table = make('table', { class: 'endpoints' }, make('caption', { class: 'hidden' }, 'Endpoints by participant'),
-    make('thead', null, make('tr', null, ...['Endpoint', 'Topic', 'QoS', 'Matches'].map((head) => make('th', { scope: 'col' }, head)))));
+    tableHead('Endpoint', 'Topic', 'QoS', 'Matches'));
   section.append(make('div', { class: 'wide' }, table));
   appendParticipants(report, section, table, participants, FIRST_ENDPOINTS);
+}
+
+function participantsText(report, count) {
+  const ends = plural(report.endpoints.length, 'endpoint');
+  return [
+    count === 0 ? 'None is announced.' : `${plural(count, 'participant')}, mostly one process each, with ${ends}.`,
+    report.endpoints.some(({ topic }) => isOfService(topic)) && 'A service that nobody calls has no match; that is no fault.',
+    report.faults && `${plural(report.faults, 'announcement')} could not be read.`,
+  ].filter(Boolean).join(' ');
 }
 
 // Appends participants until so many endpoints are shown, and a button for the others.
@@ -34,10 +41,14 @@ function appendParticipants(report, section, table, participants, most) {
 
 function participantBody(report, participant) {
   const nodes = participant.nodes.length ? ` ${participant.nodes.length === 1 ? 'node' : 'nodes'} ${participant.nodes.join(', ')}` : '';
-  const head = make('tr', { class: 'group', id: `participant-${participant.at}`, tabindex: '-1' }, make('th', { scope: 'rowgroup', colspan: 4 },
-    make('b', { class: 'name' }, participant.name), make('span', { class: 'node' }, nodes), ' ', make('code', { class: 'guid' }, participant.prefix),
-    participant.guid ? null : make('span', { class: 'hint' }, ' (its own announcement is not in the recording)')));
-  if (participant.endpoints.length === 0) return make('tbody', null, head, make('tr', null, make('td', { colspan: 4 }, 'It announced no endpoint.')));
+  const head = make('tr', { class: 'group', id: `participant-${participant.at}`, tabindex: '-1' },
+    make('th', { scope: 'rowgroup', colspan: 4 },
+      make('b', { class: 'name' }, participant.name), make('span', { class: 'node' }, nodes), ' ',
+      make('code', { class: 'guid' }, participant.prefix),
+      participant.guid ? null : make('span', { class: 'hint' }, ' (its own announcement is not in the recording)')));
+  if (participant.endpoints.length === 0) {
+    return make('tbody', null, head, make('tr', null, make('td', { colspan: 4 }, 'It announced no endpoint.')));
+  }
   const ordered = [...participant.endpoints].sort((a, b) => byText('side')(b, a) || byText('topic')(a, b));
   return make('tbody', null, head, ...ordered.map((endpoint) => endpointRow(report, endpoint)));
 }
@@ -66,7 +77,10 @@ function matchText(report, endpoint, matches) {
 function participantLinks(report, members) {
   const participants = [...new Set(members.map(({ guid }) => report.participantOf(guid)))];
   const links = participants.slice(0, NAMED_MATCHES).flatMap((participant, at) => [
-    at > 0 ? ', ' : '', make('a', { href: `#participant-${participant.at}` }, participant.name), participant.nodes.length ? ` ${nodesText(participant)}` : '']);
+    at > 0 ? ', ' : '',
+    make('a', { href: `#participant-${participant.at}` }, participant.name),
+    participant.nodes.length ? ` ${nodesText(participant)}` : '',
+  ]);
   return participants.length > NAMED_MATCHES ? [...links, ` and ${counted(participants.length - NAMED_MATCHES)} more`] : links;
 }
 
@@ -76,7 +90,9 @@ function apartText(report, endpoint, { other, reasons }) {
   const texts = reasons.map((member) => (member === 'type'
     ? [`the type of the ${other.side} is `, ...typeName(other.type)]
     : [`the reader asks for ${reader[member]}, and the writer offers ${writer[member]}`]));
-  const many = other.members.length === 1 ? `A ${other.side}` : plural(other.members.length, other.side);
-  return make('p', { class: 'apart' }, `${many} of this topic ${other.members.length === 1 ? 'does' : 'do'} not match (`, ...participantLinks(report, other.members), '): ',
+  const count = other.members.length;
+  return make('p', { class: 'apart' },
+    count === 1 ? `A ${other.side} of this topic does not match (` : `${plural(count, other.side)} of this topic do not match (`,
+    ...participantLinks(report, other.members), '): ',
     ...texts.flatMap((text, at) => (at > 0 ? ['; ', ...text] : text)), '.');
 }

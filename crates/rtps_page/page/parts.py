@@ -27,7 +27,11 @@ def file_of(name):
 
 
 # Comments stand on lines of their own.
-COMMENTS = {'style': re.compile(r'/\*.*?\*/', re.DOTALL), 'script': re.compile(r'^ *//.*$', re.MULTILINE), 'html': re.compile(r'<!--.*?-->', re.DOTALL)}
+COMMENTS = {
+    'style': re.compile(r'/\*.*?\*/', re.DOTALL),
+    'script': re.compile(r'^ *//.*$', re.MULTILINE),
+    'html': re.compile(r'<!--.*?-->', re.DOTALL),
+}
 
 
 def without_comments(text, kind):

@@ -14,7 +14,8 @@ const actText = (act) => `${KIND_OF_ACT[act.by] || act.by} in ${placeText(act)}`
 function verdictSentence(report, row) {
   const { number } = row;
   if (row.verdict === 'unfounded') {
-    return `In datagram ${row.datagram} the reader acknowledged sample ${number}, but nothing before that sent it ${number} or said that ${number} is gone.`;
+    return `In datagram ${row.datagram} the reader acknowledged sample ${number}, but nothing before that sent it ${number} or said that `
+      + `${number} is gone.`;
   }
   if (row.verdict === 'conflict') return `The writer sent two different payloads for sample ${number} to this reader.`;
   if (row.verdict === 'open') return openSentence(row);
@@ -44,8 +45,8 @@ function sinceOf(row) {
   if (row.verdict === 'open' && told) return { datagram: told.datagram, what: `${number} first ${told.by === 'data' ? 'sent' : 'told'}` };
   if (row.verdict === 'open') return { datagram: announced.datagram, what: `${announced.number} announced` };
   if (row.kind === 'missed') return { datagram: row.first_missed.asked.datagram, what: `${row.first_missed.number} asked for` };
-  if (row.kind === 'gone' && row.not_received && row.not_received.gone) return { datagram: row.not_received.gone.datagram, what: `${row.not_received.number} told gone` };
-  return null;
+  const { gone, number: first } = (row.kind === 'gone' && row.not_received) || {};
+  return gone ? { datagram: gone.datagram, what: `${first} told gone` } : null;
 }
 
 // What a verdict rests on, a sentence for each line of `why`.
@@ -85,7 +86,9 @@ function notReceivedSentence(row) {
 }
 
 function shownSentences(row) {
-  const told = row.told ? `Number ${row.number} was first told by ${actText(row.told)}.` : `Nothing in the recording tells number ${row.number} to this reader.`;
+  const told = row.told
+    ? `Number ${row.number} was first told by ${actText(row.told)}.`
+    : `Nothing in the recording tells number ${row.number} to this reader.`;
   if (row.verdict === 'open') return row.asked_since === undefined ? [told] : [told, askedSentence(row)];
   if (row.verdict === 'conflict') return row.sent.map((sent) => `Number ${row.number} was sent with ${payloadText(sent)} in ${placeText(sent)}.`);
   if (row.verdict === 'unfounded') {
