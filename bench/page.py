@@ -68,13 +68,16 @@ class Traffic:
         if any(reference.heard(act, reader) for reader in readers.get(writer, [])):
             self.acts[writer] += entries_of(datagram, act)
 
+    def bases_of(self, row):
+        return self.bases[octets_of(row['writer']), octets_of(row['reader'])]
+
     def charted(self, rows):
         """the rows for which there is room: those that are not complete first, each in their order. A row takes its answers and,
         if no row before it took them, what its writer says; one that takes too much is left out"""
         taken, used, found = set(), 0, []
         for row in sorted(rows, key=lambda row: row['verdict'] == 'complete'):
-            writer, reader = octets_of(row['writer']), octets_of(row['reader'])
-            takes = len(self.bases[writer, reader]) + (0 if writer in taken else len(self.acts[writer]))
+            writer = octets_of(row['writer'])
+            takes = len(self.bases_of(row)) + (0 if writer in taken else len(self.acts[writer]))
             if used + takes <= ENTRIES:
                 used += takes
                 taken.add(writer)
@@ -104,8 +107,7 @@ def page_values(datagrams, first=1, ignored=None):
         'endpoints': [endpoint_values(endpoint) for endpoint in endpoints],
         'faults': faults,
         'writers': [{'guid': guid, 'acts': traffic.acts[octets_of(guid)]} for guid in writers],
-        'answers': [{'writer': row['writer'], 'reader': row['reader'], 'bases': traffic.bases[octets_of(row['writer']), octets_of(row['reader'])]}
-                    for row in shown],
+        'answers': [{'writer': row['writer'], 'reader': row['reader'], 'bases': traffic.bases_of(row)} for row in shown],
     }
 
 

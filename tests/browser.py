@@ -146,12 +146,14 @@ class Tab:
     def press(self, key, modifiers=0, text=None):
         code = KEYS.get(key, ord(key[0].upper()))
         typed = text if text is not None else '\r' if key == 'Enter' else key if len(key) == 1 else ''
-        kind = 'keyDown' if typed else 'rawKeyDown'
-        self.send('Input.dispatchKeyEvent', type=kind, key=key, windowsVirtualKeyCode=code, modifiers=modifiers, **({'text': typed} if typed else {}))
-        self.send('Input.dispatchKeyEvent', type='keyUp', key=key, windowsVirtualKeyCode=code, modifiers=modifiers)
+        which = {'key': key, 'windowsVirtualKeyCode': code, 'modifiers': modifiers}
+        text = {'text': typed} if typed else {}
+        self.send('Input.dispatchKeyEvent', type='keyDown' if typed else 'rawKeyDown', **which, **text)
+        self.send('Input.dispatchKeyEvent', type='keyUp', **which)
 
     def mouse(self, kind, x, y, count=1):
-        self.send('Input.dispatchMouseEvent', type=kind, x=x, y=y, button='left', buttons=0 if kind == 'mouseReleased' else 1, clickCount=count)
+        held = 0 if kind == 'mouseReleased' else 1
+        self.send('Input.dispatchMouseEvent', type=kind, x=x, y=y, button='left', buttons=held, clickCount=count)
 
     def hover(self, x, y):
         self.send('Input.dispatchMouseEvent', type='mouseMoved', x=x, y=y)
@@ -180,7 +182,8 @@ class Tab:
     def drag(self, x0, y0, x1, y1):
         self.mouse('mousePressed', x0, y0)
         for part in (0.3, 0.6, 1):
-            self.send('Input.dispatchMouseEvent', type='mouseMoved', x=x0 + (x1 - x0) * part, y=y0 + (y1 - y0) * part, button='left', buttons=1)
+            x, y = x0 + (x1 - x0) * part, y0 + (y1 - y0) * part
+            self.send('Input.dispatchMouseEvent', type='mouseMoved', x=x, y=y, button='left', buttons=1)
         self.mouse('mouseReleased', x1, y1)
         self.settle()
 

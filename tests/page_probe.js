@@ -8,23 +8,42 @@ function rowsShown() {
   return [...document.querySelectorAll('table.pairs tbody')].flatMap((body) => {
     const [topic, type] = [textsOf(body, 'tr.group > th > .name, tr.group > th > .dds'), textsOf(body, 'tr.group .type > *')];
     return [...body.querySelectorAll('tr.pair')].map((row) => ({
-      id: row.id, topic, type, badges: textsOf(row, '.badge'), number: row.querySelector('.number').textContent,
-      datagram: textsOf(row, '.in-datagram').map((text) => text.trim()), guids: textsOf(row, 'td > .guid'), counts: textsOf(row, 'td.count'),
+      id: row.id,
+      topic,
+      type,
+      badges: textsOf(row, '.badge'),
+      number: row.querySelector('.number').textContent,
+      datagram: textsOf(row, '.in-datagram').map((text) => text.trim()),
+      guids: textsOf(row, 'td > .guid'),
+      counts: textsOf(row, 'td.count'),
     }));
   });
 }
 
 function countsShown() {
-  return Object.fromEntries([...document.querySelectorAll('#counts dl > div')].map((line) => [line.querySelector('dt').textContent, line.querySelector('.count').textContent]));
+  const lines = [...document.querySelectorAll('#counts dl > div')];
+  return Object.fromEntries(lines.map((line) => [line.querySelector('dt').textContent, line.querySelector('.count').textContent]));
 }
 
 // The endpoints in their order: participant, side, entity id, names, and what is said of its matches.
 function endpointsShown() {
-  return [...document.querySelectorAll('table.endpoints tbody')].flatMap((body) => [...body.querySelectorAll('tr:not(.group)')].filter((row) => row.cells.length === 4)
-    .map((row) => ({
-      prefix: body.querySelector('tr.group .guid').textContent, side: row.cells[0].textContent.split(' ')[0], entity: row.cells[0].querySelector('.guid').textContent,
-      topic: textsOf(row.cells[1], ':scope > :first-child > *'), type: textsOf(row.cells[1], '.type > *'), qos: row.cells[2].textContent, matches: row.cells[3].textContent,
-    })));
+  return [...document.querySelectorAll('table.endpoints tbody')].flatMap((body) => {
+    const rows = [...body.querySelectorAll('tr:not(.group)')].filter((row) => row.cells.length === 4);
+    return rows.map(({ cells: [head, names, qos, matches] }) => ({
+      prefix: body.querySelector('tr.group .guid').textContent,
+      side: head.textContent.split(' ')[0],
+      entity: head.querySelector('.guid').textContent,
+      topic: textsOf(names, ':scope > :first-child > *'),
+      type: textsOf(names, '.type > *'),
+      qos: qos.textContent,
+      matches: matches.textContent,
+    }));
+  });
+}
+
+// Those of these elements that take no room, and so are not in sight.
+function hidden(selector) {
+  return [...document.querySelectorAll(selector)].filter((element) => element.getClientRects().length === 0).map((element) => element.className);
 }
 
 // ---- what each can read
@@ -99,7 +118,11 @@ function unspoken() {
 function focused() {
   const element = document.activeElement;
   const style = getComputedStyle(element);
-  return { tag: element.tagName, text: element.textContent.slice(0, 40), href: element.getAttribute('href'), isSeen: style.outlineStyle !== 'none' && parseFloat(style.outlineWidth) >= 2 };
+  return {
+    tag: element.tagName,
+    href: element.getAttribute('href'),
+    isSeen: style.outlineStyle !== 'none' && parseFloat(style.outlineWidth) >= 2,
+  };
 }
 
 // How long a change of the filter takes, until it is drawn, in milliseconds.

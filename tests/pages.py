@@ -53,9 +53,9 @@ def row_wanted(at, row):
     }
 
 
-def last_names(shown):
-    """the names of DDS alone, which stand behind those of ROS 2"""
-    return shown | {'topic': shown['topic'][-1], 'type': shown['type'][-1]}
+def in_order(rows):
+    """rows that are shown, in the order of the report"""
+    return sorted(rows, key=lambda row: int(row['id'].removeprefix('pair-')))
 
 
 def kind_of(row):
@@ -125,6 +125,33 @@ class PageTests(Counts):
             tab.settle()
         return tab
 
+    @staticmethod
+    def text(tab, selector):
+        return tab.evaluate(f'document.querySelector({json.dumps(selector)}).textContent')
+
+    @staticmethod
+    def found(tab, selector):
+        return tab.evaluate(f'document.querySelectorAll({json.dumps(selector)}).length')
+
+    @staticmethod
+    def shown(tab):
+        """the rows in sight, by the names of DDS"""
+        return [row | {'topic': row['topic'][-1], 'type': row['type'][-1]} for row in tab.evaluate('rowsShown()')]
+
+    def topics(self, tab):
+        return [row['topic'] for row in self.shown(tab)]
+
+    def ids(self, tab):
+        return [row['id'] for row in self.shown(tab)]
+
+    def wanted(self, name):
+        return [row_wanted(at, row) for at, row in enumerate(self.rows(name))]
+
+    @staticmethod
+    def choose(tab, at):
+        tab.evaluate(f"location.hash = '#pair-{at + 1}'")
+        tab.settle()
+
     def leave(self, name, tab):
         """closes a page, which said nothing and asked for nothing"""
         self.holds(f'{name}: nothing is said or asked for', ([], []), (tab.complaints(), tab.requests()))
@@ -158,11 +185,9 @@ class PageTests(Counts):
     def each_row(self):
         for name in (*EXAMPLES, *MADE):
             tab = self.open(name)
-            wanted = [row_wanted(at, row) for at, row in enumerate(self.rows(name))]
-            shown = [last_names(row) for row in tab.evaluate('rowsShown()')]
-            self.holds(f'{name}: each row is that of the report', wanted, sorted(shown, key=lambda row: int(row['id'][5:])))
+            self.holds(f'{name}: each row is that of the report', self.wanted(name), in_order(self.shown(tab)))
             order = grouped(sorted(enumerate(self.rows(name)), key=lambda one: KINDS.index(kind_of(one[1]))))
-            self.holds(f'{name}: worst first', [f'pair-{at + 1}' for at, _ in order], [row['id'] for row in shown])
+            self.holds(f'{name}: worst first', [f'pair-{at + 1}' for at, _ in order], self.ids(tab))
             counts = {key: counted(n) for key, n in self.values(name)['report'].items() if key != 'pairs'}
             self.holds(f'{name}: each count is that of the report', counts, tab.evaluate('countsShown()'))
             self.leave(name, tab)
@@ -172,17 +197,18 @@ class PageTests(Counts):
         tab = Tab(self.browser)
         tab.open(os.path.join(parts.FOLDER, 'page.html'))
         tab.evaluate(PROBE)
-        shown = [last_names(row) for row in tab.evaluate('rowsShown()')]
-        self.holds('page.html is shown as it lies there', [row_wanted(at, row) for at, row in enumerate(self.rows('robot'))], sorted(shown, key=lambda row: int(row['id'][5:])))
+        self.holds('page.html is shown as it lies there', self.wanted('robot'), in_order(self.shown(tab)))
         self.holds('page.html: nothing is said', [], tab.complaints())
         tab.close()
 
     def outcome(self):
-        wanted = {'robot': '2 of 4 pairs are complete, and 1 sample was missed', 'none': 'No pair was audited', 'open.rec': 'The only pair is not complete, and 1 sample was missed', 'gone.rec': 'The only pair is complete',
-                  'pose.rec': 'The only pair is complete', 'unmatched': 'No pair was audited'}
+        wanted = {
+            'robot': '2 of 4 pairs are complete, and 1 sample was missed', 'none': 'No pair was audited', 'unmatched': 'No pair was audited',
+            'open.rec': 'The only pair is not complete, and 1 sample was missed', 'gone.rec': 'The only pair is complete',
+        }
         for name, sentence in wanted.items():
             tab = self.open(name)
-            self.holds(f'{name}: the outcome', sentence, tab.evaluate("document.getElementById('outcome').textContent"))
+            self.holds(f'{name}: the outcome', sentence, self.text(tab, '#outcome'))
             self.holds(f'{name}: the title', f'{sentence}: rtps-audit', tab.evaluate('document.title'))
             tab.close()
 
@@ -191,9 +217,9 @@ class PageTests(Counts):
         given = {'from': 7, 'any': True, 'fragments': True, 'observed': True, 'strict': True, 'topics': ["rt/*", "<&'"], 'expect': 9}
         self.made['asked'] = self.values('robot') | {'options': given}
         tab = self.open('asked')
-        self.holds('the options are told', "rtps-audit, a report of the numbers from 7 on, with --from 7 --any --fragments --observed --strict --topic 'rt/*' --topic '<&'' --expect 9",
-                   tab.evaluate("document.getElementById('asked').textContent"))
-        self.holds('fewer pairs than expected', '4 pairs. 9 were expected.', tab.evaluate("document.querySelector('#warnings li').textContent").split(' See')[0])
+        words = "--from 7 --any --fragments --observed --strict --topic 'rt/*' --topic '<&'' --expect 9"
+        self.holds('the options are told', f'rtps-audit, a report of the numbers from 7 on, with {words}', self.text(tab, '#asked'))
+        self.holds('fewer pairs than expected', '4 pairs. 9 were expected.', self.text(tab, '#warnings li').split(' See')[0])
         self.leave('asked', tab)
 
     def first_screen(self):
@@ -202,28 +228,30 @@ class PageTests(Counts):
         lines = tab.evaluate('''[...document.querySelectorAll('table.topics tbody tr')].map((row) => ({
             isInSight: row.getBoundingClientRect().bottom <= innerHeight, cells: [...row.cells].map((cell) => cell.innerText) }))''')
         self.holds('robot: each topic is in sight', [True] * 3, [line['isInSight'] for line in lines])
-        for line, words in zip(lines, (('/tf', 'acknowledged sample 12', 'datagram 166', 'tcpdump'), ('/scan', 'samples 24 to 40', 'datagram 159', 'look at the reader'),
-                                       ('/odom', 'missed sample 19', 'datagram 115', 'history depth'))):
+        wanted = (('/tf', 'acknowledged sample 12', 'datagram 166', 'tcpdump'), ('/scan', 'samples 24 to 40', 'datagram 159', 'look at the reader'),
+                  ('/odom', 'missed sample 19', 'datagram 115', 'history depth'))
+        for line, words in zip(lines, wanted):
             self.holds(f'robot: the line of {words[0]}', [], [word for word, cell in zip(words, line['cells']) if word not in cell])
         self.leave('robot', tab)
 
     def weaknesses(self):
-        wanted = {'none': ['No pairs.'], 'unmatched': ['No pairs.', '4 topics kept apart.'], 'fragments.rec': ['2 fragments.'],
-                  'gone.rec': ['1 complete pair with numbers gone.'], 'robot': ['1 topic kept apart.'], 'pose.rec': [], 'loopback.pcap': ['3 frames ignored.']}
+        wanted = {
+            'none': ['No pairs.'], 'unmatched': ['No pairs.', '4 topics kept apart.'], 'fragments.rec': ['2 fragments.'], 'pose.rec': [],
+            'gone.rec': ['1 complete pair with numbers gone.'], 'robot': ['1 topic kept apart.'], 'loopback.pcap': ['3 frames ignored.'],
+        }
         for name, sentences in wanted.items():
             tab = self.open(name)
-            self.holds(f'{name}: what weakens the report', sentences, tab.evaluate("[...document.querySelectorAll('#warnings li > b')].map((e) => e.textContent)"))
+            self.holds(f'{name}: what weakens the report', sentences, tab.evaluate("textsOf(document, '#warnings li > b')"))
             tab.close()
 
     def chosen_pairs(self):
         for name in ('robot', 'conflict.rec', 'unfounded.rec', 'gone.rec', 'greatest', 'cyclone_reliable.rec'):
             tab = self.open(name)
             for at, row in enumerate(self.rows(name)):
-                tab.evaluate(f"location.hash = '#pair-{at + 1}'")
-                tab.settle()
-                text = tab.evaluate("document.querySelector('tr.detail .detail-words').innerText.replace(/\\s+/g, ' ')")
+                self.choose(tab, at)
+                text = self.text(tab, 'tr.detail .detail-words')
                 self.holds(f'{name}: pair {at + 1} tells each place', [], sorted(place for place in places_of(row) if place not in text))
-                self.holds(f'{name}: one pair is chosen', 1, tab.evaluate("document.querySelectorAll('tr.detail').length"))
+                self.holds(f'{name}: one pair is chosen', 1, self.found(tab, 'tr.detail'))
             self.leave(name, tab)
 
     def participants(self):
@@ -231,13 +259,13 @@ class PageTests(Counts):
             values, tab = self.values(name), self.open(name)
             found = reference.list_text(self.datagrams(name))
             wanted = {(line.split()[1], line.split()[0]) for line in found if line.startswith(('writer', 'reader'))}
-            shown = tab.evaluate('endpointsShown()')
-            self.holds(f'{name}: each endpoint is shown', sorted(wanted), sorted((f"{one['prefix']}.{one['entity']}", one['side']) for one in shown))
+            shown = {f"{one['prefix']}.{one['entity']}": one for one in tab.evaluate('endpointsShown()')}
+            self.holds(f'{name}: each endpoint is shown', sorted(wanted), sorted((guid, one['side']) for guid, one in shown.items()))
             names = {one['guid']: (one['topic'], one['type'], f"{one['reliability']}, {one['durability']}") for one in values['endpoints']}
-            self.holds(f'{name}: with its names', [names[f"{one['prefix']}.{one['entity']}"] for one in shown], [(one['topic'][-1], one['type'][-1], one['qos']) for one in shown])
-            matches = [line.split()[1:3] for line in found if line.startswith('pair ')]
-            self.holds(f'{name}: what matches', [sum(f"{one['prefix']}.{one['entity']}" in match for match in matches) for one in shown],
-                       [0 if one['matches'].startswith('no match') else int(one['matches'].split()[0]) for one in shown])
+            self.holds(f'{name}: with its names', names, {guid: (one['topic'][-1], one['type'][-1], one['qos']) for guid, one in shown.items()})
+            matches = [guid for line in found if line.startswith('pair ') for guid in line.split()[1:3]]
+            told = {guid: 0 if one['matches'].startswith('no match') else int(one['matches'].split()[0]) for guid, one in shown.items()}
+            self.holds(f'{name}: what matches', {guid: matches.count(guid) for guid in shown}, told)
             tab.close()
 
     def datagrams(self, name):
@@ -248,18 +276,20 @@ class PageTests(Counts):
     def kept_apart(self):
         tab = self.open('unmatched')
         shown = {one['topic'][-1]: one['matches'] for one in tab.evaluate('endpointsShown()') if one['side'] == 'writer'}
-        wanted = {'rt/scan': 'asks for reliable, and the writer offers best-effort', 'rt/map': 'asks for transient-local, and the writer offers volatile',
-                  'rt/both': 'offers best-effort; the reader asks for transient-local', 'rt/typed': 'the type of the reader is F', 'rt/images': '(best-effort: not audited)',
-                  'rt/alone': 'No reader of this topic matches.'}
+        wanted = {
+            'rt/scan': 'asks for reliable, and the writer offers best-effort', 'rt/map': 'asks for transient-local, and the writer offers volatile',
+            'rt/both': 'offers best-effort; the reader asks for transient-local', 'rt/typed': 'the type of the reader is F',
+            'rt/images': '(best-effort: not audited)', 'rt/alone': 'No reader of this topic matches.',
+        }
         self.holds('what keeps endpoints apart', [], [topic for topic, words in wanted.items() if words not in shown[topic]])
         self.leave('unmatched', tab)
 
     def hostile_names(self):
         tab = self.open('hostile')
-        self.holds('hostile names make no element', [0, 0, 0], tab.evaluate("['img', 'b b', 'main script'].map((name) => document.querySelectorAll(name).length)"))
+        self.holds('hostile names make no element', [0, 0, 0], [self.found(tab, name) for name in ('img', 'b b', 'main script')])
         self.holds('hostile names run nothing', [], tab.events('Page.javascriptDialogOpening'))
         ends = parts.parts()[2].count('<script>')
-        self.holds('hostile names end no script', ends + 1, tab.evaluate("document.querySelectorAll('script').length"))
+        self.holds('hostile names end no script', ends + 1, self.found(tab, 'script'))
         self.leave('hostile', tab)
 
     def without_scripts(self):
@@ -278,27 +308,30 @@ class PageTests(Counts):
     def filters(self):
         tab = self.open('robot')
         rows = self.rows('robot')
-        wanted = {'scan': ['rt/scan'], '/amcl': ['rt/tf', 'rt/scan', 'rt/odom'], 'open': ['rt/scan'], 'missed': ['rt/odom'], 'P3 teleop tf': ['rt/tf'],
-                  rows[0]['writer']: ['rt/odom'], 'nothing of this': [], 'nav_msgs/msg/odometry': ['rt/odom'], '': ['rt/tf', 'rt/scan', 'rt/odom', 'rt/cmd_vel']}
+        wanted = {
+            'scan': ['rt/scan'], '/amcl': ['rt/tf', 'rt/scan', 'rt/odom'], 'open': ['rt/scan'], 'missed': ['rt/odom'], 'P3 teleop tf': ['rt/tf'],
+            rows[0]['writer']: ['rt/odom'], 'nothing of this': [], 'nav_msgs/msg/odometry': ['rt/odom'],
+            '': ['rt/tf', 'rt/scan', 'rt/odom', 'rt/cmd_vel'],
+        }
         for text, topics in wanted.items():
             tab.evaluate(f'timeToFilter({json.dumps(text)})')
-            self.holds(f'robot: the filter {text!r}', topics, [row['topic'][-1] for row in tab.evaluate('rowsShown()')])
+            self.holds(f'robot: the filter {text!r}', topics, self.topics(tab))
         tab.click('#verdicts .badge.open')
         tab.click('#verdicts .badge.unfounded')
-        self.holds('robot: two verdicts', ['rt/tf', 'rt/scan'], [row['topic'][-1] for row in tab.evaluate('rowsShown()')])
-        self.holds('robot: what is shown is told', '2 of 4 pairs.', tab.evaluate("document.getElementById('shown').textContent"))
+        self.holds('robot: two verdicts', ['rt/tf', 'rt/scan'], self.topics(tab))
+        self.holds('robot: what is shown is told', '2 of 4 pairs.', self.text(tab, '#shown'))
         self.leave('robot', tab)
 
     def orders(self):
         tab = self.open('robot')
-        keys = {'announced': lambda row: row['announced']['number'], 'acknowledged': lambda row: row['acknowledged']['below'], 'payloads': lambda row: row['payloads'],
-                'untold': lambda row: row['untold'], 'received': lambda row: row['received'], 'missed': lambda row: row['missed']}
-        for name, key in keys.items():
-            for turned in (True, False):
+        within = {'announced': 'number', 'acknowledged': 'below'}
+        for name in ('announced', 'acknowledged', 'payloads', 'untold', 'received', 'missed'):
+            for order, sign in (('descending', -1), ('ascending', 1)):
                 tab.click(f'.pairs thead th.{name} button')
-                order = sorted(enumerate(self.rows('robot')), key=lambda one: (-1 if turned else 1) * key(one[1]))
-                self.holds(f'robot: by {name}, {turned}', [f'pair-{at + 1}' for at, _ in grouped(order)], [row['id'] for row in tab.evaluate('rowsShown()')])
-                self.holds(f'robot: the head of {name}', 'descending' if turned else 'ascending', tab.evaluate(f"document.querySelector('.pairs thead th.{name}').ariaSort"))
+                key = lambda one: sign * (one[1][name][within[name]] if name in within else one[1][name])
+                rows = grouped(sorted(enumerate(self.rows('robot')), key=key))
+                self.holds(f'robot: by {name}, {order}', [f'pair-{at + 1}' for at, _ in rows], self.ids(tab))
+                self.holds(f'robot: the head of {name}', order, tab.evaluate(f"document.querySelector('.pairs thead th.{name}').ariaSort"))
         self.leave('robot', tab)
 
     def clicks(self):
@@ -307,7 +340,7 @@ class PageTests(Counts):
         self.holds('a click chooses', '#pair-2', tab.evaluate('location.hash'))
         self.holds('the row says that it is open', 'true', tab.evaluate("document.querySelector('#pair-2 a').ariaExpanded"))
         tab.click('#pair-2 a')
-        self.holds('another one closes', 0, tab.evaluate("document.querySelectorAll('tr.detail').length"))
+        self.holds('another one closes', 0, self.found(tab, 'tr.detail'))
         tab.click('table.topics a')
         self.holds('a topic leads to its pair', '#pair-3', tab.evaluate('location.hash'))
         tab.click('#pair-3 td.writer a')
@@ -356,17 +389,21 @@ class PageTests(Counts):
             acts = {one['guid']: one['acts'] for one in values['writers']}
             bases = {(one['writer'], one['reader']): one['bases'] for one in values['answers']}
             for at, row in enumerate(self.rows(name)):
-                tab.evaluate(f"location.hash = '#pair-{at + 1}'")
-                tab.settle()
-                marks = tab.evaluate('chartInSight.marks')
+                self.choose(tab, at)
                 heard = [act for act in acts[row['writer']] if is_heard(act, row['reader'])]
-                sent = [act for act in heard if act[2] == 'data']
-                dots = [[act[0], act[3], act[1], act[3] in [one[3] for one in sent[:k]]] for k, act in enumerate(sent)]
-                self.holds(f'{name}: the dots of pair {at + 1}', dots, [[dot['x'], dot['y'], dot['at'], dot['again']] for dot in marks['dots']])
-                self.holds(f'{name}: the answers of pair {at + 1}', [[i, base - 1] for i, _, base in bases[row['writer'], row['reader']]], [[one['x'], one['y']] for one in marks['answers']])
-                gone = {n for act in heard if act[2] == 'gone' for n in range(act[3], act[4] + 1)}
-                self.holds(f'{name}: what is gone of pair {at + 1}', gone, {n for band in marks['bands'] for n in range(band['low'], band['high'] + 1)})
+                self.chart(f'{name}: pair {at + 1}', heard, bases[row['writer'], row['reader']], tab.evaluate('chartInSight.marks'))
             tab.close()
+
+    def chart(self, name, heard, bases, marks):
+        """what a chart has of what a reader hears and of what it answers"""
+        sent = [act for act in heard if act[2] == 'data']
+        dots = [[act[0], act[3], act[1], act[3] in [one[3] for one in sent[:k]]] for k, act in enumerate(sent)]
+        self.holds(f'{name}: the dots', dots, [[dot['x'], dot['y'], dot['at'], dot['again']] for dot in marks['dots']])
+        answers = [[datagram, base - 1] for datagram, _, base in bases]
+        self.holds(f'{name}: the answers', answers, [[one['x'], one['y']] for one in marks['answers']])
+        gone = {n for act in heard if act[2] == 'gone' for n in range(act[3], act[4] + 1)}
+        drawn = {n for band in marks['bands'] for n in range(band['low'], band['high'] + 1)}
+        self.holds(f'{name}: what is gone', gone, drawn)
 
     def pointer(self):
         tab = self.open('robot', '#pair-2')
@@ -379,21 +416,22 @@ class PageTests(Counts):
         before = tab.evaluate('chartInSight.view')
         tab.drag(box['x'] + x - 60, box['y'] + y - 40, box['x'] + x + 60, box['y'] + y + 40)
         after = tab.evaluate('chartInSight.view')
-        self.holds('a drag zooms about it', True, after['x0'] < dot['x'] < after['x1'] < before['x1'] and before['y0'] < after['y0'] < dot['y'] < after['y1'])
+        is_about = after['x0'] < dot['x'] < after['x1'] < before['x1'] and before['y0'] < after['y0'] < dot['y'] < after['y1']
+        self.holds('a drag zooms about it', True, is_about)
         self.picture(tab, 'robot_zoomed')
         tab.click('canvas', 2)
         self.holds('a double click shows all', before, tab.evaluate('chartInSight.view'))
         for label, is_less in (('Zoom in', True), ('Zoom out', False)):
             tab.evaluate(f"[...document.querySelectorAll('.controls button')].find((e) => e.textContent === '{label}').click()")
-            self.holds(f'the button {label}', is_less, tab.evaluate('chartInSight.view.x1 - chartInSight.view.x0') < before['x1'] - before['x0'])
+            wide = tab.evaluate('chartInSight.view.x1 - chartInSight.view.x0')
+            self.holds(f'the button {label}', is_less, wide < before['x1'] - before['x0'])
         self.leave('robot', tab)
 
     def charts_left_out(self):
         tab = self.open('chatty')
         shown = {}
         for at, row in enumerate(self.rows('chatty')):
-            tab.evaluate(f"location.hash = '#pair-{at + 1}'")
-            tab.settle()
+            self.choose(tab, at)
             shown[row['topic']] = tab.evaluate("[...document.querySelectorAll('canvas, .no-chart')].map((e) => e.tagName)")
         self.holds('a chart for which there is no room', {'few': ['CANVAS'], 'many': ['P'], 'later': ['CANVAS']}, shown)
         self.leave('chatty', tab)
@@ -414,22 +452,21 @@ class PageTests(Counts):
             for width in (360, 390, 768, 1280, 1920):
                 tab = self.open(name, '#pair-1', width=width)
                 self.holds(f'{name}: it fits in {width} pixels', width, tab.evaluate('document.documentElement.scrollWidth'))
-                hidden = tab.evaluate("[...document.querySelectorAll('tr.pair, table.endpoints tr, table.topics tbody tr')].filter((row) => row.getClientRects().length === 0).length")
-                self.holds(f'{name}: each row is in sight at {width} pixels', 0, hidden)
+                self.holds(f'{name}: each row is in sight at {width} pixels', [], tab.evaluate("hidden('tbody tr')"))
                 tab.close()
 
     def paper(self):
         tab = self.open('robot', '#pair-2', dark=True)
         tab.evaluate("addEventListener('beforeprint', () => { window.drawnFor = chartInSight.colour('--paper'); })")
         self.holds('it is printed', b'%PDF', tab.print()[:4])
-        self.holds('the chart is drawn for paper, and then for the screen', ['#ffffff', '#14171a'], tab.evaluate("[window.drawnFor, chartInSight.colour('--paper')]"))
+        colours = tab.evaluate("[window.drawnFor, chartInSight.colour('--paper')]")
+        self.holds('the chart is drawn for paper, and then for the screen', ['#ffffff', '#14171a'], colours)
         tab.send('Emulation.setEmulatedMedia', media='print', features=[{'name': 'prefers-color-scheme', 'value': 'dark'}])
         tab.resize(700, 1000)
         tab.settle()
         self.holds('it fits on paper', 700, tab.evaluate('document.documentElement.scrollWidth'))
-        shown = tab.evaluate('''Object.fromEntries(['.tools', '.controls', 'table.pairs', 'tr.detail', 'canvas', 'td.payloads'].map((name) =>
-            [name, document.querySelector(name).getClientRects().length > 0]))''')
-        self.holds('what is on paper', {'.tools': False, '.controls': False, 'table.pairs': True, 'tr.detail': True, 'canvas': True, 'td.payloads': True}, shown)
+        self.holds('what is on paper', [], tab.evaluate("hidden('table.pairs, tr.pair, tr.pair td, tr.detail, canvas')"))
+        self.holds('what is not on paper', 2, tab.evaluate("hidden('.tools, .controls').length"))
         self.holds('it is light on paper', [], tab.evaluate('faintTexts(4.5)')['faint'])
         self.holds('it is white on paper', [255, 255, 255, 1], tab.evaluate('behind(document.body)'))
         self.picture(tab, 'robot_on_paper', True)
@@ -445,15 +482,15 @@ class PageTests(Counts):
         tab.evaluate(PROBE)
         tab.evaluate("timeToFilter('')")
         slowest = max(self.time_to_filter(tab, text) for text in ('000a07', 'unfounded', 'p1', 'nothing', ''))
-        print(f'90,000 pairs: {os.path.getsize(self.path("many")):,} octets, seen after {first:.2f} s of processor time, filtered in {slowest * 1000:.0f} ms')
+        size = os.path.getsize(self.path('many'))
+        print(f'90,000 pairs: {size:,} octets, seen after {first:.2f} s of processor time, filtered in {slowest * 1000:.0f} ms')
         self.holds('90,000 pairs: first sight', True, first < FIRST_SIGHT)
         self.holds('90,000 pairs: a filter', True, slowest < FILTERED)
-        self.holds('90,000 pairs: what is shown', '90,000 pairs; the first 100 are shown.', tab.evaluate("document.getElementById('shown').textContent"))
-        tab.click('button.more')
-        tab.evaluate("location.hash = '#pair-77777'")
-        tab.settle()
-        shown = [last_names(row) for row in tab.evaluate('rowsShown()')]
-        self.holds('90,000 pairs: one by its address', [row_wanted(77776, self.rows('many')[77776])], shown)
+        self.holds('90,000 pairs: what is shown', '90,000 pairs; the first 100 are shown.', self.text(tab, '#shown'))
+        tab.click('#pairs > button.more')
+        self.holds('90,000 pairs: more of them', '90,000 pairs; the first 600 are shown.', self.text(tab, '#shown'))
+        self.choose(tab, 77776)
+        self.holds('90,000 pairs: one by its address', [row_wanted(77776, self.rows('many')[77776])], self.shown(tab))
         self.leave('many', tab)
 
     def time_to_filter(self, tab, text):
@@ -479,8 +516,7 @@ class PageTests(Counts):
                     tab = self.open(name, width=width, dark=dark)
                     self.picture(tab, look)
                     if name != 'many':
-                        tab.evaluate("location.hash = '#pair-1'")
-                        tab.settle()
+                        self.choose(tab, 0)
                         self.picture(tab, f'{look}_pair', True)
                     tab.close()
 
@@ -493,8 +529,11 @@ def is_heard(act, reader):
 
 
 WITHOUT_BROWSER = 'text_of_a_page', 'rows_with_charts'
-IN_BROWSER = ('each_row', 'working_copy', 'outcome', 'asked', 'first_screen', 'weaknesses', 'chosen_pairs', 'participants', 'kept_apart', 'hostile_names', 'without_scripts', 'filters', 'orders',
-              'clicks', 'keyboard', 'charts', 'pointer', 'charts_left_out', 'contrast', 'widths', 'paper', 'many_pairs')
+IN_BROWSER = (
+    'each_row', 'working_copy', 'outcome', 'asked', 'first_screen', 'weaknesses', 'chosen_pairs', 'participants', 'kept_apart', 'hostile_names',
+    'without_scripts', 'filters', 'orders', 'clicks', 'keyboard', 'charts', 'pointer', 'charts_left_out', 'contrast', 'widths', 'paper',
+    'many_pairs',
+)
 
 
 def run(tests, names):

@@ -165,7 +165,8 @@ def greatest():
     """numbers that JavaScript cannot hold: a pair whose numbers end with the greatest that there is"""
     topic = Topic(b'rt/far', b'A', Participant(0x0a), Participant(0x1b))
     last = 2 ** 63 - 1
-    return [*topic.announced, topic.sent(9007199254740993), topic.asks(9007199254740992, last - 1), topic.sent(last - 1), topic.answers(9007199254740993)]
+    large = 2 ** 53 + 1
+    return [*topic.announced, topic.sent(large), topic.asks(large - 1, last - 1), topic.sent(last - 1), topic.answers(large)]
 
 
 def chatty():
@@ -173,7 +174,8 @@ def chatty():
     one, other = Participant(0x0a), Participant(0x1b)
     few, many, later = (Topic(name, b'Sample', one, other) for name in (b'few', b'many', b'later'))
     heard = header(many.writer) + gap(many.sender, 5, 5, [0xffffffff] * 8) * 100
-    return [*few.announced, *many.announced, *later.announced, few.sent(1), *[heard] * 8, many.sent(9), few.answers(2), later.sent(1), later.sent(2)]
+    sent = [few.sent(1), *[heard] * 8, many.sent(9), few.answers(2), later.sent(1), later.sent(2)]
+    return [*few.announced, *many.announced, *later.announced, *sent]
 
 
 def unmatched():
@@ -186,7 +188,8 @@ def unmatched():
     found = [one.announced(), other.announced()]
     for topic, kind, *qos in ends:
         found += [one.endpoint(WRITERS, topic, kind, *qos[:2])[0], other.endpoint(READERS, topic, kind, *qos[2:])[0]]
-    return found + [one.endpoint(WRITERS, b'rt/typed', b'E')[0], other.endpoint(READERS, b'rt/typed', b'F')[0], one.endpoint(WRITERS, b'rt/alone', b'G')[0]]
+    typed = one.endpoint(WRITERS, b'rt/typed', b'E')[0], other.endpoint(READERS, b'rt/typed', b'F')[0]
+    return [*found, *typed, one.endpoint(WRITERS, b'rt/alone', b'G')[0]]
 
 
 # ---- many rows
@@ -195,34 +198,43 @@ def many(side, names, verdict_of):
     """the data of a page of as many writers as readers of each topic, and of all their rows. Each writer says 20 things"""
     endpoints, pairs, writers, answers = [], [], [], []
     for k, (topic, kind) in enumerate(names):
-        ends = {what: [f'{0x10f0a0a0a << 56 | k << 32 | i:024x}.{0x100 + i:06x}{last}' for i in range(side)] for what, last in (('writer', '03'), ('reader', '04'))}
-        for what in ends:
-            endpoints += [{'guid': guid, 'side': what, 'topic': topic, 'type': kind, 'reliability': 'reliable', 'durability': 'volatile'} for guid in ends[what]]
-        writers += [{'guid': guid, 'acts': [[i + 1, 20, 'data', i + 1] for i in range(18)] + [[19, 20, 'announced', 18]]} for guid in ends['writer']]
+        prefixes = [f'{0x10f0a0a0a << 56 | k << 32 | i:024x}.{0x100 + i:06x}' for i in range(side)]
+        ends = {'writer': [f'{prefix}03' for prefix in prefixes], 'reader': [f'{prefix}04' for prefix in prefixes]}
+        qos = {'topic': topic, 'type': kind, 'reliability': 'reliable', 'durability': 'volatile'}
+        endpoints += [{'guid': guid, 'side': what, **qos} for what in ends for guid in ends[what]]
+        acts = [[i + 1, 20, 'data', i + 1] for i in range(18)] + [[19, 20, 'announced', 18]]
+        writers += [{'guid': guid, 'acts': acts} for guid in ends['writer']]
         for writer in ends['writer']:
             for reader in ends['reader']:
                 pairs.append({'writer': writer, 'reader': reader, 'topic': topic, 'type': kind} | verdict_of(len(pairs)))
                 answers.append({'writer': writer, 'reader': reader, 'bases': [[20, 36, pairs[-1]['acknowledged']['below']]]})
+    endpoints.sort(key=lambda endpoint: endpoint['guid'])
     return {
         'options': {'from': 1, 'any': False, 'fragments': False, 'observed': False, 'strict': False, 'topics': [], 'expect': None},
         'report': {'pairs': pairs, 'datagrams': 20, 'refused': 0, 'skipped': 0, 'fragments': 0, 'undirected': 0, 'unsettled': 0},
-        'malformed': 0, 'participants': [], 'endpoints': sorted(endpoints, key=lambda endpoint: endpoint['guid']), 'faults': 0, 'writers': writers, 'answers': answers,
+        'malformed': 0, 'participants': [], 'endpoints': endpoints, 'faults': 0, 'writers': writers, 'answers': answers,
     }
 
 
 def some_verdict(at):
     """an open row, and now and then one of another kind"""
     place = {'datagram': 18, 'at': 20}
-    common = {'announced': {'number': 18, 'by': 'data', **place}, 'acknowledged': {'below': 12, 'datagram': 20, 'at': 36}}
+    common = {
+        'announced': {'number': 18, 'by': 'data', **place}, 'acknowledged': {'below': 12, 'datagram': 20, 'at': 36},
+        'payloads': 18, 'gone': 0, 'untold': 0, 'received': 11, 'not_received': {'number': 12, 'gone': None, 'acknowledged': None}, 'missed': 0,
+    }
     if at % 3 == 2:
-        return {'verdict': 'complete', 'number': 18} | common | {'acknowledged': {'below': 19, 'datagram': 20, 'at': 36}, 'payloads': 18, 'gone': 0, 'untold': 0,
-                'received': 18, 'not_received': None, 'missed': 0}
-    counts = {'payloads': 18, 'gone': 0, 'untold': 0, 'received': 11, 'not_received': {'number': 12, 'gone': None, 'acknowledged': None}, 'missed': 0}
+        claim = {'below': 19, 'datagram': 20, 'at': 36}
+        return {'verdict': 'complete', 'number': 18} | common | {'acknowledged': claim, 'received': 18, 'not_received': None}
     told = {'by': 'data', 'datagram': 12, 'at': 20}
     if at % 1000 == 1:
-        return {'verdict': 'unfounded', 'number': 12, 'datagram': 11} | common | counts | {'claimed': {'below': 13, 'datagram': 11, 'at': 36}, 'told': told}
-    return {'verdict': 'open', 'number': 12} | common | counts | {'told': told, 'asked_since': 0, 'last_asked': None}
+        claim = {'below': 13, 'datagram': 11, 'at': 36}
+        return {'verdict': 'unfounded', 'number': 12, 'datagram': 11} | common | {'claimed': claim, 'told': told}
+    return {'verdict': 'open', 'number': 12} | common | {'told': told, 'asked_since': 0, 'last_asked': None}
 
+
+RECORDINGS = {'robot': robot, 'hostile': hostile, 'greatest': greatest, 'chatty': chatty, 'unmatched': unmatched}
 
 if __name__ == '__main__':
-    print('\n'.join(datagram.hex() for datagram in {'robot': robot, 'hostile': hostile, 'greatest': greatest, 'chatty': chatty, 'unmatched': unmatched}[sys.argv[1]]()))
+    for datagram in RECORDINGS[sys.argv[1]]():
+        print(datagram.hex())
