@@ -1,8 +1,9 @@
 'use strict';
 // The top of the page: what was asked, the outcome, the topics with something to look at, what weakens the report, the counts.
 
-// So many lines of the topics are shown at first.
+// So many lines of the topics are shown at first, and so many more each time.
 const FIRST_LINES = 8;
+const MORE_LINES = 200;
 
 function showOverview(report) {
   const outcome = outcomeSentence(report);
@@ -60,13 +61,18 @@ function showTopics(report) {
   const lines = findings(report);
   section.hidden = lines.length === 0;
   if (section.hidden) return;
-  const body = make('tbody', null, ...lines.slice(0, FIRST_LINES).map((line) => topicLine(report, line)));
+  const body = make('tbody', null);
   section.append(make('div', { class: 'wide' }, make('table', { class: 'topics' },
     make('caption', { class: 'hidden' }, 'Topics with something to look at'),
     tableHead('Topic', 'What happened', 'Since', 'What to do'), body)));
-  if (lines.length > FIRST_LINES) section.append(moreButton(lines.length - FIRST_LINES, 'line', () => {
-    body.append(...lines.slice(FIRST_LINES).map((line) => topicLine(report, line)));
-  }));
+  appendLines(report, section, body, lines, FIRST_LINES);
+}
+
+// Appends so many lines, and a button for the others.
+function appendLines(report, section, body, lines, most) {
+  body.append(...lines.slice(0, most).map((line) => topicLine(report, line)));
+  const rest = lines.slice(most);
+  if (rest.length > 0) section.append(moreButton(rest.length, 'line', () => appendLines(report, section, body, rest, MORE_LINES)));
 }
 
 // A button that shows what is left out, and goes.
