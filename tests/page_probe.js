@@ -46,6 +46,13 @@ function hidden(selector) {
   return [...document.querySelectorAll(selector)].filter((element) => element.getClientRects().length === 0).map((element) => element.className);
 }
 
+// What would be said of the first row if the page had no room for what was said.
+function adviceWithoutActs() {
+  const report = new Report(valueOf(document.getElementById('data').textContent));
+  report.answers = [];
+  return Object.values(adviceOf(report, report.rows[0])).join(' ');
+}
+
 // ---- what each can read
 
 // The three parts and the share of a colour, whatever form it has.

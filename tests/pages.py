@@ -28,6 +28,8 @@ MADE = 'robot', 'hostile', 'greatest', 'chatty', 'unmatched', 'none'
 # seen, and until a filter is.
 EXAMPLE_SIZE, MANY_SIZE = 100_000, 60_000_000
 FIRST_SIGHT, FILTERED = 2, 0.2
+# What the page says only where it has all acts of a pair.
+OF_ACTS = 'No answer of this reader', 'sends it again', 'sent again'
 PROBE = file_of('tests', 'page_probe.js').decode()
 GROUPED = re.compile(r'(?<=\d)(?=(?:\d{3})+$)')
 
@@ -253,6 +255,18 @@ class PageTests(Counts):
                 self.holds(f'{name}: pair {at + 1} tells each place', [], sorted(place for place in places_of(row) if place not in text))
                 self.holds(f'{name}: one pair is chosen', 1, self.found(tab, 'tr.detail'))
             self.leave(name, tab)
+
+    def advice(self):
+        """what is to be done in each case; and where the page has no room for what was said"""
+        for words, datagrams in recorded.advised().items():
+            self.made['advised'] = page.page_values(datagrams)
+            with open(os.path.join(self.room, 'advised.html'), 'w', encoding='utf-8') as f:
+                f.write(page.page_text(self.made['advised']))
+            tab = self.open('advised', '#pair-1')
+            self.holds(f'the advice: {words}', True, words in self.text(tab, '.advice'))
+            unknown = tab.evaluate('adviceWithoutActs()')
+            self.holds(f'the advice without acts: {words}', [], [said for said in OF_ACTS if said in unknown])
+            tab.close()
 
     def participants(self):
         for name in (*EXAMPLES, *MADE):
@@ -530,7 +544,7 @@ def is_heard(act, reader):
 
 WITHOUT_BROWSER = 'text_of_a_page', 'rows_with_charts'
 IN_BROWSER = (
-    'each_row', 'working_copy', 'outcome', 'asked', 'first_screen', 'weaknesses', 'chosen_pairs', 'participants', 'kept_apart', 'hostile_names',
+    'each_row', 'working_copy', 'outcome', 'asked', 'first_screen', 'weaknesses', 'chosen_pairs', 'advice', 'participants', 'kept_apart', 'hostile_names',
     'without_scripts', 'filters', 'orders', 'clicks', 'keyboard', 'charts', 'pointer', 'charts_left_out', 'contrast', 'widths', 'paper',
     'many_pairs',
 )

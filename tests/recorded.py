@@ -192,6 +192,40 @@ def unmatched():
     return [*found, *typed, one.endpoint(WRITERS, b'rt/alone', b'G')[0]]
 
 
+def relayed(topic, number, base):
+    """a sample and the answer to it in one datagram"""
+    source = b'\x0c\0\0\x14' + bytes(4) + b'\2\5\0\0' + topic.reader
+    return topic.sent(number) + source + to(topic.writer) + ack_nack(topic.receiver, topic.sender, base)
+
+
+def advised():
+    """recordings of one pair, each with words of the advice that it calls for"""
+    pair = Topic(b'rt/pose', b'Pose', Participant(0x0a), Participant(0x1b))
+    one, asks, lacks = pair.sent(1), pair.asks(1, 1), pair.answers(1, 1)
+    other = header(pair.writer) + data(pair.sender, 1, b'\0\1\0\0another')
+    cases = [
+        ('Record both directions', [one, asks]),
+        ('else it was not sent', [asks, pair.answers(1)]),
+        ('The reader did not answer that yet: record longer. Raise', [one, asks, lacks, pair.asks(2, 1)]),
+        ('It was sent again in datagram 6', [one, asks, lacks, pair.resent(1)]),
+        ('The writer does not resend', [one, asks, lacks]),
+        ('Record to a quiet end', [one, asks, pair.answers(2), pair.sent(2)]),
+        ('The reader has ended', [one, asks, pair.answers(2), pair.sent(2), pair.asks(1, 2)]),
+        ('two processes use one GUID', [one, other, asks, pair.answers(2)]),
+        ('A relay packed them', [relayed(pair, 1, 2)]),
+        ('on one interface', [pair.answers(2), one]),
+        ('another writer had this GUID', [one, pair.answers(3)]),
+        ('try --from 3', [pair.sent(3), pair.answers(4)]),
+        ('Frames were dropped', [*(pair.sent(n) for n in range(1, 31) if n != 12), pair.answers(31)]),
+        ('Did it write at all', []),
+        ('Raise the writer’s history', [one, asks, lacks, pair.asks(2, 1), pair.answers(2)]),
+        ('It is no fault if the reader joined late', [pair.asks(2, 1), pair.answers(2)]),
+        ('Every sample has reached the reader', [one, asks, pair.answers(2)]),
+        ('Nothing here shows that it lacked one', [one, pair.asks(2, 1), pair.answers(2)]),
+    ]
+    return {words: [*pair.announced, *sent] for words, sent in cases}
+
+
 # ---- many rows
 
 def many(side, names, verdict_of):

@@ -31,7 +31,7 @@ function askedForText({ number, first_missed: missed }) {
 
 const OPEN = [
   {
-    fits: ({ row, report }) => row.acknowledged === null && (report.basesOf(row) || []).length === 0,
+    fits: ({ row, report }) => row.acknowledged === null && report.basesOf(row) && report.basesOf(row).length === 0,
     means: () => 'No answer of this reader to this writer is in the recording, or “undirected” counts them.',
     todo: () => `Record both directions, on this interface. ${SHARED_MEMORY}`,
   },
@@ -57,6 +57,17 @@ const OPEN = [
     fits: ({ row, report }) => asksForIt(row) && report.actsOf(row),
     means: ({ row }) => `${askedForText(row)} Nothing in the recording sends it again.`,
     todo: () => 'The writer does not resend: look at the writer.',
+  },
+  {
+    fits: ({ row }) => asksForIt(row),
+    means: ({ row }) => askedForText(row),
+    todo: ({ row }) => `Look in “show” behind it for a data line with number ${row.number}. If there is one, the reader did not answer it yet: `
+      + 'record longer. If not, the writer does not resend: look at the writer.',
+  },
+  {
+    fits: ({ row, report }) => row.acknowledged === null && !report.basesOf(row),
+    means: () => 'The reader acknowledged nothing.',
+    todo: () => `If no answer of it is in the recording, record both directions, on this interface. ${SHARED_MEMORY}`,
   },
   {
     fits: ({ row }) => row.asked_since === 0,
