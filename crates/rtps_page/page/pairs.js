@@ -35,7 +35,7 @@ const COLUMNS = [
   countColumn('payloads', 'Payloads', false),
   countColumn('gone', 'Gone', true),
   countColumn('untold', 'Untold', true),
-  countColumn('received', 'Surely received', false),
+  countColumn('received', 'Proved received', false),
   countColumn('missed', 'Missed', true),
 ];
 
