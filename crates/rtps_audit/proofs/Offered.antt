@@ -20,9 +20,13 @@ use Rattle.std.proofs.lemmas.List.Elements.{Contains-append_left, Contains-push}
 use Rattle.rtps_audit.specs.Answered.{IsHeard, last_among}
 use Rattle.rtps_audit.specs.Placed.{PlacedValue, is_from, placed_in}
 use Rattle.rtps_audit.specs.Speech.{announced_for, announced_of_body, base_for, said_by, speech_of, word_for}
-use Rattle.rtps_audit.proofs.IndexSpeech.{all_have, get_mapped, gives_from, heard_from, if_some, its_have, last_from, mapped_get, spoken_is_from}
+use Rattle.rtps_audit.proofs.IndexSpeech.{all_have, gives_from, heard_from, if_some, its_have, last_from, spoken_is_from}
 use Rattle.rtps_audit.proofs.PlacedActs.{kept_if_passed, made_from, makes, stands_there, stands_where}
 use Rattle.rtps_audit.proofs.PlacedLemmas.{both, bytes_eq-sym}
+pub use Rattle.rtps_audit.proofs.DeliveryRuns.{Follows-append, place_within}
+pub use Rattle.rtps_audit.proofs.IndexSpeech.{get_mapped, mapped_get}
+pub use Rattle.rtps_audit.proofs.Sound.{reached-sound}
+pub use Rattle.rtps_audit.proofs.Verdicts.{runs_exist_where_founded}
 
 -- ---- who an act is from
 

@@ -9,9 +9,7 @@ use Rattle.rtps_audit.specs.Delivery.Word.{Told, Gone}
 use Rattle.rtps_audit.specs.Delivery.Event.{Send, Take}
 use Rattle.rtps_audit.specs.PlainVerdict.{IsFounded}
 use Rattle.rtps_audit.specs.RunVerdict.{IsTold}
-use Rattle.rtps_audit.proofs.IndexSpeech.{get_mapped, mapped_get}
-use Rattle.rtps_audit.proofs.Offered.{held_is_spoken}
-use Rattle.rtps_audit.proofs.Verdicts.{runs_exist_where_founded}
+use Rattle.rtps_audit.proofs.Offered.{get_mapped, held_is_spoken, mapped_get, runs_exist_where_founded}
 use Rattle.rtps_evidence.specs.Received.{HoldsPayload}
 
 -- a word, without a payload where it is for the number

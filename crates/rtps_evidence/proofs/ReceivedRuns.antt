@@ -13,9 +13,7 @@ use Rattle.rtps_audit.specs.Delivery.Word.{Told, Gone}
 use Rattle.rtps_audit.specs.Delivery.Event.{Send, Take}
 use Rattle.rtps_audit.specs.Placed.{PlacedValue, placed_in}
 use Rattle.rtps_audit.specs.Speech.{base_for, speech_of, word_for}
-use Rattle.rtps_audit.proofs.DeliveryRuns.{Follows-append, place_within}
-use Rattle.rtps_audit.proofs.Offered.{base_is_claim, claim_is_base, given_is_word, run_is_founded, word_is_given}
-use Rattle.rtps_audit.proofs.Sound.{reached-sound}
+use Rattle.rtps_audit.proofs.Offered.{Follows-append, base_is_claim, claim_is_base, given_is_word, place_within, reached-sound, run_is_founded, word_is_given}
 use Rattle.rtps_evidence.specs.Locations.{base_said, payload_in}
 use Rattle.rtps_evidence.specs.Received.{HoldsPayload, ReceivedIsExact, claims, first_claiming, is_certain_by, is_gone, sends_before, withdraws, withdraws_before}
 use Rattle.rtps_evidence.proofs.HushedRuns.{IsGoneBefore, run_without_payload}

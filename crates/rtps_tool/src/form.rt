@@ -1,6 +1,6 @@
 //! Forms of a recording that are read.
 
-pub(crate) mod any_capture;
+pub(crate) mod any_recording;
 pub(crate) mod capture;
 pub(crate) mod capture_reader;
 pub(crate) mod either;

@@ -12,7 +12,7 @@ ghost use Rattle.rtps_tool.specs.declared.faults.RunFault.TheVariants.{Input};
 
 use crate::captures::{Captures, begins_capture};
 use crate::faults::{RecFault, RunFault};
-use crate::form::any_capture::read_any_capture;
+use crate::form::any_recording::read_any_capture;
 use crate::form::capture_reader::CaptureReader;
 use crate::form::either::read_recording_within;
 use crate::form::line_reader::{KEPT_MAX, LineReader};

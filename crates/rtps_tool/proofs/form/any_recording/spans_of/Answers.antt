@@ -3,7 +3,7 @@ use Rattle.std.proofs.lemmas.List.{take_all}
 use Rattle.rtps_capture.specs.AnyCapture.{AreWithin}
 use Rattle.rtps_tool.specs.RecordingAnyCapture.{octets_in}
 use Rattle.rtps_tool.proofs.AnyCaptureLemmas.{pieces_octets, ranges_of, spans_within}
-use Rattle.rtps_tool.proofs.form.any_capture.spans_of.Goals as goal
+use Rattle.rtps_tool.proofs.form.any_recording.spans_of.Goals as goal
 
 pub returns-clause-octets : goal.returns-clause-octets
 returns-clause-octets c = λ octets.

@@ -1,6 +1,6 @@
 use Rattle.std.proofs.Common.{◌≡◌, take}
 use Rattle.rtps_tool.proofs.AnyCaptureLemmas.{ranges_of}
-use Rattle.rtps_tool.proofs.form.any_capture.spans_of.Given as goal
+use Rattle.rtps_tool.proofs.form.any_recording.spans_of.Given as goal
 
 -- the spans so far
 abbrev pub invariant-loop-range : goal.invariant-loop-range

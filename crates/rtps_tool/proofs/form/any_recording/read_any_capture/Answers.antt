@@ -7,7 +7,7 @@ use Rattle.rtps_text.specs.DatagramSpan.{pieces}
 use Rattle.rtps_text.specs.Recording.{RecordingValue, ignored_by}
 use Rattle.rtps_tool.specs.RecordingAnyCapture.{octets_in, reasons_of, recording_of_any, recording_told}
 use Rattle.rtps_tool.proofs.AnyCaptureLemmas.{any_fault}
-use Rattle.rtps_tool.proofs.form.any_capture.read_any_capture.Goals as goal
+use Rattle.rtps_tool.proofs.form.any_recording.read_any_capture.Goals as goal
 
 pub returns-in_err-reading : goal.returns-in_err-reading
 unfolding recording_of_any
