@@ -1,5 +1,5 @@
 -- The reading of a capture, a frame at a time.
-use Rattle.std.proofs.Common.{◌≡◌, sym, subst}
+use Rattle.std.proofs.Common.{◌≡◌, ℕ, List, sym, subst}
 use Rattle.std.specs.Prelude.{MatchResult, Ok, Err, Result}
 use Rattle.std.specs.Result.{IsErrAnd}
 use Rattle.rtps_capture.specs.AnyCapture.{AnyAnswer, Collected, IsAnswer, IsFault}
@@ -14,6 +14,7 @@ memory_noted (Ok done) P is says = absurd says
 memory_noted (Err e) P is says = subst (IsFault is) (sym says) tt
 
 -- memory was refused, at the reading
-pub memory_answered : (result : Result AnyReading AnyFault) (is : Result AnyAnswer AnyFault) → IsErrAnd result (λ e. e ≡ fault.Memory) → IsAnswer is result
-memory_answered (Ok reading) is says = absurd says
-memory_answered (Err e) is says = subst (IsFault is) (sym says) tt
+pub memory_answered : (file : List ℕ) (result : Result AnyReading AnyFault) (is : Result AnyAnswer AnyFault) → IsErrAnd result (λ e. e ≡ fault.Memory)
+    → IsAnswer file is result
+memory_answered file (Ok reading) is says = absurd says
+memory_answered file (Err e) is says = subst (IsFault is) (sym says) tt

@@ -136,7 +136,6 @@ gives_next old new frame last left taken stands is =
     ap₂ (λ (b : Bool) (u : AnyUnread). if b then ended u else u) (ap is_last (sym taken.0) ∙ sym is) (sym taken.1) in (
       left-step old left ∙ ap₂ (λ (f : AnyFrame) (u : AnyUnread). f ∷ any_frames_left u) (sym taken.0) next,
       stands,
-      subst (λ (u : AnyUnread). u.octets ≡ old.octets) next (step_leads old left).same,
     )
 
 -- each takes an octet at least

@@ -1,5 +1,5 @@
 -- How many fragments are of packets in the making, and what a fragment leaves.
-use Rattle.std.proofs.Common.{◌≡◌, ℕ, suc, ◌+◌, ◌≤◌, Bool, true, false, List, [], ◌∷◌, ◌++◌, length, refl, sym, ap, ap₂, subst, ◌∙◌, cond, arith}
+use Rattle.std.proofs.Common.{◌≡◌, ℕ, suc, ◌+◌, ◌≤◌, Bool, true, false, List, [], ◌∷◌, length, refl, sym, ap, ap₂, subst, ◌∙◌, cond, arith}
 use Rattle.std.specs.Prelude.{IfOk, IfSome, Ok, Err, None, Option, Some, Result, nat_lt, if◌then◌else◌}
 use Rattle.std.specs.BTreeMap.{BTreeMap, IsOrdered, Updates, get, insert_entry, is_at}
 use Rattle.std.specs.Cmp.{IsTotalOrder}
@@ -11,7 +11,7 @@ use Rattle.std.proofs.lemmas.Cmp.{nat_cmp_total, on_total, then_total}
 use Rattle.std.proofs.lemmas.List.Sums.{count_by-le-length}
 use Rattle.std.proofs.lemmas.Map.Entries.{sum_by-insert_entry, sum_by-set_value}
 use Rattle.rtps_ids.specs.declared.memory.Memory.{Memory}
-use Rattle.rtps_capture.specs.Assembly.{IsBounded, IsJoined, Joined, TakesFragment, address_cmp, datagram_behind, fresh_making, given, given_with, is_new, joined_with, key_cmp, making_of, one_if, taken_piece, waiting, waiting_in}
+use Rattle.rtps_capture.specs.Assembly.{IsBounded, IsJoined, Joined, TakesFragment, address_cmp, datagram_of_whole, fresh_making, given, given_with, is_new, joined_with, key_cmp, making_of, one_if, taken_piece, waiting, waiting_in}
 use Rattle.rtps_capture.specs.Pieces.{behind_piece, fills, is_fresh, is_repeat, joined, or_alone, pieces_with, stands_before, with_piece}
 use Rattle.rtps_capture.specs.declared.assembly.Making.{Making}
 use Rattle.rtps_capture.specs.declared.assembly.Taken.{Taken}
@@ -49,40 +49,40 @@ one_if-le : (fresh : Bool) → one_if fresh ≤ 1
 one_if-le true = omega arith
 one_if-le false = omega arith
 
-given_fits : (file behind : List ℕ) (making : Making) (fresh : Bool) → Fits (given file behind making fresh) (length making.making)
+given_fits : (file : List ℕ) (making : Making) (fresh : Bool) → Fits (given file making fresh) (length making.making)
 unfolding given
-given_fits file behind making fresh = by (datagram_behind (behind ++ joined file making.making) (length behind))
+given_fits file making fresh = by (datagram_of_whole (joined file making.making))
   where
-    by : (datagram : Option ByteRange) → Fits (given_with file behind making fresh datagram) (length making.making)
+    by : (datagram : Option ByteRange) → Fits (given_with file making fresh datagram) (length making.making)
     by None = record { settled = omega (arith, count_by-le-length is_fresh making.making); other = omega arith; fresh = one_if-le fresh }
     by (Some range) = record { settled = omega (arith, count_by-le-length is_fresh making.making); other = omega arith; fresh = one_if-le fresh }
 
-joined_fits : (file behind : List ℕ) (making : Making) (fresh : Bool) → Fits (joined_with file behind making fresh) (length making.making)
-joined_fits file behind making fresh = by (fills 0 making.making)
+joined_fits : (file : List ℕ) (making : Making) (fresh : Bool) → Fits (joined_with file making fresh) (length making.making)
+joined_fits file making fresh = by (fills 0 making.making)
   where
-    by : (whole : Bool) → Fits (if whole then given file behind making fresh else record {
+    by : (whole : Bool) → Fits (if whole then given file making fresh else record {
       making = making;
-      behind = behind;
+      packet = [];
       taken = record { fresh = one_if fresh; settled = 0; other = 0; datagram = None };
     }) (length making.making)
-    by true = given_fits file behind making fresh
+    by true = given_fits file making fresh
     by false = record { settled = omega arith; other = omega arith; fresh = one_if-le fresh }
 
 widened : (joined : Joined) (room more : ℕ) → room ≤ more → Fits joined room → Fits joined more
 widened joined room more le fits = record { settled = omega (arith, fits.settled); other = omega (arith, fits.other); fresh = fits.fresh }
 
-pub taken_fits : (file behind : List ℕ) (making : Making) (piece : Piece) → Fits (taken_piece file behind making piece) (length making.making + 1)
+pub taken_fits : (file : List ℕ) (making : Making) (piece : Piece) → Fits (taken_piece file making piece) (length making.making + 1)
 unfolding taken_piece
-taken_fits file behind making piece = by (is_repeat file piece making.making)
+taken_fits file making piece = by (is_repeat file piece making.making)
   where
     new : Making
     new = record { making = pieces_with (record piece { fresh = is_new file making piece }) making.making; given = making.given }
 
-    by : (repeat : Bool) → Fits (if repeat then record { making = making; behind = behind; taken = record { fresh = 0; settled = 0; other = 0; datagram = None } }
-        else joined_with file behind new (is_new file making piece)) (length making.making + 1)
+    by : (repeat : Bool) → Fits (if repeat then record { making = making; packet = []; taken = record { fresh = 0; settled = 0; other = 0; datagram = None } }
+        else joined_with file new (is_new file making piece)) (length making.making + 1)
     by true = record { settled = omega arith; other = omega arith; fresh = omega arith }
-    by false = widened (joined_with file behind new (is_new file making piece)) (length new.making) (length making.making + 1)
-        (length-pieces_with (record piece { fresh = is_new file making piece }) making.making) (joined_fits file behind new (is_new file making piece))
+    by false = widened (joined_with file new (is_new file making piece)) (length new.making) (length making.making + 1)
+        (length-pieces_with (record piece { fresh = is_new file making piece }) making.making) (joined_fits file new (is_new file making piece))
 
 -- what the code says of a taken fragment, one step on
 pub if_taken : (result : Result Taken Memory) (P Q : Taken → Type 0) → ((taken : Taken) → P taken → Q taken) → IfOk result P → IfOk result Q
@@ -131,13 +131,13 @@ making_put old new key w updates other = ap (λ (o : Option Making). unwrap_or o
     by false = refl
 
 -- the first fragment of a key was taken
-pub put_taken : (file behind after : List ℕ) (old between new : BTreeMap FragmentKey Making) (key : FragmentKey) (v w : Making) (piece other : Piece) (taken : Taken)
+pub put_taken : (file packet : List ℕ) (old between new : BTreeMap FragmentKey Making) (key : FragmentKey) (v w : Making) (piece other : Piece) (taken : Taken)
     → v ≡ fresh_making → piece ≡ other → get key_cmp old key ≡ None → between ≡ old → Updates key_cmp between new key (Some w)
-    → IsJoined (taken_piece file behind v piece) taken w after → TakesFragment (taken_piece file behind (making_of old key) other) key taken old new after
-put_taken file behind after old between new key v w piece other taken begins same none unchanged updates is =
+    → IsJoined (taken_piece file v piece) taken w packet → TakesFragment (taken_piece file (making_of old key) other) key taken old new packet
+put_taken file packet old between new key v w piece other taken begins same none unchanged updates is =
     let there : v ≡ making_of old key = begins ∙ sym (ap (λ (o : Option Making). unwrap_or o fresh_making) none) in
-    let step : taken_piece file behind v piece ≡ taken_piece file behind (making_of old key) other = ap₂ (taken_piece file behind) there same in
-    let left : IsJoined (taken_piece file behind (making_of old key) other) taken w after = subst (λ (j : Joined). IsJoined j taken w after) step is in (
+    let step : taken_piece file v piece ≡ taken_piece file (making_of old key) other = ap₂ (taken_piece file) there same in
+    let left : IsJoined (taken_piece file (making_of old key) other) taken w packet = subst (λ (j : Joined). IsJoined j taken w packet) step is in (
       left.0,
       left.2,
       λ one.

@@ -1,12 +1,14 @@
 -- What was read so far is sound, frame by frame: what is kept came in fragments, and what was given was carried.
-use Rattle.std.proofs.Common.{◌≡◌, ℕ, ◌+◌, ◌≤◌, Bool, true, false, List, [], ◌∷◌, ◌++◌, length, refl, sym, ap, subst, ◌∙◌, inl, append_assoc, append-nil, arith}
+use Rattle.std.proofs.Common.{◌≡◌, ℕ, ◌+◌, ◌-◌, ◌≤◌, Bool, true, false, List, [], ◌∷◌, ◌++◌, length, drop, take, refl, sym, ap, ap₂, subst, ◌∙◌, inl, append_assoc, append-nil, arith}
 use Rattle.std.specs.Prelude.{IfSome, None, Option, Some, Ok, Err, Result, nat_lt, if◌then◌else◌, option_to_list, slice_range}
 use Rattle.std.specs.Ordering.{is_eq}
+use Rattle.std.proofs.Math.Seq.{drop-append-add}
 use Rattle.std.proofs.lemmas.List.{length-append}
 use Rattle.std.proofs.lemmas.Cmp.{eq_by_cmp_equiv}
 use Rattle.rtps_capture.specs.AnyCapture.{AnyAnswer, Collected, all_noted, answer_of, answered, any_read, collected, contents_in, noted, nothing, opened_read, or_fault, with_contents, with_frame}
 use Rattle.rtps_capture.specs.AnyFrames.{AnyUnread, StandsInFile, any_frames_left, any_opened}
 use Rattle.rtps_capture.specs.Assembly.{Joined, key_cmp, taken_piece}
+use Rattle.rtps_capture.specs.Datagrams.{moved}
 use Rattle.rtps_capture.specs.Packets.{StandsIn}
 use Rattle.rtps_capture.specs.Pieces.{piece_of}
 use Rattle.rtps_capture.specs.Sent.{AllWereCarried, StandsAmong, WasCarried}
@@ -61,17 +63,36 @@ with_option : (file : List ℕ) (frames : List AnyFrame) (behind : List ℕ) (ra
 with_option file frames behind ranges None all one = subst (AreSound file frames behind) (sym (append-nil ranges)) all
 with_option file frames behind ranges (Some range) all one = pushed file frames behind ranges range all one
 
+-- what stands in a packet stands behind the file and the packets before it
+in_packet : (file behind packet : List ℕ) (range : ByteRange)
+    → slice_range (file ++ (behind ++ packet)) (length file + length behind + range.from) (length file + length behind + range.to) ≡ slice_range packet range.from range.to
+in_packet file behind packet range =
+    let at = length file + length behind in
+    let all : file ++ (behind ++ packet) ≡ (file ++ behind) ++ packet = sym (append_assoc file behind packet) in
+    let size : length (file ++ behind) ≡ at = length-append file behind in
+    let front : drop (at + range.from) (file ++ (behind ++ packet)) ≡ drop range.from packet =
+    ap₂ (λ (n : ℕ) (l : List ℕ). drop (n + range.from) l) (sym size) all ∙ drop-append-add (file ++ behind) packet range.from in
+    let width : (at + range.to) - (at + range.from) ≡ range.to - range.from = omega arith in ap₂ (λ (k : ℕ) (l : List ℕ). take k l) width front
+
+given_behind : (file : List ℕ) (frames : List AnyFrame) (behind packet : List ℕ) (datagram : Option ByteRange)
+    → IfSome datagram (λ range. (range.from ≤ range.to) × (range.to ≤ length packet) × WasCarried file frames (slice_range packet range.from range.to))
+    → IfSome (moved (length file + length behind) datagram) (IsSound file frames (behind ++ packet))
+given_behind file frames behind packet None gives = tt
+given_behind file frames behind packet (Some range) gives =
+    let size = length-append behind packet in
+    (omega (arith, gives.0), omega (arith, gives.1, size), subst (WasCarried file frames) (sym (in_packet file behind packet range)) gives.2)
+
 fragment_sound : (file : List ℕ) (frames : List AnyFrame) (so_far : Collected) (fragment : Fragment) → StandsAmong file frames (contents.Fragment fragment)
     → Sound file frames so_far → Sound file frames (with_contents file so_far (contents.Fragment fragment))
 fragment_sound file frames so_far fragment stands sound = record {
   keys = λ other. by other (is_eq (key_cmp fragment.key other)) refl;
-  carried = with_option file frames joined.behind so_far.datagrams joined.taken.datagram
-      (subst (λ (l : List ℕ). AreSound file frames l so_far.datagrams) (sym left.grows) (grown file frames so_far.behind left.more so_far.datagrams sound.carried))
-      left.gives;
+  carried = with_option file frames (so_far.behind ++ joined.packet) so_far.datagrams (moved (length file + length so_far.behind) joined.taken.datagram)
+      (grown file frames so_far.behind joined.packet so_far.datagrams sound.carried)
+      (given_behind file frames so_far.behind joined.packet joined.taken.datagram left.gives);
 }
   where
     joined : Joined
-    joined = taken_piece file so_far.behind (so_far.making fragment.key) (piece_of fragment)
+    joined = taken_piece file (so_far.making fragment.key) (piece_of fragment)
 
     one : IsOf file frames fragment.key (piece_of fragment)
     one = record {
@@ -84,8 +105,8 @@ fragment_sound file frames so_far fragment stands sound = record {
       more_is = refl;
     }
 
-    left : JoinedSound file frames fragment.key so_far.behind joined
-    left = taken_sound file so_far.behind frames fragment.key (so_far.making fragment.key) (piece_of fragment) (sound.keys fragment.key) one
+    left : JoinedSound file frames fragment.key joined
+    left = taken_sound file frames fragment.key (so_far.making fragment.key) (piece_of fragment) (sound.keys fragment.key) one
 
     by : (other : FragmentKey) (here : Bool) → is_eq (key_cmp fragment.key other) ≡ here
         → AreOf file frames other (if here then joined.making else so_far.making other).making

@@ -6,7 +6,7 @@ use Rattle.std.proofs.lemmas.Bool.Decides.{nat_tests}
 use Rattle.std.proofs.lemmas.List.{length-append, take-append-le}
 use Rattle.rtps_ids.specs.Octets.{number_of}
 use Rattle.rtps_ids.specs.declared.order.Order.TheVariants.{Big}
-use Rattle.rtps_capture.specs.AnyCapture.{AnyAnswer, Collected, all_noted, all_read, answered, any_read, collected, contents_in, limited, noted, nothing, opened_read, or_fault}
+use Rattle.rtps_capture.specs.AnyCapture.{AnyAnswer, Collected, all_noted, answered, any_read, collected, contents_in, limited, noted, nothing, opened_read, or_fault}
 use Rattle.rtps_capture.specs.AnyFrames.{AnyUnread, any_frames_left, any_opened}
 use Rattle.rtps_capture.specs.Blocks.{is_pcapng}
 use Rattle.rtps_capture.specs.Opening.{order_of}

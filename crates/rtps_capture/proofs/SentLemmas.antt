@@ -1,14 +1,10 @@
 -- Each datagram that is told was carried by a packet.
-use Rattle.std.proofs.Common.{◌≡◌, ℕ, ◌+◌, ◌-◌, ◌≤◌, Bool, true, false, List, [], ◌∷◌, ◌++◌, length, drop, take, refl, sym, ap, ap₂, subst, ◌∙◌, inr, append-nil, arith}
+use Rattle.std.proofs.Common.{◌≡◌, ℕ, ◌+◌, ◌-◌, ◌≤◌, Bool, true, false, List, [], ◌∷◌, ◌++◌, length, drop, take, refl, sym, ap, ap₂, subst, ◌∙◌, inr, arith}
 use Rattle.std.specs.Prelude.{IfSome, ◌&&◌, not, nat_le, nat_lt, nat_eq, if◌then◌else◌, slice_range, None, Option, Some}
 use Rattle.std.specs.Ordering.{is_eq}
 use Rattle.std.proofs.lemmas.Bool.Decides.{nat_tests}
 use Rattle.std.proofs.lemmas.Cmp.{eq_by_cmp_equiv}
-use Rattle.std.proofs.Math.Seq.{drop-append-add}
-use Rattle.std.proofs.lemmas.List.{length-append}
-use Rattle.rtps_ids.specs.Octets.{number_of}
-use Rattle.rtps_ids.specs.declared.order.Order.TheVariants.{Big}
-use Rattle.rtps_capture.specs.Assembly.{Joined, datagram_behind, datagram_in, given, given_with, is_new, joined_with, key_cmp, one_if, taken_piece}
+use Rattle.rtps_capture.specs.Assembly.{Joined, datagram_in, datagram_of_whole, given, given_with, is_new, joined_with, key_cmp, one_if, taken_piece}
 use Rattle.rtps_capture.specs.Datagrams.{number_at}
 use Rattle.rtps_capture.specs.Packets.{fragment_size, udp_within}
 use Rattle.rtps_capture.specs.Pieces.{behind_piece, fills, is_repeat, joined, or_alone, piece_octets, pieces_with, stands_before, with_piece}
@@ -133,56 +129,42 @@ change_key file frames key other (piece ∷ pieces) same all =
     )
 
 -- where the datagram stands of a packet that is put together
-payload_there : (file behind octets : List ℕ) (range : ByteRange) → datagram_behind (behind ++ octets) (length behind) ≡ Some range
-    → (range.from ≤ range.to) × (range.to ≤ length (behind ++ octets))
-    × IsPayload octets (slice_range (file ++ (behind ++ octets)) (length file + range.from) (length file + range.to))
-unfolding datagram_behind udp_within
-payload_there file behind octets range is =
-    by (nat_le (length behind + udp.SIZE) (length all) && nat_le udp.SIZE n && nat_le (length behind + n) (length all)) refl is
+payload_there : (octets : List ℕ) (range : ByteRange) → datagram_of_whole octets ≡ Some range
+    → (range.from ≤ range.to) × (range.to ≤ length octets) × IsPayload octets (slice_range octets range.from range.to)
+unfolding datagram_of_whole udp_within
+payload_there octets range is = by (nat_le udp.SIZE (length octets) && nat_le udp.SIZE n && nat_le (0 + n) (length octets)) refl is
   where
-    all : List ℕ
-    all = behind ++ octets
-
     n : ℕ
-    n = number_at (length behind + udp.LENGTH) all
+    n = number_at udp.LENGTH octets
 
     there : ByteRange
-    there = record { from = length behind + udp.SIZE; to = length behind + n }
+    there = record { from = udp.SIZE; to = 0 + n }
 
     goal : ByteRange → Type 0
-    goal r = (r.from ≤ r.to) × (r.to ≤ length all) × IsPayload octets (slice_range (file ++ all) (length file + r.from) (length file + r.to))
+    goal r = (r.from ≤ r.to) × (r.to ≤ length octets) × IsPayload octets (slice_range octets r.from r.to)
 
-    says : nat_le udp.SIZE n ≡ true → nat_le (length behind + n) (length all) ≡ true → goal there
+    says : nat_le udp.SIZE n ≡ true → nat_le (0 + n) (length octets) ≡ true → goal there
     says least within =
-        let same : n ≡ number_at udp.LENGTH octets = ap (number_of Big 2) (drop-append-add behind octets udp.LENGTH) in
-        let size = length-append behind octets in
         let more : udp.SIZE ≤ n = grind (arith, nat_tests) in
-        let fits : length behind + n ≤ length all = grind (arith, nat_tests) in
-        let front : drop (length file + (length behind + udp.SIZE)) (file ++ all) ≡ drop udp.SIZE octets =
-        drop-append-add file all (length behind + udp.SIZE) ∙ drop-append-add behind octets udp.SIZE in
-        let width : (length file + (length behind + n)) - (length file + (length behind + udp.SIZE)) ≡ number_at udp.LENGTH octets - udp.SIZE = omega (arith, same) in (
-          omega (arith, more),
-          fits,
-          (omega (arith, more, same), omega (arith, fits, size, same), ap₂ (λ (k : ℕ) (l : List ℕ). take k l) width front),
-        )
+        let fits : 0 + n ≤ length octets = grind (arith, nat_tests) in
+        let same : 0 + n ≡ n = omega arith in
+        (omega (arith, more), fits, (more, omega (arith, fits), ap (slice_range octets udp.SIZE) same))
 
-    by : (holds : Bool) → (nat_le (length behind + udp.SIZE) (length all) && nat_le udp.SIZE n && nat_le (length behind + n) (length all)) ≡ holds
+    by : (holds : Bool) → (nat_le udp.SIZE (length octets) && nat_le udp.SIZE n && nat_le (0 + n) (length octets)) ≡ holds
         → datagram_in (if holds then contents.Datagram there else contents.Other) ≡ Some range → goal range
     by true holds same = let found : there ≡ range = cc in subst goal found (says (grind (arith, nat_tests)) (grind (arith, nat_tests)))
     by false holds same = let none = same in cc
 
 -- what a fragment more leaves is sound
-pub record JoinedSound (file : List ℕ) (frames : List AnyFrame) (key : FragmentKey) (behind : List ℕ) (joined : Joined) : Type 0 where
+pub record JoinedSound (file : List ℕ) (frames : List AnyFrame) (key : FragmentKey) (joined : Joined) : Type 0 where
   pub are : AreOf file frames key joined.making.making
-  pub more : List ℕ
-  pub grows : joined.behind ≡ behind ++ more
-  pub gives : IfSome joined.taken.datagram (λ range. (range.from ≤ range.to) × (range.to ≤ length file + length joined.behind)
-      × WasCarried file frames (slice_range (file ++ joined.behind) range.from range.to))
+  pub gives : IfSome joined.taken.datagram (λ range. (range.from ≤ range.to) × (range.to ≤ length joined.packet)
+      × WasCarried file frames (slice_range joined.packet range.from range.to))
 
-given_sound : (file behind : List ℕ) (frames : List AnyFrame) (key : FragmentKey) (making : Making) (fresh : Bool) → AreOf file frames key making.making
-    → fills 0 making.making ≡ true → JoinedSound file frames key behind (given file behind making fresh)
+given_sound : (file : List ℕ) (frames : List AnyFrame) (key : FragmentKey) (making : Making) (fresh : Bool) → AreOf file frames key making.making
+    → fills 0 making.making ≡ true → JoinedSound file frames key (given file making fresh)
 unfolding given
-given_sound file behind frames key making fresh all whole = by (datagram_behind (behind ++ octets) (length behind)) refl
+given_sound file frames key making fresh all whole = by (datagram_of_whole octets) refl
   where
     octets : List ℕ
     octets = joined file making.making
@@ -191,39 +173,30 @@ given_sound file behind frames key making fresh all whole = by (datagram_behind 
     parts [] every is = let no = is in cc
     parts (first ∷ pieces) every is = together file frames key 0 first pieces every is
 
-    carried : (range : ByteRange) → datagram_behind (behind ++ octets) (length behind) ≡ Some range
-        → WasCarried file frames (slice_range (file ++ (behind ++ octets)) (length file + range.from) (length file + range.to))
-    carried range is =
-        let put = parts making.making all whole in
-        inr (key, put.fragments, put.are, put.on, subst (λ (l : List ℕ). IsPayload l (slice_range (file ++ (behind ++ octets)) (length file + range.from) (length file + range.to))) (sym put.octets) (payload_there file behind octets range is).2)
-
-    by : (datagram : Option ByteRange) → datagram_behind (behind ++ octets) (length behind) ≡ datagram → JoinedSound file frames key behind (given_with file behind making fresh datagram)
-    by None is = record { are = tt; more = []; grows = sym (append-nil behind); gives = tt }
+    by : (datagram : Option ByteRange) → datagram_of_whole octets ≡ datagram → JoinedSound file frames key (given_with file making fresh datagram)
+    by None is = record { are = tt; gives = tt }
     by (Some range) is =
-        let there = payload_there file behind octets range is in
-        record {
-          are = tt;
-          more = octets;
-          grows = refl;
-          gives = (omega (arith, there.0), omega (arith, there.1), carried range is);
-        }
+        let there = payload_there octets range is in
+        let put = parts making.making all whole in
+        let payload = subst (λ (l : List ℕ). IsPayload l (slice_range octets range.from range.to)) (sym put.octets) there.2 in
+        record { are = tt; gives = (there.0, there.1, inr (key, put.fragments, put.are, put.on, payload)) }
 
-joined_sound : (file behind : List ℕ) (frames : List AnyFrame) (key : FragmentKey) (making : Making) (fresh : Bool) → AreOf file frames key making.making
-    → JoinedSound file frames key behind (joined_with file behind making fresh)
-joined_sound file behind frames key making fresh all = by (fills 0 making.making) refl
+joined_sound : (file : List ℕ) (frames : List AnyFrame) (key : FragmentKey) (making : Making) (fresh : Bool) → AreOf file frames key making.making
+    → JoinedSound file frames key (joined_with file making fresh)
+joined_sound file frames key making fresh all = by (fills 0 making.making) refl
   where
-    by : (whole : Bool) → fills 0 making.making ≡ whole → JoinedSound file frames key behind (if whole then given file behind making fresh else record {
+    by : (whole : Bool) → fills 0 making.making ≡ whole → JoinedSound file frames key (if whole then given file making fresh else record {
       making = making;
-      behind = behind;
+      packet = [];
       taken = record { fresh = one_if fresh; settled = 0; other = 0; datagram = None };
     })
-    by true is = given_sound file behind frames key making fresh all is
-    by false is = record { are = all; more = []; grows = sym (append-nil behind); gives = tt }
+    by true is = given_sound file frames key making fresh all is
+    by false is = record { are = all; gives = tt }
 
-pub taken_sound : (file behind : List ℕ) (frames : List AnyFrame) (key : FragmentKey) (making : Making) (piece : Piece) → AreOf file frames key making.making
-    → IsOf file frames key piece → JoinedSound file frames key behind (taken_piece file behind making piece)
+pub taken_sound : (file : List ℕ) (frames : List AnyFrame) (key : FragmentKey) (making : Making) (piece : Piece) → AreOf file frames key making.making
+    → IsOf file frames key piece → JoinedSound file frames key (taken_piece file making piece)
 unfolding taken_piece
-taken_sound file behind frames key making piece all one = by (is_repeat file piece making.making)
+taken_sound file frames key making piece all one = by (is_repeat file piece making.making)
   where
     other : Piece
     other = record piece { fresh = is_new file making piece }
@@ -242,8 +215,8 @@ taken_sound file behind frames key making piece all one = by (is_repeat file pie
       more_is = one.more_is;
     }
 
-    by : (repeat : Bool) → JoinedSound file frames key behind (if repeat
-        then record { making = making; behind = behind; taken = record { fresh = 0; settled = 0; other = 0; datagram = None } }
-        else joined_with file behind more (is_new file making piece))
-    by true = record { are = all; more = []; grows = sym (append-nil behind); gives = tt }
-    by false = joined_sound file behind frames key more (is_new file making piece) (of_pieces_with file frames key other making.making its all)
+    by : (repeat : Bool) → JoinedSound file frames key (if repeat
+        then record { making = making; packet = []; taken = record { fresh = 0; settled = 0; other = 0; datagram = None } }
+        else joined_with file more (is_new file making piece))
+    by true = record { are = all; gives = tt }
+    by false = joined_sound file frames key more (is_new file making piece) (of_pieces_with file frames key other making.making its all)

@@ -4,6 +4,7 @@
 use Rattle.std.specs.Prelude.{ℕ, ◌+◌, ◌-◌, ◌≡◌, ◌≤◌, nat_lt, if◌then◌else◌, List, [], ◌∷◌, ◌++◌, length, slice_range, All, Option, Some, None, option_to_list, Result, Ok, Err}
 use Rattle.std.specs.Ordering.{is_eq}
 use Rattle.rtps_capture.specs.AnyFrames.{AnyUnread, any_frames_left, any_opened}
+use Rattle.rtps_capture.specs.Datagrams.{moved}
 use Rattle.rtps_capture.specs.Assembly.{Joined, fresh_making, key_cmp, making_of, taken_piece, waiting}
 use Rattle.rtps_capture.specs.Packets.{contents_of, moved_contents}
 use Rattle.rtps_capture.specs.Pieces.{piece_of}
@@ -42,12 +43,12 @@ unfoldable pub contents_in : List ℕ → Option LinkType → ByteRange → Cont
 contents_in file None range = contents.Other
 contents_in file (Some link) range = moved_contents range.from (contents_of link (slice_range file range.from range.to))
 
--- what is there with a fragment of this key
-abbrev pub with_fragment : Collected → FragmentKey → Joined → Collected
-with_fragment so_far key joined = record {
+-- what is there with a fragment of this key: the octets of a packet that gives its datagram come behind the others
+abbrev pub with_fragment : List ℕ → Collected → FragmentKey → Joined → Collected
+with_fragment file so_far key joined = record {
   making = λ other. if is_eq (key_cmp key other) then joined.making else so_far.making other;
-  datagrams = so_far.datagrams ++ option_to_list joined.taken.datagram;
-  behind = joined.behind;
+  datagrams = so_far.datagrams ++ option_to_list (moved (length file + length so_far.behind) joined.taken.datagram);
+  behind = so_far.behind ++ joined.packet;
   counts = record so_far.counts {
     fresh = so_far.counts.fresh + joined.taken.fresh;
     settled = so_far.counts.settled + joined.taken.settled;
@@ -59,7 +60,7 @@ with_fragment so_far key joined = record {
 abbrev pub with_contents : List ℕ → Collected → Contents → Collected
 with_contents file so_far (contents.Datagram range) = record so_far { datagrams = so_far.datagrams ++ range ∷ [] }
 with_contents file so_far (contents.Fragment fragment) =
-    with_fragment so_far fragment.key (taken_piece file so_far.behind (so_far.making fragment.key) (piece_of fragment))
+    with_fragment file so_far fragment.key (taken_piece file (so_far.making fragment.key) (piece_of fragment))
 with_contents file so_far contents.Cut = record so_far { counts = record so_far.counts { cut = so_far.counts.cut + 1 } }
 with_contents file so_far contents.Other = record so_far { counts = record so_far.counts { other = so_far.counts.other + 1 } }
 
@@ -129,11 +130,11 @@ opened_read most (Some unread) = all_read unread.octets most nothing (any_frames
 unfoldable pub any_read : ℕ → List ℕ → Result AnyAnswer AnyFault
 any_read most file = opened_read most (any_opened file)
 
--- what a reading tells
-abbrev pub any_value : AnyReading → AnyAnswer
-any_value reading = record {
+-- what a reading tells with these octets behind the file
+abbrev pub any_value : List ℕ → AnyReading → AnyAnswer
+any_value behind reading = record {
   datagrams = reading.datagrams.items;
-  behind = reading.behind.items;
+  behind = behind;
   pieces = reading.pieces;
   cut = reading.cut;
   other = reading.other;
@@ -146,10 +147,10 @@ IsFault is fault.BadCapture = is ≡ Err fault.BadCapture
 IsFault is (fault.CutCapture frame) = is ≡ Err (fault.CutCapture frame)
 IsFault is fault.TooMany = is ≡ Err fault.TooMany
 
--- it is what is told, or the fault
-abbrev pub IsAnswer : Result AnyAnswer AnyFault → Result AnyReading AnyFault → Type 0
-IsAnswer is (Ok reading) = is ≡ Ok (any_value reading)
-IsAnswer is (Err fault) = IsFault is fault
+-- it is what is told, with the octets of the file and those behind it, or the fault
+abbrev pub IsAnswer : List ℕ → Result AnyAnswer AnyFault → Result AnyReading AnyFault → Type 0
+IsAnswer file is (Ok reading) = (behind : List ℕ) × (reading.octets.items ≡ file ++ behind) × (is ≡ Ok (any_value behind reading))
+IsAnswer file is (Err fault) = IsFault is fault
 
 -- all frames that are ignored
 abbrev pub ignored : AnyReading → ℕ
@@ -160,7 +161,7 @@ abbrev pub collected_of : CollectedStruct → Collected
 collected_of so_far = record {
   making = making_of so_far.assembly.makings;
   datagrams = so_far.datagrams.items;
-  behind = so_far.behind.items;
+  behind = so_far.octets.behind;
   counts = so_far.counts;
 }
 
@@ -178,6 +179,10 @@ IsCounted so_far = IsCountedWith 0 so_far
 abbrev pub AreWithin : ℕ → List ByteRange → Type 0
 AreWithin size ranges = All (λ range. (range.from ≤ range.to) × (range.to ≤ size)) ranges
 
--- the ranges are in a file of this size and what is behind it, if they were
-abbrev pub StaysWithin : ℕ → CollectedStruct → CollectedStruct → Type 0
-StaysWithin size old new = AreWithin (size + length old.behind.items) old.datagrams.items → AreWithin (size + length new.behind.items) new.datagrams.items
+-- how many octets there are, of the file and behind it
+abbrev pub size_of : CollectedStruct → ℕ
+size_of so_far = length so_far.octets.file + length so_far.octets.behind
+
+-- the ranges are in these octets, if they were
+abbrev pub StaysWithin : CollectedStruct → CollectedStruct → Type 0
+StaysWithin old new = AreWithin (size_of old) old.datagrams.items → AreWithin (size_of new) new.datagrams.items

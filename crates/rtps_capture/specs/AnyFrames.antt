@@ -197,16 +197,16 @@ StandsInFile size Rest = Unit {0}
 StandsInFile size BadBlock = Unit {0}
 StandsInFile size CutFrame = Unit {0}
 
--- what these frames are unread of
-abbrev pub unread_of : AnyFrames → AnyUnread
-unread_of frames = record {
-  octets = frames.octets.now;
+-- what these frames are unread of a file
+abbrev pub unread_of : List ℕ → AnyFrames → AnyUnread
+unread_of file frames = record {
+  octets = file;
   at = frames.at;
   order = frames.order;
   classic = frames.classic;
   interfaces = frames.interfaces.items;
 }
 
--- what is next was given, and what is behind it is left; a frame stands within the file, which stays as it is
+-- what is next was given, and what is behind it is left; a frame stands within the file
 abbrev pub GivesNextOf : AnyUnread → Option AnyFrame → AnyUnread → Type 0
-GivesNextOf old result new = YieldsFirst any_frames_left old result new × IfSome result (StandsInFile (length old.octets)) × (new.octets ≡ old.octets)
+GivesNextOf old result new = YieldsFirst any_frames_left old result new × IfSome result (StandsInFile (length old.octets))

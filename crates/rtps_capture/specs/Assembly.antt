@@ -3,13 +3,13 @@
 -- own: a packet gives its datagram at the frame that completes it. A fragment that equals one of the packet in the making
 -- changes nothing; one that equals one of the last packet given is not counted as ignored, since a frame may be recorded
 -- twice. Of a packet whose UDP header is wrong the fragments are ignored.
-use Rattle.std.specs.Prelude.{ℕ, ◌+◌, ◌≡◌, ◌≤◌, not, Bool, if◌then◌else◌, List, [], ◌++◌, length, count_by, Option, Some, None, IfSome}
+use Rattle.std.specs.Prelude.{ℕ, ◌+◌, ◌≡◌, ◌≤◌, not, Bool, if◌then◌else◌, List, [], length, count_by, Option, Some, None}
 use Rattle.std.specs.List.{sum_by}
 use Rattle.std.specs.Option.{unwrap_or}
 use Rattle.std.specs.Ordering.{nat_cmp, ordering_then, is_eq}
 use Rattle.std.specs.declared.cmp.Ordering.{Ordering}
 use Rattle.std.specs.BTreeMap.{BTreeMap, get, values}
-use Rattle.rtps_capture.specs.Packets.{moved_range, udp_within}
+use Rattle.rtps_capture.specs.Packets.{udp_within}
 use Rattle.rtps_capture.specs.Pieces.{fills, is_fresh, is_repeat, joined, pieces_with}
 use Rattle.rtps_capture.specs.declared.assembly.Making.{Making}
 use Rattle.rtps_capture.specs.declared.assembly.Taken.{Taken}
@@ -20,10 +20,11 @@ use Rattle.rtps_capture.specs.declared.packet.Contents.TheVariants as contents
 use Rattle.rtps_capture.specs.declared.fragment.FragmentKey.{FragmentKey}
 use Rattle.rtps_capture.specs.declared.pieces.Piece.{Piece}
 
--- what is left behind one fragment more: the fragments of its key, the octets behind the file, and what it gave
+-- what is left behind one fragment more: the fragments of its key, the octets of the packet if that gives its datagram now, and
+-- what it gave
 pub record Joined : Type 0 where
   pub making : Making
-  pub behind : List ℕ
+  pub packet : List ℕ
   pub taken : Taken
 
 -- a key of which no fragment came
@@ -41,34 +42,34 @@ datagram_in (contents.Fragment fragment) = None
 datagram_in contents.Cut = None
 datagram_in contents.Other = None
 
--- where the datagram stands whose packet's octets begin there and reach to the end
-unfoldable pub datagram_behind : List ℕ → ℕ → Option ByteRange
-datagram_behind octets from = datagram_in (udp_within octets (record { from = from; to = length octets }))
+-- where the datagram stands in a whole packet
+unfoldable pub datagram_of_whole : List ℕ → Option ByteRange
+datagram_of_whole packet = datagram_in (udp_within packet (record { from = 0; to = length packet }))
 
 -- a packet that is whole, with its datagram: the packet in the making is the last one given
-abbrev pub given_with : List ℕ → List ℕ → Making → Bool → Option ByteRange → Joined
-given_with file behind making fresh None = record {
+abbrev pub given_with : List ℕ → Making → Bool → Option ByteRange → Joined
+given_with file making fresh None = record {
   making = record { making = []; given = making.given };
-  behind = behind;
+  packet = [];
   taken = record { fresh = one_if fresh; settled = count_by is_fresh making.making; other = length making.making; datagram = None };
 }
-given_with file behind making fresh (Some range) = record {
+given_with file making fresh (Some range) = record {
   making = record { making = []; given = making.making };
-  behind = behind ++ joined file making.making;
-  taken = record { fresh = one_if fresh; settled = count_by is_fresh making.making; other = 0; datagram = Some (moved_range (length file) range) };
+  packet = joined file making.making;
+  taken = record { fresh = one_if fresh; settled = count_by is_fresh making.making; other = 0; datagram = Some range };
 }
 
 -- a packet that is whole: its octets are those of its fragments, one after another
-unfoldable pub given : List ℕ → List ℕ → Making → Bool → Joined
-given file behind making fresh = given_with file behind making fresh (datagram_behind (behind ++ joined file making.making) (length behind))
+unfoldable pub given : List ℕ → Making → Bool → Joined
+given file making fresh = given_with file making fresh (datagram_of_whole (joined file making.making))
 
 -- a fragment that is no repeat in the making, once it is there
-abbrev pub joined_with : List ℕ → List ℕ → Making → Bool → Joined
-joined_with file behind making fresh =
-    if fills 0 making.making then given file behind making fresh
+abbrev pub joined_with : List ℕ → Making → Bool → Joined
+joined_with file making fresh =
+    if fills 0 making.making then given file making fresh
     else record {
       making = making;
-      behind = behind;
+      packet = [];
       taken = record { fresh = one_if fresh; settled = 0; other = 0; datagram = None };
     }
 
@@ -77,11 +78,11 @@ abbrev pub is_new : List ℕ → Making → Piece → Bool
 is_new file making piece = not (is_repeat file piece making.given)
 
 -- one fragment more
-unfoldable pub taken_piece : List ℕ → List ℕ → Making → Piece → Joined
-taken_piece file behind making piece =
+unfoldable pub taken_piece : List ℕ → Making → Piece → Joined
+taken_piece file making piece =
     if is_repeat file piece making.making
-    then record { making = making; behind = behind; taken = record { fresh = 0; settled = 0; other = 0; datagram = None } }
-    else joined_with file behind
+    then record { making = making; packet = []; taken = record { fresh = 0; settled = 0; other = 0; datagram = None } }
+    else joined_with file
     (record { making = pieces_with (record piece { fresh = is_new file making piece }) making.making; given = making.given })
     (is_new file making piece)
 
@@ -109,8 +110,8 @@ waiting makings = sum_by waiting_in (values makings)
 
 -- A fragment of this key was taken: what it gave, and what its key has now. The other keys have what they had.
 abbrev pub TakesFragment : Joined → FragmentKey → Taken → BTreeMap FragmentKey Making → BTreeMap FragmentKey Making → List ℕ → Type 0
-TakesFragment joined key taken old new behind =
-    (taken ≡ joined.taken) × (behind ≡ joined.behind)
+TakesFragment joined key taken old new packet =
+    (taken ≡ joined.taken) × (packet ≡ joined.packet)
     × ((other : FragmentKey) → making_of new other ≡ (if is_eq (key_cmp key other) then joined.making else making_of old other))
 
 -- each fragment is counted once at most
@@ -119,8 +120,14 @@ IsBounded taken old new = (new + taken.settled ≤ old + 1) × (new + taken.othe
 
 -- this is what is left
 abbrev pub IsJoined : Joined → Taken → Making → List ℕ → Type 0
-IsJoined joined taken making behind = (taken ≡ joined.taken) × (making ≡ joined.making) × (behind ≡ joined.behind)
+IsJoined joined taken making packet = (taken ≡ joined.taken) × (making ≡ joined.making) × (packet ≡ joined.packet)
 
--- the octets behind a file of this size grew, and a datagram stands in both
-abbrev pub StandsBehind : ℕ → List ℕ → List ℕ → Option ByteRange → Type 0
-StandsBehind size old new datagram = (length old ≤ length new) × IfSome datagram (λ range. (range.from ≤ range.to) × (range.to ≤ size + length new))
+-- a datagram stands in the octets of its packet; where there is none, there are none
+abbrev pub StandsInPacket : List ℕ → Option ByteRange → Type 0
+StandsInPacket packet None = packet ≡ []
+StandsInPacket packet (Some range) = (range.from ≤ range.to) × (range.to ≤ length packet)
+
+-- a file, and the octets of packets that were put together behind it
+pub record Extended : Type 0 where
+  pub file : List ℕ
+  pub behind : List ℕ

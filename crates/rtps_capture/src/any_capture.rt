@@ -1,5 +1,5 @@
-ghost use Rattle.std.specs.Prelude.{◌≡◌, ◌≤◌, ◌<◌, ◌+◌, ◌^◌, length, All, IfOk, MatchResult, Ok, OnOk};
-ghost use Rattle.rtps_capture.specs.AnyCapture.{AreWithin, IsAnswer, IsCounted, IsCountedWith, IsFault, StaysWithin, all_read, answer_of, any_read, any_value, collected, collected_of, contents_in as contents_in_lem, ignored, noted, nothing, with_fragment};
+ghost use Rattle.std.specs.Prelude.{◌≡◌, ◌≤◌, ◌<◌, ◌+◌, ◌^◌, ◌++◌, length, IfOk, MatchResult, Ok, OnOk};
+ghost use Rattle.rtps_capture.specs.AnyCapture.{AreWithin, IsAnswer, IsCounted, IsCountedWith, IsFault, StaysWithin, all_read, answer_of, any_read, any_value, collected, collected_of, contents_in as contents_in_lem, ignored, noted, nothing, size_of, with_fragment};
 ghost use Rattle.rtps_capture.specs.AnyFrames.{StandsInFile, any_frames_left, unread_of};
 ghost use Rattle.rtps_capture.specs.Assembly.{making_of, taken_piece};
 ghost use Rattle.rtps_capture.specs.Packets.{StandsIn, fragment_size};
@@ -7,6 +7,7 @@ ghost use Rattle.rtps_capture.specs.Pieces.{piece_of};
 
 use crate::any_frames::{AnyFrame, AnyFrames};
 use crate::assembly::Assembly;
+use crate::capture_octets::CaptureOctets;
 use crate::datagram::ByteRange;
 use crate::fragment::Fragment;
 use crate::link_type::LinkType;
@@ -17,11 +18,10 @@ use std::alloc::Global;
 /// The datagrams of a capture of either form, and how many of its frames are ignored, by the reason.
 #[derive(Drop)]
 pub struct AnyReading {
-    /// Where the datagrams stand, in the order of the frames that gave them: in the file, or in `behind`, whose octets are
-    /// counted on from the file's end.
+    /// The octets of the file, and behind them those of the packets that were put together.
+    pub octets: Vec<u8>,
+    /// Where the datagrams stand in these octets, in the order of the frames that gave them.
     pub datagrams: Vec<ByteRange>,
-    /// The octets of the packets that were put together.
-    pub behind: Vec<u8>,
     /// Frames with fragments of packets that were never whole.
     pub pieces: u64,
     /// Frames whose captured octets end before their packet does, and the rest of a file that ends within a frame.
@@ -56,9 +56,11 @@ impl From<Memory> for AnyFault {
 /// What was read so far.
 #[derive(Drop)]
 struct Collected {
+    octets: CaptureOctets,
     assembly: Assembly,
+    /// The octets of the packet that was put together last.
+    packet: Vec<u8>,
     datagrams: Vec<ByteRange>,
-    behind: Vec<u8>,
     counts: Counts,
 }
 
@@ -74,35 +76,34 @@ struct Counts {
     other: u64,
 }
 
-/// The datagrams of a capture of either form; after one of more than `most` datagrams nothing is read. The fault is the first
-/// in the file's order.
-pub fn read_any(alloc: Global, octets: &[u8], most: u64) -> Result<AnyReading, AnyFault>
-    ensures read { IsAnswer (any_read most octets.now) result }
+/// The datagrams of a capture of either form, whose octets it keeps; after one of more than `most` datagrams nothing is read. The
+/// fault is the first in the file's order.
+pub fn read_any(alloc: Global, octets: Vec<u8>, most: u64) -> Result<AnyReading, AnyFault>
+    ensures read { IsAnswer octets.items (any_read most octets.items) result }
     ensures few { IfOk result (λ reading. ignored reading < 2 ^ 64) }
-    ensures within { IfOk result (λ reading. AreWithin (length octets.now + length reading.behind.items) reading.datagrams.items) }
+    ensures within { IfOk result (λ reading. AreWithin (length reading.octets.items) reading.datagrams.items) }
 {
-    let Some(frames) = AnyFrames::open(alloc, octets) else {
+    let Some(frames) = AnyFrames::open(alloc, &octets) else {
         return Err(AnyFault::BadCapture);
     };
-    read_frames(frames, Collected::new(alloc), most)
+    read_frames(frames, Collected::new(alloc, octets), most)
 }
 
 /// What the frames give behind those that were collected.
 fn read_frames(
-    mut frames: AnyFrames<'_>,
+    mut frames: AnyFrames,
     mut collected: Collected,
     most: u64,
 ) -> Result<AnyReading, AnyFault>
     requires counted { IsCounted collected }
-    requires few { collected.counts.frames + length (any_frames_left (unread_of frames)) < 2 ^ 63 }
-    requires within { AreWithin (length frames.octets.now + length collected.behind.items) collected.datagrams.items }
-    ensures read { IsAnswer (all_read frames.entry.octets.now most (collected_of collected) (any_frames_left (unread_of frames.entry))) result }
+    requires few { collected.counts.frames + length (any_frames_left (unread_of collected.octets.file frames)) < 2 ^ 63 }
+    requires within { AreWithin (size_of collected) collected.datagrams.items }
+    ensures read { let file = collected.octets.file in IsAnswer file (all_read file most (collected_of collected) (any_frames_left (unread_of file frames))) result }
     ensures few { IfOk result (λ reading. ignored reading < 2 ^ 64) }
-    ensures within { IfOk result (λ reading. AreWithin (length frames.entry.octets.now + length reading.behind.items) reading.datagrams.items) }
+    ensures within { IfOk result (λ reading. AreWithin (length reading.octets.items) reading.datagrams.items) }
 {
-    let octets = frames.octets;
-    while let Some(frame) = frames.next_frame()? {
-        collected.note(octets, frame, most)?;
+    while let Some(frame) = frames.next_frame(collected.octets.file())? {
+        collected.note(frame, most)?;
     }
     Ok(collected.finish())
 }
@@ -122,14 +123,16 @@ fn contents_in(octets: &[u8], link: Option<LinkType>, range: ByteRange) -> Conte
 }
 
 impl Collected {
-    fn new(alloc: Global) -> Collected
+    fn new(alloc: Global, octets: Vec<u8>) -> Collected
+        ensures file { result.octets.file ≡ octets.items }
         ensures nothing { collected_of result ≡ nothing }
         ensures counted { IsCounted result }
     {
         Collected {
+            octets: CaptureOctets::new(octets),
             assembly: Assembly::new(alloc),
+            packet: Vec::new(alloc),
             datagrams: Vec::new(alloc),
-            behind: Vec::new(alloc),
             counts: Counts {
                 frames: 0,
                 fresh: 0,
@@ -142,18 +145,20 @@ impl Collected {
 
     /// Takes what a record or block gave.
     #[tactic(auto, unfolding(crate::specs::AnyCapture::noted, crate::specs::AnyCapture::collected))]
-    fn note(&mut self, octets: &[u8], frame: AnyFrame, most: u64) -> Result<(), AnyFault>
+    fn note(&mut self, frame: AnyFrame, most: u64) -> Result<(), AnyFault>
         requires counted { IsCounted self.old }
         requires few { self.old.counts.frames < 2 ^ 63 }
-        requires stands { StandsInFile (length octets.now) frame }
-        ensures noted { MatchResult result (λ _. noted octets.now most (collected_of self.old) frame ≡ Ok (collected_of self.new)) (IsFault (noted octets.now most (collected_of self.old) frame)) }
+        requires stands { StandsInFile (length self.old.octets.file) frame }
+        ensures noted { let defined = noted self.old.octets.file most (collected_of self.old) frame in MatchResult result (λ _. defined ≡ Ok (collected_of self.new)) (IsFault defined) }
         ensures counted { OnOk result (IsCounted self.new) }
         ensures frames { OnOk result (self.new.counts.frames ≤ self.old.counts.frames + 1) }
-        ensures within { OnOk result (StaysWithin (length octets.now) self.old self.new) }
+        ensures file { OnOk result (self.new.octets.file ≡ self.old.octets.file) }
+        ensures within { OnOk result (StaysWithin self.old self.new) }
     {
         match frame {
             AnyFrame::Frame(link, range) => {
-                self.take(octets, contents_in(octets, link, range))?;
+                let contents = contents_in(self.octets.file(), link, range);
+                self.take(contents)?;
                 if self.datagrams.len() as u64 > most {
                     return Err(AnyFault::TooMany);
                 }
@@ -174,19 +179,20 @@ impl Collected {
 
     /// Takes what a frame contains.
     #[tactic(auto, unfolding(crate::specs::AnyCapture::collected))]
-    fn take(&mut self, octets: &[u8], contents: Contents) -> Result<(), Memory>
+    fn take(&mut self, contents: Contents) -> Result<(), Memory>
         requires counted { IsCounted self.old }
         requires few { self.old.counts.frames < 2 ^ 63 }
-        requires stands { StandsIn (length octets.now) contents }
-        ensures collected { OnOk result (collected_of self.new ≡ collected octets.now (collected_of self.old) contents) }
+        requires stands { StandsIn (length self.old.octets.file) contents }
+        ensures collected { OnOk result (collected_of self.new ≡ collected self.old.octets.file (collected_of self.old) contents) }
         ensures counted { OnOk result (IsCounted self.new) }
         ensures frames { OnOk result (self.new.counts.frames ≡ self.old.counts.frames + 1) }
-        ensures within { OnOk result (StaysWithin (length octets.now) self.old self.new) }
+        ensures file { OnOk result (self.new.octets.file ≡ self.old.octets.file) }
+        ensures within { OnOk result (StaysWithin self.old self.new) }
     {
         self.counts.frames += 1;
         match contents {
             Contents::Datagram(range) => self.datagrams.push(range)?,
-            Contents::Fragment(fragment) => self.take_fragment(octets, &fragment)?,
+            Contents::Fragment(fragment) => self.take_fragment(&fragment)?,
             Contents::Cut => self.counts.cut += 1,
             Contents::Other => self.counts.other += 1,
         }
@@ -194,21 +200,30 @@ impl Collected {
     }
 
     /// Takes a fragment.
-    fn take_fragment(&mut self, octets: &[u8], fragment: &Fragment) -> Result<(), Memory>
+    fn take_fragment(&mut self, fragment: &Fragment) -> Result<(), Memory>
         requires counted { IsCountedWith 1 self.old }
         requires few { self.old.counts.frames < 2 ^ 64 }
         requires stands { fragment.now.start + fragment_size fragment.now < 2 ^ 32 }
-        ensures collected { OnOk result (collected_of self.new ≡ with_fragment (collected_of self.old) fragment.now.key (taken_piece octets.now self.old.behind.items (making_of self.old.assembly.makings fragment.now.key) (piece_of fragment.now))) }
+        ensures collected { let file = self.old.octets.file in OnOk result (collected_of self.new ≡ with_fragment file (collected_of self.old) fragment.now.key (taken_piece file (making_of self.old.assembly.makings fragment.now.key) (piece_of fragment.now))) }
         ensures counted { OnOk result (IsCounted self.new) }
         ensures frames { OnOk result (self.new.counts.frames ≡ self.old.counts.frames) }
-        ensures within { OnOk result (StaysWithin (length octets.now) self.old self.new) }
+        ensures file { OnOk result (self.new.octets.file ≡ self.old.octets.file) }
+        ensures within { OnOk result (StaysWithin self.old self.new) }
     {
-        let taken = self.assembly.take(octets, fragment, &mut self.behind)?;
+        self.packet.clear();
+        let taken = self
+            .assembly
+            .take(self.octets.file(), fragment, &mut self.packet)?;
         self.counts.fresh += taken.fresh as u64;
         self.counts.settled += taken.settled as u64;
         self.counts.other += taken.other as u64;
-        if let Some(datagram) = taken.datagram {
-            self.datagrams.push(datagram)?;
+        if let Some(range) = taken.datagram {
+            let at = self.octets.len();
+            self.octets.push(&self.packet)?;
+            self.datagrams.push(ByteRange {
+                from: at + range.from,
+                to: at + range.to,
+            })?;
         }
         Ok(())
     }
@@ -217,12 +232,13 @@ impl Collected {
     fn finish(self) -> AnyReading
         requires counted { IsCounted self }
         requires few { self.counts.frames < 2 ^ 63 }
-        ensures answer { any_value result ≡ answer_of (collected_of self) }
+        ensures octets { result.octets.items ≡ self.octets.file ++ self.octets.behind }
+        ensures answer { any_value self.octets.behind result ≡ answer_of (collected_of self) }
         ensures few { ignored result < 2 ^ 64 }
     {
         AnyReading {
+            octets: self.octets.into_octets(),
             datagrams: self.datagrams,
-            behind: self.behind,
             pieces: self.counts.fresh.saturating_sub(self.counts.settled),
             cut: self.counts.cut,
             other: self.counts.other,

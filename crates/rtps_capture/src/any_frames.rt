@@ -1,4 +1,4 @@
-ghost use Rattle.std.specs.Prelude.{◌≡◌, ◌≤◌, ◌<◌, ◌+◌, drop, length, IfOk, IfSome, MatchOption, None, Some};
+ghost use Rattle.std.specs.Prelude.{◌≡◌, ◌≤◌, ◌<◌, ◌+◌, drop, length, IfOk, MatchOption, None, Some};
 ghost use Rattle.rtps_capture.specs.AnyFrames.{GivesNextOf, StandsInFile, TakesStep, any_opened, any_step, frame_of_block as frame_of_block_lem, framed as framed_lem, interface_at as interface_at_lem, interface_of as interface_of_lem, interfaces_behind, is_last as is_last_lem, simple_size as simple_size_lem, step_of_block, step_of_record, unread_of};
 ghost use Rattle.rtps_capture.specs.Blocks.{BlockStands, block_at as block_at_lem};
 ghost use Rattle.rtps_capture.specs.Frames.{is_whole};
@@ -29,10 +29,9 @@ pub(crate) enum AnyFrame {
     CutFrame,
 }
 
-/// The frames of a capture of either form that are still unread.
+/// A place in a capture of either form, in front of the frames that are still unread. Each call gets the octets of the capture.
 #[derive(Drop)]
-pub(crate) struct AnyFrames<'a> {
-    pub(crate) octets: &'a [u8],
+pub(crate) struct AnyFrames {
     /// Where the next record or block begins.
     pub(crate) at: usize,
     /// The order of the numbers in the headers.
@@ -166,19 +165,17 @@ fn keep_interfaces(
     Ok(())
 }
 
-impl<'a> AnyFrames<'a> {
+impl AnyFrames {
     /// Reads the header of a capture of either form, of any length, and leaves its frames to be read. None where it is no
     /// capture: the header of a classic one is cut, of another major version or of a link type that is not read, or the
     /// first block is not a whole header of a section that is read.
     #[tactic(auto, unfolding(crate::specs::AnyFrames::any_opened))]
-    pub(crate) fn open(alloc: Global, octets: &'a [u8]) -> Option<AnyFrames<'a>>
-        ensures octets { IfSome result (λ frames. frames.octets.now ≡ octets.now) }
-        ensures opened { MatchOption result (any_opened octets.now ≡ None) (λ frames. any_opened octets.now ≡ Some (unread_of frames)) }
+    pub(crate) fn open(alloc: Global, octets: &[u8]) -> Option<AnyFrames>
+        ensures { MatchOption result (any_opened octets.now ≡ None) (λ frames. any_opened octets.now ≡ Some (unread_of octets.now frames)) }
     {
         if let Some(order) = capture_order(octets) {
             let link = link_type_numbered(link_type_in(order, octets)?)?;
             return Some(AnyFrames {
-                octets,
                 at: file::SIZE,
                 order,
                 classic: Some(link),
@@ -187,7 +184,6 @@ impl<'a> AnyFrames<'a> {
         }
         match block_at(Order::Big, octets, 0) {
             Block::Whole(whole) if whole.kind == block::SECTION => Some(AnyFrames {
-                octets,
                 at: whole.to,
                 order: whole.order,
                 classic: None,
@@ -196,41 +192,42 @@ impl<'a> AnyFrames<'a> {
             _ => None,
         }
     }
+
     /// What the next record or block gives. None after the last one, and after one behind which nothing is read. After
     /// `Memory` nothing is promised of what is unread.
-    pub(crate) fn next_frame(&mut self) -> Result<Option<AnyFrame>, Memory>
-        ensures { IfOk result (λ item. GivesNextOf (unread_of self.old) item (unread_of self.new)) }
+    pub(crate) fn next_frame(&mut self, octets: &[u8]) -> Result<Option<AnyFrame>, Memory>
+        ensures { IfOk result (λ item. GivesNextOf (unread_of octets.now self.old) item (unread_of octets.now self.new)) }
     {
-        if self.at >= self.octets.len() {
+        if self.at >= octets.len() {
             return Ok(None);
         }
-        let frame = self.step()?;
+        let frame = self.step(octets)?;
         if is_last(frame) {
-            self.at = self.octets.len();
+            self.at = octets.len();
         }
         Ok(Some(frame))
     }
 
     /// What the next record or block gives, with what is behind it left.
     #[tactic(auto, unfolding(crate::specs::AnyFrames::any_step))]
-    fn step(&mut self) -> Result<AnyFrame, Memory>
-        requires { self.old.at < length self.old.octets.now }
-        ensures step { IfOk result (λ frame. TakesStep (any_step (unread_of self.old)) frame (unread_of self.new)) }
-        ensures within { IfOk result (λ frame. StandsInFile (length self.old.octets.now) frame) }
+    fn step(&mut self, octets: &[u8]) -> Result<AnyFrame, Memory>
+        requires { self.old.at < length octets.now }
+        ensures step { IfOk result (λ frame. TakesStep (any_step (unread_of octets.now self.old)) frame (unread_of octets.now self.new)) }
+        ensures within { IfOk result (λ frame. StandsInFile (length octets.now) frame) }
     {
         match self.classic {
-            Some(link) => Ok(self.next_record(link)),
-            None => self.next_block(),
+            Some(link) => Ok(self.next_record(octets, link)),
+            None => self.next_block(octets),
         }
     }
 
     /// What the next record of a classic capture gives, whose frames are of this link type.
-    fn next_record(&mut self, link: LinkType) -> AnyFrame
-        requires { self.old.at < length self.old.octets.now }
-        ensures step { TakesStep (step_of_record (unread_of self.old) link (is_whole self.old.order (drop self.old.at self.old.octets.now))) result (unread_of self.new) }
-        ensures within { StandsInFile (length self.old.octets.now) result }
+    fn next_record(&mut self, octets: &[u8], link: LinkType) -> AnyFrame
+        requires { self.old.at < length octets.now }
+        ensures step { TakesStep (step_of_record (unread_of octets.now self.old) link (is_whole self.old.order (drop self.old.at octets.now))) result (unread_of octets.now self.new) }
+        ensures within { StandsInFile (length octets.now) result }
     {
-        match frame_at(self.order, self.octets, self.at) {
+        match frame_at(self.order, octets, self.at) {
             Some(frame) => {
                 self.at = frame.to;
                 AnyFrame::Frame(Some(link), frame)
@@ -240,18 +237,18 @@ impl<'a> AnyFrames<'a> {
     }
 
     /// What the next block of a pcapng file gives.
-    fn next_block(&mut self) -> Result<AnyFrame, Memory>
-        requires { self.old.at < length self.old.octets.now }
-        ensures step { IfOk result (λ frame. TakesStep (step_of_block (unread_of self.old) (block_at_lem self.old.order self.old.octets.now self.old.at)) frame (unread_of self.new)) }
-        ensures within { IfOk result (λ frame. StandsInFile (length self.old.octets.now) frame) }
+    fn next_block(&mut self, octets: &[u8]) -> Result<AnyFrame, Memory>
+        requires { self.old.at < length octets.now }
+        ensures step { IfOk result (λ frame. TakesStep (step_of_block (unread_of octets.now self.old) (block_at_lem self.old.order octets.now self.old.at)) frame (unread_of octets.now self.new)) }
+        ensures within { IfOk result (λ frame. StandsInFile (length octets.now) frame) }
     {
-        let whole = match block_at(self.order, self.octets, self.at) {
+        let whole = match block_at(self.order, octets, self.at) {
             Block::Whole(whole) => whole,
             Block::Unfinished => return Ok(AnyFrame::Rest),
             Block::Bad => return Ok(AnyFrame::BadBlock),
         };
-        let frame = frame_of_block(&self.interfaces, whole, self.octets, self.at);
-        keep_interfaces(&mut self.interfaces, whole, self.octets, self.at)?;
+        let frame = frame_of_block(&self.interfaces, whole, octets, self.at);
+        keep_interfaces(&mut self.interfaces, whole, octets, self.at)?;
         self.order = whole.order;
         self.at = whole.to;
         Ok(frame)

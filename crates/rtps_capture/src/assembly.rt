@@ -1,5 +1,5 @@
-ghost use Rattle.std.specs.Prelude.{◌≡◌, ◌≤◌, ◌<◌, ◌+◌, ◌^◌, length, IfOk, IfSome};
-ghost use Rattle.rtps_capture.specs.Assembly.{IsBounded, IsJoined, StandsBehind, TakesFragment, datagram_behind as datagram_behind_lem, fresh_making, given, making_of, taken_piece, waiting};
+ghost use Rattle.std.specs.Prelude.{◌≡◌, ◌≤◌, ◌<◌, ◌+◌, ◌^◌, [], length, IfOk, IfSome};
+ghost use Rattle.rtps_capture.specs.Assembly.{IsBounded, IsJoined, StandsInPacket, TakesFragment, datagram_of_whole as datagram_of_whole_lem, fresh_making, given, making_of, taken_piece, waiting};
 ghost use Rattle.rtps_capture.specs.Packets.{fragment_size};
 ghost use Rattle.rtps_capture.specs.Pieces.{piece_of as piece_of_lem};
 ghost use Rattle.rtps_capture.specs.declared.fragment.FragmentKey.{FragmentKey as KeyValue};
@@ -21,7 +21,7 @@ pub(crate) struct Taken {
     pub(crate) settled: usize,
     /// How many fragments are of a packet that is whole now and carries no datagram.
     pub(crate) other: usize,
-    /// Where the datagram stands of a packet that is whole now: behind the file, where its octets were appended.
+    /// Where the datagram stands of a packet that is whole now, among the octets of the packet.
     pub(crate) datagram: Option<ByteRange>,
 }
 
@@ -44,13 +44,13 @@ impl Making {
         }
     }
 
-    /// Takes one fragment more. The octets of a packet that is whole now and carries a datagram are appended to `behind`,
-    /// which stands behind the file.
+    /// Takes one fragment more. The octets of a packet that is whole now and carries a datagram are put into `packet`.
     #[tactic(auto, unfolding(crate::specs::Assembly::taken_piece))]
-    fn take(&mut self, file: &[u8], piece: Piece, behind: &mut Vec<u8>) -> Result<Taken, Memory>
-        requires { piece.start ≤ piece.end }
-        ensures taken { IfOk result (λ taken. IsJoined (taken_piece file.now behind.old.items self.old piece) taken self.new behind.new.items) }
-        ensures within { IfOk result (λ taken. StandsBehind (length file.now) behind.old.items behind.new.items taken.datagram) }
+    fn take(&mut self, file: &[u8], piece: Piece, packet: &mut Vec<u8>) -> Result<Taken, Memory>
+        requires ordered { piece.start ≤ piece.end }
+        requires none { packet.old.items ≡ [] }
+        ensures taken { IfOk result (λ taken. IsJoined (taken_piece file.now self.old piece) taken self.new packet.new.items) }
+        ensures within { IfOk result (λ taken. StandsInPacket packet.new.items taken.datagram) }
     {
         if self.making.has(file, &piece) {
             return Ok(Taken {
@@ -63,7 +63,7 @@ impl Making {
         let fresh = !self.given.has(file, &piece);
         self.making.join(Piece { fresh, ..piece })?;
         if self.making.is_whole() {
-            return self.give(file, fresh, behind);
+            return self.give(file, fresh, packet);
         }
         Ok(Taken {
             fresh: usize::from(fresh),
@@ -75,27 +75,24 @@ impl Making {
 
     /// Gives the packet in the making, which is whole.
     #[tactic(auto, unfolding(crate::specs::Assembly::given))]
-    fn give(&mut self, file: &[u8], fresh: bool, behind: &mut Vec<u8>) -> Result<Taken, Memory>
-        ensures taken { IfOk result (λ taken. IsJoined (given file.now behind.old.items self.old fresh) taken self.new behind.new.items) }
-        ensures within { IfOk result (λ taken. StandsBehind (length file.now) behind.old.items behind.new.items taken.datagram) }
+    fn give(&mut self, file: &[u8], fresh: bool, packet: &mut Vec<u8>) -> Result<Taken, Memory>
+        requires { packet.old.items ≡ [] }
+        ensures taken { IfOk result (λ taken. IsJoined (given file.now self.old fresh) taken self.new packet.new.items) }
+        ensures within { IfOk result (λ taken. StandsInPacket packet.new.items taken.datagram) }
     {
-        let from = behind.len();
         let settled = self.making.count_fresh();
-        self.making.append_to(file, behind)?;
-        if let Some(range) = datagram_behind(behind, from) {
+        self.making.append_to(file, packet)?;
+        if let Some(range) = datagram_of_whole(packet) {
             std::mem::swap(&mut self.making, &mut self.given);
             self.making.clear();
             return Ok(Taken {
                 fresh: usize::from(fresh),
                 settled,
                 other: 0,
-                datagram: Some(ByteRange {
-                    from: file.len() + range.from,
-                    to: file.len() + range.to,
-                }),
+                datagram: Some(range),
             });
         }
-        behind.truncate(from);
+        packet.clear();
         let other = self.making.len();
         self.making.clear();
         Ok(Taken {
@@ -107,18 +104,17 @@ impl Making {
     }
 }
 
-/// Where the datagram stands whose packet's octets begin there and reach to the end.
-#[tactic(auto, unfolding(crate::specs::Assembly::datagram_behind))]
-fn datagram_behind(octets: &[u8], from: usize) -> Option<ByteRange>
-    requires { from ≤ length octets.now }
-    ensures datagram { result ≡ datagram_behind_lem octets.now from }
-    ensures within { IfSome result (λ range. (range.from ≤ range.to) × (range.to ≤ length octets.now)) }
+/// Where the datagram stands in a whole packet of these octets.
+#[tactic(auto, unfolding(crate::specs::Assembly::datagram_of_whole))]
+fn datagram_of_whole(packet: &[u8]) -> Option<ByteRange>
+    ensures datagram { result ≡ datagram_of_whole_lem packet.now }
+    ensures within { IfSome result (λ range. (range.from ≤ range.to) × (range.to ≤ length packet.now)) }
 {
     let range = ByteRange {
-        from,
-        to: octets.len(),
+        from: 0,
+        to: packet.len(),
     };
-    match udp_within(octets, range) {
+    match udp_within(packet, range) {
         Contents::Datagram(datagram) => Some(datagram),
         _ => None,
     }
@@ -143,24 +139,25 @@ impl Assembly {
     }
 
     /// Takes one fragment more, whose range is one of the file. The octets of a packet that is whole now and carries a
-    /// datagram are appended to `behind`, which stands behind the file.
+    /// datagram are put into `packet`.
     pub(crate) fn take(
         &mut self,
         file: &[u8],
         fragment: &Fragment,
-        behind: &mut Vec<u8>,
+        packet: &mut Vec<u8>,
     ) -> Result<Taken, Memory>
-        requires { fragment.now.start + fragment_size fragment.now < 2 ^ 32 }
-        ensures taken { IfOk result (λ taken. TakesFragment (taken_piece file.now behind.old.items (making_of self.old.makings fragment.now.key) (piece_of_lem fragment.now)) fragment.now.key taken self.old.makings self.new.makings behind.new.items) }
-        ensures within { IfOk result (λ taken. StandsBehind (length file.now) behind.old.items behind.new.items taken.datagram) }
+        requires stands { fragment.now.start + fragment_size fragment.now < 2 ^ 32 }
+        requires none { packet.old.items ≡ [] }
+        ensures taken { IfOk result (λ taken. TakesFragment (taken_piece file.now (making_of self.old.makings fragment.now.key) (piece_of_lem fragment.now)) fragment.now.key taken self.old.makings self.new.makings packet.new.items) }
+        ensures within { IfOk result (λ taken. StandsInPacket packet.new.items taken.datagram) }
         ensures waiting { IfOk result (λ taken. IsBounded taken (waiting self.old.makings) (waiting self.new.makings)) }
     {
         let piece = piece_of(fragment);
         if let Some(making) = self.makings.get_mut(&fragment.key) {
-            return making.take(file, piece, behind);
+            return making.take(file, piece, packet);
         }
         let mut making = Making::new(self.alloc);
-        let taken = making.take(file, piece, behind)?;
+        let taken = making.take(file, piece, packet)?;
         self.makings.insert(fragment.key, making)?;
         Ok(taken)
     }

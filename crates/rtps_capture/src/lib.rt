@@ -6,6 +6,7 @@ mod any_capture;
 mod any_frames;
 mod assembly;
 mod blocks;
+mod capture_octets;
 mod cursor;
 mod datagram;
 mod fragment;

@@ -6,7 +6,7 @@ ghost use Rattle.rtps_tool.specs.RecordingAnyCapture.{octets_in, recording_of_an
 
 use crate::faults::RecFault;
 use rtps_capture::{ByteRange, read_any};
-use rtps_text::{DatagramSpan, Reasons, Recording, push_octets};
+use rtps_text::{DatagramSpan, Reasons, Recording};
 use std::alloc::Global;
 
 /// Reads a recording of so many datagrams at most from a capture of either form. It keeps the octets of the capture, and behind
@@ -20,16 +20,14 @@ pub(crate) fn read_any_capture(
         (λ recording. recording_of_any most octets.items ≡ Ok recording)
         (IsFaultOf (recording_of_any most octets.items)) }
 {
-    let reading = read_any(alloc, &octets, most)?;
+    let reading = read_any(alloc, octets, most)?;
     let spans = spans_of(alloc, &reading.datagrams)?;
     let reasons = Reasons {
         pieces: reading.pieces,
         cut: reading.cut,
         other: reading.other,
     };
-    let mut octets = octets;
-    push_octets(&mut octets, &reading.behind)?;
-    Ok(Recording::of_any_capture(octets, spans, reasons))
+    Ok(Recording::of_any_capture(reading.octets, spans, reasons))
 }
 
 /// The spans of these ranges. `Memory` is answered, too, where one has none.
