@@ -1,6 +1,6 @@
 -- The recording that a capture stands for where any capture is read, or its first fault.
 -- own: datagrams are numbered as those of a classic capture are, whether their packet came whole or in fragments.
-use Rattle.std.specs.Prelude.{ℕ, ◌+◌, ◌++◌, List, map, slice_range, Some, Result, Ok, Err}
+use Rattle.std.specs.Prelude.{ℕ, ◌++◌, List, map, slice_range, Some, Result, Ok, Err}
 use Rattle.rtps_capture.specs.AnyCapture.{AnyAnswer, any_read}
 use Rattle.rtps_capture.specs.declared.any_capture.AnyFault.{AnyFault}
 use Rattle.rtps_capture.specs.declared.any_capture.AnyFault.TheVariants as any_fault
