@@ -1,0 +1,31 @@
+-- What is told of what was found of a report, beside rows that are not complete.
+-- own: a line on standard error for each finding, which says what it is by the word of the report, and how many.
+use Rattle.std.specs.Prelude.{ℕ, Bool, true, false, ◌==◌, ◌++◌, if◌then◌else◌, List, [], ◌∷◌, codes, Option, None, Some}
+use Rattle.std.specs.Fmt.{decimal}
+use Rattle.rtps_text.specs.declared.findings.FewRows.{FewRows}
+use Rattle.rtps_text.specs.declared.findings.Findings.{Findings}
+
+-- the line of fewer rows than were expected, with LF (10)
+abbrev pub few_line : Option FewRows → List ℕ
+few_line None = []
+few_line (Some few) = codes "rtps-audit: not clean: pairs " ++ (decimal few.rows ++ (codes ", expected " ++ (decimal few.expected ++ 10 ∷ [])))
+
+-- the line of a report with no row
+abbrev pub empty_line : Bool → List ℕ
+empty_line true = codes "rtps-audit: not clean: pairs 0" ++ 10 ∷ []
+empty_line false = []
+
+-- the line of a name, and of how many there are, if any
+abbrev pub count_line : List ℕ → ℕ → List ℕ
+count_line name n = if n == 0 then [] else codes "rtps-audit: not clean: " ++ (name ++ 32 ∷ (decimal n ++ 10 ∷ []))
+
+-- a line for each finding
+abbrev pub findings_text : Findings → List ℕ
+findings_text findings =
+    few_line findings.few
+    ++ (empty_line findings.empty
+    ++ (count_line (codes "pairs with missed numbers") findings.missed
+    ++ (count_line (codes "fragments") findings.fragments
+    ++ (count_line (codes "unsettled") findings.unsettled
+    ++ (count_line (codes "pieces") findings.pieces
+    ++ count_line (codes "cut") findings.cut)))))
