@@ -4,3 +4,4 @@ pub mod ShowLemmas
 pub mod DigitLemmas
 mod JsonLemmas
 mod PartLemmas
+mod AskedLemmas

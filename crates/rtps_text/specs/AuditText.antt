@@ -6,7 +6,7 @@ use Rattle.std.specs.Fmt.{decimal, signed_decimal}
 use Rattle.std.specs.List.{flat_map, list_all}
 use Rattle.rtps_receiver.specs.Acts.{acts_in}
 use Rattle.rtps_receiver.specs.Values.{ActValue}
-use Rattle.rtps_discovery.specs.Directory.{DirectoryValue, settled_at}
+use Rattle.rtps_discovery.specs.Directory.{DirectoryValue, IsMapOf, settled_at}
 use Rattle.rtps_discovery.specs.declared.matching.Pair.{Pair}
 use Rattle.rtps_audit.specs.Delivery.{last_announced_from}
 use Rattle.rtps_audit.specs.Placed.{placed_in}
@@ -94,7 +94,9 @@ is_row_kept rows acts directory row = is_kept rows acts (topic_of (settled_at di
 pub record IsReportAs (asked : AskedValue) (recording : List (List ℕ)) (report : Report) : Type 0 where
   pub whole : Report
   pub reports : IsReportFrom asked.from recording whole
-  pub rows : report.rows.items ≡ filter (is_row_kept asked.rows (acts_in recording) reports.directory) whole.rows.items
+  pub directory : DirectoryValue
+  pub is_map : IsMapOf (acts_in recording) directory
+  pub rows : report.rows.items ≡ filter (is_row_kept asked.rows (acts_in recording) directory) whole.rows.items
   pub counts : report.counts ≡ whole.counts
 
 -- how many numbers from `from` on the reader of a pair missed
@@ -111,14 +113,14 @@ pub record IsCounted (asked : AskedValue) (recording : List (List ℕ)) (counted
   pub reports : IsReportAs asked recording counted.report
   pub missed : asked.strict ≡ true → counted.missed ≡ missed_rows asked.from recording counted.report.rows.items
 
--- what is known of a report of so many rows with missed numbers
-abbrev pub facts_of_report : ℕ → Report → RecordingValue → Facts
-facts_of_report missed report recording =
+-- what is known of a report with these rows and counts, of which so many have missed numbers
+abbrev pub facts_of_report : ℕ → List Row → Counts → RecordingValue → Facts
+facts_of_report missed rows counts recording =
     record {
-      rows = length report.rows.items;
+      rows = length rows;
       missed = missed;
-      complete = list_all (λ row. is_complete row.verdict) report.rows.items;
-      counts = report.counts;
+      complete = list_all (λ row. is_complete row.verdict) rows;
+      counts = counts;
       reasons = recording.reasons;
     }
 
@@ -127,7 +129,7 @@ pub record IsAuditedAs (asked : AskedValue) (recording : RecordingValue) (text :
   pub report : Report
   pub reports : IsReportAs asked recording.datagrams report
   pub is_text : text ≡ report_text report.rows.items report.counts recording.ignored
-  pub ends : ending ≡ ending_as asked (facts_of_report (missed_rows asked.from recording.datagrams report.rows.items) report recording)
+  pub ends : ending ≡ ending_as asked (facts_of_report (missed_rows asked.from recording.datagrams report.rows.items) report.rows.items report.counts recording)
 
 -- and of all numbers
 abbrev pub IsAudited : RecordingValue → List ℕ → Ending → Type 0

@@ -1,6 +1,6 @@
 use Rattle.std.proofs.Common.{◌++◌, ◌∷◌, [], ◌∙◌, List, ℕ, Bor, ap, map, sym}
 use Rattle.std.proofs.lemmas.List.{append_assoc, append-nil, map-append}
-use Rattle.rtps_text.proofs.text.audit_text.datagrams_of.Goals as goal
+use Rattle.rtps_text.proofs.text.asked_evidence.datagrams_of.Goals as goal
 
 pub loop-octets-preserved : goal.loop-octets-preserved
 loop-octets-preserved c =

@@ -1,5 +1,5 @@
 use Rattle.std.proofs.Common.{◌≡◌, ◌++◌, map}
-use Rattle.rtps_text.proofs.text.audit_text.datagrams_of.Given as goal
+use Rattle.rtps_text.proofs.text.asked_evidence.datagrams_of.Given as goal
 
 -- the datagrams so far, and those that are left
 abbrev pub invariant-loop-octets : goal.invariant-loop-octets
