@@ -5,3 +5,4 @@ pub mod DigitLemmas
 mod JsonLemmas
 mod PartLemmas
 mod AskedLemmas
+pub mod Offered
