@@ -13,7 +13,7 @@ use Rattle.rtps_text.proofs.AskedLemmas.{all_explained, all_rows}
 
 pub plainly_audited : (from : ℕ) → HaveOneText (IsAuditedAs (plainly from)) (IsAuditedFrom from)
 plainly_audited from = λ recording text ending. (
-      λ is.
+  λ is.
       let rows = is.reports.rows ∙ all_rows (plainly from) (acts_in recording.datagrams) is.reports.directory refl is.reports.whole.rows.items in
       record {
         report = is.reports.whole;
@@ -21,24 +21,24 @@ plainly_audited from = λ recording text ending. (
         is_text = is.is_text ∙ ap₂ (λ (rows : List Row) (counts : Counts). report_text rows counts recording.ignored) rows is.reports.counts;
         ends = is.ends ∙ ap ending_of rows;
       },
-      λ is. record {
-        report = is.report;
-        reports = record {
-          whole = is.report;
-          reports = is.reports;
-          directory = is.reports.directory;
-          is_map = is.reports.is_map;
-          rows = sym (all_rows (plainly from) (acts_in recording.datagrams) is.reports.directory refl is.report.rows.items);
-          counts = refl;
-        };
-        is_text = is.is_text;
-        ends = is.ends;
-      },
-    )
+  λ is. record {
+    report = is.report;
+    reports = record {
+      whole = is.report;
+      reports = is.reports;
+      directory = is.reports.directory;
+      is_map = is.reports.is_map;
+      rows = sym (all_rows (plainly from) (acts_in recording.datagrams) is.reports.directory refl is.report.rows.items);
+      counts = refl;
+    };
+    is_text = is.is_text;
+    ends = is.ends;
+  },
+)
 
 pub plainly_explained : (from : ℕ) → HaveOneText (IsExplainedTextAs (plainly from)) (IsExplainedTextFrom from)
 plainly_explained from = λ recording text ending. (
-      λ is.
+  λ is.
       let rows = ap (map explanation_value) (is.explains.rows ∙ all_explained (plainly from) (acts_in recording.datagrams) refl is.explains.whole.rows.items) in
       record {
         explained = is.explains.whole;
@@ -46,22 +46,22 @@ plainly_explained from = λ recording text ending. (
         is_text = is.is_text ∙ ap₂ (λ (rows : List ExplanationValue) (counts : Counts). explained_text rows counts recording.ignored) rows is.explains.counts;
         ends = is.ends ∙ ap ending_of_rows rows;
       },
-      λ is. record {
-        explained = is.explained;
-        explains = record {
-          whole = is.explained;
-          explains = is.explains;
-          rows = sym (all_explained (plainly from) (acts_in recording.datagrams) refl is.explained.rows.items);
-          counts = refl;
-        };
-        is_text = is.is_text;
-        ends = is.ends;
-      },
-    )
+  λ is. record {
+    explained = is.explained;
+    explains = record {
+      whole = is.explained;
+      explains = is.explains;
+      rows = sym (all_explained (plainly from) (acts_in recording.datagrams) refl is.explained.rows.items);
+      counts = refl;
+    };
+    is_text = is.is_text;
+    ends = is.ends;
+  },
+)
 
 pub plainly_json : (from : ℕ) → HaveOneText (IsJsonTextAs (plainly from)) (IsJsonTextFrom from)
 plainly_json from = λ recording text ending. (
-      λ is.
+  λ is.
       let rows = ap (map explanation_value) (is.explains.rows ∙ all_explained (plainly from) (acts_in recording.datagrams) refl is.explains.whole.rows.items) in
       record {
         explained = is.explains.whole;
@@ -69,15 +69,15 @@ plainly_json from = λ recording text ending. (
         is_line = subst (λ json. IsJsonLine json text) (ap₂ (λ (rows : List ExplanationValue) (counts : Counts). report_json rows counts recording) rows is.explains.counts) is.is_line;
         ends = is.ends ∙ ap ending_of_rows rows;
       },
-      λ is. record {
-        explained = is.explained;
-        explains = record {
-          whole = is.explained;
-          explains = is.explains;
-          rows = sym (all_explained (plainly from) (acts_in recording.datagrams) refl is.explained.rows.items);
-          counts = refl;
-        };
-        is_line = is.is_line;
-        ends = is.ends;
-      },
-    )
+  λ is. record {
+    explained = is.explained;
+    explains = record {
+      whole = is.explained;
+      explains = is.explains;
+      rows = sym (all_explained (plainly from) (acts_in recording.datagrams) refl is.explained.rows.items);
+      counts = refl;
+    };
+    is_line = is.is_line;
+    ends = is.ends;
+  },
+)

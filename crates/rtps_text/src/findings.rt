@@ -68,8 +68,13 @@ impl Findings {
     pub fn is_none(&self) -> bool
         ensures { result ≡ are_none self.now }
     {
-        self.few.is_none() && !self.empty && self.missed == 0 && self.fragments == 0
-            && self.unsettled == 0 && self.pieces == 0 && self.cut == 0
+        self.few.is_none()
+            && !self.empty
+            && self.missed == 0
+            && self.fragments == 0
+            && self.unsettled == 0
+            && self.pieces == 0
+            && self.cut == 0
     }
 }
 

@@ -47,13 +47,15 @@ impl Demands {
 const TOPIC_HELP: &str = "Only rows whose topic is PATTERN, in which * stands for any octets; \
     given again, any of them";
 
-const OBSERVED_HELP: &str = "Only rows of pairs that the recording can speak of: the reader's participant sends \
+const OBSERVED_HELP: &str =
+    "Only rows of pairs that the recording can speak of: the reader's participant sends \
     to the writer's by name";
 
 const EXPECT_HELP: &str =
     "Status 1 also if the report has fewer rows than this, 0 to 9223372036854775807";
 
-const STRICT_HELP: &str = "Status 1 also if there is no row, a row has missed numbers, or something of \
+const STRICT_HELP: &str =
+    "Status 1 also if there is no row, a row has missed numbers, or something of \
     the recording is left out: fragments, unsettled endpoints, frames in pieces or cut. Sets --any";
 
 /// The option that chooses rows by their topics.
