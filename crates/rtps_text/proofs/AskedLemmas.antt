@@ -1,7 +1,7 @@
 -- What is kept of rows, and what is found of them.
-use Rattle.std.proofs.Common.{◌≡◌, ◌∙◌, ◌&&◌, ◌||◌, ◌==◌, ◌∷◌, [], ℕ, Bool, true, false, cond, List, All, ap, filter, length, map, not, refl, sym}
+use Rattle.std.proofs.Common.{◌≡◌, ◌∙◌, ◌+◌, ◌<◌, ◌++◌, ◌&&◌, ◌||◌, ◌==◌, ◌∷◌, [], ℕ, Bool, true, false, cond, List, All, ap, append-nil, filter, get_or, length, map, not, refl, sym, take}
 use Rattle.std.proofs.lemmas.List.{length-map}
-use Rattle.std.proofs.lemmas.List.Elements.{All-filter, All-head, All-same, All-tail, All-weaker}
+use Rattle.std.proofs.lemmas.List.Elements.{All-filter, All-head, All-same, All-tail, All-weaker, filter_more}
 use Rattle.std.proofs.lemmas.List.Sums.{length-filter}
 use Rattle.std.specs.Prelude.{count_by}
 use Rattle.rtps_receiver.specs.Acts.{acts_in}
@@ -52,6 +52,17 @@ count_same p q xs all = sym (length-filter p xs) ∙ ap length (filter_same p q 
 
 pub count_map : {X Y : Type 0} (f : X → Y) (p : Y → Bool) (xs : List X) → count_by p (map f xs) ≡ count_by (λ x. p (f x)) xs
 count_map f p xs = sym (length-filter p (map f xs)) ∙ ap length (sym (map_filter f p xs)) ∙ length-map (filter (λ x. p (f x)) xs) f ∙ length-filter (λ x. p (f x)) xs
+
+-- a loop that keeps the elements that pass, at one that passes, and at one that does not
+pub pushed_more : {X : Type 0} (p : X → Bool) (xs : List X) (i : ℕ) (d : X) (kept more : List X) → i < length xs → p (get_or xs i d) ≡ true
+    → kept ≡ filter p (take i xs) → more ≡ kept ++ get_or xs i d ∷ [] → more ≡ filter p (take (i + 1) xs)
+pushed_more p xs i d kept more within passes before pushed =
+    pushed ∙ ap (λ all. all ++ get_or xs i d ∷ []) before ∙ ap (λ b. filter p (take i xs) ++ cond b (get_or xs i d ∷ []) []) (sym passes) ∙ sym (filter_more p xs i d within)
+
+pub left_more : {X : Type 0} (p : X → Bool) (xs : List X) (i : ℕ) (d : X) (kept : List X) → i < length xs → p (get_or xs i d) ≡ false
+    → kept ≡ filter p (take i xs) → kept ≡ filter p (take (i + 1) xs)
+left_more p xs i d kept within fails before =
+    before ∙ sym (append-nil (filter p (take i xs))) ∙ ap (λ b. filter p (take i xs) ++ cond b (get_or xs i d ∷ []) []) (sym fails) ∙ sym (filter_more p xs i d within)
 
 -- ---- rows
 

@@ -123,12 +123,19 @@ fn kept_of(
 {
     let mut kept = Vec::new(alloc);
     for row in rows {
-        let topic = topic_of(directory, row.pair.writer);
-        if wanted.keeps(topic, row.pair) {
+        if is_kept(*row, directory, wanted) {
             kept.push(*row)?;
         }
     }
     Ok(kept)
+}
+
+/// Whether a row is asked for, whose topic a directory has.
+fn is_kept(row: Row, directory: &Directory<'_>, wanted: &RowFilter<'_>) -> bool
+    ensures { (asked : RowsValue) (acts : List ActValue) → IsFilterOf asked acts wanted.now → result ≡ is_row_kept asked acts directory.now row }
+{
+    let topic = topic_of(directory, row.pair.writer);
+    wanted.keeps(topic, row.pair)
 }
 
 /// The topic of a GUID's endpoint; empty where it has none.

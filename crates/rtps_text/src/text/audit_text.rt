@@ -1,8 +1,8 @@
-ghost use Rattle.std.specs.Prelude.{◌≡◌, ◌++◌, IfOk, OnOk, map};
+ghost use Rattle.std.specs.Prelude.{◌≡◌, ◌++◌, IfOk, OnOk};
 ghost use Rattle.std.specs.List.{flat_map, list_all};
 ghost use Rattle.std.specs.String.{string_bytes};
 ghost use Rattle.rtps_text.specs.Asked.{asked_value};
-ghost use Rattle.rtps_text.specs.AuditText.{IsAuditedAs, IsReportAs, is_complete as completes, report_text as text_of_report, row_line};
+ghost use Rattle.rtps_text.specs.AuditText.{IsAuditedAs, facts_of_report, is_complete as completes, report_text as text_of_report, row_line};
 
 use crate::asked::Asked;
 use crate::findings::{Facts, ending_of};
@@ -27,14 +27,21 @@ pub fn audit_text<P: Watch>(
     let asked_report = report_of(alloc, recording, asked, watch)?;
     let report = &asked_report.report;
     let text = report_text(alloc, report, recording.ignored())?;
-    let facts = Facts {
+    let facts = facts_of(report, asked_report.missed, recording);
+    Ok((text, ending_of(asked, &facts)))
+}
+
+/// What is known of a report of which so many rows have missed numbers, to hold it against what was asked.
+fn facts_of(report: &Report, missed: u64, recording: &Recording) -> Facts
+    ensures { result ≡ facts_of_report missed report.now.rows.items report.now.counts recording.now }
+{
+    Facts {
         rows: report.rows.len() as u64,
-        missed: asked_report.missed,
+        missed,
         complete: are_complete(&report.rows),
         counts: report.counts,
         reasons: recording.reasons(),
-    };
-    Ok((text, ending_of(asked, &facts)))
+    }
 }
 
 /// The lines of a report on a recording of which so many frames were ignored, if it has any.
