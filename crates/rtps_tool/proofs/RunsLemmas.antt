@@ -5,6 +5,9 @@ use Rattle.std.specs.Io.KnownBytes.{Appends, Consumes, IsAtEnd}
 use Rattle.rtps_text.specs.Laws.{HasOneText}
 use Rattle.rtps_text.specs.Recording.{RecordingValue}
 use Rattle.rtps_text.specs.declared.text.Ending.{Ending}
+use Rattle.rtps_tool.specs.Choices.{RunsBy}
+use Rattle.rtps_tool.specs.Commands.{IsTextOf}
+use Rattle.rtps_tool.specs.Options.{OptionsValue}
 use Rattle.rtps_tool.specs.Laws.{AreWithin, RunsAgree, RunsAgreeWithin}
 use Rattle.rtps_tool.specs.Forms.{recording_within}
 use Rattle.rtps_tool.specs.Limits.{usual}
@@ -65,3 +68,15 @@ runs_weaker IsOne IsOther weaker limits captures unread left held holds (Err (Re
 runs_weaker IsOne IsOther weaker limits captures unread left held holds (Err Input) is = is
 runs_weaker IsOne IsOther weaker limits captures unread left held holds (Err (Output written)) (recording, text, ending, reads, is, failed) = (recording, text, ending, reads, weaker recording text ending is, failed)
 runs_weaker IsOne IsOther weaker limits captures unread left held holds (Err Memory) is = is
+
+-- a run with these options is one with those, which are the same
+pub runs_with : (options other : OptionsValue) (unread left held holds : Option (List ℕ)) (result : Result Ending RunFault) → options ≡ other
+    → RunsWithin options.limits options.captures (IsTextOf options.command options.asked) unread left held holds result
+    → RunsWithin other.limits other.captures (IsTextOf other.command other.asked) unread left held holds result
+runs_with options other unread left held holds result same =
+    subst (λ (o : OptionsValue). RunsWithin o.limits o.captures (IsTextOf o.command o.asked) unread left held holds result) same
+
+-- and as the words chose it
+pub runs_by : (options : OptionsValue) (chosen : Option OptionsValue) (unread left held holds : Option (List ℕ)) (result : Result Ending RunFault) → Some options ≡ chosen
+    → RunsWithin options.limits options.captures (IsTextOf options.command options.asked) unread left held holds result → RunsBy chosen unread left held holds result
+runs_by options chosen unread left held holds result same = subst (λ found. RunsBy found unread left held holds result) same

@@ -1,4 +1,4 @@
-ghost use Rattle.std.specs.Prelude.{◌≡◌, ◌⊎◌, true, false, codes, Some, IfOk, IfErr, OnOk, [], MatchOption, map, unwrap_or};
+ghost use Rattle.std.specs.Prelude.{◌≡◌, ◌⊎◌, ◌||◌, true, false, codes, Some, IfOk, IfErr, OnOk, [], MatchOption, map, unwrap_or};
 ghost use Rattle.std.specs.String.{string_bytes};
 ghost use Rattle.clap.specs.Words.{app_of, fault_of, first_of, found_of, new_app, one_of, rows_of, rule_of, subcommand_of, subcommand_rows_of, takes};
 ghost use Rattle.clap.specs.declared.builder.command.Command.TheViews.{out-Command};
@@ -358,15 +358,24 @@ fn captures_of(found: &ArgMatches) -> Captures
     }
 }
 
-/// The captures that are asked for, also by `--strict`.
-fn report_captures_of(found: &ArgMatches) -> Captures
-    ensures { AreCapturesGiven (rows_of (found_of found.now)) result }
+/// The captures that are asked for by one flag of two.
+fn captures_by(any: bool, strict: bool) -> Captures
+    ensures { is_any result ≡ (any || strict) }
 {
-    if is_given(found, "any") || is_given(found, "strict") {
+    if any || strict {
         Captures::Any
     } else {
         Captures::Classic
     }
+}
+
+/// The captures that are asked for, also by `--strict`.
+fn report_captures_of(found: &ArgMatches) -> Captures
+    ensures { AreCapturesGiven (rows_of (found_of found.now)) result }
+{
+    let any = is_given(found, "any");
+    let strict = is_given(found, "strict");
+    captures_by(any, strict)
 }
 
 /// What the matches of `show` choose.

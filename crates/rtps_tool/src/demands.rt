@@ -87,7 +87,7 @@ pub(crate) fn with_demands<'a>(
     command: Command<'a>,
 ) -> Result<Command<'a>, AllocError>
     requires { (out-Command command).has_globals ≡ false }
-    ensures app { IfOk result (λ made. app_of made ≡ demanding (app_of command)) }
+    ensures app { IfOk result (λ made. app_of made ≡ demanding (app_of command.entry)) }
     ensures local { IfOk result (λ made. (out-Command made).has_globals ≡ false) }
 {
     let one = command.arg(pattern_option(alloc))?;

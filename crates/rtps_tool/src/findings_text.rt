@@ -1,6 +1,6 @@
 ghost use Rattle.std.specs.Prelude.{◌≡◌, true, Some};
 ghost use Rattle.std.specs.Io.KnownBytes.{Appends};
-ghost use Rattle.rtps_tool.specs.FindingsText.{count_line, few_line, empty_line, findings_text};
+ghost use Rattle.rtps_tool.specs.FindingsText.{count_line, empty_line, few_line, findings_text, lines_of_counts, lines_of_rows};
 
 use rtps_text::{FewRows, Findings};
 use std::fmt;
@@ -13,6 +13,7 @@ struct FewLine(Option<FewRows>);
 impl fmt::Display for FewLine {
     ghost output = { λ line. Some (few_line line.0) };
 
+    #[tactic(auto, unfolding(crate::specs::FindingsText::few_line))]
     fn fmt<W: fmt::Write>(&self, f: &mut fmt::Formatter<W>) -> fmt::Result {
         match self.0 {
             None => Ok(()),
@@ -32,6 +33,7 @@ struct EmptyLine(bool);
 impl fmt::Display for EmptyLine {
     ghost output = { λ line. Some (empty_line line.0) };
 
+    #[tactic(auto, unfolding(crate::specs::FindingsText::empty_line))]
     fn fmt<W: fmt::Write>(&self, f: &mut fmt::Formatter<W>) -> fmt::Result {
         if self.0 {
             writeln!(f, "rtps-audit: not clean: pairs 0")
@@ -48,6 +50,7 @@ struct CountLine(&'static str, u128);
 impl fmt::Display for CountLine {
     ghost output = { λ line. Some (count_line line.0.now line.1) };
 
+    #[tactic(auto, unfolding(crate::specs::FindingsText::count_line))]
     fn fmt<W: fmt::Write>(&self, f: &mut fmt::Formatter<W>) -> fmt::Result {
         if self.1 == 0 {
             return Ok(());
@@ -56,25 +59,39 @@ impl fmt::Display for CountLine {
     }
 }
 
-/// The lines of all that was found.
+/// The lines of what was found of the rows of a report.
 #[derive(Drop)]
-struct FindingsText(Findings);
+struct RowFindings(Findings);
 
-impl fmt::Display for FindingsText {
-    ghost output = { λ text. Some (findings_text text.0) };
+impl fmt::Display for RowFindings {
+    ghost output = { λ text. Some (lines_of_rows text.0) };
 
     fn fmt<W: fmt::Write>(&self, f: &mut fmt::Formatter<W>) -> fmt::Result {
-        let findings = self.0;
         write!(
             f,
-            "{}{}{}{}{}{}{}",
-            FewLine(findings.few),
-            EmptyLine(findings.empty),
-            CountLine("pairs with missed numbers", u128::from(findings.missed)),
-            CountLine("fragments", findings.fragments),
-            CountLine("unsettled", u128::from(findings.unsettled)),
-            CountLine("pieces", u128::from(findings.pieces)),
-            CountLine("cut", u128::from(findings.cut))
+            "{}{}{}",
+            FewLine(self.0.few),
+            EmptyLine(self.0.empty),
+            CountLine("pairs with missed numbers", u128::from(self.0.missed))
+        )
+    }
+}
+
+/// The lines of what was found of what a report counts.
+#[derive(Drop)]
+struct CountFindings(Findings);
+
+impl fmt::Display for CountFindings {
+    ghost output = { λ text. Some (lines_of_counts text.0) };
+
+    fn fmt<W: fmt::Write>(&self, f: &mut fmt::Formatter<W>) -> fmt::Result {
+        write!(
+            f,
+            "{}{}{}{}",
+            CountLine("fragments", self.0.fragments),
+            CountLine("unsettled", u128::from(self.0.unsettled)),
+            CountLine("pieces", u128::from(self.0.pieces)),
+            CountLine("cut", u128::from(self.0.cut))
         )
     }
 }
@@ -84,5 +101,11 @@ impl fmt::Display for FindingsText {
 pub fn write_findings<W: Write>(findings: &Findings, output: &mut W) -> bool
     ensures { result ≡ true → Appends (W.contents output.old) (W.contents output.new) (findings_text findings.now) }
 {
-    write!(output, "{}", FindingsText(*findings)).is_ok()
+    write!(
+        output,
+        "{}{}",
+        RowFindings(*findings),
+        CountFindings(*findings)
+    )
+    .is_ok()
 }
