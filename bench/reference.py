@@ -5,6 +5,9 @@
     reference.py json FILE                 prints what `rtps-audit audit --json` should print
     reference.py audit|why|json --from N FILE
                                            the same, of the numbers from N on
+    reference.py audit|why|json [--topic PATTERN].. [--observed] [--expect N] [--strict] FILE
+                                           the same, of the rows that are asked for; standard error and the status say what
+                                           else is not so
     reference.py show|list|audit|why|json --any FILE
                                            the same, of a capture of either form, with fragments put together
     reference.py compare PROGRAM [COUNT [SEED]]
@@ -26,6 +29,7 @@ import sys
 import tempfile
 
 import any_capture
+from asked import PLAIN, Asked, asked_by
 
 READ = {0x06, 0x07, 0x08, 0x09, 0x0c, 0x0e, 0x15}
 FRAGMENTS = {0x12, 0x13, 0x16}
@@ -567,13 +571,13 @@ def received_by_runs(recording, w, r, bound, first=1):
     return {n for n in range(first, last + 1) if all(any(m == n and word != 'gone' for m, word in s) for s in states)}
 
 
-def audit(datagrams, first=1):
+def audit(datagrams, asked=PLAIN):
     _, _, matched, unsettled, _ = discovery(datagrams)
-    pairs = [(w[0], r[0]) for w, r in matched if w[4] == 1 and r[4] == 1]
     recording = [acts_of(d) for d in datagrams]
+    pairs = [(w[0], r[0]) for w, r in matched if w[4] == 1 and r[4] == 1 and asked.keeps(w[2], w[0], r[0], recording)]
     out = [f'pairs {len(pairs)}']
     for w, r in pairs:
-        out.append(f'{guid_text(w)} {guid_text(r)} {judge(recording, w, r, first)}')
+        out.append(f'{guid_text(w)} {guid_text(r)} {judge(recording, w, r, asked.first)}')
     refused = skipped = fragments = undirected = 0
     for d, acts in zip(datagrams, recording):
         _, items, refusal = read(d)
@@ -744,9 +748,9 @@ def evidence(recording, w, r, first=1):
     return lines + delivery_lines(delivery) + verdict_lines(delivery, judge(recording, w, r, first))
 
 
-def why(datagrams, first=1):
+def why(datagrams, asked=PLAIN):
     """the report, with what each row rests on"""
-    report = audit(datagrams, first)
+    report = audit(datagrams, asked)
     named = {guid: (topic, kind) for guid, _, topic, kind, _, _ in discovery(datagrams)[1]}
     recording = [acts_of(d) for d in datagrams]
     out = report[:1]
@@ -754,7 +758,7 @@ def why(datagrams, first=1):
         w, r = (bytes.fromhex(guid.replace('.', '')) for guid in row.split()[:2])
         topic, kind = named[w]
         out += [f'pair {row}', f'  topic "{name_text(topic)}" type "{name_text(kind)}"']
-        out += ['  ' + line for line in evidence(recording, w, r, first)]
+        out += ['  ' + line for line in evidence(recording, w, r, asked.first)]
     return out + report[-1:]
 
 
@@ -838,9 +842,9 @@ def evidence_values(verdict, lines):
     return values
 
 
-def report_values(datagrams, first=1):
+def report_values(datagrams, asked=PLAIN):
     """the report as Python has it"""
-    rows = audit(datagrams, first)
+    rows = audit(datagrams, asked)
     named = {guid: (topic, kind) for guid, _, topic, kind, _, _ in discovery(datagrams)[1]}
     recording = [acts_of(d) for d in datagrams]
     pairs = []
@@ -849,14 +853,14 @@ def report_values(datagrams, first=1):
         w, r = (bytes.fromhex(guid.replace('.', '')) for guid in (writer, reader))
         topic, kind = map(name_text, named[w])
         names = {'writer': writer, 'reader': reader, 'topic': topic, 'type': kind}
-        pairs.append(names | evidence_values(verdict, evidence(recording, w, r, first)))
+        pairs.append(names | evidence_values(verdict, evidence(recording, w, r, asked.first)))
     counts = rows[-1].split()
     return {'pairs': pairs} | {name: int(count) for name, count in zip(counts[::2], counts[1::2])}
 
 
-def json_lines(datagrams, first=1, ignored=None):
+def json_lines(datagrams, asked=PLAIN, ignored=None):
     counted = ignored if isinstance(ignored, dict) else {} if ignored is None else {'ignored': ignored}
-    return [json.dumps(report_values(datagrams, first) | counted, separators=(',', ':'))]
+    return [json.dumps(report_values(datagrams, asked) | counted, separators=(',', ':'))]
 
 
 VIEWS = {'show': show, 'list': list_text, 'audit': audit, 'why': why, 'json': json_lines}
@@ -869,20 +873,39 @@ def words_of(view):
     return ['audit', '--json'] if view == 'json' else [view]
 
 
-def answer(view, text, first=1, limits=USUAL, any_form=False):
-    """text and status of the program; `first` is for reports alone"""
+def findings(datagrams, asked, reasons):
+    """what a report has or lacks against what is asked, beside complete rows, a line for each"""
+    rows = audit(datagrams, asked)
+    recording = [acts_of(d) for d in datagrams]
+    missed = 0
+    for row in rows[1:-1] if asked.strict else []:
+        w, r = (bytes.fromhex(guid.replace('.', '')) for guid in row.split()[:2])
+        missed += bool(Delivery(recording, w, r, asked.first).missed)
+    counts = rows[-1].split()
+    return asked.findings(len(rows) - 2, missed, dict(zip(counts[::2], map(int, counts[1::2]))), reasons)
+
+
+def answer_as(view, text, asked, limits=USUAL, any_form=False):
+    """text, lines on standard error and status of the program; what is asked is for reports alone"""
+    any_form = any_form or asked.strict
     read = input_of(text, limits, any_form)
     if isinstance(read, str):
-        return '', 2
+        return '', [f'rtps-audit: {read}'], 2
     datagrams, ignored = read
-    if view == 'json':
-        lines = json_lines(datagrams, first, ignored)
-    else:
-        lines = VIEWS[view](datagrams, first) if view in REPORTS else VIEWS[view](datagrams)
-    if view in ('audit', 'why') and ignored is not None:
+    if view not in REPORTS:
+        return ''.join(line + '\n' for line in VIEWS[view](datagrams)), [], 0
+    lines = json_lines(datagrams, asked, ignored) if view == 'json' else VIEWS[view](datagrams, asked)
+    if view != 'json' and ignored is not None:
         lines[-1] += f" ignored {ignored['ignored'] if any_form else ignored}"
-    unclean = view in REPORTS and any(' complete ' not in line for line in audit(datagrams, first)[1:-1])
-    return ''.join(line + '\n' for line in lines), int(unclean)
+    found = findings(datagrams, asked, ignored if isinstance(ignored, dict) else {})
+    unclean = any(' complete ' not in line for line in audit(datagrams, asked)[1:-1])
+    return ''.join(line + '\n' for line in lines), [f'rtps-audit: not clean: {line}' for line in found], int(unclean or bool(found))
+
+
+def answer(view, text, first=1, limits=USUAL, any_form=False):
+    """text and status of the program; `first` is for reports alone"""
+    text, _, status = answer_as(view, text, Asked(first), limits, any_form)
+    return text, status
 
 
 # ---- random recordings
@@ -1006,8 +1029,8 @@ def some_datagram(rng):
 NAMES = b'\0\5\0\x0c\0\0\0\5pose\0\0\0\0\0\7\0\x0c\0\0\0\5Pose\0\0\0\0'
 
 
-def announced(writer, prefix, entity, more):
-    value = b'\0\2\0\0' + b'\0\x5a\0\x10' + prefix + entity + NAMES + more + b'\0\1\0\0'
+def announced(writer, prefix, entity, more, names=NAMES):
+    value = b'\0\2\0\0' + b'\0\x5a\0\x10' + prefix + entity + names + more + b'\0\1\0\0'
     body = b'\0\0\0\x10' + bytes(4) + writer + bytes(7) + b'\1' + value
     return b'RTPS\2\5\0\0' + prefix + b'\x15\4' + len(body).to_bytes(2, 'big') + body
 
@@ -1037,12 +1060,13 @@ def some_recording(rng):
 class Told:
     """a writer and a reader that speak of few numbers, as a random recording has it. What the reader answers is mostly true,
     and what is lost on the way is as if it never came"""
-    def __init__(self, rng):
+    def __init__(self, rng, writer=b'\0\0\1\3', reader=b'\0\0\1\4'):
         self.rng, self.first, self.last, self.held = rng, 1, 0, set()
+        self.writer, self.reader = writer, reader
 
     def submessage(self, sid, flags, *parts):
-        reader = self.rng.choice([bytes(4), bytes(4), b'\0\0\1\4'] if sid != 0x06 else [b'\0\0\1\4'])
-        body = (b'\0\0\0\x10' if sid == 0x15 else b'') + reader + b'\0\0\1\3' + b''.join(parts)
+        reader = self.rng.choice([bytes(4), bytes(4), self.reader] if sid != 0x06 else [self.reader])
+        body = (b'\0\0\0\x10' if sid == 0x15 else b'') + reader + self.writer + b''.join(parts)
         return bytes([sid, flags]) + u('be', 2, len(body)) + body
 
     def take(self, numbers):
@@ -1115,6 +1139,58 @@ def some_delivery(rng):
     return datagrams
 
 
+TOPICS = b'pose', b'rt/odom', b'rt/scan', b'odom', b'a*b', b'aXbYbZc', b'', b'rt/\xff\x0a'
+PATTERNS = '*', '**', 'rt/*', '*/odom', '*odom', 'a*b', 'a*b*c', 'pose', 'p*e', '', 'rt', '*o*o*', 'rt/*\n', 'a*bc'
+
+
+def names_of(topic):
+    """the parameters of a topic, and of its type"""
+    text = (len(topic) + 1).to_bytes(4, 'big') + topic + b'\0'
+    text += bytes(-len(text) % 4)
+    return b'\0\5' + len(text).to_bytes(2, 'big') + text + NAMES[16:]
+
+
+def some_network(rng):
+    """some writers and readers of several topics in up to three participants, what they announce, and what they say of the
+    numbers 1 to 4. Some name the participant that they speak to, and some do not"""
+    datagrams, ends = [], []
+    topics = [rng.choice(TOPICS) for _ in range(rng.randrange(1, 4))]
+    for k in range(rng.randrange(2, 7)):
+        prefix, topic, reads = rng.choice([A, B, B, C]), rng.choice(topics), rng.random() < 0.5
+        entity = bytes([0, 0, k + 1, 4 if reads else 3])
+        more = b'\0\x1a\0\x0c\0\0\0\2' + bytes(8) if reads else b''
+        ends.append((prefix, entity, topic, reads))
+        datagrams.append(announced(b'\0\0\4\xc2' if reads else b'\0\0\3\xc2', prefix, entity, more, names_of(topic)))
+        if rng.random() < 0.03:
+            datagrams.append(announced(b'\0\0\4\xc2', prefix, entity, more, names_of(rng.choice(TOPICS))))
+    for w in ends:
+        for r in ends:
+            if w[3] or not r[3] or w[2] != r[2] or rng.random() < 0.2:
+                continue
+            told, named = Told(rng, w[1], r[1]), rng.random() < 0.7
+            for _ in range(rng.randrange(1, 12)):
+                octets, by_writer = told.next()
+                source, dest = (w[0], r[0]) if by_writer else (r[0], w[0])
+                names = b'\x0e\0\0\x0c' + dest if named and (not by_writer or rng.random() < 0.5) else b''
+                datagrams.insert(rng.randrange(len(datagrams) + 1) if rng.random() < 0.05 else len(datagrams), b'RTPS\2\5\0\0' + source + names + octets)
+    if rng.random() < 0.1:
+        datagrams.append(b'RTPS\2\5\0\0' + rng.choice([A, B]) + bytes([rng.choice([0x16, 0x12, 0x80]), 0, 0, 4]) + bytes(4))
+    return datagrams
+
+
+def some_asked(rng):
+    topics = [rng.choice(PATTERNS) for _ in range(rng.choice([0, 0, 1, 1, 2, 3]))]
+    return Asked(rng.choice([1, 1, 2, 3, 5]), topics, rng.random() < 0.4, rng.choice([None, None, 0, 1, 2, 3, GREATEST]), rng.random() < 0.4)
+
+
+def some_input(rng):
+    """a recording text of one of three kinds"""
+    kind = rng.random()
+    if kind < 0.35:
+        return some_recording(rng)
+    return text_of_datagrams(some_delivery(rng) if kind < 0.65 else some_network(rng))
+
+
 def text_of_datagrams(datagrams):
     return b''.join(d.hex().encode() + b'\n' for d in datagrams)
 
@@ -1158,13 +1234,13 @@ def kept(text):
 def compare(program, count, seed):
     rng, differing, verdicts = random.Random(seed), 0, {}
     for k in range(count):
-        text = some_recording(rng) if rng.random() < 0.5 else text_of_datagrams(some_delivery(rng))
-        first = rng.choice([1, 2, 3, 4, 5, 6, GREATEST])
-        for view, start in [*((view, None) for view in VIEWS), *((view, first) for view in REPORTS)]:
-            words = words_of(view) + (['--from', str(start)] if start else [])
-            want, status = answer(view, text, start or 1)
+        text = some_input(rng)
+        first = Asked(rng.choice([1, 2, 3, 4, 5, 6, GREATEST]))
+        for view, asked in [*((view, PLAIN) for view in VIEWS), *((view, first) for view in REPORTS), *((view, some_asked(rng)) for view in REPORTS)]:
+            words = words_of(view) + asked.words()
+            want, told, status = answer_as(view, text, asked)
             got = subprocess.run(program.split() + words + ['-'], input=text, capture_output=True)
-            if got.stdout.decode() != want or got.returncode != status:
+            if got.stdout.decode() != want or got.returncode != status or status < 2 and got.stderr.decode().splitlines() != told:
                 differing += 1
                 print(f'{" ".join(words)} differs on recording {k}, kept in {kept(text)}')
         datagrams = recording_of(text)
@@ -1265,10 +1341,11 @@ def main():
         count = int(sys.argv[3]) if len(sys.argv) > 3 else 1000
         run = compare if sys.argv[1] == 'compare' else texts
         return run(sys.argv[2], count, int(sys.argv[4]) if len(sys.argv) > 4 else 1)
-    first = int(sys.argv[sys.argv.index('--from') + 1]) if '--from' in sys.argv[2:-1] else 1
+    words = sys.argv[2:-1]
     with open(sys.argv[-1], 'rb') as f:
-        text, status = answer(sys.argv[1], f.read(), first, any_form='--any' in sys.argv[2:-1])
+        text, told, status = answer_as(sys.argv[1], f.read(), asked_by(words), any_form='--any' in words)
     sys.stdout.write(text)
+    sys.stderr.write(''.join(line + '\n' for line in told))
     return status
 
 

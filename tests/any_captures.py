@@ -222,6 +222,24 @@ def orders(tests):
     print(f'orders: {len(wanted)}')
 
 
+def asks_strictly(tests, name, octets):
+    """with `--strict`, each view of a report and the lines on standard error are what the second implementation says"""
+    for view in reference.REPORTS:
+        wanted, told, status = reference.answer_as(view, octets, reference.Asked(strict=True))
+        tests.holds(f'{view} --strict: {name}', (wanted, ''.join(line + '\n' for line in told), status), tests.run(view, octets, ('--strict',)))
+
+
+def strictly(tests):
+    pieces, cut = capture(fragments_of('F1', 'G2')), capture(fragments_of('F1', 'F2'))
+    told = 'rtps-audit: not clean: pairs 0\nrtps-audit: not clean: '
+    tests.holds('--strict of pieces', (audited(0, 0, 2), f'{told}pieces 2\n', 1), tests.run('audit', pieces, ('--strict',)))
+    tests.holds('--strict of a cut file', (audited(0, 0, 2), f'{told}pieces 1\nrtps-audit: not clean: cut 1\n', 1), tests.run('audit', cut[:-1], ('--strict',)))
+    tests.holds('--expect of a cut file', (audited(0, 0, 2), 'rtps-audit: not clean: pairs 0, expected 1\n', 1), tests.run('audit', cut[:-1], ANY + ('--expect', '1')))
+    for name, octets in (('pieces', pieces), ('whole packets', cut), ('a cut file', cut[:-1])):
+        asks_strictly(tests, name, octets)
+    print('strict: 12')
+
+
 def counted(tests, octets):
     told = json.loads(tests.run('json', octets, ANY)[0])
     return told['datagrams'], told['ignored']
@@ -296,6 +314,8 @@ def random_captures(tests):
         if rng.random() < 0.3 and octets:
             octets = with_octets(octets, rng.randrange(len(octets)), f'{rng.randrange(256):02x}')
         tests.agrees(f'random capture {i}', octets, ('show', 'json'), ANY)
+        if i < 50 and not isinstance(reference.input_of(octets, any_form=True), str):
+            asks_strictly(tests, f'random capture {i}', octets)
     print('random captures: 150')
 
 
@@ -362,4 +382,4 @@ def compare_datagrams(tests, name):
 
 
 if __name__ == '__main__':
-    sys.exit(program.main(__doc__, (rows, cut_and_changed, orders, random_fragments, random_captures, limits, hints, stored)))
+    sys.exit(program.main(__doc__, (rows, cut_and_changed, orders, strictly, random_fragments, random_captures, limits, hints, stored)))

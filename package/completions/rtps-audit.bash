@@ -10,8 +10,8 @@ _rtps_audit() {
     show | list | audit | why)
         local options='--any --max-datagrams --max-octets -h --help'
         case $command in
-        audit) options="--from --json $options" ;;
-        why) options="--from $options" ;;
+        audit) options="--from --topic --observed --expect --strict --json $options" ;;
+        why) options="--from --topic --observed --expect --strict $options" ;;
         esac
         case $word in
         -*) mapfile -t COMPREPLY < <(compgen -W "$options" -- "$word") ;;

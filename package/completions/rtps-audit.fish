@@ -10,6 +10,10 @@ complete -c rtps-audit -n __fish_use_subcommand -s V -l version -d 'Print versio
 complete -c rtps-audit -s h -l help -d 'Print help'
 complete -c rtps-audit -n '__fish_seen_subcommand_from show list audit why' -F
 complete -c rtps-audit -n '__fish_seen_subcommand_from audit why' -x -l from -d 'The first number to ask for; smaller numbers are left out'
+complete -c rtps-audit -n '__fish_seen_subcommand_from audit why' -x -l topic -d 'Only rows whose topic is PATTERN, in which * stands for any octets'
+complete -c rtps-audit -n '__fish_seen_subcommand_from audit why' -l observed -d 'Only rows of pairs that the recording can speak of'
+complete -c rtps-audit -n '__fish_seen_subcommand_from audit why' -x -l expect -d 'Status 1 also if the report has fewer rows than this'
+complete -c rtps-audit -n '__fish_seen_subcommand_from audit why' -l strict -d 'Status 1 also if there is no row, numbers were missed, or something is left out'
 complete -c rtps-audit -n '__fish_seen_subcommand_from audit' -l json -d 'Print one JSON object, with what each verdict rests on'
 complete -c rtps-audit -n '__fish_seen_subcommand_from show list audit why' -l any -d 'Read any capture'
 complete -c rtps-audit -n '__fish_seen_subcommand_from show list audit why' -x -l max-datagrams -d 'The most datagrams that the recording may have'

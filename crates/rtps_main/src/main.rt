@@ -7,6 +7,7 @@ use progress::{Progress, Wiping};
 use rtps_tool::{
     CAPTURE_HEADER_SIZE, Captures, Choice, Ending, RecFault, RunFault, Unwatched, WordFault,
     is_pcapng, link_type_numbered, read_words, run_choice, status, unread_link_type, write_fault,
+    write_findings,
 };
 use std::alloc::AllocError;
 use std::fs::File;
@@ -330,10 +331,16 @@ fn tell_reason(rt: &HostRuntime, file: &str, error: &io::Error) {
     let _ = writeln!(rt.stderr(), "rtps-audit: {file}: {reason}");
 }
 
-/// Prints a fault, if there is one, and returns the status to end with.
+/// Prints a fault, or what was found beside rows that are not complete, and returns the status to end with.
 fn finish(rt: &HostRuntime, outcome: &Result<Ending, RunFault>) -> u8 {
-    if let Err(fault) = outcome {
-        let _ = write_fault(fault, &mut rt.stderr());
+    match outcome {
+        Err(fault) => {
+            let _ = write_fault(fault, &mut rt.stderr());
+        }
+        Ok(Ending::Unmet(findings)) => {
+            let _ = write_findings(findings, &mut rt.stderr());
+        }
+        Ok(Ending::Clean | Ending::Unclean) => {}
     }
     status(outcome)
 }

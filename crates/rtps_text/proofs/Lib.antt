@@ -4,3 +4,5 @@ pub mod ShowLemmas
 pub mod DigitLemmas
 mod JsonLemmas
 mod PartLemmas
+mod AskedLemmas
+pub mod Offered

@@ -1,18 +1,33 @@
 -- What `audit` prints of a recording, and how it ends.
 -- own: a line of how many pairs there are, one line for each with its verdict, and a line of what was counted, of fields
 -- with one space between them. A run is clean where each pair is complete.
-use Rattle.std.specs.Prelude.{ℕ, ◌≡◌, ◌++◌, Bool, true, false, if◌then◌else◌, List, [], ◌∷◌, codes, length, Option, Some, None}
+use Rattle.std.specs.Prelude.{ℕ, ◌≡◌, ◌+◌, ◌==◌, ◌++◌, Bool, true, false, not, if◌then◌else◌, List, [], ◌∷◌, codes, count_by, filter, length, Option, Some, None}
 use Rattle.std.specs.Fmt.{decimal, signed_decimal}
 use Rattle.std.specs.List.{flat_map, list_all}
+use Rattle.rtps_receiver.specs.Acts.{acts_in}
+use Rattle.rtps_receiver.specs.Values.{ActValue}
+use Rattle.rtps_discovery.specs.Directory.{DirectoryValue, IsMapOf, settled_at}
+use Rattle.rtps_discovery.specs.declared.matching.Pair.{Pair}
+use Rattle.rtps_audit.specs.Delivery.{last_announced_from}
+use Rattle.rtps_audit.specs.Placed.{placed_in}
 use Rattle.rtps_audit.specs.Report.{IsReportFrom}
+use Rattle.rtps_audit.specs.Speech.{speech_of}
 use Rattle.rtps_audit.specs.declared.report.Counts.{Counts}
 use Rattle.rtps_audit.specs.declared.report.Report.{Report}
 use Rattle.rtps_audit.specs.declared.report.Row.{Row}
 use Rattle.rtps_audit.specs.declared.verdict.Verdict.{Verdict}
 use Rattle.rtps_audit.specs.declared.verdict.Verdict.TheVariants.{Unfounded, Conflict, Open, Complete}
+use Rattle.rtps_evidence.specs.Amount.{count_in}
+use Rattle.rtps_evidence.specs.Explanation.{topic_of}
+use Rattle.rtps_evidence.specs.Missed.{is_missed}
+use Rattle.rtps_rows.specs.Rows.{RowsValue, is_kept}
+use Rattle.rtps_text.specs.Asked.{AskedValue}
+use Rattle.rtps_text.specs.Findings.{ending_as}
 use Rattle.rtps_text.specs.ListText.{guid_text}
 use Rattle.rtps_text.specs.Recording.{RecordingValue}
 use Rattle.rtps_text.specs.ShowText.{line_of}
+use Rattle.rtps_text.specs.declared.findings.Facts.{Facts}
+use Rattle.rtps_text.specs.declared.text.asked_report.AskedReport.{AskedReport}
 use Rattle.rtps_text.specs.declared.text.Ending.{Ending}
 use Rattle.rtps_text.specs.declared.text.Ending.TheVariants.{Clean, Unclean}
 
@@ -68,6 +83,53 @@ pub record IsAuditedFrom (from : ℕ) (recording : RecordingValue) (text : List 
   pub reports : IsReportFrom from recording.datagrams report
   pub is_text : text ≡ report_text report.rows.items report.counts recording.ignored
   pub ends : ending ≡ ending_of report.rows.items
+
+-- the row is kept, where these rows are asked for, of a recording with these acts: its topic is that of its writer, which is
+-- its reader's too
+abbrev pub is_row_kept : RowsValue → List ActValue → DirectoryValue → Row → Bool
+is_row_kept rows acts directory row = is_kept rows acts (topic_of (settled_at directory.endpoints row.pair.writer)) row.pair
+
+-- The rows are those of the report on the recording that are asked for, in its order, and the counts are the report's: they
+-- are of the whole recording.
+pub record IsReportAs (asked : AskedValue) (recording : List (List ℕ)) (report : Report) : Type 0 where
+  pub whole : Report
+  pub reports : IsReportFrom asked.from recording whole
+  pub directory : DirectoryValue
+  pub is_map : IsMapOf (acts_in recording) directory
+  pub rows : report.rows.items ≡ filter (is_row_kept asked.rows (acts_in recording) directory) whole.rows.items
+  pub counts : report.counts ≡ whole.counts
+
+-- how many numbers from `from` on the reader of a pair missed
+abbrev pub missed_of : ℕ → List (List ℕ) → Pair → ℕ
+missed_of from recording pair =
+    count_in (is_missed pair.writer pair.reader (placed_in recording)) from (last_announced_from from (speech_of pair.writer pair.reader recording) + 1)
+
+-- how many of these rows have missed numbers
+abbrev pub missed_rows : ℕ → List (List ℕ) → List Row → ℕ
+missed_rows from recording rows = count_by (λ row. not (missed_of from recording row.pair == 0)) rows
+
+-- it is the report that is asked for, and how many of its rows have missed numbers, where that is asked
+pub record IsCounted (asked : AskedValue) (recording : List (List ℕ)) (counted : AskedReport) : Type 0 where
+  pub reports : IsReportAs asked recording counted.report
+  pub missed : asked.strict ≡ true → counted.missed ≡ missed_rows asked.from recording counted.report.rows.items
+
+-- what is known of a report with these rows and counts, of which so many have missed numbers
+abbrev pub facts_of_report : ℕ → List Row → Counts → RecordingValue → Facts
+facts_of_report missed rows counts recording =
+    record {
+      rows = length rows;
+      missed = missed;
+      complete = list_all (λ row. is_complete row.verdict) rows;
+      counts = counts;
+      reasons = recording.reasons;
+    }
+
+-- what `audit` answers of what is asked: the text of the report, and the ending by what is found of it
+pub record IsAuditedAs (asked : AskedValue) (recording : RecordingValue) (text : List ℕ) (ending : Ending) : Type 0 where
+  pub report : Report
+  pub reports : IsReportAs asked recording.datagrams report
+  pub is_text : text ≡ report_text report.rows.items report.counts recording.ignored
+  pub ends : ending ≡ ending_as asked (facts_of_report (missed_rows asked.from recording.datagrams report.rows.items) report.rows.items report.counts recording)
 
 -- and of all numbers
 abbrev pub IsAudited : RecordingValue → List ℕ → Ending → Type 0

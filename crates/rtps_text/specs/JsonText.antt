@@ -23,9 +23,11 @@ use Rattle.rtps_evidence.specs.declared.location.Location.{Location}
 use Rattle.rtps_evidence.specs.declared.teller.Teller.{Teller}
 use Rattle.rtps_wire.specs.Values.{PayloadValue}
 use Rattle.rtps_wire.specs.Values.PayloadValue.{Absent, Whole, Key}
+use Rattle.rtps_text.specs.Asked.{AskedValue}
+use Rattle.rtps_text.specs.Findings.{ending_as}
 use Rattle.rtps_text.specs.ListText.{guid_text, octet_text}
 use Rattle.rtps_text.specs.Recording.{RecordingValue}
-use Rattle.rtps_text.specs.WhyText.{ending_of_rows, kind_text}
+use Rattle.rtps_text.specs.WhyText.{IsExplainedAs, ending_of_rows, facts_of_rows, kind_text}
 use Rattle.rtps_text.specs.declared.recording.Reasons.{Reasons}
 use Rattle.rtps_text.specs.declared.text.Ending.{Ending}
 
@@ -202,3 +204,11 @@ pub record IsJsonTextFrom (from : ℕ) (recording : RecordingValue) (text : List
   pub explains : IsExplainedFrom from recording.datagrams explained
   pub is_line : IsJsonLine (report_json (map explanation_value explained.rows.items) explained.counts recording) text
   pub ends : ending ≡ ending_of_rows (map explanation_value explained.rows.items)
+
+-- what `audit --json` answers of what is asked: the line of the report's rows, each explained, and the ending by what is found
+-- of them
+pub record IsJsonTextAs (asked : AskedValue) (recording : RecordingValue) (text : List ℕ) (ending : Ending) : Type 0 where
+  pub explained : Explained
+  pub explains : IsExplainedAs asked recording.datagrams explained
+  pub is_line : IsJsonLine (report_json (map explanation_value explained.rows.items) explained.counts recording) text
+  pub ends : ending ≡ ending_as asked (facts_of_rows (map explanation_value explained.rows.items) explained.counts recording)

@@ -1,8 +1,10 @@
+pub mod Asked
 pub mod AuditText
 pub mod WhyText
 pub mod JsonText
 pub mod ListText
 pub mod DatagramSpan
+pub mod Findings
 pub mod Recording
 pub mod Room
 pub mod SampleText

@@ -2,7 +2,7 @@
 -- own: for each row of the report, its pair and what its verdict rests on, place by place, so that it can be checked with
 -- `show`. A place is the number of a datagram, from 1, and the place of a submessage's first octet in it, from 0, both as
 -- `show` writes them. Behind the line of a pair, each line begins with two spaces.
-use Rattle.std.specs.Prelude.{ℕ, ℤ, ◌≡◌, ◌+◌, ◌++◌, if◌then◌else◌, List, [], ◌∷◌, codes, length, map, Option, None, Some}
+use Rattle.std.specs.Prelude.{ℕ, ℤ, ◌≡◌, ◌+◌, ◌==◌, ◌++◌, not, if◌then◌else◌, List, [], ◌∷◌, codes, count_by, filter, length, map, Option, None, Some}
 use Rattle.std.specs.Fmt.{decimal, signed_decimal}
 use Rattle.std.specs.List.{flat_map, list_all}
 use Rattle.rtps_audit.specs.declared.report.Counts.{Counts}
@@ -19,11 +19,16 @@ use Rattle.rtps_evidence.specs.declared.location.Kind.{Kind}
 use Rattle.rtps_evidence.specs.declared.location.Kind.TheVariants.{Data, Heartbeat, AckNack, Gap}
 use Rattle.rtps_evidence.specs.declared.location.Location.{Location}
 use Rattle.rtps_evidence.specs.declared.teller.Teller.{Teller}
+use Rattle.rtps_receiver.specs.Acts.{acts_in}
+use Rattle.rtps_rows.specs.Rows.{is_kept}
 use Rattle.rtps_wire.specs.Values.{PayloadValue}
+use Rattle.rtps_text.specs.Asked.{AskedValue}
 use Rattle.rtps_text.specs.AuditText.{is_complete, pairs_line, report_counts_line, verdict_text}
+use Rattle.rtps_text.specs.Findings.{ending_as}
 use Rattle.rtps_text.specs.ListText.{guid_text, name_text}
 use Rattle.rtps_text.specs.Recording.{RecordingValue}
 use Rattle.rtps_text.specs.ShowText.{line_of, payload_text}
+use Rattle.rtps_text.specs.declared.findings.Facts.{Facts}
 use Rattle.rtps_text.specs.declared.text.Ending.{Ending}
 use Rattle.rtps_text.specs.declared.text.Ending.TheVariants.{Clean, Unclean}
 
@@ -176,6 +181,35 @@ pub record IsExplainedTextFrom (from : ℕ) (recording : RecordingValue) (text :
   pub explains : IsExplainedFrom from recording.datagrams explained
   pub is_text : text ≡ explained_text (map explanation_value explained.rows.items) explained.counts recording.ignored
   pub ends : ending ≡ ending_of_rows (map explanation_value explained.rows.items)
+
+-- The rows are those of the report that are asked for, each explained, in its order, and the counts are the report's.
+pub record IsExplainedAs (asked : AskedValue) (recording : List (List ℕ)) (explained : Explained) : Type 0 where
+  pub whole : Explained
+  pub explains : IsExplainedFrom asked.from recording whole
+  pub rows : explained.rows.items ≡ filter (λ row. is_kept asked.rows (acts_in recording) row.topic.now row.pair) whole.rows.items
+  pub counts : explained.counts ≡ whole.counts
+
+-- how many of these rows have missed numbers
+abbrev pub missed_in : List ExplanationValue → ℕ
+missed_in rows = count_by (λ row. not (row.evidence.missed == 0)) rows
+
+-- what is known of a report with these rows and counts
+abbrev pub facts_of_rows : List ExplanationValue → Counts → RecordingValue → Facts
+facts_of_rows rows counts recording =
+    record {
+      rows = length rows;
+      missed = missed_in rows;
+      complete = list_all (λ row. is_complete row.evidence.verdict) rows;
+      counts = counts;
+      reasons = recording.reasons;
+    }
+
+-- what `why` answers of what is asked: the text of the report's rows, each explained, and the ending by what is found of them
+pub record IsExplainedTextAs (asked : AskedValue) (recording : RecordingValue) (text : List ℕ) (ending : Ending) : Type 0 where
+  pub explained : Explained
+  pub explains : IsExplainedAs asked recording.datagrams explained
+  pub is_text : text ≡ explained_text (map explanation_value explained.rows.items) explained.counts recording.ignored
+  pub ends : ending ≡ ending_as asked (facts_of_rows (map explanation_value explained.rows.items) explained.counts recording)
 
 -- and of all numbers
 abbrev pub IsExplainedText : RecordingValue → List ℕ → Ending → Type 0

@@ -1,28 +1,40 @@
 //! Laws of the definitions, each the contract of a function that does nothing.
 
 ghost use Rattle.std.specs.Prelude.{ℕ};
-ghost use Rattle.rtps_text.specs.AuditText.{IsAuditedFrom};
-ghost use Rattle.rtps_text.specs.JsonText.{IsJsonTextFrom};
-ghost use Rattle.rtps_text.specs.Laws.{HasOneText};
+ghost use Rattle.rtps_text.specs.Asked.{AskedValue, plainly};
+ghost use Rattle.rtps_text.specs.AuditText.{IsAuditedAs, IsAuditedFrom};
+ghost use Rattle.rtps_text.specs.JsonText.{IsJsonTextAs, IsJsonTextFrom};
+ghost use Rattle.rtps_text.specs.Laws.{HasOneText, HaveOneText};
 ghost use Rattle.rtps_text.specs.ListText.{IsListed};
 ghost use Rattle.rtps_text.specs.ShowText.{IsShown};
-ghost use Rattle.rtps_text.specs.WhyText.{IsExplainedTextFrom};
+ghost use Rattle.rtps_text.specs.WhyText.{IsExplainedTextAs, IsExplainedTextFrom};
 
 use rtps_audit::laws::one_report;
 use rtps_discovery::laws::one_map;
 use rtps_evidence::laws::one_explanation;
 
 /// What is printed of a recording, and how a run on it ends, is decided by its datagrams alone; by `audit`, as JSON too,
-/// and `why`, also by how many frames of a capture were ignored and for which reasons, and by the number from which
-/// on they ask.
+/// and `why`, also by how many frames of a capture were ignored and for which reasons, and by what is
+/// asked: the number from which on they ask, and what else.
 pub fn one_text()
     ensures shown { HasOneText IsShown }
     ensures listed { HasOneText IsListed }
     ensures audited { (from : ℕ) → HasOneText (IsAuditedFrom from) }
     ensures explained { (from : ℕ) → HasOneText (IsExplainedTextFrom from) }
     ensures json { (from : ℕ) → HasOneText (IsJsonTextFrom from) }
+    ensures audited_as { (asked : AskedValue) → HasOneText (IsAuditedAs asked) }
+    ensures explained_as { (asked : AskedValue) → HasOneText (IsExplainedTextAs asked) }
+    ensures json_as { (asked : AskedValue) → HasOneText (IsJsonTextAs asked) }
 {
     one_map();
     one_report();
     one_explanation();
 }
+
+/// Where nothing but a number is asked, `audit`, as JSON too, and `why` print what they print by this number, and end as they
+/// end by it.
+pub fn options_change_nothing()
+    ensures audited { (from : ℕ) → HaveOneText (IsAuditedAs (plainly from)) (IsAuditedFrom from) }
+    ensures explained { (from : ℕ) → HaveOneText (IsExplainedTextAs (plainly from)) (IsExplainedTextFrom from) }
+    ensures json { (from : ℕ) → HaveOneText (IsJsonTextAs (plainly from)) (IsJsonTextFrom from) }
+{}

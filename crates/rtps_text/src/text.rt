@@ -3,6 +3,10 @@
 ghost use Rattle.std.specs.Prelude.{◌≡◌};
 ghost use Rattle.rtps_text.specs.SampleText.{sample as sample_lines};
 
+use crate::findings::Findings;
+
+pub(crate) mod asked_evidence;
+mod asked_report;
 mod audit_lines;
 pub(crate) mod audit_text;
 mod delivery_lines;
@@ -22,8 +26,10 @@ pub(crate) mod why_text;
 pub enum Ending {
     /// There is nothing to report.
     Clean,
-    /// An audit found a pair that is not complete.
+    /// An audit found a pair that is not complete, and what else was asked of its report is so.
     Unclean,
+    /// Something that was asked of a report beside complete pairs is not so.
+    Unmet(Findings),
 }
 
 /// A recording to try: a participant, its writer and a reader of the topic `pose`, the samples 1 to 3, and the

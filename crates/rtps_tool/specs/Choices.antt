@@ -1,9 +1,11 @@
 -- What a run does by what the words chose.
 -- own: each subcommand is one run.
 use Rattle.std.specs.Prelude.{ℕ, ◌≡◌, List, Option, Some, None, Result}
+use Rattle.rtps_text.specs.Asked.{plainly}
 use Rattle.rtps_text.specs.SampleText.{sample}
 use Rattle.rtps_text.specs.declared.text.Ending.{Ending}
 use Rattle.rtps_tool.specs.Commands.{IsTextOf}
+use Rattle.rtps_tool.specs.Options.{OptionsValue, asked_by}
 use Rattle.rtps_tool.specs.Runs.{RunsWithin, Writes}
 use Rattle.rtps_tool.specs.declared.command.Choice.{Choice}
 use Rattle.rtps_tool.specs.declared.command.Choice.TheVariants.{Show, List as ListChoice, Audit, Why, Sample}
@@ -12,7 +14,6 @@ use Rattle.rtps_tool.specs.declared.command.ReportForm.TheVariants.{Lines, Json}
 use Rattle.rtps_tool.specs.declared.faults.RunFault.{RunFault}
 use Rattle.rtps_tool.specs.declared.runs.Command.{Command}
 use Rattle.rtps_tool.specs.declared.runs.Command.TheVariants.{Show as ShowCommand, List as ListCommand, Audit as AuditCommand, Json as JsonCommand, Why as WhyCommand}
-use Rattle.rtps_tool.specs.declared.runs.Options.{Options}
 
 -- what prints an audit in this form
 abbrev pub audit_command : ReportForm → Command
@@ -20,14 +21,14 @@ audit_command Lines = AuditCommand
 audit_command Json = JsonCommand
 
 -- the options of its run; `sample` reads nothing, and has none
-abbrev pub options_of : Choice → Option Options
-options_of (Show file limits captures) = Some (record { command = ShowCommand; from = 1; limits = limits; captures = captures })
-options_of (ListChoice file limits captures) = Some (record { command = ListCommand; from = 1; limits = limits; captures = captures })
-options_of (Audit file from limits captures form) = Some (record { command = audit_command form; from = from; limits = limits; captures = captures })
-options_of (Why file from limits captures) = Some (record { command = WhyCommand; from = from; limits = limits; captures = captures })
+abbrev pub options_of : Choice → Option OptionsValue
+options_of (Show file limits captures) = Some (record { command = ShowCommand; asked = plainly 1; limits = limits; captures = captures })
+options_of (ListChoice file limits captures) = Some (record { command = ListCommand; asked = plainly 1; limits = limits; captures = captures })
+options_of (Audit file from limits captures form demands) = Some (record { command = audit_command form; asked = asked_by demands from; limits = limits; captures = captures })
+options_of (Why file from limits captures demands) = Some (record { command = WhyCommand; asked = asked_by demands from; limits = limits; captures = captures })
 options_of Sample = None
 
 -- the run with these options; without, the sample is written, and the reader stays as it is
-abbrev pub RunsBy : Option Options → (unread left held holds : Option (List ℕ)) → Result Ending RunFault → Type 0
-RunsBy (Some options) unread left held holds result = RunsWithin options.limits options.captures (IsTextOf options.command options.from) unread left held holds result
+abbrev pub RunsBy : Option OptionsValue → (unread left held holds : Option (List ℕ)) → Result Ending RunFault → Type 0
+RunsBy (Some options) unread left held holds result = RunsWithin options.limits options.captures (IsTextOf options.command options.asked) unread left held holds result
 RunsBy None unread left held holds result = (left ≡ unread) × Writes sample held holds result

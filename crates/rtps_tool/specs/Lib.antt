@@ -1,7 +1,9 @@
+pub mod Options
 pub mod Outcomes
 pub mod CaptureFront
 pub mod Choices
 pub mod FaultText
+pub mod FindingsText
 pub mod Forms
 pub mod Laws
 pub mod Limits

@@ -3,7 +3,7 @@
 use Rattle.std.specs.Prelude.{ℕ, Result, Ok, Err}
 use Rattle.rtps_tool.specs.declared.faults.RecFault.TheVariants.{BadHex, TooLong, TooMany, Memory, BadCapture, CutCapture}
 use Rattle.rtps_text.specs.declared.text.Ending.{Ending}
-use Rattle.rtps_text.specs.declared.text.Ending.TheVariants.{Clean, Unclean}
+use Rattle.rtps_text.specs.declared.text.Ending.TheVariants.{Clean, Unclean, Unmet}
 use Rattle.rtps_tool.specs.declared.faults.RunFault.{RunFault}
 use Rattle.rtps_tool.specs.declared.faults.RunFault.TheVariants.{Recording, Input, Output, Memory as RunMemory}
 
@@ -11,6 +11,7 @@ use Rattle.rtps_tool.specs.declared.faults.RunFault.TheVariants.{Recording, Inpu
 abbrev pub status_of : Result Ending RunFault → ℕ
 status_of (Ok Clean) = 0
 status_of (Ok Unclean) = 1
+status_of (Ok (Unmet findings)) = 1
 status_of (Err (Recording (BadHex line))) = 2
 status_of (Err (Recording (TooLong line))) = 2
 status_of (Err (Recording TooMany)) = 2

@@ -1,12 +1,12 @@
 -- The words of the command line, as `clap` reads them.
--- own: a subcommand and one FILE; `sample` reads none. No option changes what a text means, but for that of `audit` and
--- `why`, which says from which number on verdicts ask; two options say how large a recording may be, a flag asks for any
+-- own: a subcommand and one FILE; `sample` reads none. No option changes what a text means, but for those of `audit` and
+-- `why`, which say from which number on verdicts ask, which rows are asked for, and what else has to be so; two options say how large a recording may be, a flag asks for any
 -- capture to be read, and a flag of `audit` asks for its report as JSON.
-use Rattle.std.specs.Prelude.{ℕ, ◌≡◌, ◌≢◌, ◌-◌, ◌^◌, codes, Bool, true, false, List, [], ◌∷◌, IfSome, Option, None, Some, unwrap_or}
+use Rattle.std.specs.Prelude.{ℕ, ◌≡◌, ◌≢◌, ◌-◌, ◌^◌, ◌||◌, codes, Bool, true, false, List, [], ◌∷◌, IfSome, Option, None, Some, map, unwrap_or}
 use Rattle.std.specs.Option.{option_and_then}
 use Rattle.std.specs.Str.Parse.{digits_value, without_leading_plus}
-use Rattle.clap.specs.Words.{App, IsAmong, IsUnsignedIn, Kinds, Row, Rule, Text, fault_of, first_of, kind_of, one_of, new_app, new_rule, subcommand_of, with_rule, with_subcommand}
-use Rattle.clap.specs.declared.builder.action.ArgAction.TheVariants.{Set, SetTrue}
+use Rattle.clap.specs.Words.{App, IsAmong, IsUnsignedIn, Kinds, Row, Rule, Text, all_of, fault_of, first_of, kind_of, one_of, new_app, new_rule, subcommand_of, with_rule, with_subcommand}
+use Rattle.clap.specs.declared.builder.action.ArgAction.TheVariants.{Append, Set, SetTrue}
 use Rattle.clap.specs.declared.builder.value_parser.ValueParser.TheVariants.{Unsigned}
 use Rattle.clap.specs.declared.error.Error.{Error}
 use Rattle.clap.specs.declared.error.kind.ErrorKind.{ErrorKind}
@@ -21,6 +21,7 @@ use Rattle.rtps_tool.specs.declared.command.ReportForm.TheVariants.{Lines, Json}
 use Rattle.rtps_tool.specs.declared.command.Choice.TheVariants.{Show, List as ListChoice, Audit, Why, Sample}
 use Rattle.rtps_tool.specs.declared.command.WordFault.{WordFault}
 use Rattle.rtps_tool.specs.declared.command.WordFault.TheVariants.{Refused, Help, Version, Memory}
+use Rattle.rtps_tool.specs.declared.demands.Demands.{Demands}
 use Rattle.rtps_tool.specs.declared.runs.Limits.{Limits}
 
 -- a file's name, or `-` for standard input, must be given
@@ -47,9 +48,22 @@ reading_app name =
 abbrev pub from_rule : Rule
 from_rule = number_rule (codes "N") (codes "from")
 
+-- patterns of topics: the option may be given again
+abbrev pub pattern_rule : Rule
+pattern_rule = record (new_rule (codes "PATTERN")) { long = Some (codes "topic"); action = Some Append }
+
+-- how many rows there have to be, which may be none
+abbrev pub expect_rule : Rule
+expect_rule = record (new_rule (codes "PAIRS")) { long = Some (codes "expect"); action = Some Set; parser = Some (Unsigned 0 (2 ^ 63 - 1)) }
+
+-- a subcommand with the options that ask more of a report
+abbrev pub demanding : App → App
+demanding app =
+    with_rule (with_rule (with_rule (with_rule app pattern_rule) (flag_rule (codes "observed"))) expect_rule) (flag_rule (codes "strict"))
+
 -- a subcommand that judges
 abbrev pub report_app : Text → App
-report_app name = with_rule (reading_app name) from_rule
+report_app name = demanding (with_rule (reading_app name) from_rule)
 
 -- the subcommand `audit`, which has a flag that asks for JSON
 abbrev pub audit_app : App
@@ -73,16 +87,16 @@ program =
 abbrev pub subcommand_name : Choice → Text
 subcommand_name (Show file limits captures) = codes "show"
 subcommand_name (ListChoice file limits captures) = codes "list"
-subcommand_name (Audit file from limits captures form) = codes "audit"
-subcommand_name (Why file from limits captures) = codes "why"
+subcommand_name (Audit file from limits captures form demands) = codes "audit"
+subcommand_name (Why file from limits captures demands) = codes "why"
 subcommand_name Sample = codes "sample"
 
 -- the file that was chosen; `sample` has none
 abbrev pub file_name : Choice → Option Text
 file_name (Show file limits captures) = Some (string_bytes file)
 file_name (ListChoice file limits captures) = Some (string_bytes file)
-file_name (Audit file from limits captures form) = Some (string_bytes file)
-file_name (Why file from limits captures) = Some (string_bytes file)
+file_name (Audit file from limits captures form demands) = Some (string_bytes file)
+file_name (Why file from limits captures demands) = Some (string_bytes file)
 file_name Sample = None
 
 -- its FILE is the one that was given, and empty where none was
@@ -104,8 +118,8 @@ IsNumberGiven text n = IsGivenOr 1 text n
 abbrev pub HasItsNumber : Choice → List Row → Type 0
 HasItsNumber (Show file limits captures) rows = Unit {0}
 HasItsNumber (ListChoice file limits captures) rows = Unit {0}
-HasItsNumber (Audit file from limits captures form) rows = IsNumberGiven (first_of (codes "N") rows) from
-HasItsNumber (Why file from limits captures) rows = IsNumberGiven (first_of (codes "N") rows) from
+HasItsNumber (Audit file from limits captures form demands) rows = IsNumberGiven (first_of (codes "N") rows) from
+HasItsNumber (Why file from limits captures demands) rows = IsNumberGiven (first_of (codes "N") rows) from
 HasItsNumber Sample rows = Unit {0}
 
 -- The flag was given, or not: `clap` gives it the text `true` where it was, and `false` where not.
@@ -127,17 +141,47 @@ is_any Any = true
 abbrev pub HasItsFlag : Choice → List Row → Type 0
 HasItsFlag (Show file limits captures) rows = Unit {0}
 HasItsFlag (ListChoice file limits captures) rows = Unit {0}
-HasItsFlag (Audit file from limits captures form) rows = IsFlagGiven (one_of (codes "json") rows) (is_json form)
-HasItsFlag (Why file from limits captures) rows = Unit {0}
+HasItsFlag (Audit file from limits captures form demands) rows = IsFlagGiven (one_of (codes "json") rows) (is_json form)
+HasItsFlag (Why file from limits captures demands) rows = Unit {0}
 HasItsFlag Sample rows = Unit {0}
+
+-- any captures are asked for by one flag of two
+pub record AreCapturesGiven (rows : List Row) (captures : Captures) : Type 0 where
+  pub any : Bool
+  pub strict : Bool
+  pub any_given : IsFlagGiven (one_of (codes "any") rows) any
+  pub strict_given : IsFlagGiven (one_of (codes "strict") rows) strict
+  pub either : is_any captures ≡ (any || strict)
 
 -- it reads the captures that were asked for
 abbrev pub HasItsCaptures : Choice → List Row → Type 0
 HasItsCaptures (Show file limits captures) rows = IsFlagGiven (one_of (codes "any") rows) (is_any captures)
 HasItsCaptures (ListChoice file limits captures) rows = IsFlagGiven (one_of (codes "any") rows) (is_any captures)
-HasItsCaptures (Audit file from limits captures form) rows = IsFlagGiven (one_of (codes "any") rows) (is_any captures)
-HasItsCaptures (Why file from limits captures) rows = IsFlagGiven (one_of (codes "any") rows) (is_any captures)
+HasItsCaptures (Audit file from limits captures form demands) rows = AreCapturesGiven rows captures
+HasItsCaptures (Why file from limits captures demands) rows = AreCapturesGiven rows captures
 HasItsCaptures Sample rows = Unit {0}
+
+-- the number of rows that was given, and none where none was. `clap` takes no text that is none from 0 to 2^63 - 1; such a text
+-- would be as none.
+abbrev pub IsExpectGiven : Option Text → Option ℕ → Type 0
+IsExpectGiven None expect = expect ≡ None
+IsExpectGiven (Some text) expect =
+    (IsUnsignedIn 0 (2 ^ 63 - 1) text → expect ≡ Some (digits_value 10 (without_leading_plus text))) × (¬ IsUnsignedIn 0 (2 ^ 63 - 1) text → expect ≡ None)
+
+-- what was given that asks more of a report: all patterns, in their order, a flag, a number, and a flag
+pub record AreDemandsGiven (rows : List Row) (demands : Demands) : Type 0 where
+  pub topics : map string_bytes demands.topics.items ≡ unwrap_or (all_of (codes "PATTERN") rows) []
+  pub observed : IsFlagGiven (one_of (codes "observed") rows) demands.observed
+  pub expect : IsExpectGiven (first_of (codes "PAIRS") rows) demands.expect
+  pub strict : IsFlagGiven (one_of (codes "strict") rows) demands.strict
+
+-- it asks of its report what was given; only `audit` and `why` have one
+abbrev pub HasItsDemands : Choice → List Row → Type 0
+HasItsDemands (Show file limits captures) rows = Unit {0}
+HasItsDemands (ListChoice file limits captures) rows = Unit {0}
+HasItsDemands (Audit file from limits captures form demands) rows = AreDemandsGiven rows demands
+HasItsDemands (Why file from limits captures demands) rows = AreDemandsGiven rows demands
+HasItsDemands Sample rows = Unit {0}
 
 -- the limits are those that were given, each the usual one where it was not
 pub record AreLimitsGiven (rows : List Row) (limits : Limits) : Type 0 where
@@ -148,14 +192,15 @@ pub record AreLimitsGiven (rows : List Row) (limits : Limits) : Type 0 where
 abbrev pub HasItsLimits : Choice → List Row → Type 0
 HasItsLimits (Show file limits captures) rows = AreLimitsGiven rows limits
 HasItsLimits (ListChoice file limits captures) rows = AreLimitsGiven rows limits
-HasItsLimits (Audit file from limits captures form) rows = AreLimitsGiven rows limits
-HasItsLimits (Why file from limits captures) rows = AreLimitsGiven rows limits
+HasItsLimits (Audit file from limits captures form demands) rows = AreLimitsGiven rows limits
+HasItsLimits (Why file from limits captures demands) rows = AreLimitsGiven rows limits
 HasItsLimits Sample rows = Unit {0}
 
--- the choice has the name of the subcommand that was found, its FILE, its number, its flags and its limits
+-- the choice has the name of the subcommand that was found, its FILE, its number, its flags, its limits, and what it asks
+-- of its report
 abbrev pub IsChoice : Option (Text × List Row) → Choice → Type 0
 IsChoice found choice =
-    (rows : List Row) × (found ≡ Some (subcommand_name choice, rows)) × HasItsFile choice rows × HasItsNumber choice rows × HasItsFlag choice rows × HasItsLimits choice rows × HasItsCaptures choice rows
+    (rows : List Row) × (found ≡ Some (subcommand_name choice, rows)) × HasItsFile choice rows × HasItsNumber choice rows × HasItsFlag choice rows × HasItsLimits choice rows × HasItsCaptures choice rows × HasItsDemands choice rows
 
 -- help and the version are answers, want of memory has no text, and any other error of `clap` refuses the words
 abbrev pub word_fault_by : ErrorKind → Error → WordFault
@@ -185,6 +230,10 @@ IsOneOf kinds Memory = Unit {0}
 -- the text of a flag of this name among these words, behind the program's name
 abbrev pub flag_of_words : (name : Text) → List Text → Option Text
 flag_of_words name words = option_and_then (λ found. one_of name found.1) (subcommand_of program (codes "rtps-audit" ∷ words))
+
+-- the texts of an option that is called so among these words
+abbrev pub rows_of_words : (called : Text) → List Text → Option (List Text)
+rows_of_words called words = option_and_then (λ found. all_of called found.1) (subcommand_of program (codes "rtps-audit" ∷ words))
 
 -- what is wrong with these words, behind the program's name
 abbrev pub faults_of_words : List Text → Kinds
@@ -234,5 +283,16 @@ pub record WordsAreWanted : Type 0 where
   pub any_to_explain : faults_of_words (codes "why" ∷ codes "a.pcapng" ∷ codes "--any" ∷ []) ≡ []
   pub any_is_asked : flag_of_words (codes "any") (codes "why" ∷ codes "--any" ∷ codes "a.pcapng" ∷ []) ≡ Some (codes "true")
   pub no_any_is_asked : flag_of_words (codes "any") (codes "audit" ∷ codes "--json" ∷ codes "a.rec" ∷ []) ≡ Some (codes "false")
+  pub topic : faults_of_words (codes "audit" ∷ codes "--topic" ∷ codes "rt/*" ∷ codes "--topic" ∷ codes "" ∷ codes "a.rec" ∷ []) ≡ []
+  pub topics : rows_of_words (codes "PATTERN") (codes "why" ∷ codes "--topic" ∷ codes "rt/*" ∷ codes "a.rec" ∷ codes "--topic" ∷ codes "" ∷ []) ≡ Some (codes "rt/*" ∷ codes "" ∷ [])
+  pub topic_of_show : faults_of_words (codes "show" ∷ codes "--topic" ∷ codes "rt/*" ∷ codes "a.rec" ∷ []) ≡ UnknownArgument ∷ []
+  pub observed : faults_of_words (codes "why" ∷ codes "--observed" ∷ codes "--strict" ∷ codes "a.rec" ∷ []) ≡ []
+  pub observed_of_list : faults_of_words (codes "list" ∷ codes "--observed" ∷ codes "a.rec" ∷ []) ≡ UnknownArgument ∷ []
+  pub least_expected : faults_of_words (codes "audit" ∷ codes "--json" ∷ codes "--expect" ∷ codes "0" ∷ codes "a.rec" ∷ []) ≡ []
+  pub too_many_expected : faults_of_words (codes "why" ∷ codes "--expect" ∷ codes "9223372036854775808" ∷ codes "a.rec" ∷ []) ≡ ValueValidation ∷ []
+  pub no_number_expected : faults_of_words (codes "audit" ∷ codes "--expect" ∷ codes "x" ∷ codes "a.rec" ∷ []) ≡ ValueValidation ∷ []
+  pub expect_of_list : faults_of_words (codes "list" ∷ codes "--expect" ∷ codes "1" ∷ codes "a.rec" ∷ []) ≡ UnknownArgument ∷ []
+  pub strict_of_show : faults_of_words (codes "show" ∷ codes "--strict" ∷ codes "a.rec" ∷ []) ≡ UnknownArgument ∷ []
+  pub strict_of_sample : faults_of_words (codes "sample" ∷ codes "--strict" ∷ []) ≡ UnknownArgument ∷ []
   pub any_of_sample : faults_of_words (codes "sample" ∷ codes "--any" ∷ []) ≡ UnknownArgument ∷ []
   pub limit_of_sample : faults_of_words (codes "sample" ∷ codes "--max-octets" ∷ codes "1" ∷ []) ≡ UnknownArgument ∷ []

@@ -1,6 +1,7 @@
 ghost use Rattle.std.specs.Prelude.{◌≡◌};
 ghost use Rattle.std.specs.Option.{option_map};
 ghost use Rattle.rtps_tool.specs.Choices.{RunsBy, audit_command as audit_command_lem, options_of};
+ghost use Rattle.rtps_tool.specs.Options.{options_value};
 ghost use Rattle.rtps_tool.specs.Words.{file_name};
 
 use crate::command::{Choice, ReportForm};
@@ -8,7 +9,7 @@ use crate::faults::RunFault;
 use crate::follow::Follow;
 use crate::runs::{Command, Options, run, run_sample};
 use rtps_ids::SeqNum;
-use rtps_text::{Ending, Watch};
+use rtps_text::{Asked, Ending, Watch};
 use std::alloc::Global;
 use std::io::{Read, Write};
 
@@ -27,8 +28,8 @@ impl Choice {
     }
 
     /// What its run prints, and of what. None where the choice reads nothing.
-    pub fn options(&self) -> Option<Options>
-        ensures { result ≡ options_of self.now }
+    pub fn options(&self) -> Option<Options<'_>>
+        ensures { option_map options_value result ≡ options_of self.now }
     {
         match self {
             Choice::Show {
@@ -37,7 +38,7 @@ impl Choice {
                 ..
             } => Some(Options {
                 command: Command::Show,
-                from: SeqNum::first(),
+                asked: Asked::plainly(SeqNum::first()),
                 limits: *limits,
                 captures: *captures,
             }),
@@ -47,7 +48,7 @@ impl Choice {
                 ..
             } => Some(Options {
                 command: Command::List,
-                from: SeqNum::first(),
+                asked: Asked::plainly(SeqNum::first()),
                 limits: *limits,
                 captures: *captures,
             }),
@@ -56,10 +57,11 @@ impl Choice {
                 limits,
                 captures,
                 form,
+                demands,
                 ..
             } => Some(Options {
                 command: audit_command(*form),
-                from: *from,
+                asked: demands.asked_from(*from),
                 limits: *limits,
                 captures: *captures,
             }),
@@ -67,10 +69,11 @@ impl Choice {
                 from,
                 limits,
                 captures,
+                demands,
                 ..
             } => Some(Options {
                 command: Command::Why,
-                from: *from,
+                asked: demands.asked_from(*from),
                 limits: *limits,
                 captures: *captures,
             }),

@@ -1,10 +1,11 @@
-ghost use Rattle.std.specs.Prelude.{◌≡◌, ◌⊎◌, true, false, codes, Some, IfOk, IfErr, OnOk, [], MatchOption, map, unwrap_or};
+ghost use Rattle.std.specs.Prelude.{◌≡◌, ◌⊎◌, ◌||◌, true, false, codes, Some, IfOk, IfErr, OnOk, [], MatchOption, map, unwrap_or};
 ghost use Rattle.std.specs.String.{string_bytes};
 ghost use Rattle.clap.specs.Words.{app_of, fault_of, first_of, found_of, new_app, one_of, rows_of, rule_of, subcommand_of, subcommand_rows_of, takes};
 ghost use Rattle.clap.specs.declared.builder.command.Command.TheViews.{out-Command};
-ghost use Rattle.rtps_tool.specs.Words.{bare_program as bare_app, audit_app, flag_rule, is_any, is_json, number_rule, program as program_app, reading_app, report_app, AreLimitsGiven, IsChoice, IsFlagGiven, IsGivenOr, IsNumberGiven, IsOneOf, HasItsKind};
+ghost use Rattle.rtps_tool.specs.Words.{bare_program as bare_app, audit_app, flag_rule, is_any, is_json, number_rule, program as program_app, reading_app, report_app, AreCapturesGiven, AreLimitsGiven, IsChoice, IsFlagGiven, IsGivenOr, IsNumberGiven, IsOneOf, HasItsKind};
 
 use crate::captures::Captures;
+use crate::demands::{Demands, demands_of, with_demands};
 use crate::runs::Limits;
 use clap::builder::ValueParser;
 use clap::error::ErrorKind;
@@ -47,6 +48,7 @@ pub enum Choice {
         limits: Limits,
         captures: Captures,
         form: ReportForm,
+        demands: Demands,
     },
     /// Say for each verdict of such an audit what it rests on, place by place.
     Why {
@@ -54,6 +56,7 @@ pub enum Choice {
         from: SeqNum,
         limits: Limits,
         captures: Captures,
+        demands: Demands,
     },
     /// Write a recording to try.
     Sample,
@@ -115,7 +118,7 @@ impl From<clap::Error> for WordFault {
 }
 
 /// The greatest number that an option takes, which is the greatest sequence number.
-const GREATEST: u64 = 9_223_372_036_854_775_807;
+pub(crate) const GREATEST: u64 = 9_223_372_036_854_775_807;
 
 /// The version of the program.
 const VERSION: &str = "0.1.0";
@@ -177,7 +180,7 @@ fn number_option<'a>(alloc: Global, called: &'a str, name: &'a str, help: &'a st
 }
 
 /// A flag of this name.
-fn flag<'a>(alloc: Global, name: &'a str, help: &'a str) -> Arg<'a>
+pub(crate) fn flag<'a>(alloc: Global, name: &'a str, help: &'a str) -> Arg<'a>
     ensures rule { rule_of result ≡ flag_rule name.now }
     ensures local { result.global ≡ false }
 {
@@ -208,7 +211,7 @@ fn reading_subcommand<'a>(
     three.arg(number_option(alloc, "OCTETS", "max-octets", OCTETS_HELP))
 }
 
-/// A subcommand that judges: it reads a FILE, and asks for numbers from some number on.
+/// A subcommand that judges: it reads a FILE, asks for numbers from some number on, and may ask more of its report.
 fn report_subcommand<'a>(
     alloc: Global,
     name: &'a str,
@@ -219,7 +222,8 @@ fn report_subcommand<'a>(
 {
     let from = number_option(alloc, "N", "from", FROM_HELP);
     let reading = reading_subcommand(alloc, name, about)?;
-    reading.arg(from)
+    let numbered = reading.arg(from)?;
+    with_demands(alloc, numbered)
 }
 
 /// The subcommand `audit`, which judges, and prints JSON where it is asked to.
@@ -326,7 +330,7 @@ fn limits_of(found: &ArgMatches) -> Limits
 }
 
 /// Whether the flag of this name is given.
-fn is_given(found: &ArgMatches, name: &str) -> bool
+pub(crate) fn is_given(found: &ArgMatches, name: &str) -> bool
     ensures { IsFlagGiven (one_of name.now (rows_of (found_of found.now))) result }
 {
     found.get_flag(name)
@@ -352,6 +356,26 @@ fn captures_of(found: &ArgMatches) -> Captures
     } else {
         Captures::Classic
     }
+}
+
+/// The captures that are asked for by one flag of two.
+fn captures_by(any: bool, strict: bool) -> Captures
+    ensures { is_any result ≡ (any || strict) }
+{
+    if any || strict {
+        Captures::Any
+    } else {
+        Captures::Classic
+    }
+}
+
+/// The captures that are asked for, also by `--strict`.
+fn report_captures_of(found: &ArgMatches) -> Captures
+    ensures { AreCapturesGiven (rows_of (found_of found.now)) result }
+{
+    let any = is_given(found, "any");
+    let strict = is_given(found, "strict");
+    captures_by(any, strict)
 }
 
 /// What the matches of `show` choose.
@@ -385,8 +409,9 @@ fn audit_of(alloc: Global, audit: &ArgMatches) -> Result<Choice, AllocError>
         file: file_of(alloc, audit)?,
         from,
         limits: limits_of(audit),
-        captures: captures_of(audit),
+        captures: report_captures_of(audit),
         form: form_of(audit),
+        demands: demands_of(alloc, audit)?,
     })
 }
 
@@ -398,7 +423,8 @@ fn why_of(alloc: Global, why: &ArgMatches) -> Result<Choice, AllocError>
         file: file_of(alloc, why)?,
         from: number_of(why),
         limits: limits_of(why),
-        captures: captures_of(why),
+        captures: report_captures_of(why),
+        demands: demands_of(alloc, why)?,
     })
 }
 

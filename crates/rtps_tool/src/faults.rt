@@ -174,14 +174,14 @@ impl From<Memory> for RunFault {
     }
 }
 
-/// The status that the program ends with after a run: 0 where it is clean, 1 where it is unclean, 2 where the recording
+/// The status that the program ends with after a run: 0 where it is clean, 1 where it is not, 2 where the recording
 /// is refused, 3 where a read, a write or a request for memory failed.
 pub fn status(outcome: &Result<Ending, RunFault>) -> u8
     ensures { result ≡ status_of outcome.now }
 {
     match outcome {
         Ok(Ending::Clean) => 0,
-        Ok(Ending::Unclean) => 1,
+        Ok(Ending::Unclean | Ending::Unmet(_)) => 1,
         Err(RunFault::Recording(RecFault::Memory)) => 3,
         Err(RunFault::Recording(_)) => 2,
         Err(RunFault::Input | RunFault::Output { .. } | RunFault::Memory) => 3,

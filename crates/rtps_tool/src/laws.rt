@@ -1,11 +1,12 @@
 //! Laws of the definitions, as contracts of functions that do nothing.
 
 ghost use Rattle.std.specs.Prelude.{ℕ};
-ghost use Rattle.rtps_text.specs.AuditText.{IsAuditedFrom};
-ghost use Rattle.rtps_text.specs.JsonText.{IsJsonTextFrom};
+ghost use Rattle.rtps_text.specs.Asked.{AskedValue};
+ghost use Rattle.rtps_text.specs.AuditText.{IsAuditedAs, IsAuditedFrom};
+ghost use Rattle.rtps_text.specs.JsonText.{IsJsonTextAs, IsJsonTextFrom};
 ghost use Rattle.rtps_text.specs.ListText.{IsListed};
 ghost use Rattle.rtps_text.specs.ShowText.{IsShown};
-ghost use Rattle.rtps_text.specs.WhyText.{IsExplainedTextFrom};
+ghost use Rattle.rtps_text.specs.WhyText.{IsExplainedTextAs, IsExplainedTextFrom};
 ghost use Rattle.rtps_tool.specs.Laws.{NoTextBeginsAsACapture, RunsAgree, RunsAgreeWithin, StaysWithin, TextsStayTexts};
 ghost use Rattle.rtps_tool.specs.Words.{WordsAreWanted};
 
@@ -18,8 +19,8 @@ pub fn words_are_wanted()
     ensures { WordsAreWanted }
 {}
 
-/// What a run prints, and how it ends, is decided by what it reads, and of `audit` and `why` also by the number from which
-/// on they ask: two runs of `show`, of `list`, of `audit`, of `audit --json` or of `why` over the same octets that both
+/// What a run prints, and how it ends, is decided by what it reads, and of `audit` and `why` also by what they
+/// ask, such as the number from which on: two runs of `show`, of `list`, of `audit`, of `audit --json` or of `why` over the same octets that both
 /// end well end in the same way and write the same text.
 pub fn runs_agree()
     ensures show { RunsAgree IsShown }
@@ -27,6 +28,9 @@ pub fn runs_agree()
     ensures audit { (from : ℕ) → RunsAgree (IsAuditedFrom from) }
     ensures json { (from : ℕ) → RunsAgree (IsJsonTextFrom from) }
     ensures why { (from : ℕ) → RunsAgree (IsExplainedTextFrom from) }
+    ensures audit_as { (asked : AskedValue) → RunsAgree (IsAuditedAs asked) }
+    ensures json_as { (asked : AskedValue) → RunsAgree (IsJsonTextAs asked) }
+    ensures why_as { (asked : AskedValue) → RunsAgree (IsExplainedTextAs asked) }
 {
     one_text();
 }
@@ -41,6 +45,9 @@ pub fn limits_change_nothing()
     ensures audit { (from : ℕ) → RunsAgreeWithin (IsAuditedFrom from) }
     ensures json { (from : ℕ) → RunsAgreeWithin (IsJsonTextFrom from) }
     ensures why { (from : ℕ) → RunsAgreeWithin (IsExplainedTextFrom from) }
+    ensures audit_as { (asked : AskedValue) → RunsAgreeWithin (IsAuditedAs asked) }
+    ensures json_as { (asked : AskedValue) → RunsAgreeWithin (IsJsonTextAs asked) }
+    ensures why_as { (asked : AskedValue) → RunsAgreeWithin (IsExplainedTextAs asked) }
 {
     one_text();
 }

@@ -5,7 +5,9 @@
 mod captures;
 mod choices;
 mod command;
+mod demands;
 mod faults;
+mod findings_text;
 mod follow;
 mod form;
 pub mod laws;
@@ -15,13 +17,17 @@ mod streams;
 pub use captures::Captures;
 pub use choices::run_choice;
 pub use command::{Choice, ReportForm, WordFault, read_words};
+pub use demands::Demands;
 pub use faults::{RecFault, RunFault, status, write_fault};
+pub use findings_text::write_findings;
 pub use follow::Follow;
 pub use form::either::{read_recording, read_recording_within};
 pub use rtps_capture::{
     CAPTURE_HEADER_SIZE, LinkType, is_pcapng, link_type_numbered, unread_link_type,
 };
-pub use rtps_text::{Datagrams, Ending, Recording, Unwatched, Watch};
+pub use rtps_text::{
+    Asked, Datagrams, Ending, FewRows, Findings, Recording, Rows, Unwatched, Watch,
+};
 pub use runs::{
     Command, Limits, Options, run, run_audit, run_audit_from, run_list, run_sample, run_show,
 };

@@ -1,5 +1,6 @@
 ghost use Rattle.std.specs.Prelude.{◌≡◌, IfOk};
 ghost use Rattle.std.specs.String.{string_bytes};
+ghost use Rattle.rtps_text.specs.Asked.{asked_value};
 ghost use Rattle.rtps_text.specs.AuditText.{IsAudited, IsAuditedFrom};
 ghost use Rattle.rtps_text.specs.ListText.{IsListed};
 ghost use Rattle.rtps_text.specs.SampleText.{sample};
@@ -7,7 +8,6 @@ ghost use Rattle.rtps_text.specs.ShowText.{IsShown};
 ghost use Rattle.rtps_tool.specs.Commands.{IsTextOf};
 ghost use Rattle.rtps_tool.specs.Limits.{usual as usual_lem};
 ghost use Rattle.rtps_tool.specs.Runs.{Runs, RunsWithin, Writes};
-ghost use Rattle.rtps_tool.specs.declared.captures.Captures.TheVariants.{Classic};
 
 use crate::captures::Captures;
 use crate::faults::RunFault;
@@ -15,8 +15,8 @@ use crate::follow::Follow;
 use crate::streams::{read_input, write_text};
 use rtps_ids::{Memory, SeqNum};
 use rtps_text::{
-    Ending, Recording, Unwatched, Watch, audit_text, json_text, list_text, sample_text, show_text,
-    why_text,
+    Asked, Ending, Recording, Unwatched, Watch, audit_text, json_text, list_text, sample_text,
+    show_text, why_text,
 };
 use std::alloc::Global;
 use std::io::{Read, Write};
@@ -59,25 +59,27 @@ pub enum Command {
 }
 
 /// What a run prints, and of what.
-#[derive(Clone, Copy, Debug, PartialEq, Eq)]
-pub struct Options {
+#[derive(Clone, Copy, Debug)]
+pub struct Options<'a> {
     pub command: Command,
-    /// The number from which on an audit asks: smaller numbers are not asked for. `Show` and `List` ask for none.
-    pub from: SeqNum,
+    /// What is asked of an audit. `Show` and `List` ask for nothing of it.
+    pub asked: Asked<'a>,
     /// Those of the recording.
     pub limits: Limits,
     /// Those that are read.
     pub captures: Captures,
 }
 
-impl Options {
-    /// Within the usual limits, of classic captures.
-    pub fn usual(command: Command, from: SeqNum) -> Options
-        ensures { result ≡ record { command = command; from = from; limits = usual_lem; captures = Classic } }
+impl Options<'_> {
+    ghost use Rattle.rtps_tool.specs.Options.{options_value, usually};
+
+    /// Of all rows by the numbers from `from` on, within the usual limits, of classic captures.
+    pub fn usual(command: Command, from: SeqNum) -> Self
+        ensures { options_value result ≡ usually command from }
     {
         Options {
             command,
-            from,
+            asked: Asked::plainly(from),
             limits: Limits::usual(),
             captures: Captures::Classic,
         }
@@ -85,18 +87,19 @@ impl Options {
 }
 
 /// Reads a recording, to the end of the input or past the most octets that it may have, and writes what is printed of it.
-/// It tells what was read, and how far an audit is. It ends [`Ending::Clean`], but for an audit that has a pair that is not complete.
+/// It tells what was read, and how far an audit is. It ends [`Ending::Clean`], but for an audit that
+/// has a pair that is not complete, or of whose report something else was asked that is not so.
 ///
 /// The whole input is read and the whole text made before anything is written. An `Err` says what was written: nothing,
 /// but for [`RunFault::Output`]. How much was read is open after [`RunFault::Input`] and [`RunFault::Memory`].
 pub fn run<R: Read, W: Write, P: Watch + Follow>(
     alloc: Global,
-    options: &Options,
+    options: &Options<'_>,
     input: &mut R,
     output: &mut W,
     watch: &mut P,
 ) -> Result<Ending, RunFault>
-    ensures { RunsWithin options.now.limits options.now.captures (IsTextOf options.now.command options.now.from)
+    ensures { RunsWithin options.now.limits options.now.captures (IsTextOf options.now.command (asked_value options.now.asked))
         (R.remaining input.old) (R.remaining input.new) (W.contents output.old) (W.contents output.new) result }
 {
     let recording = read_input(alloc, options.limits, options.captures, input)?;
@@ -109,18 +112,18 @@ pub fn run<R: Read, W: Write, P: Watch + Follow>(
 /// What is printed of a recording, and how the run ends.
 fn text_of<P: Watch>(
     alloc: Global,
-    options: &Options,
+    options: &Options<'_>,
     recording: &Recording,
     watch: &mut P,
 ) -> Result<(String, Ending), Memory>
-    ensures { IfOk result (λ answer. IsTextOf options.now.command options.now.from recording.now (string_bytes answer.0) answer.1) }
+    ensures { IfOk result (λ answer. IsTextOf options.now.command (asked_value options.now.asked) recording.now (string_bytes answer.0) answer.1) }
 {
     match options.command {
         Command::Show => show_text(alloc, recording),
         Command::List => list_text(alloc, recording),
-        Command::Audit => audit_text(alloc, recording, options.from, watch),
-        Command::Json => json_text(alloc, recording, options.from, watch),
-        Command::Why => why_text(alloc, recording, options.from, watch),
+        Command::Audit => audit_text(alloc, recording, &options.asked, watch),
+        Command::Json => json_text(alloc, recording, &options.asked, watch),
+        Command::Why => why_text(alloc, recording, &options.asked, watch),
     }
 }
 

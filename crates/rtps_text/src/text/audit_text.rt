@@ -1,53 +1,47 @@
-ghost use Rattle.std.specs.Prelude.{◌≡◌, ◌++◌, IfOk, OnOk, map};
-ghost use Rattle.std.specs.List.{flat_map};
+ghost use Rattle.std.specs.Prelude.{◌≡◌, ◌++◌, IfOk, OnOk};
+ghost use Rattle.std.specs.List.{flat_map, list_all};
 ghost use Rattle.std.specs.String.{string_bytes};
-ghost use Rattle.rtps_audit.specs.Report.{IsReportFrom};
-ghost use Rattle.rtps_text.specs.AuditText.{IsAuditedFrom, ending_of as ending_of_rows, is_complete as completes, report_text as text_of_report, row_line};
+ghost use Rattle.rtps_text.specs.Asked.{asked_value};
+ghost use Rattle.rtps_text.specs.AuditText.{IsAuditedAs, facts_of_report, is_complete as completes, report_text as text_of_report, row_line};
 
+use crate::asked::Asked;
+use crate::findings::{Facts, ending_of};
 use crate::recording::Recording;
 use crate::text::Ending;
+use crate::text::asked_report::report_of;
 use crate::text::audit_lines::{PairsLine, ReportCountsLine, RowLine};
 use rtps_audit::{Report, Row, Verdict, Watch};
-use rtps_ids::{Memory, SeqNum};
+use rtps_ids::Memory;
 use std::alloc::{AllocError, Global};
 
-/// What `audit` prints of a recording by the numbers from `from` on, and how it ends. It tells how far it is.
+/// What `audit` prints of a recording, of what is asked, and how it ends. It tells how far it is.
 /// `Memory` is answered where the text, or what is kept for it, cannot grow.
 pub fn audit_text<P: Watch>(
     alloc: Global,
     recording: &Recording,
-    from: SeqNum,
+    asked: &Asked<'_>,
     watch: &mut P,
 ) -> Result<(String, Ending), Memory>
-    ensures { IfOk result (λ audited. IsAuditedFrom from recording.now (string_bytes audited.0) audited.1) }
+    ensures { IfOk result (λ audited. IsAuditedAs (asked_value asked.now) recording.now (string_bytes audited.0) audited.1) }
 {
-    let report = report_of(alloc, recording, from, watch)?;
-    let text = report_text(alloc, &report, recording.ignored())?;
-    Ok((text, ending_of(&report.rows)))
+    let asked_report = report_of(alloc, recording, asked, watch)?;
+    let report = &asked_report.report;
+    let text = report_text(alloc, report, recording.ignored())?;
+    let facts = facts_of(report, asked_report.missed, recording);
+    Ok((text, ending_of(asked, &facts)))
 }
 
-/// The audit of a recording.
-fn report_of<P: Watch>(
-    alloc: Global,
-    recording: &Recording,
-    from: SeqNum,
-    watch: &mut P,
-) -> Result<Report, Memory>
-    ensures { IfOk result (IsReportFrom from recording.now.datagrams) }
+/// What is known of a report of which so many rows have missed numbers, to hold it against what was asked.
+fn facts_of(report: &Report, missed: u64, recording: &Recording) -> Facts
+    ensures { result ≡ facts_of_report missed report.now.rows.items report.now.counts recording.now }
 {
-    let datagrams = datagrams_of(alloc, recording)?;
-    rtps_audit::audit_watched(alloc, &datagrams, from, watch)
-}
-
-/// The datagrams of a recording.
-pub(crate) fn datagrams_of(alloc: Global, recording: &Recording) -> Result<Vec<&[u8]>, AllocError>
-    ensures { IfOk result (λ datagrams. map (λ datagram. datagram.now) datagrams.items ≡ recording.now.datagrams) }
-{
-    let mut datagrams = Vec::with_capacity(alloc, recording.len())?;
-    for octets in recording.datagrams() {
-        datagrams.push(octets)?;
+    Facts {
+        rows: report.rows.len() as u64,
+        missed,
+        complete: are_complete(&report.rows),
+        counts: report.counts,
+        reasons: recording.reasons(),
     }
-    Ok(datagrams)
 }
 
 /// The lines of a report on a recording of which so many frames were ignored, if it has any.
@@ -71,15 +65,11 @@ fn push_rows(text: &mut String, rows: &[Row]) -> Result<(), AllocError>
     Ok(())
 }
 
-/// Clean where each row is complete.
-fn ending_of(rows: &[Row]) -> Ending
-    ensures { result ≡ ending_of_rows rows.now }
+/// Whether each of these rows is complete.
+fn are_complete(rows: &[Row]) -> bool
+    ensures { result ≡ list_all (λ row. completes row.verdict) rows.now }
 {
-    if rows.iter().all(|row| is_complete(&row.verdict)) {
-        Ending::Clean
-    } else {
-        Ending::Unclean
-    }
+    rows.iter().all(|row| is_complete(&row.verdict))
 }
 
 /// Whether nothing is to be reported of a pair with this verdict.

@@ -5,35 +5,40 @@ ghost use Rattle.std.specs.String.{string_bytes};
 ghost use Rattle.json.specs.Token.{key, number as number_token, string as string_token};
 ghost use Rattle.json.specs.Tree.{json_tokens};
 ghost use Rattle.rtps_evidence.specs.Explanation.{evidence_value, explanation_value};
-ghost use Rattle.rtps_text.specs.JsonText.{IsJsonLine, IsJsonTextFrom, counts_members, ignored_members, pair_members, pairs_member, reasons_members, report_json, row_json, shown_members, tokens_of, tokens_of_member, verdict_members};
+ghost use Rattle.rtps_text.specs.Asked.{asked_value};
+ghost use Rattle.rtps_text.specs.JsonText.{IsJsonLine, IsJsonTextAs, counts_members, ignored_members, pair_members, pairs_member, reasons_members, report_json, row_json, shown_members, tokens_of, tokens_of_member, verdict_members};
 
+use crate::asked::Asked;
+use crate::findings::ending_of;
 use crate::recording::{Reasons, Recording};
 use crate::text::Ending;
+use crate::text::asked_evidence::explained_of;
 use crate::text::json_delivery::{push_delivery, push_open};
 use crate::text::json_members::{
     push_claim, push_count, push_evidence, push_guid, push_name, push_number, push_sent,
     push_teller, push_text, push_total,
 };
-use crate::text::why_text::{ending_of, explained_of};
+use crate::text::why_text::facts_of;
 use json::Writer;
 use rtps_audit::{Counts, Verdict, Watch};
 use rtps_evidence::{Evidence, Explained, Explanation};
-use rtps_ids::{Memory, SeqNum};
+use rtps_ids::Memory;
 use std::alloc::{AllocError, Global};
 
-/// What `audit --json` prints of a recording by the numbers from `from` on, and how it ends: as `audit` does. It tells how far
-/// it is. `Memory` is answered where the text, or what is kept for it, cannot grow.
+/// What `audit --json` prints of a recording, of what is asked, and how it ends: as `audit` does. It tells how far it is.
+/// `Memory` is answered where the text, or what is kept for it, cannot grow.
 pub fn json_text<P: Watch>(
     alloc: Global,
     recording: &Recording,
-    from: SeqNum,
+    asked: &Asked<'_>,
     watch: &mut P,
 ) -> Result<(String, Ending), Memory>
-    ensures { IfOk result (λ told. IsJsonTextFrom from recording.now (string_bytes told.0) told.1) }
+    ensures { IfOk result (λ told. IsJsonTextAs (asked_value asked.now) recording.now (string_bytes told.0) told.1) }
 {
-    let explained = explained_of(alloc, recording, from, watch)?;
+    let explained = explained_of(alloc, recording, asked, watch)?;
     let text = line_of(alloc, &explained, recording)?;
-    Ok((text, ending_of(&explained.rows)))
+    let facts = facts_of(&explained, recording);
+    Ok((text, ending_of(asked, &facts)))
 }
 
 /// The line of the explained rows of a recording.

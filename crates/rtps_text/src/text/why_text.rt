@@ -1,15 +1,20 @@
 ghost use Rattle.std.specs.Prelude.{◌≡◌, ◌+◌, ◌++◌, IfOk, OnOk, map};
-ghost use Rattle.std.specs.List.{flat_map};
+ghost use Rattle.std.specs.List.{flat_map, list_all};
 ghost use Rattle.std.specs.Option.{option_map};
 ghost use Rattle.std.specs.String.{string_bytes};
 ghost use Rattle.rtps_evidence.specs.Locations.{sent_value};
-ghost use Rattle.rtps_evidence.specs.Explanation.{IsExplainedFrom, evidence_value, explanation_value};
-ghost use Rattle.rtps_text.specs.WhyText.{IsExplainedTextFrom, ending_of_rows, explained_text, explanation_text, missed_lines, received_line, rest_lines, sent_line, shown_by};
+ghost use Rattle.rtps_evidence.specs.Explanation.{evidence_value, explanation_value};
+ghost use Rattle.rtps_text.specs.Asked.{asked_value};
+ghost use Rattle.rtps_text.specs.AuditText.{is_complete as completes};
+ghost use Rattle.rtps_text.specs.WhyText.{IsExplainedTextAs, explained_text, facts_of_rows, missed_in, explanation_text, missed_lines, received_line, rest_lines, sent_line, shown_by};
 
+use crate::asked::Asked;
+use crate::findings::{Facts, ending_of};
 use crate::recording::Recording;
 use crate::text::Ending;
+use crate::text::asked_evidence::explained_of;
 use crate::text::audit_lines::{PairsLine, ReportCountsLine};
-use crate::text::audit_text::{datagrams_of, is_complete};
+use crate::text::audit_text::is_complete;
 use crate::text::delivery_lines::{
     AskedLine, MissedLine, NotReceivedLine, QuestionsLine, ReceivedLine,
 };
@@ -19,36 +24,24 @@ use crate::text::why_lines::{
     ToldLine,
 };
 use rtps_audit::{Verdict, Watch};
-use rtps_evidence::{Evidence, Explained, Explanation, FirstMissed, Sent, explain_from};
-use rtps_ids::{Memory, SeqNum};
+use rtps_evidence::{Evidence, Explained, Explanation, FirstMissed, Sent};
+use rtps_ids::Memory;
 use std::alloc::{AllocError, Global};
 
-/// What `why` prints of a recording by the numbers from `from` on, and how it ends: as `audit` does. It tells how far it is.
+/// What `why` prints of a recording, of what is asked, and how it ends: as `audit` does. It tells how far it is.
 /// `Memory` is answered where the text, or what is kept for it, cannot grow.
 pub fn why_text<P: Watch>(
     alloc: Global,
     recording: &Recording,
-    from: SeqNum,
+    asked: &Asked<'_>,
     watch: &mut P,
 ) -> Result<(String, Ending), Memory>
-    ensures { IfOk result (λ told. IsExplainedTextFrom from recording.now (string_bytes told.0) told.1) }
+    ensures { IfOk result (λ told. IsExplainedTextAs (asked_value asked.now) recording.now (string_bytes told.0) told.1) }
 {
-    let explained = explained_of(alloc, recording, from, watch)?;
+    let explained = explained_of(alloc, recording, asked, watch)?;
     let text = text_of(alloc, &explained, recording.ignored())?;
-    Ok((text, ending_of(&explained.rows)))
-}
-
-/// The rows of the report on a recording, each explained.
-pub(crate) fn explained_of<'a, P: Watch>(
-    alloc: Global,
-    recording: &'a Recording,
-    from: SeqNum,
-    watch: &mut P,
-) -> Result<Explained<'a>, Memory>
-    ensures { IfOk result (IsExplainedFrom from recording.now.datagrams) }
-{
-    let datagrams = datagrams_of(alloc, recording)?;
-    explain_from(alloc, &datagrams, from, watch)
+    let facts = facts_of(&explained, recording);
+    Ok((text, ending_of(asked, &facts)))
 }
 
 /// The lines of explained rows, of a recording of which so many frames were ignored, if it has any.
@@ -165,13 +158,35 @@ fn push_sent(text: &mut String, number: i64, sent: Option<Sent<'_>>) -> Result<(
     writeln!(text, " {}", PlaceText(sent.place))
 }
 
-/// Clean where each row is complete.
-pub(crate) fn ending_of(rows: &[Explanation<'_>]) -> Ending
-    ensures { result ≡ ending_of_rows (map explanation_value rows.now) }
+/// What is known of a report whose rows are explained, to hold it against what was asked.
+pub(crate) fn facts_of(explained: &Explained<'_>, recording: &Recording) -> Facts
+    ensures { result ≡ facts_of_rows (map explanation_value explained.now.rows.items) explained.now.counts recording.now }
 {
-    if rows.iter().all(|row| is_complete(&row.evidence.verdict)) {
-        Ending::Clean
-    } else {
-        Ending::Unclean
+    Facts {
+        rows: explained.rows.len() as u64,
+        missed: missed_among(&explained.rows),
+        complete: are_complete(&explained.rows),
+        counts: explained.counts,
+        reasons: recording.reasons(),
     }
+}
+
+/// How many of these rows have missed numbers.
+pub(crate) fn missed_among(rows: &[Explanation<'_>]) -> u64
+    ensures { result ≡ missed_in (map explanation_value rows.now) }
+{
+    let mut missed = 0;
+    for row in rows {
+        if row.evidence.missed > 0 {
+            missed += 1;
+        }
+    }
+    missed
+}
+
+/// Whether each of these rows is complete.
+fn are_complete(rows: &[Explanation<'_>]) -> bool
+    ensures { result ≡ list_all (λ row. completes row.evidence.verdict) (map explanation_value rows.now) }
+{
+    rows.iter().all(|row| is_complete(&row.evidence.verdict))
 }

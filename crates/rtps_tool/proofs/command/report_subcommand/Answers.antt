@@ -1,12 +1,17 @@
-use Rattle.std.proofs.Common.{◌∙◌, refl, ap₂}
+use Rattle.std.proofs.Common.{◌≡◌, ◌∙◌, false, refl, ap, ap₂}
 use Rattle.std.proofs.lemmas.Result.{IfOk-weaker}
 use Rattle.clap.specs.Words.{with_rule}
+use Rattle.clap.specs.declared.builder.command.Command.TheViews.{out-Command}
+use Rattle.rtps_tool.specs.Words.{demanding}
 use Rattle.rtps_tool.proofs.command.report_subcommand.Goals as goal
 
-pub returns : goal.returns
-returns c =
+pub with_demands-requires : goal.with_demands-requires
+with_demands-requires c =
     let from = c.number_option-from.ensures in
-    record {
-      app = IfOk-weaker c.arg.result _ _ (λ command added. added.shape from.local ∙ ap₂ with_rule c.in_ok-reading.ensures.app from.rule) c.arg.ensures;
-      local = IfOk-weaker c.arg.result _ _ (λ command added. rw (added.globals, c.in_ok-reading.ensures.local, from.local) refl) c.arg.ensures;
-    }
+    rw (c.in_ok-numbered.ensures.globals, c.in_ok-reading.ensures.local, from.local) refl
+
+pub returns-clause-app : goal.returns-clause-app
+returns-clause-app c =
+    let from = c.number_option-from.ensures in
+    let numbered = c.in_ok-numbered.ensures.shape from.local ∙ ap₂ with_rule c.in_ok-reading.ensures.app from.rule in
+    IfOk-weaker c.with_demands.result _ _ (λ command made. made ∙ ap demanding numbered) c.with_demands.ensures.app

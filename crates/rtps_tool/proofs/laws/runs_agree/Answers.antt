@@ -1,8 +1,8 @@
-use Rattle.rtps_text.specs.AuditText.{IsAuditedFrom}
-use Rattle.rtps_text.specs.JsonText.{IsJsonTextFrom}
+use Rattle.rtps_text.specs.AuditText.{IsAuditedAs, IsAuditedFrom}
+use Rattle.rtps_text.specs.JsonText.{IsJsonTextAs, IsJsonTextFrom}
 use Rattle.rtps_text.specs.ListText.{IsListed}
 use Rattle.rtps_text.specs.ShowText.{IsShown}
-use Rattle.rtps_text.specs.WhyText.{IsExplainedTextFrom}
+use Rattle.rtps_text.specs.WhyText.{IsExplainedTextAs, IsExplainedTextFrom}
 use Rattle.rtps_tool.proofs.RunsLemmas.{runs_agree}
 use Rattle.rtps_tool.proofs.laws.runs_agree.Goals as goal
 
@@ -20,3 +20,12 @@ returns-clause-json c = λ from. runs_agree (IsJsonTextFrom from) (c.one_text.en
 
 pub returns-clause-why : goal.returns-clause-why
 returns-clause-why c = λ from. runs_agree (IsExplainedTextFrom from) (c.one_text.ensures.explained from)
+
+pub returns-clause-audit_as : goal.returns-clause-audit_as
+returns-clause-audit_as c = λ asked. runs_agree (IsAuditedAs asked) (c.one_text.ensures.audited_as asked)
+
+pub returns-clause-json_as : goal.returns-clause-json_as
+returns-clause-json_as c = λ asked. runs_agree (IsJsonTextAs asked) (c.one_text.ensures.json_as asked)
+
+pub returns-clause-why_as : goal.returns-clause-why_as
+returns-clause-why_as c = λ asked. runs_agree (IsExplainedTextAs asked) (c.one_text.ensures.explained_as asked)

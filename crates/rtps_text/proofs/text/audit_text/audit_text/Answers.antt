@@ -1,12 +1,20 @@
 use Rattle.std.proofs.Common.{◌∙◌, ap}
-use Rattle.rtps_text.specs.AuditText.{ending_of, report_text}
+use Rattle.rtps_text.specs.Asked.{asked_value}
+use Rattle.rtps_text.specs.AuditText.{missed_rows, report_text}
+use Rattle.rtps_text.specs.Findings.{ending_as}
+use Rattle.rtps_text.proofs.AskedLemmas.{ending_same}
 use Rattle.rtps_text.proofs.text.audit_text.audit_text.Goals as goal
 
 pub returns : goal.returns
 returns g c =
+    let asked = asked_value c.args.asked.now in
+    let recording = c.args.recording.now in
+    let counted = c.in_ok-asked_report.asked_report in
+    let report = counted.report in
     record {
-      report = c.in_ok-report.report;
-      reports = c.in_ok-report.ensures;
-      is_text = c.in_ok-text.ensures ∙ ap (report_text c.in_ok-report.report.rows.items c.in_ok-report.report.counts) c.ignored.ensures;
-      ends = c.ending_of.ensures ∙ ap ending_of c.deref.ensures.value;
+      report = report;
+      reports = c.in_ok-asked_report.ensures.reports;
+      is_text = c.in_ok-text.ensures ∙ ap (report_text report.rows.items report.counts) c.ignored.ensures;
+      ends = c.ending_of.ensures ∙ ap (ending_as asked) c.facts_of-facts.ensures
+          ∙ ending_same asked counted.missed (missed_rows asked.from recording.datagrams report.rows.items) report.rows.items report.counts recording c.in_ok-asked_report.ensures.missed;
     }

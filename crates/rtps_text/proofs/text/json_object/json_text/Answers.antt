@@ -1,14 +1,13 @@
-use Rattle.std.proofs.Common.{◌∙◌, ap, map}
-use Rattle.rtps_evidence.specs.Explanation.{explanation_value}
-use Rattle.rtps_text.specs.WhyText.{ending_of_rows}
+use Rattle.std.proofs.Common.{◌∙◌, ap}
+use Rattle.rtps_text.specs.Asked.{asked_value}
+use Rattle.rtps_text.specs.Findings.{ending_as}
 use Rattle.rtps_text.proofs.text.json_object.json_text.Goals as goal
 
 pub returns : goal.returns
 returns g c =
-    let explained = c.in_ok-explained.explained in
     record {
-      explained = explained;
+      explained = c.in_ok-explained.explained;
       explains = c.in_ok-explained.ensures;
       is_line = c.in_ok-text.ensures;
-      ends = c.ending_of.ensures ∙ ap (λ all. ending_of_rows (map explanation_value all)) c.deref.ensures.value;
+      ends = c.ending_of.ensures ∙ ap (ending_as (asked_value c.args.asked.now)) c.facts_of-facts.ensures;
     }

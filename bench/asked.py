@@ -1,0 +1,51 @@
+"""What is asked of a report: from which number on, which rows, how many, and whether anything may weaken it."""
+import re
+
+
+def fits(pattern, topic):
+    """whether a topic is the pattern with some octets in the place of each `*`"""
+    parts = [re.escape(part) for part in pattern.split(b'*')]
+    return re.fullmatch(b'.*'.join(parts), topic, re.DOTALL) is not None
+
+
+class Asked:
+    def __init__(self, first=1, topics=(), observed=False, expect=None, strict=False):
+        self.first, self.topics, self.observed, self.expect, self.strict = first, list(topics), observed, expect, strict
+
+    def words(self):
+        """the words of the command line that ask so"""
+        words = ['--from', str(self.first)] if self.first != 1 else []
+        for topic in self.topics:
+            words += ['--topic', topic]
+        words += ['--observed'] if self.observed else []
+        words += ['--expect', str(self.expect)] if self.expect is not None else []
+        return words + (['--strict'] if self.strict else [])
+
+    def keeps(self, topic, w, r, recording):
+        """whether the row of a writer and a reader of a topic is asked for; `recording` has the acts of each datagram"""
+        if self.topics and not any(fits(pattern.encode(), topic) for pattern in self.topics):
+            return False
+        return not self.observed or any(act['source'] == r[:12] and act['dest'] == w[:12] for acts in recording for act in acts)
+
+    def findings(self, rows, missed, counts, reasons):
+        """what a report has or lacks against what is asked, beside complete rows, a line for each: of so many rows, of which
+        so many have missed numbers, of its counts by name, and of the reasons for which frames were ignored"""
+        lines = [f'pairs {rows}, expected {self.expect}'] if self.expect is not None and rows < self.expect else []
+        if not self.strict:
+            return lines
+        lines += ['pairs 0'] if rows == 0 else []
+        found = [('pairs with missed numbers', missed), *((name, counts[name]) for name in ('fragments', 'unsettled')),
+                 *((name, reasons.get(name, 0)) for name in ('pieces', 'cut'))]
+        return lines + [f'{name} {count}' for name, count in found if count]
+
+
+PLAIN = Asked()
+
+
+def asked_by(words):
+    """what these words of a command line ask"""
+    def values(name):
+        return [words[i + 1] for i in range(len(words) - 1) if words[i] == name]
+
+    return Asked(first=int((values('--from') + ['1'])[0]), topics=values('--topic'), observed='--observed' in words,
+                 expect=int(values('--expect')[0]) if '--expect' in words else None, strict='--strict' in words)

@@ -1,0 +1,3 @@
+mod ContactLemmas
+mod PatternLemmas
+mod RowLemmas

@@ -1,0 +1,4 @@
+pub mod Contacts
+pub mod Filter
+pub mod Patterns
+pub mod Rows

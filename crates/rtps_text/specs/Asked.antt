@@ -1,0 +1,24 @@
+-- What is asked of a report.
+-- own: a job asks for the rows that it knows, and must not pass where the report says less than the job takes it to say.
+use Rattle.std.specs.Prelude.{ℕ, Bool, false, ◌==◌, ◌&&◌, not, length, [], Option, None}
+use Rattle.rtps_rows.specs.Rows.{RowsValue, rows_value}
+use Rattle.rtps_text.specs.declared.asked.Asked.{Asked}
+
+-- what is asked, with lists of octets where the type borrows texts
+pub record AskedValue : Type 0 where
+  pub from : ℕ
+  pub rows : RowsValue
+  pub expect : Option ℕ
+  pub strict : Bool
+
+-- what the code asks, as a value
+abbrev pub asked_value : Asked → AskedValue
+asked_value asked = record { from = asked.from; rows = rows_value asked.rows; expect = asked.expect; strict = asked.strict }
+
+-- all rows by the numbers from this one on, and nothing else
+abbrev pub plainly : ℕ → AskedValue
+plainly from = record { from = from; rows = record { topics = []; observed = false }; expect = None; strict = false }
+
+-- neither topics nor pairs are chosen
+abbrev pub asks_all_rows : AskedValue → Bool
+asks_all_rows asked = (length asked.rows.topics == 0) && not asked.rows.observed

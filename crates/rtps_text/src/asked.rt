@@ -1,0 +1,41 @@
+ghost use Rattle.std.specs.Prelude.{◌≡◌};
+
+use rtps_ids::SeqNum;
+use rtps_rows::Rows;
+
+/// What is asked of an audit: by which numbers, which rows, and what else has to be so for its run to end clean.
+#[derive(Clone, Copy, Debug)]
+pub struct Asked<'a> {
+    /// The number from which on the audit asks: smaller numbers are not asked for.
+    pub from: SeqNum,
+    /// The rows that the report has. Its counts are those of the whole recording.
+    pub rows: Rows<'a>,
+    /// How many rows it has to have, or more; None where any number will do.
+    pub expect: Option<u64>,
+    /// Whether it also has to have a row, no row with missed numbers, and nothing that is left out of the recording: no
+    /// fragments, no unsettled GUIDs, and, where any capture was read, no frame that was ignored as a piece or as cut.
+    pub strict: bool,
+}
+
+impl Asked<'_> {
+    ghost use Rattle.rtps_text.specs.Asked.{asked_value, asks_all_rows as asks_all_rows_lem, plainly as plainly_lem};
+
+    /// All rows by the numbers from `from` on, and nothing else.
+    pub fn plainly(from: SeqNum) -> Self
+        ensures { asked_value result ≡ plainly_lem from }
+    {
+        Asked {
+            from,
+            rows: Rows::all(),
+            expect: None,
+            strict: false,
+        }
+    }
+
+    /// Whether all rows are asked for.
+    pub(crate) fn asks_all_rows(&self) -> bool
+        ensures { result ≡ asks_all_rows_lem (asked_value self.now) }
+    {
+        self.rows.topics.is_empty() && !self.rows.observed
+    }
+}

@@ -1,0 +1,151 @@
+ghost use Rattle.std.specs.Prelude.{◌≡◌, ◌++◌, [], IfOk, OnOk, Some, codes, false, map, unwrap_or};
+ghost use Rattle.std.specs.String.{string_bytes};
+ghost use Rattle.clap.specs.Words.{all_of, app_of, first_of, found_of, one_of, rows_of, rule_of, with_rule};
+ghost use Rattle.clap.specs.declared.builder.command.Command.TheViews.{out-Command};
+ghost use Rattle.rtps_tool.specs.Words.{AreDemandsGiven, IsExpectGiven, demanding, expect_rule, pattern_rule};
+
+use crate::command::{GREATEST, flag, is_given};
+use clap::builder::ValueParser;
+use clap::{Arg, ArgAction, ArgMatches, Command};
+use rtps_ids::SeqNum;
+use rtps_text::{Asked, Rows};
+use std::alloc::{AllocError, Global};
+
+/// What the words ask of a report, beside the number from which on it asks.
+#[derive(Debug, Drop)]
+pub struct Demands {
+    /// Patterns, one of which the topic of each row fits; all topics where there is none.
+    pub topics: Vec<String>,
+    /// Only rows of pairs that the recording can speak of.
+    pub observed: bool,
+    /// How many rows there have to be, or more.
+    pub expect: Option<u64>,
+    /// That nothing weakens the report.
+    pub strict: bool,
+}
+
+impl Demands {
+    ghost use Rattle.rtps_text.specs.Asked.{asked_value};
+    ghost use Rattle.rtps_tool.specs.Options.{asked_by};
+
+    /// What they ask, by the numbers from `from` on.
+    pub(crate) fn asked_from(&self, from: SeqNum) -> Asked<'_>
+        ensures { asked_value result ≡ asked_by self.now from }
+    {
+        Asked {
+            from,
+            rows: Rows {
+                topics: &self.topics,
+                observed: self.observed,
+            },
+            expect: self.expect,
+            strict: self.strict,
+        }
+    }
+}
+
+const TOPIC_HELP: &str = "Only rows whose topic is PATTERN, in which * stands for any octets; \
+    given again, any of them";
+
+const OBSERVED_HELP: &str =
+    "Only rows of pairs that the recording can speak of: the reader's participant sends \
+    to the writer's by name";
+
+const EXPECT_HELP: &str =
+    "Status 1 also if the report has fewer rows than this, 0 to 9223372036854775807";
+
+const STRICT_HELP: &str =
+    "Status 1 also if there is no row, a row has missed numbers, or something of \
+    the recording is left out: fragments, unsettled endpoints, frames in pieces or cut. Sets --any";
+
+/// The option that chooses rows by their topics.
+fn pattern_option<'a>(alloc: Global) -> Arg<'a>
+    ensures rule { rule_of result ≡ pattern_rule }
+    ensures local { result.global ≡ false }
+{
+    Arg::new(alloc, "PATTERN")
+        .long("topic")
+        .action(ArgAction::Append)
+        .help(TOPIC_HELP)
+}
+
+/// The option that says how many rows there have to be.
+fn expect_option<'a>(alloc: Global) -> Arg<'a>
+    ensures rule { rule_of result ≡ expect_rule }
+    ensures local { result.global ≡ false }
+{
+    Arg::new(alloc, "PAIRS")
+        .long("expect")
+        .action(ArgAction::Set)
+        .value_parser(ValueParser::unsigned(0, GREATEST))
+        .help(EXPECT_HELP)
+}
+
+/// A subcommand with the options that ask more of a report.
+pub(crate) fn with_demands<'a>(
+    alloc: Global,
+    command: Command<'a>,
+) -> Result<Command<'a>, AllocError>
+    requires { (out-Command command).has_globals ≡ false }
+    ensures app { IfOk result (λ made. app_of made ≡ demanding (app_of command.entry)) }
+    ensures local { IfOk result (λ made. (out-Command made).has_globals ≡ false) }
+{
+    let one = command.arg(pattern_option(alloc))?;
+    let two = one.arg(flag(alloc, "observed", OBSERVED_HELP))?;
+    let three = two.arg(expect_option(alloc))?;
+    three.arg(flag(alloc, "strict", STRICT_HELP))
+}
+
+/// The texts as texts of their own.
+fn owned(alloc: Global, texts: &[&str]) -> Result<Vec<String>, AllocError>
+    ensures { IfOk result (λ made. map string_bytes made.items ≡ map (λ text. text.now) texts.now) }
+{
+    let mut made = Vec::new(alloc);
+    for text in texts {
+        made.push(String::from_str(alloc, text)?)?;
+    }
+    Ok(made)
+}
+
+/// The patterns that are given.
+fn topics_of(alloc: Global, found: &ArgMatches) -> Result<Vec<String>, AllocError>
+    ensures { IfOk result (λ topics. map string_bytes topics.items
+        ≡ unwrap_or (all_of (codes "PATTERN") (rows_of (found_of found.now))) []) }
+{
+    match found.get_strs("PATTERN") {
+        Some(patterns) => owned(alloc, patterns),
+        None => Ok(Vec::new(alloc)),
+    }
+}
+
+/// The number that a text is; None where it is none from 0 to 2^63 - 1.
+fn expected_in(text: &str) -> Option<u64>
+    ensures { IsExpectGiven (Some text.now) result }
+{
+    match text.parse::<u64>() {
+        Ok(number) if number <= GREATEST => Some(number),
+        _ => None,
+    }
+}
+
+/// How many rows are expected, if that is given.
+fn expect_of(found: &ArgMatches) -> Option<u64>
+    ensures { IsExpectGiven (first_of (codes "PAIRS") (rows_of (found_of found.now))) result }
+{
+    match found.get_str("PAIRS") {
+        Some(text) => expected_in(text),
+        None => None,
+    }
+}
+
+/// What the matches of a subcommand ask of a report.
+pub(crate) fn demands_of(alloc: Global, found: &ArgMatches) -> Result<Demands, AllocError>
+    ensures { IfOk result (AreDemandsGiven (rows_of (found_of found.now))) }
+{
+    Ok(Demands {
+        topics: topics_of(alloc, found)?,
+        observed: is_given(found, "observed"),
+        expect: expect_of(found),
+        strict: is_given(found, "strict"),
+    })
+}
