@@ -1,6 +1,6 @@
 -- What a recording says is of numbers that are bounded, and if it is of octets, of numbers that fit.
 use Rattle.std.proofs.Common.{◌≡◌, ◌<◌, ◌≤◌, ◌+◌, ◌^◌, ℕ, Bool, true, false, List, [], ◌∷◌, ◌++◌, map, Option, Some, None, slice_get, refl, sym, ◌∙◌, ap, subst, arith}
-use Rattle.std.specs.Prelude.{if◌then◌else◌, All}
+use Rattle.std.specs.Prelude.{◌==◌, if◌then◌else◌, All}
 use Rattle.std.specs.Option.{option_map}
 use Rattle.std.proofs.lemmas.Bool.Decides.{nat_tests}
 use Rattle.std.proofs.lemmas.List.Elements.{All-append, All-cons, All-head, All-nil, All-tail}
@@ -16,10 +16,11 @@ use Rattle.rtps_wire.specs.declared.header.Header.{Header}
 use Rattle.rtps_receiver.specs.Acts.{act_at, act_body, acts_behind, acts_of, acts_of_item, acts_with, state_at_start, state_behind}
 use Rattle.rtps_receiver.specs.declared.state.State.{State}
 use Rattle.rtps_receiver.specs.Values.{ActBodyValue, ActValue}
-use Rattle.rtps_receiver.specs.Values.ActBodyValue.{Data as DataAct, Heartbeat as HeartbeatAct, AckNack as AckNackAct, Gap as GapAct}
+use Rattle.rtps_receiver.specs.Values.ActBodyValue.{Data as DataAct, Heartbeat as HeartbeatAct, AckNack as AckNackAct, Gap as GapAct, DataFrag as DataFragAct}
 use Rattle.rtps_audit.specs.Delivery.{Word, Datagram, greatest}
+use Rattle.rtps_audit.specs.Delivery.Word.{Told}
 use Rattle.rtps_audit.specs.FullRun.{IsBoundedBy}
-use Rattle.rtps_audit.specs.Speech.{is_in_gap, said_by, speech_of, word_for, word_of}
+use Rattle.rtps_audit.specs.Speech.{acts_by_datagram, is_in_gap, said_by, speech_by, word_for, word_of}
 use Rattle.rtps_audit.specs.Laws.{RecordingsAreBounded}
 use Rattle.rtps_audit.proofs.Greatest.{greatest_below}
 
@@ -35,6 +36,10 @@ record SmallAct (body : ActBodyValue) : Type 0 where
 some_if : {X : Type 0} (b : Bool) (x y : X) → (if b then Some x else None) ≡ Some y → b ≡ true
 some_if true x y e = refl
 some_if false x y e = cc
+
+if_some : {X : Type 0} (b : Bool) (o : Option X) (y : X) → (if b then o else None) ≡ Some y → b ≡ true
+if_some true o y e = refl
+if_some false o y e = cc
 
 in_gap_small : (gap : GapBody) (n : ℕ) → gap.list.base + gap.list.count ≤ 2 ^ 63 → is_in_gap gap n ≡ true → n < 2 ^ 63
 in_gap_small gap n end in_gap = grind (arith, nat_tests)
@@ -97,8 +102,9 @@ said_small writer reader acts datagram k n act word is small speaks says =
 
 pub recordings_are_bounded : RecordingsAreBounded
 recordings_are_bounded from writer reader recording octets i k n word gives =
-    let (datagram, at, same) = from_map (λ datagram. said_by writer reader (acts_of (reading_of datagram))) recording i gives.datagram gives.stands in
-    said_small writer reader (acts_of (reading_of datagram)) gives.datagram k n gives.act word same
+    let (acts, there, same) = from_map (said_by writer reader) (acts_by_datagram recording) i gives.datagram gives.stands in
+    let (datagram, at, are) = from_map (λ datagram. acts_of (reading_of datagram)) recording i acts there in
+    said_small writer reader (acts_of (reading_of datagram)) gives.datagram k n gives.act word (ap (said_by writer reader) are ∙ same)
     (acts_said datagram (at_place IsOctets recording i datagram octets at)) gives.speaks gives.says
 
 -- ---- some bound of any recording
@@ -109,12 +115,14 @@ end_of (DataAct value) = value.number + 1
 end_of (HeartbeatAct value) = value.first
 end_of (AckNackAct value) = 0
 end_of (GapAct value) = value.list.base + value.list.count
+end_of (DataFragAct value) = value.number + 1
 
 before_end : (body : ActBodyValue) (n : ℕ) (word : Word) → word_of body n ≡ Some word → n < end_of body
 before_end (DataAct value) n word e = let same = some_if _ _ word e in grind (arith, nat_tests)
 before_end (HeartbeatAct value) n word e = let same = some_if _ _ word e in grind (arith, nat_tests)
 before_end (AckNackAct value) n word e = cc
 before_end (GapAct value) n word e = let in_gap = some_if _ _ word e in grind (arith, nat_tests)
+before_end (DataFragAct value) n word e = let same = if_some (n == value.number) (option_map Told value.told) word e in grind (arith, nat_tests)
 
 -- what a function gives of an element is at most the greatest of what it gives
 below_one : {X : Type 0} (f : X → ℕ) (xs : List X) (i n : ℕ) (x : X) → slice_get xs i ≡ Some x → n < f x → n < greatest (map f xs)
@@ -125,8 +133,8 @@ below_one f xs i n x at below =
 abbrev end_of_acts : List ActValue → ℕ
 end_of_acts acts = greatest (map (λ (act : ActValue). end_of act.body) acts)
 
-abbrev pub end_of_recording : List (List ℕ) → ℕ
-end_of_recording recording = greatest (map (λ datagram. end_of_acts (acts_of (reading_of datagram))) recording)
+abbrev pub end_of_recording : List (List ActValue) → ℕ
+end_of_recording recording = greatest (map end_of_acts recording)
 
 heard_before : (act : ActValue) (n : ℕ) (word : Word) (heard : Bool) → (if heard then word_of act.body n else None) ≡ Some word → n < end_of act.body
 heard_before act n word true e = before_end act.body n word e
@@ -138,8 +146,8 @@ said_before writer reader acts datagram k n act word is speaks says =
     let (value, at, same) = from_map (word_for writer reader) acts k act (ap (λ (d : Datagram). slice_get d.acts k) is ∙ speaks) in
     below_one (λ (act : ActValue). end_of act.body) acts k n value at (heard_before value n word _ (ap (λ (f : ℕ → Option Word). f n) same ∙ says))
 
-pub some_bound : (from : ℕ) (writer reader : Guid) (recording : List (List ℕ)) → IsBoundedBy from (speech_of writer reader recording) (end_of_recording recording)
+pub some_bound : (from : ℕ) (writer reader : Guid) (recording : List (List ActValue)) → IsBoundedBy from (speech_by writer reader recording) (end_of_recording recording)
 some_bound from writer reader recording i k n word gives =
-    let (datagram, at, same) = from_map (λ datagram. said_by writer reader (acts_of (reading_of datagram))) recording i gives.datagram gives.stands in
-    below_one (λ datagram. end_of_acts (acts_of (reading_of datagram))) recording i n datagram at
-    (said_before writer reader (acts_of (reading_of datagram)) gives.datagram k n gives.act word same gives.speaks gives.says)
+    let (acts, at, same) = from_map (said_by writer reader) recording i gives.datagram gives.stands in
+    below_one end_of_acts recording i n acts at
+    (said_before writer reader acts gives.datagram k n gives.act word same gives.speaks gives.says)

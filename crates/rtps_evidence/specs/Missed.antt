@@ -7,7 +7,7 @@ use Rattle.rtps_ids.specs.NumberSet.{is_member}
 use Rattle.rtps_ids.specs.declared.identity.Guid.{Guid}
 use Rattle.rtps_receiver.specs.Speech.{is_answer}
 use Rattle.rtps_receiver.specs.Values.{ActBodyValue}
-use Rattle.rtps_receiver.specs.Values.ActBodyValue.{Data, Heartbeat, AckNack, Gap}
+use Rattle.rtps_receiver.specs.Values.ActBodyValue.{Data, Heartbeat, AckNack, Gap, DataFrag}
 use Rattle.rtps_discovery.specs.Endpoint.{EndpointValue}
 use Rattle.rtps_discovery.specs.Notice.{announcement_of as notice_of, endpoint_in}
 use Rattle.rtps_audit.specs.Placed.{PlacedValue, is_guid}
@@ -26,6 +26,7 @@ is_in_set (AckNack value) n = is_member value.set n
 is_in_set (Data value) n = false
 is_in_set (Heartbeat value) n = false
 is_in_set (Gap value) n = false
+is_in_set (DataFrag value) n = false
 
 -- the reader says to the writer that it lacks n
 abbrev pub asks_for : Guid → Guid → ℕ → PlacedValue → Bool
@@ -53,11 +54,11 @@ first_place (place ∷ places) = Some (record { datagram = place.datagram; at = 
 abbrev pub sends_behind : Option Location → Guid → Guid → ℕ → PlacedValue → Bool
 sends_behind place writer reader n placed = is_behind place placed && sends writer reader n placed
 
--- n is missed: it is not received, the reader says that it lacks n, and of n a payload that the reader hears stands behind the
--- first announcement of the reader
-abbrev pub is_missed : Guid → Guid → List PlacedValue → ℕ → Bool
-is_missed writer reader acts n =
-    not (is_received writer reader acts n) && (list_any (asks_for writer reader n) acts && list_any (sends_behind (place_announced reader acts) writer reader n) acts)
+-- n is missed: it is not received, the reader says that it lacks n, and of n a payload that the reader hears stands behind this
+-- place, the first announcement of the reader
+abbrev pub is_missed : Option Location → Guid → Guid → List PlacedValue → ℕ → Bool
+is_missed place writer reader acts n =
+    not (is_received writer reader acts n) && (list_any (asks_for writer reader n) acts && list_any (sends_behind place writer reader n) acts)
 
 -- these numbers have n
 abbrev pub numbers_have : List ℕ → ℕ → Bool
@@ -81,10 +82,11 @@ missed_by writer reader acts None = None
 missed_by writer reader acts (Some n) = option_map (missed_at writer reader n acts) (find_last (asks_for writer reader n) acts)
 
 -- the least number from `from` on, up to the last one, that is missed
-abbrev pub first_missed_of : ℕ → ℕ → Guid → Guid → List PlacedValue → Option FirstMissed
-first_missed_of from last writer reader acts = missed_by writer reader acts (least_in (is_missed writer reader acts) from (last + 1))
+abbrev pub first_missed_of : ℕ → ℕ → Option Location → Guid → Guid → List PlacedValue → Option FirstMissed
+first_missed_of from last place writer reader acts = missed_by writer reader acts (least_in (is_missed place writer reader acts) from (last + 1))
 
--- Of the numbers from `from` on, up to the last one: how many are missed, and the least of them.
-pub record AreMissed (from last : ℕ) (writer reader : Guid) (acts : List PlacedValue) (missed : Missed) : Type 0 where
-  pub count : missed.count ≡ count_in (is_missed writer reader acts) from (last + 1)
-  pub first : missed.first ≡ first_missed_of from last writer reader acts
+-- Of the numbers from `from` on, up to the last one: how many are missed, where the reader is announced first at this place, and
+-- the least of them.
+pub record AreMissed (from last : ℕ) (place : Option Location) (writer reader : Guid) (acts : List PlacedValue) (missed : Missed) : Type 0 where
+  pub count : missed.count ≡ count_in (is_missed place writer reader acts) from (last + 1)
+  pub first : missed.first ≡ first_missed_of from last place writer reader acts
