@@ -65,7 +65,7 @@ struct Collected {
 }
 
 /// How many frames there were so far, and of what kinds.
-#[derive(Clone, Copy, Debug)]
+#[derive(Clone, Copy)]
 struct Counts {
     frames: u64,
     /// Frames with a fragment that is no repeat.

@@ -15,7 +15,7 @@ use rtps_ids::{Memory, Order};
 use std::alloc::Global;
 
 /// What the next record or block of a capture gives.
-#[derive(Clone, Copy, PartialEq, Eq, Debug)]
+#[derive(Clone, Copy)]
 pub(crate) enum AnyFrame {
     /// A frame, which stands there in the file. None as its link type where its interface is not declared, or is not read.
     Frame(Option<LinkType>, ByteRange),

@@ -13,7 +13,7 @@ use std::alloc::Global;
 use std::collections::BTreeMap;
 
 /// What one fragment more gives.
-#[derive(Clone, Copy, PartialEq, Eq, Debug)]
+#[derive(Clone, Copy)]
 pub(crate) struct Taken {
     /// 1 where it is no repeat, and else 0.
     pub(crate) fresh: usize,

@@ -7,7 +7,7 @@ use crate::octet_number::{four_octets, two_octets};
 use rtps_ids::Order;
 
 /// A block of a pcapng file.
-#[derive(Clone, Copy, PartialEq, Eq, Debug)]
+#[derive(Clone, Copy)]
 pub(crate) enum Block {
     Whole(WholeBlock),
     /// The file ends within it.
@@ -17,7 +17,7 @@ pub(crate) enum Block {
 }
 
 /// A block that the file has all of.
-#[derive(Clone, Copy, PartialEq, Eq, Debug)]
+#[derive(Clone, Copy)]
 pub(crate) struct WholeBlock {
     pub(crate) kind: u32,
     /// The order of the section's numbers.
@@ -27,7 +27,7 @@ pub(crate) struct WholeBlock {
 }
 
 /// An interface of a section.
-#[derive(Clone, Copy, PartialEq, Eq, Debug)]
+#[derive(Clone, Copy)]
 pub(crate) struct Interface {
     /// What its frames are, if they are read.
     pub(crate) link: Option<LinkType>,

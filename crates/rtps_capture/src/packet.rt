@@ -23,7 +23,7 @@ pub enum Contents {
 }
 
 /// Where the packet begins that a frame carries.
-#[derive(Clone, Copy, PartialEq, Eq, Debug)]
+#[derive(Clone, Copy)]
 enum Carried {
     Ipv4(usize),
     Ipv6(usize),

@@ -6,7 +6,7 @@ use crate::octet_number::two_octets;
 use rtps_ids::Order;
 
 /// A header of a frame or packet: what it is, by the number that the header before it has, and where it begins.
-#[derive(Clone, Copy, PartialEq, Eq, Debug)]
+#[derive(Clone, Copy)]
 pub(crate) struct Header {
     pub(crate) kind: u16,
     pub(crate) at: usize,
