@@ -5,6 +5,7 @@ use Rattle.std.specs.List.{list_any}
 use Rattle.std.proofs.lemmas.Bool.{cases_lt}
 use Rattle.std.proofs.lemmas.Bool.Decides.{nat_tests}
 use Rattle.std.proofs.lemmas.List.Elements.{Contains-append_left}
+use Rattle.std.proofs.lemmas.List.Folds.{list_any-from_Any}
 use Rattle.rtps_ids.specs.declared.identity.Guid.{Guid}
 use Rattle.rtps_discovery.specs.declared.matching.Pair.{Pair}
 use Rattle.rtps_wire.specs.Values.{PayloadValue}
@@ -146,6 +147,26 @@ certain from pair recording n (Some claim) asked found is end ends =
         let earlier = held.earlier in
         absurd (none_passes (withdraws_before pair.writer pair.reader n claim.datagram) (placed_in recording) teller.0 never teller.1
         (passes_gone pair.writer pair.reader n claim.datagram teller.0 (omega arith) teller.2))
+
+-- where a run exists, a number that is claimed and not told gone before the first claim is sent before
+pub sent_before : (from : ℕ) (pair : Pair) (recording : List (List ℕ)) (n : ℕ) (claim : PlacedValue) → IsAsked from n → HasRun from (speech_of pair.writer pair.reader recording)
+    → first_claiming pair.writer pair.reader n (placed_in recording) ≡ Some claim → list_any (withdraws_before pair.writer pair.reader n claim.datagram) (placed_in recording) ≡ false
+    → list_any (sends_before pair.writer pair.reader n claim.datagram) (placed_in recording) ≡ true
+sent_before from pair recording n claim asked run found never =
+    let there = found_is_there (claims pair.writer pair.reader n) (placed_in recording) claim found in
+    let here = claim_there from pair recording n claim asked there.0 there.1 in
+    let told = run_is_founded from (speech_of pair.writer pair.reader recording) run here.0 n here.1 in
+    let teller = given_is_word from pair.writer pair.reader recording told.place told.act n told.word told.gives in
+    let at = here.2 in
+    let earlier = told.earlier in
+    let place = teller.3 in
+    by teller.0 teller.1 (omega arith) told.word teller.2
+  where
+    by : (at : PlacedValue) → Contains (placed_in recording) at → at.datagram < claim.datagram → (word : Word) → word_for pair.writer pair.reader at.act n ≡ Some word → list_any (sends_before pair.writer pair.reader n claim.datagram) (placed_in recording) ≡ true
+    by at among lt (Told payload) says =
+        let passes = passes_sent pair.writer pair.reader n claim.datagram at payload lt says in
+        list_any-from_Any (sends_before pair.writer pair.reader n claim.datagram) (placed_in recording) (among.0, at, among.1, among.2, passes)
+    by at among lt Gone says = absurd (none_passes (withdraws_before pair.writer pair.reader n claim.datagram) (placed_in recording) at never among (passes_gone pair.writer pair.reader n claim.datagram at lt says))
 
 -- ---- and what is not, is not
 

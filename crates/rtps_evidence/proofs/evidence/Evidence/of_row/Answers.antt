@@ -3,13 +3,14 @@ use Rattle.rtps_ids.specs.declared.identity.Guid.{Guid}
 use Rattle.rtps_audit.specs.Delivery.{last_announced_from}
 use Rattle.rtps_audit.specs.Placed.{is_from, placed_in, placed_value}
 use Rattle.rtps_audit.specs.Speech.{speech_of}
-use Rattle.rtps_discovery.specs.declared.matching.Pair.{Pair}
 use Rattle.rtps_evidence.specs.Amount.{AreAmounts, stretches_have}
-use Rattle.rtps_evidence.specs.Missed.{AreMissed, is_missed, place_announced}
-use Rattle.rtps_evidence.specs.Received.{AreReceived, is_received}
+use Rattle.rtps_evidence.specs.Missed.{AreMissed}
+use Rattle.rtps_evidence.specs.Received.{AreReceived}
+use Rattle.rtps_evidence.specs.WriterSummary.{IsHeardBy, IsSplit}
+use Rattle.rtps_evidence.proofs.ClaimedLemmas.{withdrawals_same}
 use Rattle.rtps_evidence.specs.Evidence.{first_by, other_by, teller_by}
 use Rattle.rtps_evidence.specs.Locations.{announcement_of}
-use Rattle.rtps_evidence.proofs.OriginLemmas.{first_by_same, other_by_same, teller_by_same}
+use Rattle.rtps_evidence.proofs.OriginLemmas.{amounts_same, first_by_same, other_by_same, teller_by_same}
 use Rattle.rtps_evidence.proofs.evidence.Evidence.of_row.Goals as goal
 
 pub returns-clause-evidence : goal.returns-clause-evidence
@@ -22,17 +23,21 @@ returns-clause-evidence c = λ recording is summary judged.
     let acts : map placed_value c.acts_of-acts.result.now ≡ filter (is_from writer) all = c.acts_of-acts.ensures recording is in
     let answers = c.answers_of-answers.ensures recording is in
     let last : c.args.summary.now.asked.last ≡ last_announced_from from (speech_of writer reader recording) = summary.last reader ∙ ap (λ (w : Guid). last_announced_from from (speech_of w reader recording)) c.requires in
-    let pair = c.of-listener.ensures.pair in
-    let place = c.of-listener.ensures.announced recording is ∙ ap (λ (p : Pair). place_announced p.reader all) (sym pair) in
-    let known = λ (n : ℕ). ap (λ l. stretches_have l n) c.deref.ensures.value ∙ c.in_ok-numbers.ensures.received recording acts answers n ∙ ap (λ (p : Pair). is_received p.writer p.reader all n) (sym pair) in
+    let its_acts = acts ∙ ap (λ (w : Guid). filter (is_from w) all) (sym c.requires) in
+    let split = subst (λ l. IsSplit c.args.summary.now.writer l c.args.summary.now.alike c.args.summary.now.others.items) (sym its_acts) summary.heard in
+    let heard = subst (λ (w : Guid). IsHeardBy w reader (map placed_value c.acts_of-acts.result.now) c.in_ok-heard.heard) c.requires (c.in_ok-heard.ensures split) in
+    let withdrawals = withdrawals_same writer reader (placed_in recording) (map placed_value c.acts_of-acts.result.now) c.in_ok-heard.heard acts heard in
+    let lacking = c.in_ok-lacking.ensures.lacking recording is withdrawals judged in
+    let amounts = c.in_ok-amounts.ensures writer reader (map placed_value c.acts_of-acts.result.now) _ heard in
     record {
       verdict = judged;
       announcement = summary.announcement ∙ ap (λ (w : Guid). announcement_of from w c.args.summary.now.asked.last all) c.requires ∙ ap (λ n. announcement_of from writer n all) last;
       acknowledgement = c.find_acknowledgement.ensures recording is;
-      amounts = subst (λ n. AreAmounts from n writer reader all c.in_ok-amounts.amounts) last (subst (λ (w : Guid). AreAmounts from c.args.summary.now.asked.last w reader all c.in_ok-amounts.amounts) c.requires (c.in_ok-amounts.ensures recording is summary));
-      received = subst (λ n. AreReceived from n writer reader all c.in_ok-received.received) last (c.in_ok-received.ensures recording is (c.in_ok-numbers.ensures.received recording acts answers));
+      amounts = subst (λ n. AreAmounts from n writer reader all c.in_ok-amounts.amounts) last
+          (amounts_same from c.args.summary.now.asked.last writer reader all c.in_ok-amounts.amounts (subst (λ l. AreAmounts from c.args.summary.now.asked.last writer reader l c.in_ok-amounts.amounts) acts amounts));
+      received = subst (λ n. AreReceived from n writer reader all c.in_ok-received.received) last (c.in_ok-received.ensures recording is lacking);
       missed = subst (λ n. AreMissed from n writer reader all c.in_ok-missed-2.missed) last
-          (c.in_ok-missed-2.ensures recording is (λ n. c.in_ok-missed.ensures recording is place known n ∙ ap (λ (p : Pair). is_missed p.writer p.reader all n) pair));
+          (c.in_ok-missed-2.ensures recording is (λ n low high. c.in_ok-missed.ensures recording is n (ap (λ l. stretches_have l n) c.deref.ensures.value ∙ lacking n low high)));
       questions = c.questions_since-questions.ensures recording acts answers;
       teller = c.teller_of.ensures ∙ ap (teller_by row.verdict writer reader) acts ∙ teller_by_same row.verdict writer reader all;
       claim = c.claim_of.ensures recording is;
