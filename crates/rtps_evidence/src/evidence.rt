@@ -8,6 +8,7 @@ ghost use Rattle.rtps_evidence.specs.Evidence.{claim_by as claim_by_lem, first_b
 
 use crate::acknowledgement::{Claim, find_acknowledgement, find_claim};
 use crate::first_missed::FirstMissed;
+use crate::lacking::Exchange;
 use crate::last_announcement::Announcement;
 use crate::location::Location;
 use crate::missed::count_missed;
@@ -100,7 +101,8 @@ impl<'a> Evidence<'a> {
         let acts = index.acts_of(row.pair.writer);
         let answers = index.answers_of(row.pair);
         let mut heard = summary.heard_by(alloc, acts, row.pair.reader)?;
-        let mut lacking = heard.lacking(alloc, index, row, &summary.asked)?;
+        let exchange = Exchange { acts, answers };
+        let mut lacking = heard.lacking(alloc, &exchange, row, &summary.asked)?;
         let mut missed = find_missed(alloc, index, row.pair, &lacking)?;
         let missed = count_missed(&mut missed, index, row.pair, &summary.asked)?;
         let received = count_received(&mut lacking, index, row.pair, &summary.asked)?;
@@ -109,7 +111,7 @@ impl<'a> Evidence<'a> {
         Ok(Evidence {
             verdict: row.verdict,
             announcement: summary.announcement,
-            acknowledgement: find_acknowledgement(index, row.pair, summary.asked.from),
+            acknowledgement: find_acknowledgement(answers, summary.asked.from),
             payloads: amounts.payloads,
             gone: amounts.gone,
             untold: amounts.untold,

@@ -12,10 +12,17 @@ use crate::claimed::{Certainty, gone_among};
 use crate::received::received_among;
 use crate::rising::rising;
 use crate::withdrawal::Withdrawal;
-use rtps_audit::{Answer, Index, Row, Verdict};
+use rtps_audit::{Answer, Placed, Row, Verdict};
 use rtps_discovery::Pair;
 use rtps_ids::Memory;
 use std::alloc::Global;
+
+/// What a pair's writer says, and what its reader answers.
+#[derive(Clone, Copy)]
+pub(crate) struct Exchange<'s, 'a> {
+    pub(crate) acts: &'s [Placed<'a>],
+    pub(crate) answers: &'s [Answer],
+}
 
 /// The numbers from `from` on and below `end` that none of these stretches has. Other numbers may be among them.
 fn outside(
@@ -75,11 +82,10 @@ fn is_unfounded(verdict: Verdict) -> bool
 impl HeardNumbers {
     ghost use Rattle.std.specs.Prelude.{List};
     ghost use Rattle.rtps_audit.specs.Delivery.{HasRun};
-    ghost use Rattle.rtps_audit.specs.Index.{IsIndexOf};
     ghost use Rattle.rtps_audit.specs.Placed.{placed_in};
     ghost use Rattle.rtps_audit.specs.Report.{IsJudgedFrom};
     ghost use Rattle.rtps_audit.specs.Speech.{speech_of};
-    ghost use Rattle.rtps_evidence.specs.Claimed.{AreLacking, AreWithdrawals};
+    ghost use Rattle.rtps_evidence.specs.Claimed.{AreLacking, AreWithdrawals, IsExchange};
     ghost use Rattle.rtps_evidence.specs.Rising.{AreRising};
 
     /// The numbers that are asked for and that a row's reader may not have received, where this is what it hears. They are
@@ -87,17 +93,17 @@ impl HeardNumbers {
     pub(crate) fn lacking(
         &self,
         alloc: Global,
-        index: &Index<'_>,
+        exchange: &Exchange<'_, '_>,
         row: Row,
         asked: &AskedNumbers,
     ) -> Result<Vec<Stretch>, Memory>
         ensures rising { IfOk result (λ lacking. AreRising lacking.items) }
-        ensures lacking { (recording : List (List ℕ)) → IsIndexOf recording index.now
+        ensures lacking { (recording : List (List ℕ)) → IsExchange row.pair (placed_in recording) exchange.now
             → AreWithdrawals row.pair.writer row.pair.reader (placed_in recording) self.now.gone.items
             → IsJudgedFrom asked.now.from recording row
             → IfOk result (λ lacking. AreLacking asked.now.from asked.now.last row.pair (placed_in recording) lacking.items) }
     {
-        let mut lacking = self.lacking_by(alloc, index, row, asked)?;
+        let mut lacking = self.lacking_by(alloc, exchange, row, asked)?;
         let lacking = rising(alloc, &mut lacking)?;
         Ok(lacking)
     }
@@ -106,19 +112,19 @@ impl HeardNumbers {
     fn lacking_by(
         &self,
         alloc: Global,
-        index: &Index<'_>,
+        exchange: &Exchange<'_, '_>,
         row: Row,
         asked: &AskedNumbers,
     ) -> Result<Vec<Stretch>, Memory>
-        ensures { (recording : List (List ℕ)) → IsIndexOf recording index.now
+        ensures { (recording : List (List ℕ)) → IsExchange row.pair (placed_in recording) exchange.now
             → AreWithdrawals row.pair.writer row.pair.reader (placed_in recording) self.now.gone.items
             → IsJudgedFrom asked.now.from recording row
             → IfOk result (λ lacking. AreLacking asked.now.from asked.now.last row.pair (placed_in recording) lacking.items) }
     {
         if is_unfounded(row.verdict) {
-            return self.lacking_by_acts(alloc, index, row.pair, asked);
+            return self.lacking_by_acts(alloc, exchange, row.pair, asked);
         }
-        let lacking = gone_or_unclaimed(alloc, &self.gone, index.answers_of(row.pair), asked)?;
+        let lacking = gone_or_unclaimed(alloc, &self.gone, exchange.answers, asked)?;
         Ok(lacking)
     }
 
@@ -126,16 +132,16 @@ impl HeardNumbers {
     fn lacking_by_acts(
         &self,
         alloc: Global,
-        index: &Index<'_>,
+        exchange: &Exchange<'_, '_>,
         pair: Pair,
         asked: &AskedNumbers,
     ) -> Result<Vec<Stretch>, Memory>
-        ensures { (recording : List (List ℕ)) → IsIndexOf recording index.now
+        ensures { (recording : List (List ℕ)) → IsExchange pair (placed_in recording) exchange.now
             → AreWithdrawals pair.writer pair.reader (placed_in recording) self.now.gone.items
             → IfOk result (λ lacking. AreLacking asked.now.from asked.now.last pair (placed_in recording) lacking.items) }
     {
-        let certainty = Certainty::of(alloc, &self.gone, index.answers_of(pair))?;
-        let mut received = received_among(alloc, index.acts_of(pair.writer), pair, &certainty)?;
+        let certainty = Certainty::of(alloc, &self.gone, exchange.answers)?;
+        let mut received = received_among(alloc, exchange.acts, pair, &certainty)?;
         let received = rising(alloc, &mut received)?;
         let from = asked.from.get().cast_unsigned();
         let lacking = outside(alloc, &received, from, asked.last + 1)?;

@@ -11,4 +11,4 @@ returns c = λ recording is are judged n low high.
     let run = has_run c.args.asked.now.from (speech_of row.pair.writer row.pair.reader recording) row.verdict judged (sym c.is_unfounded.ensures ∙ c.if-is_unfounded.false) in
     let withdrawals = subst (AreWithdrawals row.pair.writer row.pair.reader (placed_in recording)) (sym c.deref.ensures.value) are in
     c.in_ok-lacking.ensures n low high
-    ∙ founded_same c.args.asked.now.from row.pair recording c.answers_of.result.now c.deref.result.now n (omega arith, low) run (c.answers_of.ensures recording is) withdrawals
+    ∙ founded_same c.args.asked.now.from row.pair recording c.args.exchange.now.answers.now c.deref.result.now n (omega arith, low) run is.answers withdrawals

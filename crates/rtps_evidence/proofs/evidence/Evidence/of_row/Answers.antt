@@ -27,12 +27,12 @@ returns-clause-evidence c = λ recording is summary judged.
     let split = subst (λ l. IsSplit c.args.summary.now.writer l c.args.summary.now.alike c.args.summary.now.others.items) (sym its_acts) summary.heard in
     let heard = subst (λ (w : Guid). IsHeardBy w reader (map placed_value c.acts_of-acts.result.now) c.in_ok-heard.heard) c.requires (c.in_ok-heard.ensures split) in
     let withdrawals = withdrawals_same writer reader (placed_in recording) (map placed_value c.acts_of-acts.result.now) c.in_ok-heard.heard acts heard in
-    let lacking = c.in_ok-lacking.ensures.lacking recording is withdrawals judged in
+    let lacking = c.in_ok-lacking.ensures.lacking recording (record { acts = acts; answers = answers }) withdrawals judged in
     let amounts = c.in_ok-amounts.ensures writer reader (map placed_value c.acts_of-acts.result.now) _ heard in
     record {
       verdict = judged;
       announcement = summary.announcement ∙ ap (λ (w : Guid). announcement_of from w c.args.summary.now.asked.last all) c.requires ∙ ap (λ n. announcement_of from writer n all) last;
-      acknowledgement = c.find_acknowledgement.ensures recording is;
+      acknowledgement = c.find_acknowledgement.ensures row.pair recording answers;
       amounts = subst (λ n. AreAmounts from n writer reader all c.in_ok-amounts.amounts) last
           (amounts_same from c.args.summary.now.asked.last writer reader all c.in_ok-amounts.amounts (subst (λ l. AreAmounts from c.args.summary.now.asked.last writer reader l c.in_ok-amounts.amounts) acts amounts));
       received = subst (λ n. AreReceived from n writer reader all c.in_ok-received.received) last (c.in_ok-received.ensures recording is lacking);
