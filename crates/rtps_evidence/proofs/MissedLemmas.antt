@@ -140,8 +140,17 @@ turned false s false = refl
 pub received_not_missed : (writer reader : Guid) (placed : List PlacedValue) (n : ℕ) → not (is_received writer reader placed n) ≡ false → false ≡ is_missed writer reader placed n
 received_not_missed writer reader placed n received = sym (ap (λ b. b && (list_any (asks_for writer reader n) placed && list_any (sends_behind (place_announced reader placed) writer reader n) placed)) received)
 
+-- of the numbers that are asked for, those that are not lacking do not count
+common_same : (some asked sent lacking : Bool) → (lacking ≡ true → some ≡ asked) → (sent ≡ true → lacking ≡ true) → (some && sent) ≡ (asked && sent)
+common_same some asked true lacking same there = ap (λ b. b && true) (same (there refl))
+common_same some asked false lacking same there = none some ∙ sym (none asked)
+  where
+    none : (b : Bool) → (b && false) ≡ false
+    none true = refl
+    none false = refl
+
 -- what is sent behind the announcement and not received, and asked for, is missed
-pub missed_same : (pair : Pair) (placed writer_acts reader_acts : List PlacedValue) (announced : Option Location) (n : ℕ) (lacking asked sent : Bool)
+missed_same : (pair : Pair) (placed writer_acts reader_acts : List PlacedValue) (announced : Option Location) (n : ℕ) (lacking asked sent : Bool)
     → writer_acts ≡ filter (is_from pair.writer) placed → reader_acts ≡ filter (is_from pair.reader) placed → announced ≡ place_announced pair.reader placed
     → lacking ≡ not (is_received pair.writer pair.reader placed n)
     → asked ≡ list_any (asks_for pair.writer pair.reader n) reader_acts
@@ -157,6 +166,18 @@ missed_same pair placed writer_acts reader_acts announced n lacking asked sent o
     ∙ ap (λ p. list_any (sends_behind p pair.writer pair.reader n) placed) place))
     ∙ turned (list_any (asks_for pair.writer pair.reader n) placed) (list_any (sends_behind (place_announced pair.reader placed) pair.writer pair.reader n) placed) lacking
     ∙ ap (λ b. b && (list_any (asks_for pair.writer pair.reader n) placed && list_any (sends_behind (place_announced pair.reader placed) pair.writer pair.reader n) placed)) known
+
+-- also where what is asked for is only known of what is lacking
+pub missed_some : (pair : Pair) (placed writer_acts reader_acts : List PlacedValue) (announced : Option Location) (n : ℕ) (lacking asked sent : Bool)
+    → writer_acts ≡ filter (is_from pair.writer) placed → reader_acts ≡ filter (is_from pair.reader) placed → announced ≡ place_announced pair.reader placed
+    → lacking ≡ not (is_received pair.writer pair.reader placed n)
+    → (lacking ≡ true → asked ≡ list_any (asks_for pair.writer pair.reader n) reader_acts)
+    → sent ≡ list_any (λ at. sends_behind announced pair.writer pair.reader n at && lacking) writer_acts
+    → (asked && sent) ≡ is_missed pair.writer pair.reader placed n
+missed_some pair placed writer_acts reader_acts announced n lacking asked sent of_writer of_reader place known asks sends_it =
+    common_same asked (list_any (asks_for pair.writer pair.reader n) reader_acts) sent lacking asks
+    (λ is. (parts (list_any (sends_behind announced pair.writer pair.reader n) writer_acts) lacking (sym (any_and (sends_behind announced pair.writer pair.reader n) lacking writer_acts) ∙ sym sends_it ∙ is)).1)
+    ∙ missed_same pair placed writer_acts reader_acts announced n lacking (list_any (asks_for pair.writer pair.reader n) reader_acts) sent of_writer of_reader place known refl sends_it
 
 -- ---- counted, and the least of them
 

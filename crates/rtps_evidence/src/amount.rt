@@ -105,7 +105,7 @@ fn joined(first: Stretch, second: Stretch) -> Option<Stretch>
 }
 
 /// Appends a stretch, or joins it to the last one. After `Memory` the stretches are of no use.
-fn push(stretches: &mut Vec<Stretch>, stretch: Stretch) -> Result<(), Memory>
+pub(crate) fn push(stretches: &mut Vec<Stretch>, stretch: Stretch) -> Result<(), Memory>
     ensures { OnOk result ((n : ℕ) → stretches_have stretches.new.items n ≡ (stretches_have stretches.old.items n || stretch_has n stretch)) }
 {
     let Some(last) = stretches.pop() else {

@@ -1,4 +1,4 @@
-ghost use Rattle.std.specs.Prelude.{ℕ, ◌≡◌, ◌==◌, ◌&&◌, ◌||◌, not, map, IfOk, OnOk, List};
+ghost use Rattle.std.specs.Prelude.{ℕ, true, ◌≡◌, ◌==◌, ◌&&◌, ◌||◌, not, map, IfOk, OnOk, List};
 ghost use Rattle.std.specs.List.{list_any};
 ghost use Rattle.rtps_ids.specs.NumberSet.{is_member};
 ghost use Rattle.rtps_audit.specs.Index.{IsIndexOf};
@@ -95,6 +95,25 @@ fn asked_among(alloc: Global, acts: &[Placed<'_>], pair: Pair) -> Result<Vec<Str
     Ok(asked)
 }
 
+/// Those of these stretches that have a number which the reader lacks.
+fn lacking_among(
+    alloc: Global,
+    asked: &[Stretch],
+    lacking: &[Stretch],
+) -> Result<Vec<Stretch>, Memory>
+    requires { AreRising lacking.now }
+    ensures { IfOk result (λ some. (n : ℕ) → stretches_have lacking.now n ≡ true → stretches_have some.items n ≡ stretches_have asked.now n) }
+{
+    let mut some = Vec::new(alloc);
+    for stretch in asked {
+        let end = end_at(lacking, stretch.hi);
+        if stretch.lo < end {
+            some.push(*stretch)?;
+        }
+    }
+    Ok(some)
+}
+
 /// The number of the payload that the reader hears by an act behind its announcement.
 fn number_behind(placed: &Placed<'_>, listener: &Listener) -> Option<u64>
     ensures { (n : ℕ) → sends_behind listener.now.announced listener.now.pair.writer listener.now.pair.reader n (placed_value placed.now) ≡ is_at n result }
@@ -186,7 +205,8 @@ pub(crate) fn find_missed(
     if lacking.is_empty() {
         return Ok(Vec::new(alloc));
     }
-    let mut asked = asked_among(alloc, index.acts_of(pair.reader), pair)?;
+    let asked = asked_among(alloc, index.acts_of(pair.reader), pair)?;
+    let mut asked = lacking_among(alloc, &asked, lacking)?;
     if asked.is_empty() {
         return Ok(Vec::new(alloc));
     }

@@ -8,7 +8,7 @@ ghost use Rattle.rtps_evidence.specs.Locations.{sends};
 ghost use Rattle.rtps_evidence.specs.Received.{AreReceived};
 ghost use Rattle.rtps_evidence.specs.Rising.{AreRising};
 
-use crate::amount::{AskedNumbers, Stretch, count_of, least_inside};
+use crate::amount::{AskedNumbers, Stretch, count_of, least_inside, push};
 use crate::claimed::Certainty;
 use crate::not_received::{NotReceived, not_received_at};
 use rtps_audit::{Index, Placed};
@@ -49,10 +49,8 @@ fn push_received(
         return Ok(());
     };
     if certainty.covers(placed.datagram as u64, number) {
-        received.push(Stretch {
-            lo: number,
-            hi: number + 1,
-        })?;
+        let hi = number + 1;
+        push(received, Stretch { lo: number, hi })?;
     }
     Ok(())
 }

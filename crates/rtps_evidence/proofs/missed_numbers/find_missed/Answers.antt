@@ -8,7 +8,7 @@ use Rattle.rtps_evidence.specs.Amount.{stretches_have}
 use Rattle.rtps_evidence.specs.Missed.{asks_for, numbers_have, place_announced, sends_behind}
 use Rattle.rtps_evidence.specs.Received.{is_received}
 use Rattle.rtps_evidence.specs.declared.amount.Stretch.{Stretch}
-use Rattle.rtps_evidence.proofs.MissedLemmas.{missed_same, received_not_missed}
+use Rattle.rtps_evidence.proofs.MissedLemmas.{missed_some, received_not_missed}
 use Rattle.rtps_evidence.proofs.missed_numbers.find_missed.Goals as goal
 
 pub returns : goal.returns
@@ -17,11 +17,11 @@ returns c = λ recording is n known.
     let same = c.of-listener.ensures.pair in
     let place = c.of-listener.ensures.announced recording is in
     c.in_ok-missed.ensures n
-    ∙ missed_same pair (placed_in recording) (map placed_value c.acts_of-2.result.now) (map placed_value c.acts_of.result.now) c.of-listener.result.announced n
-    (stretches_have c.args.lacking.now n) (stretches_have c.deref-2.result.now n) (numbers_have c.deref.result.now n)
+    ∙ missed_some pair (placed_in recording) (map placed_value c.acts_of-2.result.now) (map placed_value c.acts_of.result.now) c.of-listener.result.announced n
+    (stretches_have c.args.lacking.now n) (stretches_have c.deref-3.result.now n) (numbers_have c.deref-2.result.now n)
     (c.acts_of-2.ensures recording is) (c.acts_of.ensures recording is) place known
-    (ap (λ l. stretches_have l n) c.deref-2.ensures.value ∙ c.in_ok-asked-2.ensures.same n n ∙ c.in_ok-asked.ensures n)
-    (ap (λ l. numbers_have l n) c.deref.ensures.value ∙ c.in_ok-numbers.ensures n ∙ ap (λ (p : Pair). list_any (λ at. sends_behind c.of-listener.result.announced p.writer p.reader n at && stretches_have c.args.lacking.now n) (map placed_value c.acts_of-2.result.now)) same)
+    (λ lacks. ap (λ l. stretches_have l n) c.deref-3.ensures.value ∙ c.in_ok-asked-3.ensures.same n n ∙ c.in_ok-asked-2.ensures n lacks ∙ ap (λ l. stretches_have l n) c.deref.ensures.value ∙ c.in_ok-asked.ensures n)
+    (ap (λ l. numbers_have l n) c.deref-2.ensures.value ∙ c.in_ok-numbers.ensures n ∙ ap (λ (p : Pair). list_any (λ at. sends_behind c.of-listener.result.announced p.writer p.reader n at && stretches_have c.args.lacking.now n) (map placed_value c.acts_of-2.result.now)) same)
 
 pub returns-then-is_empty : goal.returns-then-is_empty
 returns-then-is_empty c = λ recording is n known.
@@ -35,8 +35,8 @@ returns-then-is_empty-2 c = λ recording is n known.
     let pair = c.args.pair in
     let said = filter (is_from pair.writer) (placed_in recording) in
     let sent = list_any (λ at. sends_behind (place_announced pair.reader (placed_in recording)) pair.writer pair.reader n at && stretches_have c.args.lacking.now n) said in
-    let none : c.in_ok-asked.asked.items ≡ [] = nil_from_length c.in_ok-asked.asked.items (let zero = c.if-is_empty-2.ensures in grind (arith, nat_tests, zero)) in
+    let none : c.in_ok-asked-2.asked.items ≡ [] = nil_from_length c.in_ok-asked-2.asked.items (let zero = c.if-is_empty-2.ensures in grind (arith, nat_tests, zero)) in
     ap (λ (l : List Stretch). stretches_have l n) c.new-then-is_empty-2.ensures.items
-    ∙ missed_same pair (placed_in recording) said (map placed_value c.acts_of.result.now) (place_announced pair.reader (placed_in recording)) n
+    ∙ missed_some pair (placed_in recording) said (map placed_value c.acts_of.result.now) (place_announced pair.reader (placed_in recording)) n
     (stretches_have c.args.lacking.now n) (stretches_have [] n) sent refl (c.acts_of.ensures recording is) refl known
-    (ap (λ (l : List Stretch). stretches_have l n) (sym none) ∙ c.in_ok-asked.ensures n) refl
+    (λ lacks. ap (λ (l : List Stretch). stretches_have l n) (sym none) ∙ c.in_ok-asked-2.ensures n lacks ∙ ap (λ l. stretches_have l n) c.deref.ensures.value ∙ c.in_ok-asked.ensures n) refl
