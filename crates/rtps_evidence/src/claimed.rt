@@ -34,7 +34,8 @@ impl Certainty {
     ) -> Result<Certainty, Memory>
         ensures { IfOk result (IsCertaintyOf withdrawals.now answers.now) }
     {
-        let claims = claims_of(alloc, answers)?;
+        let mut stretches = claims_of(alloc, answers)?;
+        let claims = rising(alloc, &mut stretches)?;
         let mut stretches = gone_unclaimed(alloc, withdrawals, &claims)?;
         let gone = rising(alloc, &mut stretches)?;
         Ok(Certainty {
@@ -58,7 +59,7 @@ impl Certainty {
 }
 
 /// The answers as stretches, each from its datagram to its base.
-fn stretches_of(alloc: Global, answers: &[Answer]) -> Result<Vec<Stretch>, Memory>
+fn claims_of(alloc: Global, answers: &[Answer]) -> Result<Vec<Stretch>, Memory>
     ensures { IfOk result (λ claims. (datagram n : ℕ)
         → some_reaches claims.items datagram n ≡ list_any (claims_up_to datagram n) answers.now) }
 {
@@ -68,17 +69,6 @@ fn stretches_of(alloc: Global, answers: &[Answer]) -> Result<Vec<Stretch>, Memor
         let hi = answer.natural_base();
         claims.push(Stretch { lo, hi })?;
     }
-    Ok(claims)
-}
-
-/// The same as stretches that rise.
-fn claims_of(alloc: Global, answers: &[Answer]) -> Result<Vec<Stretch>, Memory>
-    ensures rising { IfOk result (λ claims. AreRising claims.items) }
-    ensures same { IfOk result (λ claims. (datagram n : ℕ)
-        → some_reaches claims.items datagram n ≡ list_any (claims_up_to datagram n) answers.now) }
-{
-    let mut stretches = stretches_of(alloc, answers)?;
-    let claims = rising(alloc, &mut stretches)?;
     Ok(claims)
 }
 
@@ -127,7 +117,8 @@ pub(crate) fn gone_among(
     if !go_past(withdrawals, from.get().cast_unsigned()) {
         return Ok(Vec::new(alloc));
     }
-    let claims = claims_of(alloc, answers)?;
+    let mut stretches = claims_of(alloc, answers)?;
+    let claims = rising(alloc, &mut stretches)?;
     let gone = gone_unclaimed(alloc, withdrawals, &claims)?;
     Ok(gone)
 }

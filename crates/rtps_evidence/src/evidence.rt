@@ -16,6 +16,7 @@ use crate::missed_numbers::find_missed;
 use crate::not_received::NotReceived;
 use crate::questions::questions_since;
 use crate::received::count_received;
+use crate::rising::rising;
 use crate::sent_payload::{Sent, first_sent, other_sent};
 use crate::teller::{Teller, find_teller};
 use crate::writer_summary::WriterSummary;
@@ -103,6 +104,7 @@ impl<'a> Evidence<'a> {
         let mut heard = summary.heard_by(alloc, acts, row.pair.reader)?;
         let exchange = Exchange { acts, answers };
         let mut lacking = heard.lacking(alloc, &exchange, row, &summary.asked)?;
+        let mut lacking = rising(alloc, &mut lacking)?;
         let mut missed = find_missed(alloc, index, row.pair, &lacking)?;
         let missed = count_missed(&mut missed, index, row.pair, &summary.asked)?;
         let received = count_received(&mut lacking, index, row.pair, &summary.asked)?;

@@ -81,35 +81,13 @@ fn is_unfounded(verdict: Verdict) -> bool
 
 impl HeardNumbers {
     ghost use Rattle.std.specs.Prelude.{List};
-    ghost use Rattle.rtps_audit.specs.Delivery.{HasRun};
     ghost use Rattle.rtps_audit.specs.Placed.{placed_in};
     ghost use Rattle.rtps_audit.specs.Report.{IsJudgedFrom};
-    ghost use Rattle.rtps_audit.specs.Speech.{speech_of};
     ghost use Rattle.rtps_evidence.specs.Claimed.{AreLacking, AreWithdrawals, IsExchange};
-    ghost use Rattle.rtps_evidence.specs.Rising.{AreRising};
 
-    /// The numbers that are asked for and that a row's reader may not have received, where this is what it hears. They are
-    /// stretches that rise. Other numbers may be among them.
+    /// The numbers that are asked for and that a row's reader may not have received, where this is what it hears. Where the
+    /// verdict is not unfounded, all that is claimed is told before: the acts are not needed. Other numbers may be among them.
     pub(crate) fn lacking(
-        &self,
-        alloc: Global,
-        exchange: &Exchange<'_, '_>,
-        row: Row,
-        asked: &AskedNumbers,
-    ) -> Result<Vec<Stretch>, Memory>
-        ensures rising { IfOk result (λ lacking. AreRising lacking.items) }
-        ensures lacking { (recording : List (List ℕ)) → IsExchange row.pair (placed_in recording) exchange.now
-            → AreWithdrawals row.pair.writer row.pair.reader (placed_in recording) self.now.gone.items
-            → IsJudgedFrom asked.now.from recording row
-            → IfOk result (λ lacking. AreLacking asked.now.from asked.now.last row.pair (placed_in recording) lacking.items) }
-    {
-        let mut lacking = self.lacking_by(alloc, exchange, row, asked)?;
-        let lacking = rising(alloc, &mut lacking)?;
-        Ok(lacking)
-    }
-
-    /// The same in no order. Where the verdict is not unfounded, all that is claimed is told before: the acts are not needed.
-    fn lacking_by(
         &self,
         alloc: Global,
         exchange: &Exchange<'_, '_>,

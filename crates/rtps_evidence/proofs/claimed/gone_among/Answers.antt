@@ -8,7 +8,7 @@ use Rattle.rtps_evidence.proofs.claimed.gone_among.Goals as goal
 pub returns : goal.returns
 returns c = λ n low.
     c.in_ok-gone.ensures n
-    ∙ past_same c.in_ok-claims.claims.items c.deref.result.now c.args.answers.now c.args.withdrawals.now n c.deref.ensures.value c.in_ok-claims.ensures.same
+    ∙ past_same c.in_ok-claims.claims.items c.deref.result.now c.args.answers.now c.args.withdrawals.now n c.deref.ensures.value (λ datagram m. c.in_ok-claims.ensures.same datagram m ∙ c.in_ok-stretches.ensures datagram m)
 
 pub returns-then-not-go_past : goal.returns-then-not-go_past
 returns-then-not-go_past c = λ n low.

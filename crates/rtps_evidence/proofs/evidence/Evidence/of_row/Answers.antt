@@ -1,4 +1,4 @@
-use Rattle.std.proofs.Common.{◌≡◌, ◌∙◌, ℕ, map, filter, ap, subst, sym}
+use Rattle.std.proofs.Common.{◌≡◌, ◌∙◌, ◌≤◌, ℕ, map, filter, ap, subst, sym}
 use Rattle.rtps_ids.specs.declared.identity.Guid.{Guid}
 use Rattle.rtps_audit.specs.Delivery.{last_announced_from}
 use Rattle.rtps_audit.specs.Placed.{is_from, placed_in, placed_value}
@@ -27,7 +27,7 @@ returns-clause-evidence c = λ recording is summary judged.
     let split = subst (λ l. IsSplit c.args.summary.now.writer l c.args.summary.now.alike c.args.summary.now.others.items) (sym its_acts) summary.heard in
     let heard = subst (λ (w : Guid). IsHeardBy w reader (map placed_value c.acts_of-acts.result.now) c.in_ok-heard.heard) c.requires (c.in_ok-heard.ensures split) in
     let withdrawals = withdrawals_same writer reader (placed_in recording) (map placed_value c.acts_of-acts.result.now) c.in_ok-heard.heard acts heard in
-    let lacking = c.in_ok-lacking.ensures.lacking recording (record { acts = acts; answers = answers }) withdrawals judged in
+    let lacking = λ (n : ℕ) (low : from ≤ n) (high : n ≤ c.args.summary.now.asked.last). c.in_ok-lacking-2.ensures.same n n ∙ c.in_ok-lacking.ensures recording (record { acts = acts; answers = answers }) withdrawals judged n low high in
     let amounts = c.in_ok-amounts.ensures writer reader (map placed_value c.acts_of-acts.result.now) _ heard in
     record {
       verdict = judged;
