@@ -10,20 +10,27 @@ use Rattle.rtps_ids.specs.declared.identity.Guid.{Guid}
 use Rattle.rtps_discovery.specs.declared.matching.Pair.{Pair}
 use Rattle.rtps_receiver.specs.Speech.{is_heard_by, is_spoken_by}
 use Rattle.rtps_receiver.specs.Values.{ActValue}
-use Rattle.rtps_audit.specs.Delivery.{Word, greatest}
+use Rattle.rtps_audit.specs.Delivery.{HasRun, IsAsked, Speech, Word, greatest}
 use Rattle.rtps_audit.specs.Placed.{PlacedValue, answer_at, answers_among, is_from, placed_in}
-use Rattle.rtps_audit.specs.Speech.{base_for, natural, word_of}
+use Rattle.rtps_audit.specs.RunVerdict.{IsVerdictFrom}
+use Rattle.rtps_audit.specs.Speech.{base_for, natural, speech_by, word_of}
 use Rattle.rtps_audit.specs.declared.answer.Answer.{Answer}
+use Rattle.rtps_audit.specs.declared.verdict.Verdict.{Verdict}
+use Rattle.rtps_audit.specs.declared.verdict.Verdict.TheVariants.{Unfounded, Conflict, Open, Complete}
 use Rattle.rtps_audit.proofs.Offered.{speaker_is_origin}
-use Rattle.rtps_evidence.specs.Amount.{stretches_have}
-use Rattle.rtps_evidence.specs.Claimed.{IsCertaintyOf, certain_at, claims_up_to, is_unclaimed_at}
-use Rattle.rtps_evidence.specs.Locations.{base_said, greatest_base, payload_in, sends, teller_at}
+use Rattle.rtps_evidence.specs.Amount.{stretches_have, withdrawal_has, withdrawn_before}
+use Rattle.rtps_evidence.specs.Claimed.{AreWithdrawals, IsCertaintyOf, certain_at, claims_up_to, is_unfounded, withdrawn_past, withdrawn_unclaimed}
+use Rattle.rtps_evidence.specs.Locations.{base_said, payload_in, sends, teller_at}
 use Rattle.rtps_evidence.specs.Received.{claims, first_claiming, gone_before, is_certain_by, is_gone, is_received, sends_before, withdraws, withdraws_before}
 use Rattle.rtps_evidence.specs.Rising.{some_reaches}
+use Rattle.rtps_evidence.specs.WriterSummary.{IsHeardBy}
+use Rattle.rtps_evidence.specs.declared.amount.HeardNumbers.{HeardNumbers}
 use Rattle.rtps_evidence.specs.declared.amount.Stretch.{Stretch}
 use Rattle.rtps_evidence.specs.declared.claimed.Certainty.{Certainty}
+use Rattle.rtps_evidence.specs.declared.withdrawal.Withdrawal.{Withdrawal}
 use Rattle.rtps_evidence.proofs.AnswerLemmas.{bases_same}
-use Rattle.rtps_evidence.proofs.FindLemmas.{any_filter, find_filter}
+use Rattle.rtps_evidence.proofs.FindLemmas.{any_and, any_filter, find_filter}
+use Rattle.rtps_evidence.proofs.ReceivedRuns.{sent_before}
 use Rattle.rtps_evidence.proofs.PlacedOrder.{first_is_first, found_is_there, none_found, none_passes, placed_ordered, some_passes}
 
 or_false : (b : Bool) → (b || false) ≡ b
@@ -59,17 +66,6 @@ any_of : {X : Type 0} (test : X → Bool) (xs : List X) (x : X) → Contains xs 
 any_of test xs x (k, lt, e) is = list_any-from_Any test xs (k, x, lt, e, is)
 
 -- ---- a stretch more
-
-pub clipped_more : (old below : Bool) (from n lo hi at : ℕ) (new : Bool) → at ≡ max lo from → new ≡ (old || (nat_le at n && nat_lt n hi)) → new ≡ (old || (nat_le from n && (nat_le lo n && nat_lt n hi)))
-clipped_more old below from n lo hi at new is e = e ∙ ap (λ b. old || b) same
-  where
-    same : (nat_le at n && nat_lt n hi) ≡ (nat_le from n && (nat_le lo n && nat_lt n hi))
-    same = grind (arith, nat_tests)
-
-pub shared_more : (old from a b : Bool) → ((old || (from && a)) || (from && b)) ≡ (old || (from && (a || b)))
-shared_more true from a b = refl
-shared_more false true a b = refl
-shared_more false false a b = refl
 
 pub has_one_more : (old new : List Stretch) (lo hi n : ℕ) → new ≡ old ++ record { lo = lo; hi = hi } ∷ [] → stretches_have new n ≡ (stretches_have old n || (nat_le lo n && nat_lt n hi))
 has_one_more old new lo hi n is =
@@ -118,117 +114,140 @@ sender writer reader n at is =
 pub withdrawer : (writer reader : Guid) (n : ℕ) (at : PlacedValue) → withdraws writer reader n at ≡ true → is_from writer at ≡ true
 withdrawer writer reader n at is = speaker_is_origin writer at (spoken_word (is_spoken_by at.act writer) (is_heard_by at.act reader) (word_of at.act.body n) is_gone refl is)
 
--- ---- what is received
+-- what the reader hears of numbers that will not come is said by the writer's acts
+pub withdrawals_same : (writer reader : Guid) (placed acts : List PlacedValue) (heard : HeardNumbers) → acts ≡ filter (is_from writer) placed → IsHeardBy writer reader acts heard → AreWithdrawals writer reader placed heard.gone.items
+withdrawals_same writer reader placed acts heard same is = λ n datagram.
+    is.gone n datagram ∙ ap (list_any (withdraws_before writer reader n datagram)) same
+    ∙ any_filter (withdraws_before writer reader n datagram) (is_from writer) (λ at passes. withdrawer writer reader n at (parts (nat_lt at.datagram datagram) (withdraws writer reader n at) passes).1) placed
 
--- no answer
-pub unanswered : (pair : Pair) (placed : List PlacedValue) (n : ℕ) → answers_among pair placed ≡ [] → false ≡ is_received pair.writer pair.reader placed n
-unanswered pair placed n none = by (first_claiming pair.writer pair.reader n placed) refl
-  where
-    zero_base : greatest_base pair.writer pair.reader placed ≡ 0
-    zero_base = sym (bases_same pair placed) ∙ ap (λ (answers : List Answer). greatest (map (λ answer. natural answer.base) answers)) none
-
-    by : (claim : Option PlacedValue) → first_claiming pair.writer pair.reader n placed ≡ claim → false ≡ is_certain_by pair.writer pair.reader n placed claim
-    by None found = refl
-    by (Some claim) found =
-        let there = found_is_there (claims pair.writer pair.reader n) placed claim found in
-        let any = any_of (claims pair.writer pair.reader n) placed claim there.0 there.1 in
-        let least : nat_lt n 0 ≡ false = grind (arith, nat_tests) in
-        absurd (never_both (nat_lt n 0) (ap (nat_lt n) (sym zero_base) ∙ below_greatest (base_said pair.writer pair.reader) placed n ∙ any) least)
+-- ---- what is claimed first
 
 -- where no claim stands up to a datagram, the first one stands behind it
-before_first : (pair : Pair) (placed : List PlacedValue) (answers : List Answer) (certainty : Certainty) (datagram n : ℕ) (claim : PlacedValue) → answers ≡ answers_among pair placed
-    → ((d m : ℕ) → some_reaches certainty.claims.items d m ≡ list_any (claims_up_to d m) answers)
-    → Contains placed claim → claims pair.writer pair.reader n claim ≡ true → some_reaches certainty.claims.items datagram n ≡ false → datagram < claim.datagram
-before_first pair placed answers certainty datagram n claim same is among claiming none = elim (cases_lt datagram claim.datagram) [
+before_first : (pair : Pair) (placed : List PlacedValue) (answers : List Answer) (datagram n : ℕ) (claim : PlacedValue) → answers ≡ answers_among pair placed
+    → Contains placed claim → claims pair.writer pair.reader n claim ≡ true → list_any (claims_up_to datagram n) answers ≡ false → datagram < claim.datagram
+before_first pair placed answers datagram n claim same among claiming none = elim (cases_lt datagram claim.datagram) [
   | inl before ↦ before
   | inr past ↦
       let late : nat_le claim.datagram datagram ≡ true = grind (arith, nat_tests) in
       let test = ap (λ b. b && claims pair.writer pair.reader n claim) late ∙ claiming in
       let any = any_of (λ (at : PlacedValue). nat_le at.datagram datagram && claims pair.writer pair.reader n at) placed claim among test in
-      absurd (never_both (some_reaches certainty.claims.items datagram n) (is datagram n ∙ ap (list_any (claims_up_to datagram n)) same ∙ claimed_same pair placed datagram n ∙ any) none)
+      absurd (never_both (list_any (claims_up_to datagram n) answers) (ap (list_any (claims_up_to datagram n)) same ∙ claimed_same pair placed datagram n ∙ any) none)
 ]
 
 -- and the other way round
-no_claim_before : (pair : Pair) (recording : List (List ActValue)) (answers : List Answer) (certainty : Certainty) (datagram n : ℕ) (claim : PlacedValue) → answers ≡ answers_among pair (placed_in recording)
-    → ((d m : ℕ) → some_reaches certainty.claims.items d m ≡ list_any (claims_up_to d m) answers)
-    → first_claiming pair.writer pair.reader n (placed_in recording) ≡ Some claim → datagram < claim.datagram → some_reaches certainty.claims.items datagram n ≡ false
-no_claim_before pair recording answers certainty datagram n claim same is found before =
-    to_false (some_reaches certainty.claims.items datagram n) (λ some.
-    let any = sym (is datagram n ∙ ap (list_any (claims_up_to datagram n)) same ∙ claimed_same pair (placed_in recording) datagram n) ∙ some in
+no_claim_before : (pair : Pair) (recording : List (List ActValue)) (answers : List Answer) (datagram n : ℕ) (claim : PlacedValue) → answers ≡ answers_among pair (placed_in recording)
+    → first_claiming pair.writer pair.reader n (placed_in recording) ≡ Some claim → datagram < claim.datagram → list_any (claims_up_to datagram n) answers ≡ false
+no_claim_before pair recording answers datagram n claim same found before =
+    to_false (list_any (claims_up_to datagram n) answers) (λ some.
+    let any = sym (ap (list_any (claims_up_to datagram n)) same ∙ claimed_same pair (placed_in recording) datagram n) ∙ some in
     let at = some_passes (λ (at : PlacedValue). nat_le at.datagram datagram && claims pair.writer pair.reader n at) (placed_in recording) any in
     let tests = parts (nat_le at.0.datagram datagram) (claims pair.writer pair.reader n at.0) at.2 in
     let le = first_is_first (claims pair.writer pair.reader n) 1 (placed_in recording) at.0 claim (placed_ordered 0 recording) found at.1 tests.1 in
     let up_to : at.0.datagram ≤ datagram = (let t = tests.0 in grind (arith, nat_tests, t)) in
     omega arith)
 
+-- so a number is not claimed up to a datagram where that stands before the first claim
+unclaimed_before : (pair : Pair) (recording : List (List ActValue)) (answers : List Answer) (n : ℕ) (claim : PlacedValue) → answers ≡ answers_among pair (placed_in recording)
+    → first_claiming pair.writer pair.reader n (placed_in recording) ≡ Some claim → (datagram : ℕ) → not (list_any (claims_up_to datagram n) answers) ≡ nat_lt datagram claim.datagram
+unclaimed_before pair recording answers n claim same found datagram =
+    let there = found_is_there (claims pair.writer pair.reader n) (placed_in recording) claim found in
+    both_ways (not (list_any (claims_up_to datagram n) answers)) (nat_lt datagram claim.datagram)
+    (λ none. let before = before_first pair (placed_in recording) answers datagram n claim same there.0 there.1 (not_true (list_any (claims_up_to datagram n) answers) none) in grind (arith, nat_tests, before))
+    (λ is. let before : datagram < claim.datagram = grind (arith, nat_tests, is) in ap not (no_claim_before pair recording answers datagram n claim same found before))
+
+any_same : {X : Type 0} (one other : X → Bool) → ((x : X) → one x ≡ other x) → (xs : List X) → list_any one xs ≡ list_any other xs
+any_same one other same [] = refl
+any_same one other same (x ∷ xs) = ap (λ b. b || list_any one xs) (same x) ∙ ap (λ b. other x || b) (any_same one other same xs)
+
+-- by how far is claimed up to each datagram, a withdrawal stands before the claims of a number or not
+pub past_same : (items lent : List Stretch) (answers : List Answer) (withdrawals : List Withdrawal) (n : ℕ) → lent ≡ items → ((d m : ℕ) → some_reaches items d m ≡ list_any (claims_up_to d m) answers)
+    → list_any (withdrawn_past lent n) withdrawals ≡ list_any (withdrawn_unclaimed answers n) withdrawals
+past_same items lent answers withdrawals n same is =
+    any_same (withdrawn_past lent n) (withdrawn_unclaimed answers n) (λ withdrawal. ap (λ b. not b && withdrawal_has n withdrawal) (ap (λ l. some_reaches l withdrawal.datagram n) same ∙ is withdrawal.datagram n)) withdrawals
+
+-- withdrawals that end up to a number have none from there on
+pub none_past : (withdrawals : List Withdrawal) (answers : List Answer) (from n : ℕ) → from ≤ n → list_any (λ withdrawal. nat_lt from withdrawal.hi) withdrawals ≡ false → list_any (withdrawn_unclaimed answers n) withdrawals ≡ false
+none_past withdrawals answers from n low none = to_false (list_any (withdrawn_unclaimed answers n) withdrawals) (λ some.
+    let at = some_passes (withdrawn_unclaimed answers n) withdrawals some in
+    let has = parts (nat_le at.0.lo n) (nat_lt n at.0.hi) (parts (not (list_any (claims_up_to at.0.datagram n) answers)) _ at.2).1 in
+    let past : nat_lt from at.0.hi ≡ true = (let t = has.1 in grind (arith, nat_tests, t)) in
+    none_passes (λ (withdrawal : Withdrawal). nat_lt from withdrawal.hi) withdrawals at.0 none at.1 past)
+
+-- a withdrawal more, as far as it is not claimed
+pub past_more : (old new : List Stretch) (claims : List Stretch) (withdrawal : Withdrawal) (end lo n : ℕ) → new ≡ old ++ record { lo = lo; hi = withdrawal.hi } ∷ [] → lo ≡ max end withdrawal.lo
+    → nat_lt n end ≡ some_reaches claims withdrawal.datagram n → stretches_have new n ≡ (stretches_have old n || withdrawn_past claims n withdrawal)
+past_more old new claims withdrawal end lo n is greatest reach =
+    has_one_more old new lo withdrawal.hi n is ∙ ap (λ b. stretches_have old n || b) (clipped withdrawal.lo withdrawal.hi greatest ∙ ap (λ b. not b && withdrawal_has n withdrawal) reach)
+  where
+    clipped : (first hi : ℕ) → lo ≡ max end first → (nat_le lo n && nat_lt n hi) ≡ (not (nat_lt n end) && (nat_le first n && nat_lt n hi))
+    clipped first hi e = grind (arith, nat_tests)
+
+pub past_none : (old : Bool) (claims : List Stretch) (withdrawal : Withdrawal) (end lo n : ℕ) → withdrawal.hi ≤ lo → lo ≡ max end withdrawal.lo
+    → nat_lt n end ≡ some_reaches claims withdrawal.datagram n → old ≡ (old || withdrawn_past claims n withdrawal)
+past_none old claims withdrawal end lo n le greatest reach = sym (or_false old) ∙ ap (λ b. old || b) (none withdrawal.lo withdrawal.hi le greatest ∙ ap (λ b. not b && withdrawal_has n withdrawal) reach)
+  where
+    none : (first hi : ℕ) → hi ≤ lo → lo ≡ max end first → false ≡ (not (nat_lt n end) && (nat_le first n && nat_lt n hi))
+    none first hi le e = grind (arith, nat_tests)
+
+-- what is told gone before it is claimed
+gone_first : (pair : Pair) (recording : List (List ActValue)) (answers : List Answer) (withdrawals : List Withdrawal) (n : ℕ) (claim : PlacedValue) → answers ≡ answers_among pair (placed_in recording)
+    → AreWithdrawals pair.writer pair.reader (placed_in recording) withdrawals → first_claiming pair.writer pair.reader n (placed_in recording) ≡ Some claim
+    → list_any (withdrawn_unclaimed answers n) withdrawals ≡ list_any (withdraws_before pair.writer pair.reader n claim.datagram) (placed_in recording)
+gone_first pair recording answers withdrawals n claim same are found =
+    any_same (withdrawn_unclaimed answers n) (withdrawn_before n claim.datagram) (λ withdrawal. ap (λ b. b && withdrawal_has n withdrawal) (unclaimed_before pair recording answers n claim same found withdrawal.datagram)) withdrawals
+    ∙ are n claim.datagram
+
+-- a number is below the greatest base where some answer claims it
+base_same : (pair : Pair) (placed : List PlacedValue) (answers : List Answer) (n : ℕ) → answers ≡ answers_among pair placed → nat_lt n (greatest (map (λ answer. natural answer.base) answers)) ≡ list_any (claims pair.writer pair.reader n) placed
+base_same pair placed answers n same =
+    ap (nat_lt n) (ap (λ (all : List Answer). greatest (map (λ answer. natural answer.base) all)) same ∙ bases_same pair placed)
+    ∙ below_greatest (base_said pair.writer pair.reader) placed n
+
+is_below : (pair : Pair) (placed : List PlacedValue) (answers : List Answer) (n : ℕ) (claim : PlacedValue) → answers ≡ answers_among pair placed → first_claiming pair.writer pair.reader n placed ≡ Some claim
+    → nat_lt n (greatest (map (λ answer. natural answer.base) answers)) ≡ true
+is_below pair placed answers n claim same found =
+    let there = found_is_there (claims pair.writer pair.reader n) placed claim found in
+    base_same pair placed answers n same ∙ any_of (claims pair.writer pair.reader n) placed claim there.0 there.1
+
+is_past : (pair : Pair) (placed : List PlacedValue) (answers : List Answer) (n : ℕ) → answers ≡ answers_among pair placed → first_claiming pair.writer pair.reader n placed ≡ None
+    → nat_lt n (greatest (map (λ answer. natural answer.base) answers)) ≡ false
+is_past pair placed answers n same none =
+    base_same pair placed answers n same
+    ∙ to_false (list_any (claims pair.writer pair.reader n) placed) (λ some.
+    let claim = some_passes (claims pair.writer pair.reader n) placed some in
+    none_found (claims pair.writer pair.reader n) placed claim.0 none claim.1 claim.2)
+
+-- ---- what is received
+
 -- what is found to be received is
-pub received_same : (pair : Pair) (recording : List (List ActValue)) (acts : List PlacedValue) (answers : List Answer) (certainty : Certainty) (n : ℕ) → acts ≡ filter (is_from pair.writer) (placed_in recording) → answers ≡ answers_among pair (placed_in recording)
-    → IsCertaintyOf pair acts answers certainty
+pub received_same : (pair : Pair) (recording : List (List ActValue)) (acts : List PlacedValue) (answers : List Answer) (withdrawals : List Withdrawal) (certainty : Certainty) (n : ℕ)
+    → acts ≡ filter (is_from pair.writer) (placed_in recording) → answers ≡ answers_among pair (placed_in recording) → AreWithdrawals pair.writer pair.reader (placed_in recording) withdrawals → IsCertaintyOf withdrawals answers certainty
     → list_any (λ at. certain_at certainty at.datagram n && sends pair.writer pair.reader n at) acts ≡ is_received pair.writer pair.reader (placed_in recording) n
-received_same pair recording acts answers certainty n of_writer of_reader is =
+received_same pair recording acts answers withdrawals certainty n of_writer of_reader are is =
     ap (list_any (λ (at : PlacedValue). certain_at certainty at.datagram n && sends pair.writer pair.reader n at)) of_writer
     ∙ any_filter (λ (at : PlacedValue). certain_at certainty at.datagram n && sends pair.writer pair.reader n at) (is_from pair.writer) (λ at passes. sender pair.writer pair.reader n at (parts (certain_at certainty at.datagram n) _ passes).1) (placed_in recording)
     ∙ by (first_claiming pair.writer pair.reader n (placed_in recording)) refl
   where
-    gone_same : some_reaches certainty.gone.items n n ≡ list_any (λ at. is_unclaimed_at certainty.claims.items n at && withdraws pair.writer pair.reader n at) (placed_in recording)
-    gone_same =
-        is.gone n ∙ ap (list_any (λ (at : PlacedValue). is_unclaimed_at certainty.claims.items n at && withdraws pair.writer pair.reader n at)) of_writer
-        ∙ any_filter (λ (at : PlacedValue). is_unclaimed_at certainty.claims.items n at && withdraws pair.writer pair.reader n at) (is_from pair.writer)
-        (λ at passes. withdrawer pair.writer pair.reader n at (parts (is_unclaimed_at certainty.claims.items n at) _ passes).1) (placed_in recording)
+    swapped : (a b c : Bool) → ((a && b) && c) ≡ ((a && c) && b)
+    swapped true b true = sym (and_true b)
+      where
+        and_true : (b : Bool) → b ≡ (b && true)
+        and_true true = refl
+        and_true false = refl
+    swapped true b false = and_false b
+    swapped false b c = refl
 
-    base_same : nat_lt n certainty.below ≡ list_any (claims pair.writer pair.reader n) (placed_in recording)
-    base_same =
-        ap (nat_lt n) (is.below ∙ ap (λ (all : List Answer). greatest (map (λ answer. natural answer.base) all)) of_reader ∙ bases_same pair (placed_in recording))
-        ∙ below_greatest (base_said pair.writer pair.reader) (placed_in recording) n
-
-    not_withdrawn : (claim : PlacedValue) → first_claiming pair.writer pair.reader n (placed_in recording) ≡ Some claim → some_reaches certainty.gone.items n n ≡ false
-        → (at : PlacedValue) × Contains (placed_in recording) at × (withdraws_before pair.writer pair.reader n claim.datagram at ≡ true) → ⊥
-    not_withdrawn claim found not_gone (at, among, passes) =
-        let tests = parts (nat_lt at.datagram claim.datagram) (withdraws pair.writer pair.reader n at) passes in
-        let before : at.datagram < claim.datagram = (let t = tests.0 in grind (arith, nat_tests, t)) in
-        let unclaimed = no_claim_before pair recording answers certainty at.datagram n claim of_reader is.claims found before in
-        let test = ap (λ b. not b && withdraws pair.writer pair.reader n at) unclaimed ∙ tests.1 in
-        never_both (some_reaches certainty.gone.items n n) (gone_same ∙ any_of (λ (at : PlacedValue). is_unclaimed_at certainty.claims.items n at && withdraws pair.writer pair.reader n at) (placed_in recording) at among test) not_gone
-
-    to_received : (claim : PlacedValue) → first_claiming pair.writer pair.reader n (placed_in recording) ≡ Some claim
-        → (at : PlacedValue) × Contains (placed_in recording) at × ((certain_at certainty at.datagram n && sends pair.writer pair.reader n at) ≡ true)
-        → is_certain_by pair.writer pair.reader n (placed_in recording) (Some claim) ≡ true
-    to_received claim found (at, among, passes) =
-        let there = found_is_there (claims pair.writer pair.reader n) (placed_in recording) claim found in
-        let tests = parts (certain_at certainty at.datagram n) (sends pair.writer pair.reader n at) passes in
-        let open_tests = parts (not (some_reaches certainty.claims.items at.datagram n)) _ tests.0 in
-        let unclaimed = not_true (some_reaches certainty.claims.items at.datagram n) open_tests.0 in
-        let not_gone = not_true (some_reaches certainty.gone.items n n) (parts (nat_lt n certainty.below) _ open_tests.1).1 in
-        let before = before_first pair (placed_in recording) answers certainty at.datagram n claim of_reader is.claims there.0 there.1 unclaimed in
-        let early : nat_lt at.datagram claim.datagram ≡ true = grind (arith, nat_tests, before) in
-        let sent = any_of (sends_before pair.writer pair.reader n claim.datagram) (placed_in recording) at among (ap (λ b. b && sends pair.writer pair.reader n at) early ∙ tests.1) in
-        let never = to_false (list_any (withdraws_before pair.writer pair.reader n claim.datagram) (placed_in recording)) (λ some. not_withdrawn claim found not_gone (some_passes (withdraws_before pair.writer pair.reader n claim.datagram) (placed_in recording) some)) in
-        ap (λ b. b && not (list_any (withdraws_before pair.writer pair.reader n claim.datagram) (placed_in recording))) sent ∙ ap not never
-
-    withdrawn : (claim : PlacedValue) → Contains (placed_in recording) claim × (claims pair.writer pair.reader n claim ≡ true) → list_any (withdraws_before pair.writer pair.reader n claim.datagram) (placed_in recording) ≡ false
-        → (at : PlacedValue) × Contains (placed_in recording) at × ((is_unclaimed_at certainty.claims.items n at && withdraws pair.writer pair.reader n at) ≡ true) → ⊥
-    withdrawn claim there never (at, among, passes) =
-        let tests = parts (is_unclaimed_at certainty.claims.items n at) (withdraws pair.writer pair.reader n at) passes in
-        let unclaimed = not_true (some_reaches certainty.claims.items at.datagram n) tests.0 in
-        let before = before_first pair (placed_in recording) answers certainty at.datagram n claim of_reader is.claims there.0 there.1 unclaimed in
-        let early : nat_lt at.datagram claim.datagram ≡ true = grind (arith, nat_tests, before) in
-        none_passes (withdraws_before pair.writer pair.reader n claim.datagram) (placed_in recording) at never among (ap (λ b. b && withdraws pair.writer pair.reader n at) early ∙ tests.1)
-
-    from_received : (claim : PlacedValue) → first_claiming pair.writer pair.reader n (placed_in recording) ≡ Some claim → is_certain_by pair.writer pair.reader n (placed_in recording) (Some claim) ≡ true
-        → list_any (λ at. certain_at certainty at.datagram n && sends pair.writer pair.reader n at) (placed_in recording) ≡ true
-    from_received claim found received =
-        let there = found_is_there (claims pair.writer pair.reader n) (placed_in recording) claim found in
-        let tests = parts (list_any (sends_before pair.writer pair.reader n claim.datagram) (placed_in recording)) _ received in
-        let never = not_true (list_any (withdraws_before pair.writer pair.reader n claim.datagram) (placed_in recording)) tests.1 in
-        let at = some_passes (sends_before pair.writer pair.reader n claim.datagram) (placed_in recording) tests.0 in
-        let sent = parts (nat_lt at.0.datagram claim.datagram) (sends pair.writer pair.reader n at.0) at.2 in
-        let before : at.0.datagram < claim.datagram = (let t = sent.0 in grind (arith, nat_tests, t)) in
-        let unclaimed = no_claim_before pair recording answers certainty at.0.datagram n claim of_reader is.claims found before in
-        let below = base_same ∙ any_of (claims pair.writer pair.reader n) (placed_in recording) claim there.0 there.1 in
-        let not_gone = to_false (some_reaches certainty.gone.items n n) (λ gone. withdrawn claim there never (some_passes (λ (at : PlacedValue). is_unclaimed_at certainty.claims.items n at && withdraws pair.writer pair.reader n at) (placed_in recording) (sym gone_same ∙ gone))) in
-        let certain : certain_at certainty at.0.datagram n ≡ true =
-        ap (λ b. not b && (nat_lt n certainty.below && not (some_reaches certainty.gone.items n n))) unclaimed ∙ ap (λ b. b && not (some_reaches certainty.gone.items n n)) below ∙ ap not not_gone in
-        any_of (λ (at : PlacedValue). certain_at certainty at.datagram n && sends pair.writer pair.reader n at) (placed_in recording) at.0 at.1 (ap (λ b. b && sends pair.writer pair.reader n at.0) certain ∙ sent.1)
+    certain : (claim at : PlacedValue) → first_claiming pair.writer pair.reader n (placed_in recording) ≡ Some claim
+        → (certain_at certainty at.datagram n && sends pair.writer pair.reader n at)
+        ≡ (sends_before pair.writer pair.reader n claim.datagram at && not (list_any (withdraws_before pair.writer pair.reader n claim.datagram) (placed_in recording)))
+    certain claim at found =
+        let unclaimed = ap not (is.claims at.datagram n) ∙ unclaimed_before pair recording answers n claim of_reader found at.datagram in
+        let below = ap (nat_lt n) is.below ∙ is_below pair (placed_in recording) answers n claim of_reader found in
+        let gone = is.gone n ∙ gone_first pair recording answers withdrawals n claim of_reader are found in
+        ap (λ b. (b && (nat_lt n certainty.below && not (some_reaches certainty.gone.items n n))) && sends pair.writer pair.reader n at) unclaimed
+        ∙ ap (λ b. (nat_lt at.datagram claim.datagram && (b && not (some_reaches certainty.gone.items n n))) && sends pair.writer pair.reader n at) below
+        ∙ ap (λ b. (nat_lt at.datagram claim.datagram && not b) && sends pair.writer pair.reader n at) gone
+        ∙ swapped (nat_lt at.datagram claim.datagram) _ (sends pair.writer pair.reader n at)
 
     by : (claim : Option PlacedValue) → first_claiming pair.writer pair.reader n (placed_in recording) ≡ claim
         → list_any (λ at. certain_at certainty at.datagram n && sends pair.writer pair.reader n at) (placed_in recording) ≡ is_certain_by pair.writer pair.reader n (placed_in recording) claim
@@ -236,12 +255,42 @@ received_same pair recording acts answers certainty n of_writer of_reader is =
         let at = some_passes (λ (at : PlacedValue). certain_at certainty at.datagram n && sends pair.writer pair.reader n at) (placed_in recording) some in
         let certain = (parts (certain_at certainty at.0.datagram n) _ at.2).0 in
         let below = (parts (nat_lt n certainty.below) _ (parts (not (some_reaches certainty.claims.items at.0.datagram n)) _ certain).1).0 in
-        let claim = some_passes (claims pair.writer pair.reader n) (placed_in recording) (sym base_same ∙ below) in
-        none_found (claims pair.writer pair.reader n) (placed_in recording) claim.0 found claim.1 claim.2)
+        never_both (nat_lt n certainty.below) below (ap (nat_lt n) is.below ∙ is_past pair (placed_in recording) answers n of_reader found))
     by (Some claim) found =
-        both_ways (list_any (λ (at : PlacedValue). certain_at certainty at.datagram n && sends pair.writer pair.reader n at) (placed_in recording)) (is_certain_by pair.writer pair.reader n (placed_in recording) (Some claim))
-        (λ some. to_received claim found (some_passes (λ (at : PlacedValue). certain_at certainty at.datagram n && sends pair.writer pair.reader n at) (placed_in recording) some))
-        (λ received. from_received claim found received)
+        any_same (λ (at : PlacedValue). certain_at certainty at.datagram n && sends pair.writer pair.reader n at) (λ (at : PlacedValue). sends_before pair.writer pair.reader n claim.datagram at && not (list_any (withdraws_before pair.writer pair.reader n claim.datagram) (placed_in recording)))
+        (λ at. certain claim at found) (placed_in recording)
+        ∙ any_and (sends_before pair.writer pair.reader n claim.datagram) (not (list_any (withdraws_before pair.writer pair.reader n claim.datagram) (placed_in recording))) (placed_in recording)
+
+-- where a run exists, all that is claimed is told before; so what is not told gone before it is claimed is received
+pub founded_same : (from : ℕ) (pair : Pair) (recording : List (List ActValue)) (answers : List Answer) (withdrawals : List Withdrawal) (n : ℕ) → IsAsked from n → HasRun from (speech_by pair.writer pair.reader recording)
+    → answers ≡ answers_among pair (placed_in recording) → AreWithdrawals pair.writer pair.reader (placed_in recording) withdrawals
+    → (list_any (withdrawn_unclaimed answers n) withdrawals || not (nat_lt n (greatest (map (λ answer. natural answer.base) answers)))) ≡ not (is_received pair.writer pair.reader (placed_in recording) n)
+founded_same from pair recording answers withdrawals n asked run same are = by (first_claiming pair.writer pair.reader n (placed_in recording)) refl
+  where
+    or_true : (b : Bool) → (b || true) ≡ true
+    or_true true = refl
+    or_true false = refl
+
+    sent : (claim : PlacedValue) (gone : Bool) → first_claiming pair.writer pair.reader n (placed_in recording) ≡ Some claim → list_any (withdraws_before pair.writer pair.reader n claim.datagram) (placed_in recording) ≡ gone
+        → gone ≡ not (list_any (sends_before pair.writer pair.reader n claim.datagram) (placed_in recording) && not gone)
+    sent claim true found is = sym (ap not (and_false (list_any (sends_before pair.writer pair.reader n claim.datagram) (placed_in recording))))
+    sent claim false found is = sym (ap (λ b. not (b && true)) (sent_before from pair recording n claim asked run found is))
+
+    by : (claim : Option PlacedValue) → first_claiming pair.writer pair.reader n (placed_in recording) ≡ claim
+        → (list_any (withdrawn_unclaimed answers n) withdrawals || not (nat_lt n (greatest (map (λ answer. natural answer.base) answers)))) ≡ not (is_certain_by pair.writer pair.reader n (placed_in recording) claim)
+    by None found = ap (λ b. list_any (withdrawn_unclaimed answers n) withdrawals || not b) (is_past pair (placed_in recording) answers n same found) ∙ or_true (list_any (withdrawn_unclaimed answers n) withdrawals)
+    by (Some claim) found =
+        ap (λ b. list_any (withdrawn_unclaimed answers n) withdrawals || not b) (is_below pair (placed_in recording) answers n claim same found)
+        ∙ or_false (list_any (withdrawn_unclaimed answers n) withdrawals)
+        ∙ gone_first pair recording answers withdrawals n claim same are found
+        ∙ sent claim (list_any (withdraws_before pair.writer pair.reader n claim.datagram) (placed_in recording)) found refl
+
+-- a verdict that is not unfounded says that a run exists
+pub has_run : (from : ℕ) (speech : Speech) (verdict : Verdict) → IsVerdictFrom from speech verdict → is_unfounded verdict ≡ false → HasRun from speech
+has_run from speech (Unfounded datagram number) is founded = absurd (let no : true ≡ false = founded in cc)
+has_run from speech (Conflict number) is founded = is.0
+has_run from speech (Open number) is founded = is.0
+has_run from speech (Complete last) is founded = is.1
 
 -- the first act that tells a number gone is one that the writer says
 pub gone_same_before : (writer reader : Guid) (n datagram : ℕ) (placed : List PlacedValue) → gone_before writer reader n datagram (filter (is_from writer) placed) ≡ gone_before writer reader n datagram placed

@@ -1,5 +1,5 @@
 -- What is for everyone is heard by all readers alike; so what a reader hears is that, and what the other acts tell it.
-use Rattle.std.proofs.Common.{◌≡◌, ◌∙◌, ◌&&◌, ◌||◌, ◌+◌, ◌<◌, ◌≤◌, ℕ, Bool, true, false, List, [], ◌∷◌, ◌++◌, length, get_or, map, take, refl, sym, ap, subst}
+use Rattle.std.proofs.Common.{◌≡◌, ◌∙◌, ◌&&◌, ◌||◌, ◌+◌, ◌<◌, ◌≤◌, ℕ, Bool, true, false, nat_lt, List, [], ◌∷◌, ◌++◌, length, get_or, map, take, refl, sym, ap, subst}
 use Rattle.std.specs.Prelude.{if◌then◌else◌, is_some, None, slice_get}
 use Rattle.std.specs.List.{list_any}
 use Rattle.std.specs.Option.{option_map}
@@ -12,8 +12,9 @@ use Rattle.rtps_receiver.specs.Values.{ActValue}
 use Rattle.rtps_audit.specs.Placed.{PlacedValue, placed_value}
 use Rattle.rtps_audit.specs.Speech.{word_for, word_of}
 use Rattle.rtps_audit.specs.declared.placed.Placed.{Placed}
-use Rattle.rtps_evidence.specs.Amount.{AreNumbers, stretches_have}
+use Rattle.rtps_evidence.specs.Amount.{AreNumbers, some_withdrawn, stretches_have}
 use Rattle.rtps_evidence.specs.Locations.{payload_in, sends, tells}
+use Rattle.rtps_evidence.specs.Received.{is_gone, withdraws_before}
 use Rattle.rtps_evidence.specs.WriterSummary.{IsSplit, any_at, is_for_everyone, option_any}
 use Rattle.rtps_evidence.specs.declared.amount.HeardNumbers.{HeardNumbers}
 use Rattle.rtps_evidence.proofs.FindLemmas.{any_past}
@@ -36,6 +37,9 @@ tells_alike writer one other n at e = ap is_some (word_alike writer one other n 
 
 pub sends_alike : (writer one other : Guid) (n : ℕ) (at : PlacedValue) → is_for_everyone at.act ≡ true → sends writer one n at ≡ sends writer other n at
 sends_alike writer one other n at e = ap (λ word. is_some (payload_in word)) (word_alike writer one other n at e)
+
+pub withdraws_alike : (writer one other : Guid) (n datagram : ℕ) (at : PlacedValue) → is_for_everyone at.act ≡ true → withdraws_before writer one n datagram at ≡ withdraws_before writer other n datagram at
+withdraws_alike writer one other n datagram at e = ap (λ word. nat_lt at.datagram datagram && is_gone word) (word_alike writer one other n at e)
 
 -- ---- an act more
 
@@ -104,8 +108,9 @@ module _ (test : PlacedValue → Bool) (acts : List Placed) (places others : Lis
 -- ---- in order
 
 -- the same numbers in other stretches
-pub split_same : (writer : Guid) (acts : List PlacedValue) (old new : HeardNumbers) (others : List ℕ) → AreNumbers (stretches_have old.told.items) (stretches_have old.sent.items) new → IsSplit writer acts old others → IsSplit writer acts new others
+pub split_same : (writer : Guid) (acts : List PlacedValue) (old new : HeardNumbers) (others : List ℕ) → AreNumbers (stretches_have old.told.items) (stretches_have old.sent.items) (some_withdrawn old.gone.items) new → IsSplit writer acts old others → IsSplit writer acts new others
 split_same writer acts old new others same split = record {
   told = λ reader n. split.told reader n ∙ ap (λ b. b || any_at (tells writer reader n) acts others) (sym (same.told n));
   sent = λ reader n. split.sent reader n ∙ ap (λ b. b || any_at (sends writer reader n) acts others) (sym (same.sent n));
+  gone = λ reader n datagram. split.gone reader n datagram ∙ ap (λ b. b || any_at (withdraws_before writer reader n datagram) acts others) (sym (same.gone n datagram));
 }

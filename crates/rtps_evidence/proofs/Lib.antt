@@ -13,6 +13,7 @@ pub mod HushedRuns
 pub mod ReceivedRuns
 pub mod RisingLemmas
 pub mod ClaimedLemmas
+pub mod LackingLemmas
 pub mod NotReceivedLemmas
 pub mod QuestionLemmas
 pub mod MissedLemmas

@@ -27,7 +27,7 @@ use Rattle.rtps_evidence.specs.declared.teller.Teller.{Teller}
 use Rattle.rtps_evidence.specs.declared.location.Location.{Location}
 use Rattle.rtps_evidence.proofs.ClaimedLemmas.{sender, withdrawer}
 use Rattle.rtps_evidence.proofs.CountLemmas.{count_same}
-use Rattle.rtps_evidence.proofs.FindLemmas.{any_filter, find_filter}
+use Rattle.rtps_evidence.proofs.FindLemmas.{any_and, any_filter, find_filter}
 use Rattle.rtps_evidence.proofs.NotReceivedLemmas.{least_found, least_none}
 use Rattle.rtps_evidence.proofs.QuestionLemmas.{filter_filter}
 
@@ -107,35 +107,22 @@ pub record IsLeastSo (stretches : List Stretch) (from end i least : ℕ) : Type 
 
 -- ---- a number more
 
-pub number_more : (old new : List ℕ) (m n : ℕ) (sent : Bool) (received : ℕ → Bool) → new ≡ old ++ m ∷ [] → sent ≡ (m == n) → received m ≡ false → numbers_have new n ≡ (numbers_have old n || (sent && not (received n)))
-number_more old new m n sent received is e out =
-    ap (λ l. numbers_have l n) is ∙ list_any-append (λ number. number == n) old (m ∷ []) ∙ ap (λ b. numbers_have old n || b) (or_nothing (m == n) ∙ same (m == n) refl ∙ ap (λ b. b && not (received n)) (sym e))
+pub number_more : (old new : List ℕ) (m n : ℕ) (sent : Bool) (lacking : ℕ → Bool) → new ≡ old ++ m ∷ [] → sent ≡ (m == n) → lacking m ≡ true → numbers_have new n ≡ (numbers_have old n || (sent && lacking n))
+number_more old new m n sent lacking is e there =
+    ap (λ l. numbers_have l n) is ∙ list_any-append (λ number. number == n) old (m ∷ []) ∙ ap (λ b. numbers_have old n || b) (or_nothing (m == n) ∙ same (m == n) refl ∙ ap (λ b. b && lacking n) (sym e))
   where
-    same : (b : Bool) → (m == n) ≡ b → b ≡ (b && not (received n))
-    same true at = let one : m ≡ n = grind (arith, nat_tests, at) in sym (ap not (sym (ap received one) ∙ out))
+    same : (b : Bool) → (m == n) ≡ b → b ≡ (b && lacking n)
+    same true at = let one : m ≡ n = grind (arith, nat_tests, at) in sym (sym (ap lacking one) ∙ there)
     same false at = refl
 
-pub number_none : (old : Bool) (m n : ℕ) (sent : Bool) (received : ℕ → Bool) → sent ≡ (m == n) → received m ≡ true → old ≡ (old || (sent && not (received n)))
-number_none old m n sent received e there = sym (or_nothing old) ∙ ap (λ b. old || b) (same (m == n) refl ∙ ap (λ b. b && not (received n)) (sym e))
+pub number_none : (old : Bool) (m n : ℕ) (sent : Bool) (lacking : ℕ → Bool) → sent ≡ (m == n) → lacking m ≡ false → old ≡ (old || (sent && lacking n))
+number_none old m n sent lacking e out = sym (or_nothing old) ∙ ap (λ b. old || b) (same (m == n) refl ∙ ap (λ b. b && lacking n) (sym e))
   where
-    same : (b : Bool) → (m == n) ≡ b → false ≡ (b && not (received n))
-    same true at = let one : m ≡ n = grind (arith, nat_tests, at) in sym (ap not (sym (ap received one) ∙ there))
+    same : (b : Bool) → (m == n) ≡ b → false ≡ (b && lacking n)
+    same true at = let one : m ≡ n = grind (arith, nat_tests, at) in sym (sym (ap lacking one) ∙ out)
     same false at = refl
 
 -- ---- what is missed
-
-any_and : {X : Type 0} (test : X → Bool) (b : Bool) (xs : List X) → list_any (λ x. test x && b) xs ≡ (list_any test xs && b)
-any_and test b [] = refl
-any_and test b (x ∷ xs) = ap (λ c. (test x && b) || c) (any_and test b xs) ∙ shared (test x) (list_any test xs)
-  where
-    shared : (a c : Bool) → ((a && b) || (c && b)) ≡ ((a || c) && b)
-    shared true c = either b c
-      where
-        either : (b c : Bool) → (b || (c && b)) ≡ b
-        either true c = refl
-        either false true = refl
-        either false false = refl
-    shared false c = refl
 
 parts : (a b : Bool) → (a && b) ≡ true → (a ≡ true) × (b ≡ true)
 parts true b e = (refl, e)
@@ -149,48 +136,73 @@ turned true false false = refl
 turned false s true = refl
 turned false s false = refl
 
+-- what is received is not missed
+pub received_not_missed : (place : Option Location) (writer reader : Guid) (placed : List PlacedValue) (n : ℕ) → not (is_received writer reader placed n) ≡ false → false ≡ is_missed place writer reader placed n
+received_not_missed place writer reader placed n received = sym (ap (λ b. b && (list_any (asks_for writer reader n) placed && list_any (sends_behind place writer reader n) placed)) received)
+
+-- of the numbers that are asked for, those that are not lacking do not count
+common_same : (some asked sent lacking : Bool) → (lacking ≡ true → some ≡ asked) → (sent ≡ true → lacking ≡ true) → (some && sent) ≡ (asked && sent)
+common_same some asked true lacking same there = ap (λ b. b && true) (same (there refl))
+common_same some asked false lacking same there = none some ∙ sym (none asked)
+  where
+    none : (b : Bool) → (b && false) ≡ false
+    none true = refl
+    none false = refl
+
 -- what is sent behind the announcement and not received, and asked for, is missed
-pub missed_same : (pair : Pair) (placed writer_acts reader_acts : List PlacedValue) (announced : Option Location) (n : ℕ) (received asked sent : Bool)
+missed_same : (pair : Pair) (placed writer_acts reader_acts : List PlacedValue) (announced : Option Location) (n : ℕ) (lacking asked sent : Bool)
     → writer_acts ≡ filter (is_from pair.writer) placed → reader_acts ≡ filter (is_from pair.reader) placed
-    → received ≡ is_received pair.writer pair.reader placed n
+    → lacking ≡ not (is_received pair.writer pair.reader placed n)
     → asked ≡ list_any (asks_for pair.writer pair.reader n) reader_acts
-    → sent ≡ list_any (λ at. sends_behind announced pair.writer pair.reader n at && not received) writer_acts
+    → sent ≡ list_any (λ at. sends_behind announced pair.writer pair.reader n at && lacking) writer_acts
     → (asked && sent) ≡ is_missed announced pair.writer pair.reader placed n
-missed_same pair placed writer_acts reader_acts announced n received asked sent of_writer of_reader known asks sends_it =
+missed_same pair placed writer_acts reader_acts announced n lacking asked sent of_writer of_reader known asks sends_it =
     ap (λ b. b && sent) (asks ∙ ap (list_any (asks_for pair.writer pair.reader n)) of_reader ∙ any_filter (asks_for pair.writer pair.reader n) (is_from pair.reader)
     (λ at passes. answerer_is_origin pair.reader pair.writer at (parts (is_answer at.act pair.reader pair.writer) (is_in_set at.act.body n) passes).0) placed)
     ∙ ap (λ b. list_any (asks_for pair.writer pair.reader n) placed && b)
-    (sends_it ∙ any_and (sends_behind announced pair.writer pair.reader n) (not received) writer_acts
-    ∙ ap (λ b. b && not received) (ap (list_any (sends_behind announced pair.writer pair.reader n)) of_writer
+    (sends_it ∙ any_and (sends_behind announced pair.writer pair.reader n) lacking writer_acts
+    ∙ ap (λ b. b && lacking) (ap (list_any (sends_behind announced pair.writer pair.reader n)) of_writer
     ∙ any_filter (sends_behind announced pair.writer pair.reader n) (is_from pair.writer) (λ at passes. sender pair.writer pair.reader n at (parts (is_behind announced at) (sends pair.writer pair.reader n at) passes).1) placed))
-    ∙ turned (list_any (asks_for pair.writer pair.reader n) placed) (list_any (sends_behind announced pair.writer pair.reader n) placed) (not received)
-    ∙ ap (λ b. not b && (list_any (asks_for pair.writer pair.reader n) placed && list_any (sends_behind announced pair.writer pair.reader n) placed)) known
+    ∙ turned (list_any (asks_for pair.writer pair.reader n) placed) (list_any (sends_behind announced pair.writer pair.reader n) placed) lacking
+    ∙ ap (λ b. b && (list_any (asks_for pair.writer pair.reader n) placed && list_any (sends_behind announced pair.writer pair.reader n) placed)) known
+
+-- also where what is asked for is only known of what is lacking
+pub missed_some : (pair : Pair) (placed writer_acts reader_acts : List PlacedValue) (announced : Option Location) (n : ℕ) (lacking asked sent : Bool)
+    → writer_acts ≡ filter (is_from pair.writer) placed → reader_acts ≡ filter (is_from pair.reader) placed
+    → lacking ≡ not (is_received pair.writer pair.reader placed n)
+    → (lacking ≡ true → asked ≡ list_any (asks_for pair.writer pair.reader n) reader_acts)
+    → sent ≡ list_any (λ at. sends_behind announced pair.writer pair.reader n at && lacking) writer_acts
+    → (asked && sent) ≡ is_missed announced pair.writer pair.reader placed n
+missed_some pair placed writer_acts reader_acts announced n lacking asked sent of_writer of_reader known asks sends_it =
+    common_same asked (list_any (asks_for pair.writer pair.reader n) reader_acts) sent lacking asks
+    (λ is. (parts (list_any (sends_behind announced pair.writer pair.reader n) writer_acts) lacking (sym (any_and (sends_behind announced pair.writer pair.reader n) lacking writer_acts) ∙ sym sends_it ∙ is)).1)
+    ∙ missed_same pair placed writer_acts reader_acts announced n lacking (list_any (asks_for pair.writer pair.reader n) reader_acts) sent of_writer of_reader known refl sends_it
 
 -- ---- counted, and the least of them
 
 pub some_missed : (from last least count : ℕ) (place : Option Location) (pair : Pair) (placed : List PlacedValue) (items lent : List Stretch) (first : Option FirstMissed) → lent ≡ items
-    → ((n : ℕ) → stretches_have items n ≡ is_missed place pair.writer pair.reader placed n) → from ≤ least → stretches_have lent least ≡ true → ((n : ℕ) → from ≤ n → n < least → stretches_have lent n ≡ false)
+    → ((n : ℕ) → from ≤ n → n ≤ last → stretches_have items n ≡ is_missed place pair.writer pair.reader placed n) → from ≤ least → stretches_have lent least ≡ true → ((n : ℕ) → from ≤ n → n < least → stretches_have lent n ≡ false)
     → count ≡ count_in (stretches_have items) from (last + 1) → least < last + 1 → first ≡ missed_by pair.writer pair.reader placed (Some least)
     → AreMissed from last place pair.writer pair.reader placed (record { count = count; first = first })
 some_missed from last least count place pair placed items lent first same is low inside below counted high found = record {
-  count = counted ∙ count_same (stretches_have items) (is_missed place pair.writer pair.reader placed) from (last + 1) (λ n a b. is n);
+  count = counted ∙ count_same (stretches_have items) (is_missed place pair.writer pair.reader placed) from (last + 1) (λ n a b. is n a (omega arith));
   first =
       found
       ∙ sym (ap (missed_by pair.writer pair.reader placed)
       (least_found (is_missed place pair.writer pair.reader placed) from (last + 1) least low high
-      (sym (is least) ∙ sym (ap (λ l. stretches_have l least) same) ∙ inside)
-      (λ m begun before. sym (is m) ∙ sym (ap (λ l. stretches_have l m) same) ∙ below m begun before)));
+      (sym (is least low (omega arith)) ∙ sym (ap (λ l. stretches_have l least) same) ∙ inside)
+      (λ m begun before. sym (is m begun (omega arith)) ∙ sym (ap (λ l. stretches_have l m) same) ∙ below m begun before)));
 }
 
 pub none_missed : (from last least count : ℕ) (place : Option Location) (pair : Pair) (placed : List PlacedValue) (items lent : List Stretch) → lent ≡ items
-    → ((n : ℕ) → stretches_have items n ≡ is_missed place pair.writer pair.reader placed n) → ((n : ℕ) → from ≤ n → n < least → stretches_have lent n ≡ false)
+    → ((n : ℕ) → from ≤ n → n ≤ last → stretches_have items n ≡ is_missed place pair.writer pair.reader placed n) → ((n : ℕ) → from ≤ n → n < least → stretches_have lent n ≡ false)
     → count ≡ count_in (stretches_have items) from (last + 1) → last + 1 ≤ least → AreMissed from last place pair.writer pair.reader placed (record { count = count; first = None })
 none_missed from last least count place pair placed items lent same is below counted high = record {
-  count = counted ∙ count_same (stretches_have items) (is_missed place pair.writer pair.reader placed) from (last + 1) (λ n a b. is n);
+  count = counted ∙ count_same (stretches_have items) (is_missed place pair.writer pair.reader placed) from (last + 1) (λ n a b. is n a (omega arith));
   first =
       sym (ap (missed_by pair.writer pair.reader placed)
       (least_none (is_missed place pair.writer pair.reader placed) from (last + 1)
-      (λ m begun before. sym (is m) ∙ sym (ap (λ l. stretches_have l m) same) ∙ below m begun (omega arith))));
+      (λ m begun before. sym (is m begun (omega arith)) ∙ sym (ap (λ l. stretches_have l m) same) ∙ below m begun (omega arith))));
 }
 
 -- ---- who asked for it last, and what told it gone since

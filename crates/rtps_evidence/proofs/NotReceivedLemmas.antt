@@ -7,13 +7,14 @@ use Rattle.rtps_ids.specs.declared.identity.Guid.{Guid}
 use Rattle.rtps_discovery.specs.declared.matching.Pair.{Pair}
 use Rattle.rtps_audit.specs.Placed.{PlacedValue}
 use Rattle.rtps_evidence.specs.Amount.{count_in, stretches_have}
+use Rattle.rtps_evidence.specs.Claimed.{AreLacking}
 use Rattle.rtps_evidence.specs.Locations.{claim_at}
 use Rattle.rtps_evidence.specs.Received.{AreReceived, first_claiming, gone_before, is_received, kept_by, least_in}
 use Rattle.rtps_evidence.specs.declared.acknowledgement.Claim.{Claim}
 use Rattle.rtps_evidence.specs.declared.amount.Stretch.{Stretch}
 use Rattle.rtps_evidence.specs.declared.not_received.NotReceived.{NotReceived}
 use Rattle.rtps_evidence.specs.declared.teller.Teller.{Teller}
-use Rattle.rtps_evidence.proofs.CountLemmas.{count_same}
+use Rattle.rtps_evidence.proofs.CountLemmas.{count_others, count_same}
 
 -- ---- the least number
 
@@ -63,27 +64,36 @@ kept_claimed writer reader n acts (Some claim) found gone e is =
 
 -- ---- counted, and the least of the others
 
-pub some_not_received : (from last least count : ℕ) (pair : Pair) (placed : List PlacedValue) (items lent : List Stretch) (found : NotReceived) → lent ≡ items
-    → ((n : ℕ) → stretches_have items n ≡ is_received pair.writer pair.reader placed n) → from ≤ least → stretches_have lent least ≡ false → ((n : ℕ) → from ≤ n → n < least → stretches_have lent n ≡ true)
-    → count ≡ count_in (stretches_have items) from (last + 1) → least < last + 1 → found ≡ kept_by pair.writer pair.reader least placed (first_claiming pair.writer pair.reader least placed)
+-- the received numbers are those that are not lacking
+count_received : (from last count others : ℕ) (pair : Pair) (placed : List PlacedValue) (items : List Stretch) → AreLacking from last pair placed items
+    → others ≡ count_in (stretches_have items) from (last + 1) → count ≡ last + 1 - from - others → count ≡ count_in (is_received pair.writer pair.reader placed) from (last + 1)
+count_received from last count others pair placed items are counted rest =
+    let all = count_others (is_received pair.writer pair.reader placed) from (last + 1) in
+    let same = count_same (stretches_have items) (λ n. not (is_received pair.writer pair.reader placed n)) from (last + 1) (λ n a b. are n a (omega arith)) in
+    omega arith
+
+pub some_not_received : (from last least count others : ℕ) (pair : Pair) (placed : List PlacedValue) (items lent : List Stretch) (found : NotReceived) → lent ≡ items
+    → AreLacking from last pair placed items → from ≤ least → stretches_have lent least ≡ true → ((n : ℕ) → from ≤ n → n < least → stretches_have lent n ≡ false)
+    → others ≡ count_in (stretches_have items) from (last + 1) → count ≡ last + 1 - from - others → least < last + 1
+    → found ≡ kept_by pair.writer pair.reader least placed (first_claiming pair.writer pair.reader least placed)
     → AreReceived from last pair.writer pair.reader placed (record { count = count; not_received = Some found })
-some_not_received from last least count pair placed items lent found same is low outside between counted high kept = record {
-  count = counted ∙ count_same (stretches_have items) (is_received pair.writer pair.reader placed) from (last + 1) (λ n a b. is n);
+some_not_received from last least count others pair placed items lent found same are low inside below counted rest high kept = record {
+  count = count_received from last count others pair placed items are counted rest;
   not_received =
       ap Some kept
       ∙ sym (ap (option_map (λ n. kept_by pair.writer pair.reader n placed (first_claiming pair.writer pair.reader n placed)))
       (least_found (λ n. not (is_received pair.writer pair.reader placed n)) from (last + 1) least low high
-      (ap not (sym (is least) ∙ sym (ap (λ l. stretches_have l least) same) ∙ outside))
-      (λ m begun before. ap not (sym (is m) ∙ sym (ap (λ l. stretches_have l m) same) ∙ between m begun before))));
+      (sym (are least low (omega arith)) ∙ sym (ap (λ l. stretches_have l least) same) ∙ inside)
+      (λ m begun before. sym (are m begun (omega arith)) ∙ sym (ap (λ l. stretches_have l m) same) ∙ below m begun before)));
 }
 
-pub all_received : (from last least count : ℕ) (pair : Pair) (placed : List PlacedValue) (items lent : List Stretch) → lent ≡ items
-    → ((n : ℕ) → stretches_have items n ≡ is_received pair.writer pair.reader placed n) → ((n : ℕ) → from ≤ n → n < least → stretches_have lent n ≡ true)
-    → count ≡ count_in (stretches_have items) from (last + 1) → last + 1 ≤ least → AreReceived from last pair.writer pair.reader placed (record { count = count; not_received = None })
-all_received from last least count pair placed items lent same is between counted high = record {
-  count = counted ∙ count_same (stretches_have items) (is_received pair.writer pair.reader placed) from (last + 1) (λ n a b. is n);
+pub all_received : (from last least count others : ℕ) (pair : Pair) (placed : List PlacedValue) (items lent : List Stretch) → lent ≡ items
+    → AreLacking from last pair placed items → ((n : ℕ) → from ≤ n → n < least → stretches_have lent n ≡ false)
+    → others ≡ count_in (stretches_have items) from (last + 1) → count ≡ last + 1 - from - others → last + 1 ≤ least → AreReceived from last pair.writer pair.reader placed (record { count = count; not_received = None })
+all_received from last least count others pair placed items lent same are below counted rest high = record {
+  count = count_received from last count others pair placed items are counted rest;
   not_received =
       sym (ap (option_map (λ n. kept_by pair.writer pair.reader n placed (first_claiming pair.writer pair.reader n placed)))
       (least_none (λ n. not (is_received pair.writer pair.reader placed n)) from (last + 1)
-      (λ m begun before. ap not (sym (is m) ∙ sym (ap (λ l. stretches_have l m) same) ∙ between m begun (omega arith)))));
+      (λ m begun before. sym (are m begun (omega arith)) ∙ sym (ap (λ l. stretches_have l m) same) ∙ below m begun (omega arith))));
 }

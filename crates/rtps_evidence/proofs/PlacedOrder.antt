@@ -1,5 +1,5 @@
 -- The acts of a recording stand by datagram.
-use Rattle.std.proofs.Common.{◌≡◌, ℕ, zero, suc, ◌+◌, ◌≤◌, Bool, true, false, cond, List, [], ◌∷◌, ◌++◌, Some, None, sym, refl, ap, subst, ◌∙◌, ◌||◌, arith, inl, inr}
+use Rattle.std.proofs.Common.{◌≡◌, ℕ, zero, suc, ◌+◌, ◌≤◌, Bool, true, false, cond, filter, List, [], ◌∷◌, ◌++◌, Some, None, sym, refl, ap, subst, ◌∙◌, ◌||◌, arith, inl, inr}
 use Rattle.std.specs.Prelude.{Contains}
 use Rattle.std.specs.List.{find, list_any}
 use Rattle.std.proofs.lemmas.List.Elements.{Contains-append_cases, Contains-append_left, Contains-append_right, Contains-push}
@@ -24,6 +24,15 @@ placed_ordered before [] = tt
 placed_ordered before (datagram ∷ datagrams) =
     at_once (before + 1) datagram (placed_behind (before + 1) datagrams)
     (later (before + 1) (before + 1 + 1) (placed_behind (before + 1) datagrams) (omega arith) (placed_ordered (before + 1) datagrams))
+
+-- so do those that are kept of them
+pub kept_ordered : (keeps : PlacedValue → Bool) (low : ℕ) (xs : List PlacedValue) → AreOrdered low xs → AreOrdered low (filter keeps xs)
+kept_ordered keeps low [] ordered = tt
+kept_ordered keeps low (x ∷ xs) (first, rest) = by (kept_ordered keeps x.datagram xs rest) (keeps x)
+  where
+    by : AreOrdered x.datagram (filter keeps xs) → (b : Bool) → AreOrdered low (cond b (x ∷ filter keeps xs) (filter keeps xs))
+    by kept true = (first, kept)
+    by kept false = later low x.datagram (filter keeps xs) first kept
 
 only_one : {X : Type 0} (b x : X) → Contains (b ∷ []) x → b ≡ x
 only_one b x (zero, lt, e) = e

@@ -1,17 +1,20 @@
 -- The last element that passes, and how many do, one after another; and where the last answer stands.
-use Rattle.std.proofs.Common.{◌≡◌, ◌∙◌, ℕ, ◌+◌, ◌<◌, ◌≤◌, ◌&&◌, Bool, true, false, cond, List, [], ◌∷◌, ◌++◌, append-nil, filter, get_or, length, map, take, Option, Some, None, refl, sym, ap, arith, pos}
-use Rattle.std.specs.Prelude.{is_some, if◌then◌else◌}
-use Rattle.std.specs.List.{cons_option, last_or}
+use Rattle.std.proofs.Common.{◌≡◌, ◌∙◌, ℕ, zero, suc, ◌+◌, ◌-◌, ◌<◌, ◌≤◌, ◌&&◌, ◌⊎◌, Bool, true, false, cond, List, [], ◌∷◌, ◌++◌, append-nil, drop, filter, get_or, length, map, take, Option, Some, None, refl, sym, ap, subst, arith, inl, inr, pos}
+use Rattle.std.specs.Prelude.{IfSome, is_some, if◌then◌else◌, slice_get}
+use Rattle.std.specs.List.{cons_option, drop-map, last_or}
 use Rattle.std.specs.Option.{option_map}
-use Rattle.std.proofs.lemmas.List.{length-append, map-append, take_more}
+use Rattle.std.proofs.lemmas.Bool.{cases_lt}
+use Rattle.std.proofs.lemmas.Bool.Decides.{nat_tests}
+use Rattle.std.proofs.lemmas.List.{length-append, length-drop, map-append, take-append-drop, take_all, take_more}
+use Rattle.std.proofs.lemmas.Option.{get_or_from_slice_get, slice_get-map, slice_get_within}
 use Rattle.std.proofs.lemmas.List.Elements.{filter-append}
 use Rattle.rtps_ids.specs.declared.identity.Guid.{Guid}
 use Rattle.rtps_ids.specs.declared.identity.GuidPrefix.{GuidPrefix}
 use Rattle.rtps_discovery.specs.declared.matching.Pair.{Pair}
 use Rattle.rtps_receiver.specs.Speech.{is_answer, is_for, is_heard_by, is_prefix, is_spoken_by, names_pair}
-use Rattle.rtps_receiver.specs.Values.{ActBodyValue}
+use Rattle.rtps_receiver.specs.Values.{ActBodyValue, ActValue}
 use Rattle.rtps_receiver.specs.Values.ActBodyValue.{Data, Heartbeat, AckNack, Gap, DataFrag}
-use Rattle.rtps_audit.specs.Placed.{PlacedValue, answer_at, answers_among, is_from, placed_value}
+use Rattle.rtps_audit.specs.Placed.{PlacedValue, answer_at, answers_among, is_from, placed_in, placed_value}
 use Rattle.rtps_audit.specs.Speech.{base_for, base_of_body}
 use Rattle.rtps_audit.specs.declared.answer.Answer.{Answer}
 use Rattle.rtps_audit.specs.declared.placed.Placed.{Placed}
@@ -20,6 +23,7 @@ use Rattle.rtps_evidence.specs.Locations.{is_behind, location_of}
 use Rattle.rtps_evidence.specs.Questions.{AreAsked, is_question, place_answered, place_of, questions_behind}
 use Rattle.rtps_evidence.specs.declared.location.Location.{Location}
 use Rattle.rtps_evidence.specs.declared.questions.Questions.{Questions}
+use Rattle.rtps_evidence.proofs.PlacedOrder.{AreOrdered, kept_ordered, none_lower, placed_ordered}
 
 last_is : {X : Type 0} (o : Option X) (xs : List X) (x : X) → last_or o (xs ++ x ∷ []) ≡ Some x
 last_is o [] x = refl
@@ -157,3 +161,72 @@ asked_same place writer reader placed questions is = record { count = is.count �
     same : filter (questions_behind place writer reader) (filter (is_from writer) placed) ≡ filter (questions_behind place writer reader) placed
     same = filter_filter (questions_behind place writer reader) (is_from writer) (λ at passes. speaker_is_origin writer at
         (parts (is_spoken_by at.act writer) (is_heard_by at.act reader && is_question at.act.body) (parts (is_behind place at) (is_spoken_by at.act writer && (is_heard_by at.act reader && is_question at.act.body)) passes).1).0) placed
+
+-- ---- what stands before
+
+-- an act in a datagram before that of a place does not stand behind it
+not_behind : (place : Location) (at : PlacedValue) → at.datagram < place.datagram → is_behind (Some place) at ≡ false
+not_behind place at lt = grind (arith, nat_tests)
+
+-- so where an act stands in a datagram before that of a place, none up to it asks behind the place
+none_asks : (place : Location) (writer reader : Guid) (low : ℕ) (acts : List PlacedValue) (k : ℕ) (x : PlacedValue) → AreOrdered low acts → slice_get acts k ≡ Some x → x.datagram < place.datagram
+    → filter (questions_behind (Some place) writer reader) (take (suc k) acts) ≡ []
+none_asks place writer reader low acts k x ordered there early = by low acts k ordered there
+  where
+    left_out : (at : PlacedValue) (rest : List PlacedValue) → at.datagram ≤ x.datagram → filter (questions_behind (Some place) writer reader) rest ≡ [] → filter (questions_behind (Some place) writer reader) (at ∷ rest) ≡ []
+    left_out at rest le none =
+        ap (λ b. cond (b && (is_spoken_by at.act writer && (is_heard_by at.act reader && is_question at.act.body))) (at ∷ filter (questions_behind (Some place) writer reader) rest) (filter (questions_behind (Some place) writer reader) rest)) (not_behind place at (omega arith))
+        ∙ none
+
+    nothing : (acts : List PlacedValue) → filter (questions_behind (Some place) writer reader) (take zero acts) ≡ []
+    nothing [] = refl
+    nothing (at ∷ acts) = refl
+
+    by : (low : ℕ) (acts : List PlacedValue) (k : ℕ) → AreOrdered low acts → slice_get acts k ≡ Some x → filter (questions_behind (Some place) writer reader) (take (suc k) acts) ≡ []
+    by low [] k ordered there = absurd (let no : None ≡ Some x = there in cc)
+    by low (y ∷ ys) zero ordered there =
+        let same : y ≡ x = (let e : Some y ≡ Some x = there in cc) in
+        let at = ap (λ (p : PlacedValue). p.datagram) same in
+        left_out y (take zero ys) (omega arith) (nothing ys)
+    by low (y ∷ ys) (suc k) (first, rest) there =
+        left_out y (take (suc k) ys) (none_lower y.datagram ys x rest (k, slice_get_within ys k x there, get_or_from_slice_get ys k x x there)) (by y.datagram ys k rest there)
+
+some_at : {X : Type 0} (xs : List X) (k : ℕ) → k < length xs → (x : X) × (slice_get xs k ≡ Some x)
+some_at [] k lt = absurd (omega arith)
+some_at (x ∷ xs) zero lt = (x, refl)
+some_at (x ∷ xs) (suc k) lt = some_at xs k (omega arith)
+
+-- the first acts of a writer do not, where the last of them stands in a datagram before that of the place
+pub none_asks_before : (place : Location) (writer reader : Guid) (recording : List (List ActValue)) (acts : List Placed) (count : ℕ) → map placed_value acts ≡ filter (is_from writer) (placed_in recording) → count ≤ length acts
+    → (0 < count → IfSome (slice_get acts (count - 1)) (λ placed. placed.datagram < place.datagram)) → filter (questions_behind (Some place) writer reader) (take count (map placed_value acts)) ≡ []
+none_asks_before place writer reader recording acts count of_writer within before = by (cases_lt 0 count)
+  where
+    by : (0 < count) ⊎ (count ≤ 0) → filter (questions_behind (Some place) writer reader) (take count (map placed_value acts)) ≡ []
+    by (inr none) = let zero_is : count ≡ 0 = omega arith in ap (λ n. filter (questions_behind (Some place) writer reader) (take n (map placed_value acts))) zero_is ∙ nothing (map placed_value acts)
+      where
+        nothing : (xs : List PlacedValue) → filter (questions_behind (Some place) writer reader) (take zero xs) ≡ []
+        nothing [] = refl
+        nothing (x ∷ xs) = refl
+    by (inl some) =
+        let at = some_at acts (count - 1) (omega arith) in
+        let early : at.0.datagram < place.datagram = subst (λ (o : Option Placed). IfSome o (λ placed. placed.datagram < place.datagram)) at.1 (before some) in
+        let next : count ≡ suc (count - 1) = omega arith in
+        let there : slice_get (map placed_value acts) (count - 1) ≡ Some (placed_value at.0) = slice_get-map placed_value acts (count - 1) ∙ ap (option_map placed_value) at.1 in
+        ap (λ n. filter (questions_behind (Some place) writer reader) (take n (map placed_value acts))) next
+        ∙ none_asks place writer reader 1 (map placed_value acts) (count - 1) (placed_value at.0)
+        (subst (AreOrdered 1) (sym of_writer) (kept_ordered (is_from writer) 1 (placed_in recording) (placed_ordered 0 recording))) there early
+
+-- so what all acts ask behind the place is what the others ask
+pub asked_rest : (place : Option Location) (writer reader : Guid) (acts : List Placed) (start : ℕ) (questions : Questions) → filter (questions_behind place writer reader) (take start (map placed_value acts)) ≡ []
+    → AreAsked place writer reader (map placed_value (take (length acts - start) (drop start acts))) questions → AreAsked place writer reader (map placed_value acts) questions
+asked_rest place writer reader acts start questions none is = record { count = is.count ∙ ap length same; last = is.last ∙ ap (λ l. option_map location_of (last_or None l)) same }
+  where
+    all : take (length acts - start) (drop start acts) ≡ drop start acts
+    all = take_all (length acts - start) (drop start acts) (let e = length-drop start acts in omega arith)
+
+    same : filter (questions_behind place writer reader) (map placed_value (take (length acts - start) (drop start acts))) ≡ filter (questions_behind place writer reader) (map placed_value acts)
+    same = ap (λ l. filter (questions_behind place writer reader) (map placed_value l)) all
+        ∙ ap (filter (questions_behind place writer reader)) (sym (drop-map placed_value start acts))
+        ∙ sym (ap (filter (questions_behind place writer reader)) (sym (take-append-drop start (map placed_value acts)))
+        ∙ filter-append (questions_behind place writer reader) (take start (map placed_value acts)) (drop start (map placed_value acts))
+        ∙ ap (λ l. l ++ filter (questions_behind place writer reader) (drop start (map placed_value acts))) none)

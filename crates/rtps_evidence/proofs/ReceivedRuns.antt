@@ -5,6 +5,7 @@ use Rattle.std.specs.List.{list_any}
 use Rattle.std.proofs.lemmas.Bool.{cases_lt}
 use Rattle.std.proofs.lemmas.Bool.Decides.{nat_tests}
 use Rattle.std.proofs.lemmas.List.Elements.{Contains-append_left}
+use Rattle.std.proofs.lemmas.List.Folds.{list_any-from_Any}
 use Rattle.rtps_ids.specs.declared.identity.Guid.{Guid}
 use Rattle.rtps_discovery.specs.declared.matching.Pair.{Pair}
 use Rattle.rtps_wire.specs.Values.{PayloadValue}
@@ -148,6 +149,26 @@ certain from pair recording n (Some claim) asked found is end ends =
         absurd (none_passes (withdraws_before pair.writer pair.reader n claim.datagram) (placed_in recording) teller.0 never teller.1
         (passes_gone pair.writer pair.reader n claim.datagram teller.0 (omega arith) teller.2))
 
+-- where a run exists, a number that is claimed and not told gone before the first claim is sent before
+pub sent_before : (from : ℕ) (pair : Pair) (recording : List (List ActValue)) (n : ℕ) (claim : PlacedValue) → IsAsked from n → HasRun from (speech_by pair.writer pair.reader recording)
+    → first_claiming pair.writer pair.reader n (placed_in recording) ≡ Some claim → list_any (withdraws_before pair.writer pair.reader n claim.datagram) (placed_in recording) ≡ false
+    → list_any (sends_before pair.writer pair.reader n claim.datagram) (placed_in recording) ≡ true
+sent_before from pair recording n claim asked run found never =
+    let there = found_is_there (claims pair.writer pair.reader n) (placed_in recording) claim found in
+    let here = claim_there from pair recording n claim asked there.0 there.1 in
+    let told = run_is_founded from (speech_by pair.writer pair.reader recording) run here.0 n here.1 in
+    let teller = given_is_word from pair.writer pair.reader recording told.place told.act n told.word told.gives in
+    let at = here.2 in
+    let earlier = told.earlier in
+    let place = teller.3 in
+    by teller.0 teller.1 (omega arith) told.word teller.2
+  where
+    by : (at : PlacedValue) → Contains (placed_in recording) at → at.datagram < claim.datagram → (word : Word) → word_for pair.writer pair.reader at.act n ≡ Some word → list_any (sends_before pair.writer pair.reader n claim.datagram) (placed_in recording) ≡ true
+    by at among lt (Told payload) says =
+        let passes = passes_sent pair.writer pair.reader n claim.datagram at payload lt says in
+        list_any-from_Any (sends_before pair.writer pair.reader n claim.datagram) (placed_in recording) (among.0, at, among.1, among.2, passes)
+    by at among lt Gone says = absurd (none_passes (withdraws_before pair.writer pair.reader n claim.datagram) (placed_in recording) at never among (passes_gone pair.writer pair.reader n claim.datagram at lt says))
+
 -- ---- and what is not, is not
 
 -- a datagram before the claim tells n gone
@@ -178,30 +199,12 @@ gone_before_claim from pair recording n (Some first) asked run found is j claim 
         let le = first_is_first (claims pair.writer pair.reader n) 1 (placed_in recording) there.0 first (placed_ordered 0 recording) found there.1 there.2 in
         omega arith
 
-    unsent : (b : Bool) → list_any (withdraws_before pair.writer pair.reader n first.datagram) (placed_in recording) ≡ false → list_any (sends_before pair.writer pair.reader n first.datagram) (placed_in recording) ≡ b
-        → (b && not (list_any (withdraws_before pair.writer pair.reader n first.datagram) (placed_in recording))) ≡ false → b ≡ false
-    unsent false none same e = refl
-    unsent true none same e = absurd (let no : not false ≡ false = ap not (sym none) ∙ e in let yes : not false ≡ true = refl in cc)
-
-    told : (i : ℕ) (k : ℕ) (word : Word) → i + 1 < first.datagram → Gives from (speech_by pair.writer pair.reader recording) i k n word → list_any (withdraws_before pair.writer pair.reader n first.datagram) (placed_in recording) ≡ false
-        → IsGoneBefore from (speech_by pair.writer pair.reader recording) j n
-    told i k Gone lt gives none = let le = no_later in record { place = i; act = k; earlier = omega arith; gives = gives }
-    told i k (Told payload) lt gives none =
-        let teller = given_is_word from pair.writer pair.reader recording i k n (Told payload) gives in
-        let place = teller.3 in
-        absurd (none_passes (sends_before pair.writer pair.reader n first.datagram) (placed_in recording) teller.0
-        (unsent (list_any (sends_before pair.writer pair.reader n first.datagram) (placed_in recording)) none refl is) teller.1
-        (passes_sent pair.writer pair.reader n first.datagram teller.0 payload (omega arith) teller.2))
-
     by : (b : Bool) → list_any (withdraws_before pair.writer pair.reader n first.datagram) (placed_in recording) ≡ b → IsGoneBefore from (speech_by pair.writer pair.reader recording) j n
     by true some = gone_there from pair recording n first.datagram j asked no_later some
     by false none =
-        let there = found_is_there (claims pair.writer pair.reader n) (placed_in recording) first found in
-        let here = claim_there from pair recording n first asked there.0 there.1 in
-        let word = run_is_founded from (speech_by pair.writer pair.reader recording) run here.0 n here.1 in
-        let place = here.2 in
-        let earlier = word.earlier in
-        told word.place word.act word.word (omega arith) word.gives none
+        let sent = sent_before from pair recording n first asked run found none in
+        let certain : is_certain_by pair.writer pair.reader n (placed_in recording) (Some first) ≡ true = ap (λ b. b && not (list_any (withdraws_before pair.writer pair.reader n first.datagram) (placed_in recording))) sent ∙ ap not none in
+        absurd (let no : true ≡ false = sym certain ∙ is in cc)
 
 pub received_is_exact : ReceivedIsExact
 received_is_exact from pair recording n asked run = record {

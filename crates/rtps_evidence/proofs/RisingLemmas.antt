@@ -3,6 +3,7 @@ use Rattle.std.proofs.Common.{◌≡◌, ℕ, ◌+◌, ◌-◌, ◌<◌, ◌≤�
 use Rattle.std.specs.Prelude.{Contains}
 use Rattle.std.specs.List.{list_any}
 use Rattle.std.specs.List.Sorted.{IsNonDecreasingBy, IsPartitionPoint}
+use Rattle.std.proofs.Math.Bool.{and-false}
 use Rattle.std.proofs.lemmas.Bool.{cases_lt}
 use Rattle.std.proofs.lemmas.Bool.Decides.{nat_tests}
 use Rattle.std.proofs.lemmas.List.{get_or_default, length-append, take_more, get_or_push}
@@ -177,12 +178,12 @@ reached_on stretches key later n le some =
     let begins : nat_le at.0.lo later ≡ true = grind (arith, nat_tests, lower, le) in
     list_any-from_Any (reaches later n) stretches (at.1.0, at.0, at.1.1, at.1.2, ap (λ b. b && nat_lt n at.0.hi) begins ∙ tests.1)
 
--- the numbers below an end are in stretches, too
-pub within_more : (stretches : List Stretch) (from least end : ℕ) → least < end → ((n : ℕ) → from ≤ n → n < least → some_reaches stretches n n ≡ true) → ((n : ℕ) → nat_lt n end ≡ some_reaches stretches least n)
-    → (n : ℕ) → from ≤ n → n < end → some_reaches stretches n n ≡ true
-within_more stretches from least end lt below reach n low high = elim (cases_lt n least) [
-  | inl before ↦ below n low before
-  | inr past ↦
-      let ends : nat_lt n end ≡ true = grind (arith, nat_tests, high) in
-      reached_on stretches least n n past (sym (reach n) ∙ ends)
+-- a stretch has no number in common with those that end up to its beginning where they begin up to its end
+pub none_in_common : (old : Bool) (stretches : List Stretch) (x : Stretch) (end n : ℕ) → end ≤ x.lo → ((m : ℕ) → nat_lt m end ≡ some_reaches stretches x.hi m) → some_reaches stretches n n ≡ true → old ≡ (old || (nat_le x.lo n && nat_lt n x.hi))
+none_in_common old stretches x end n le reach there = elim (cases_lt n x.hi) [
+  | inl before ↦
+      let ends = reach n ∙ reached_on stretches n x.hi n (omega arith) there in
+      let early : nat_le x.lo n ≡ false = grind (arith, nat_tests, ends, le) in
+      sym (ap (λ b. old || (b && nat_lt n x.hi)) early ∙ or_false old)
+  | inr past ↦ let late : nat_lt n x.hi ≡ false = grind (arith, nat_tests) in sym (ap (λ b. old || (nat_le x.lo n && b)) late ∙ ap (λ b. old || b) (and-false (nat_le x.lo n)) ∙ or_false old)
 ]

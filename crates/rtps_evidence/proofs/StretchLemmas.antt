@@ -36,3 +36,9 @@ gap_end gap at none n = elim (cases_lt n at) [
 pub or_assoc : (a b c : Bool) → ((a || b) || c) ≡ (a || (b || c))
 or_assoc true b c = refl
 or_assoc false b c = refl
+
+-- a range more, where all are limited alike
+pub shared_more : (old limit a b : Bool) → ((old || (limit && a)) || (limit && b)) ≡ (old || (limit && (a || b)))
+shared_more true limit a b = refl
+shared_more false true a b = refl
+shared_more false false a b = refl

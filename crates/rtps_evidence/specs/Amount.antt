@@ -8,6 +8,7 @@ use Rattle.rtps_evidence.specs.Locations.{sends, tells}
 use Rattle.rtps_evidence.specs.declared.amount.Amounts.{Amounts}
 use Rattle.rtps_evidence.specs.declared.amount.HeardNumbers.{HeardNumbers}
 use Rattle.rtps_evidence.specs.declared.amount.Stretch.{Stretch}
+use Rattle.rtps_evidence.specs.declared.withdrawal.Withdrawal.{Withdrawal}
 
 -- how many of the numbers from lo on and below hi have it
 abbrev pub count_in : (ℕ → Bool) → ℕ → ℕ → ℕ
@@ -29,10 +30,23 @@ is_told writer reader acts n = list_any (tells writer reader n) acts
 abbrev pub is_sent : Guid → Guid → List PlacedValue → ℕ → Bool
 is_sent writer reader acts n = list_any (sends writer reader n) acts
 
--- they are the numbers that have a word, and those that have a payload
-pub record AreNumbers (has_word has_payload : ℕ → Bool) (heard : HeardNumbers) : Type 0 where
+-- whether a withdrawal has n
+abbrev pub withdrawal_has : ℕ → Withdrawal → Bool
+withdrawal_has n withdrawal = nat_le withdrawal.lo n && nat_lt n withdrawal.hi
+
+-- whether it does, and stands before a datagram
+abbrev pub withdrawn_before : ℕ → ℕ → Withdrawal → Bool
+withdrawn_before n datagram withdrawal = nat_lt withdrawal.datagram datagram && withdrawal_has n withdrawal
+
+-- whether some withdrawal does
+abbrev pub some_withdrawn : List Withdrawal → ℕ → ℕ → Bool
+some_withdrawn withdrawals n datagram = list_any (withdrawn_before n datagram) withdrawals
+
+-- they are the numbers that have a word, those that have a payload, and those that are told gone before a datagram
+pub record AreNumbers (has_word has_payload : ℕ → Bool) (is_gone : ℕ → ℕ → Bool) (heard : HeardNumbers) : Type 0 where
   pub told : (n : ℕ) → stretches_have heard.told.items n ≡ has_word n
   pub sent : (n : ℕ) → stretches_have heard.sent.items n ≡ has_payload n
+  pub gone : (n datagram : ℕ) → some_withdrawn heard.gone.items n datagram ≡ is_gone n datagram
 
 -- Of the numbers from `from` to the last one: those with a payload, those told gone that have no payload, and those
 -- without a word.

@@ -8,8 +8,9 @@ use Rattle.rtps_receiver.specs.Values.{ActValue}
 use Rattle.rtps_audit.specs.Delivery.{last_announced_from}
 use Rattle.rtps_audit.specs.Placed.{PlacedValue, is_from, placed_in}
 use Rattle.rtps_audit.specs.Speech.{speech_by}
-use Rattle.rtps_evidence.specs.Amount.{is_sent, is_told, stretches_have}
+use Rattle.rtps_evidence.specs.Amount.{AreNumbers, is_sent, is_told, some_withdrawn, stretches_have}
 use Rattle.rtps_evidence.specs.Locations.{announcement_of, sends, tells}
+use Rattle.rtps_evidence.specs.Received.{withdraws_before}
 use Rattle.rtps_evidence.specs.declared.amount.HeardNumbers.{HeardNumbers}
 use Rattle.rtps_evidence.specs.declared.writer_summary.WriterSummary.{WriterSummary}
 
@@ -30,6 +31,11 @@ any_at test acts places = list_any (λ place. option_any test (slice_get acts pl
 pub record IsSplit (writer : Guid) (acts : List PlacedValue) (alike : HeardNumbers) (others : List ℕ) : Type 0 where
   pub told : (reader : Guid) (n : ℕ) → is_told writer reader acts n ≡ (stretches_have alike.told.items n || any_at (tells writer reader n) acts others)
   pub sent : (reader : Guid) (n : ℕ) → is_sent writer reader acts n ≡ (stretches_have alike.sent.items n || any_at (sends writer reader n) acts others)
+  pub gone : (reader : Guid) (n datagram : ℕ) → list_any (withdraws_before writer reader n datagram) acts ≡ (some_withdrawn alike.gone.items n datagram || any_at (withdraws_before writer reader n datagram) acts others)
+
+-- the numbers are what the reader hears by these acts of the writer
+abbrev pub IsHeardBy : Guid → Guid → List PlacedValue → HeardNumbers → Type 0
+IsHeardBy writer reader acts heard = AreNumbers (is_told writer reader acts) (is_sent writer reader acts) (λ n datagram. list_any (withdraws_before writer reader n datagram) acts) heard
 
 -- its last number, who announced it, and what its readers hear
 pub record IsSummary (recording : List (List ActValue)) (summary : WriterSummary) : Type 0 where

@@ -1,9 +1,11 @@
 ghost use Rattle.std.specs.Prelude.{ℕ, ◌≡◌, ◌<◌, ◌==◌, ◌&&◌, ◌^◌, map, nat_lt, List};
 ghost use Rattle.std.specs.List.{find};
+ghost use Rattle.rtps_discovery.specs.declared.matching.Pair.{Pair as PairValue};
+ghost use Rattle.rtps_receiver.specs.Values.{ActValue};
 ghost use Rattle.rtps_audit.specs.Delivery.{greatest};
 ghost use Rattle.rtps_audit.specs.Index.{IsIndexBy};
 ghost use Rattle.rtps_audit.specs.Intake.{Intake};
-ghost use Rattle.rtps_audit.specs.Placed.{placed_in};
+ghost use Rattle.rtps_audit.specs.Placed.{answers_among, placed_in};
 ghost use Rattle.rtps_audit.specs.Speech.{natural};
 ghost use Rattle.rtps_evidence.specs.Locations.{acknowledgement_of, claim_in as claim_in_lem, claim_of};
 
@@ -69,12 +71,11 @@ fn first_above(answers: &[Answer], datagram: u64, number: u64) -> Option<Claim>
     None
 }
 
-/// The first answer of a pair's reader to its writer that has the greatest base of all, where that is above `from`.
-pub(crate) fn find_acknowledgement(index: &Index<'_>, pair: Pair, from: SeqNum) -> Option<Claim>
-    ensures { (intake : Intake) → IsIndexBy intake index.now
-        → result ≡ acknowledgement_of from pair.writer pair.reader (placed_in intake.acts) }
+/// The first of a pair's answers that has the greatest base of all, where that is above `from`.
+pub(crate) fn find_acknowledgement(answers: &[Answer], from: SeqNum) -> Option<Claim>
+    ensures { (pair : PairValue) (recording : List (List ActValue)) → answers.now ≡ answers_among pair (placed_in recording)
+        → result ≡ acknowledgement_of from pair.writer pair.reader (placed_in recording) }
 {
-    let answers = index.answers_of(pair);
     let base = greatest_base(answers);
     if base <= from.get().cast_unsigned() {
         return None;

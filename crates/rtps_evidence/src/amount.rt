@@ -1,10 +1,11 @@
-ghost use Rattle.std.specs.Prelude.{ℕ, ◌≡◌, ◌-◌, ◌<◌, ◌≤◌, ◌||◌, ◌^◌, IfOk, IfSome, List, OnOk};
+ghost use Rattle.std.specs.Prelude.{ℕ, true, false, ◌≡◌, ◌-◌, ◌<◌, ◌≤◌, ◌||◌, ◌^◌, IfOk, IfSome, List, OnOk};
 ghost use Rattle.std.specs.List.Sorted.{IsNonDecreasingBy};
 ghost use Rattle.rtps_audit.specs.Placed.{placed_value};
 ghost use Rattle.rtps_audit.specs.Speech.{is_in_gap};
 ghost use Rattle.rtps_evidence.specs.Amount.{AreAmounts, count_in, is_sent, is_told, stretch_has, stretches_have};
 ghost use Rattle.rtps_evidence.specs.Locations.{sends, tells};
 
+use crate::withdrawal::{Withdrawal, push_withdrawn};
 use rtps_audit::Placed;
 use rtps_discovery::Pair;
 use rtps_ids::{Memory, SeqNum};
@@ -17,7 +18,7 @@ use std::alloc::Global;
 pub(crate) struct AskedNumbers {
     pub(crate) from: SeqNum,
     pub(crate) last: u64,
-    ghost in_range: { (from - 1 ≤ last) × (last < 2 ^ 63) },
+    ghost in_range: { (1 ≤ from) × (from - 1 ≤ last) × (last < 2 ^ 63) },
 }
 
 /// Of the numbers that are asked for: how many have a payload, are gone without one, and have no word.
@@ -35,11 +36,12 @@ pub(crate) struct Stretch {
     pub(crate) hi: u64,
 }
 
-/// The numbers that have a word by what is heard, and those that have a payload.
+/// The numbers that have a word by what is heard, those that have a payload, and those that are told gone.
 #[derive(Drop)]
 pub(crate) struct HeardNumbers {
     pub(crate) told: Vec<Stretch>,
     pub(crate) sent: Vec<Stretch>,
+    pub(crate) gone: Vec<Withdrawal>,
 }
 
 /// How many of the numbers from `from` on and below `end` lie in these stretches, which stand in the order of their
@@ -71,6 +73,24 @@ pub(crate) fn count_of(stretches: &mut Vec<Stretch>, from: u64, end: u64) -> Res
     Ok(count_in_order(stretches, from, end))
 }
 
+/// The least number from `from` on and below `end` that a stretch has, or `end`.
+pub(crate) fn least_inside(stretches: &[Stretch], from: u64, end: u64) -> u64
+    requires { from ≤ end }
+    ensures onward { from ≤ result }
+    ensures within { result ≤ end }
+    ensures below { (n : ℕ) → from ≤ n → n < result → stretches_have stretches.now n ≡ false }
+    ensures inside { result < end → stretches_have stretches.now result ≡ true }
+{
+    let mut least = end;
+    for stretch in stretches {
+        let lo = stretch.lo.max(from);
+        if lo < stretch.hi && lo < least {
+            least = lo;
+        }
+    }
+    least
+}
+
 /// The stretch that two make, where the second begins in the first or at its end.
 fn joined(first: Stretch, second: Stretch) -> Option<Stretch>
     ensures { IfSome result (λ whole. (n : ℕ) → stretch_has n whole ≡ (stretch_has n first || stretch_has n second)) }
@@ -85,7 +105,7 @@ fn joined(first: Stretch, second: Stretch) -> Option<Stretch>
 }
 
 /// Appends a stretch, or joins it to the last one. After `Memory` the stretches are of no use.
-fn push(stretches: &mut Vec<Stretch>, stretch: Stretch) -> Result<(), Memory>
+pub(crate) fn push(stretches: &mut Vec<Stretch>, stretch: Stretch) -> Result<(), Memory>
     ensures { OnOk result ((n : ℕ) → stretches_have stretches.new.items n ≡ (stretches_have stretches.old.items n || stretch_has n stretch)) }
 {
     let Some(last) = stretches.pop() else {
@@ -193,19 +213,22 @@ fn push_sent(stretches: &mut Vec<Stretch>, placed: &Placed<'_>, pair: Pair) -> R
 }
 
 impl HeardNumbers {
-    ghost use Rattle.std.specs.Prelude.{[]};
+    ghost use Rattle.std.specs.Prelude.{[], Bool};
     ghost use Rattle.rtps_ids.specs.declared.identity.Guid.{Guid as GuidValue};
     ghost use Rattle.rtps_audit.specs.Placed.{PlacedValue};
-    ghost use Rattle.rtps_evidence.specs.Amount.{AreNumbers};
+    ghost use Rattle.rtps_evidence.specs.Amount.{AreNumbers, some_withdrawn};
+    ghost use Rattle.rtps_evidence.specs.Received.{withdraws_before};
 
     /// No numbers.
     pub(crate) fn new(alloc: Global) -> Self
         ensures told { result.told.items ≡ [] }
         ensures sent { result.sent.items ≡ [] }
+        ensures gone { result.gone.items ≡ [] }
     {
         HeardNumbers {
             told: Vec::new(alloc),
             sent: Vec::new(alloc),
+            gone: Vec::new(alloc),
         }
     }
 
@@ -213,15 +236,18 @@ impl HeardNumbers {
     pub(crate) fn note(&mut self, placed: &Placed<'_>, pair: Pair) -> Result<(), Memory>
         ensures { OnOk result (AreNumbers
             (λ n. stretches_have self.old.told.items n || tells pair.writer pair.reader n (placed_value placed.now))
-            (λ n. stretches_have self.old.sent.items n || sends pair.writer pair.reader n (placed_value placed.now)) self.new) }
+            (λ n. stretches_have self.old.sent.items n || sends pair.writer pair.reader n (placed_value placed.now))
+            (λ n datagram. some_withdrawn self.old.gone.items n datagram || withdraws_before pair.writer pair.reader n datagram (placed_value placed.now)) self.new) }
     {
         push_told(&mut self.told, placed, pair)?;
-        push_sent(&mut self.sent, placed, pair)
+        push_sent(&mut self.sent, placed, pair)?;
+        push_withdrawn(&mut self.gone, placed, pair)
     }
 
     /// Puts them in order, in as few stretches as they make. After `Memory` they are of no use.
     pub(crate) fn put_in_order(&mut self, alloc: Global) -> Result<(), Memory>
-        ensures { OnOk result (AreNumbers (stretches_have self.old.told.items) (stretches_have self.old.sent.items) self.new) }
+        ensures { OnOk result (AreNumbers (stretches_have self.old.told.items) (stretches_have self.old.sent.items)
+            (some_withdrawn self.old.gone.items) self.new) }
     {
         self.told = in_order(alloc, &mut self.told)?;
         self.sent = in_order(alloc, &mut self.sent)?;
@@ -230,18 +256,20 @@ impl HeardNumbers {
 
     /// The same numbers once more.
     pub(crate) fn copied(&self, alloc: Global) -> Result<HeardNumbers, Memory>
-        ensures { IfOk result (AreNumbers (stretches_have self.now.told.items) (stretches_have self.now.sent.items)) }
+        ensures { IfOk result (AreNumbers (stretches_have self.now.told.items) (stretches_have self.now.sent.items)
+            (some_withdrawn self.now.gone.items)) }
     {
         let mut copy = HeardNumbers::new(alloc);
         copy.told.extend_from_slice(&self.told)?;
         copy.sent.extend_from_slice(&self.sent)?;
+        copy.gone.extend_from_slice(&self.gone)?;
         Ok(copy)
     }
 
     /// The amounts of the numbers that are asked for. It puts the stretches in another order.
     pub(crate) fn amounts(&mut self, asked: &AskedNumbers) -> Result<Amounts, Memory>
-        ensures { (writer reader : GuidValue) (acts : List PlacedValue)
-            → AreNumbers (is_told writer reader acts) (is_sent writer reader acts) self.old
+        ensures { (writer reader : GuidValue) (acts : List PlacedValue) (is_gone : ℕ → ℕ → Bool)
+            → AreNumbers (is_told writer reader acts) (is_sent writer reader acts) is_gone self.old
             → IfOk result (AreAmounts asked.now.from asked.now.last writer reader acts) }
     {
         let first = asked.from.get().cast_unsigned();

@@ -1,20 +1,15 @@
-ghost use Rattle.std.specs.Prelude.{ℕ, ◌≡◌, ◌&&◌, ◌||◌, nat_le, map, IfOk, OnOk};
+ghost use Rattle.std.specs.Prelude.{ℕ, ◌≡◌, ◌≤◌, nat_lt, IfOk};
 ghost use Rattle.std.specs.List.{list_any};
-ghost use Rattle.rtps_audit.specs.Placed.{placed_value};
-ghost use Rattle.rtps_audit.specs.Speech.{is_in_gap};
 ghost use Rattle.rtps_evidence.specs.Amount.{stretches_have};
-ghost use Rattle.rtps_evidence.specs.Claimed.{certain_at, claims_up_to, is_unclaimed_at};
-ghost use Rattle.rtps_evidence.specs.Received.{withdraws};
+ghost use Rattle.rtps_evidence.specs.Claimed.{certain_at, claims_up_to, withdrawn_past, withdrawn_unclaimed};
 ghost use Rattle.rtps_evidence.specs.Rising.{AreRising, some_reaches};
 
 use crate::acknowledgement::greatest_base;
 use crate::amount::Stretch;
 use crate::rising::{end_at, rising};
-use rtps_audit::{Answer, Placed};
-use rtps_discovery::Pair;
-use rtps_ids::Memory;
-use rtps_receiver::ActBody;
-use rtps_wire::GapBody;
+use crate::withdrawal::Withdrawal;
+use rtps_audit::Answer;
+use rtps_ids::{Memory, SeqNum};
 use std::alloc::Global;
 
 /// What a pair's answers claim, and what is told gone before that.
@@ -31,18 +26,17 @@ pub(crate) struct Certainty {
 impl Certainty {
     ghost use Rattle.rtps_evidence.specs.Claimed.{IsCertaintyOf};
 
-    /// By these acts of a pair's writer, and these answers.
+    /// By what is told gone to a pair's reader, and its answers.
     pub(crate) fn of(
         alloc: Global,
-        acts: &[Placed<'_>],
+        withdrawals: &[Withdrawal],
         answers: &[Answer],
-        pair: Pair,
     ) -> Result<Certainty, Memory>
-        ensures { IfOk result (IsCertaintyOf pair (map placed_value acts.now) answers.now) }
+        ensures { IfOk result (IsCertaintyOf withdrawals.now answers.now) }
     {
         let mut stretches = claims_of(alloc, answers)?;
         let claims = rising(alloc, &mut stretches)?;
-        let mut stretches = gone_unclaimed(alloc, acts, pair, &claims)?;
+        let mut stretches = gone_unclaimed(alloc, withdrawals, &claims)?;
         let gone = rising(alloc, &mut stretches)?;
         Ok(Certainty {
             claims,
@@ -78,66 +72,53 @@ fn claims_of(alloc: Global, answers: &[Answer]) -> Result<Vec<Stretch>, Memory>
     Ok(claims)
 }
 
-/// Appends the numbers from `from` on that a GAP says will not come. After `Memory` the stretches are of no use.
-fn push_gap_from(stretches: &mut Vec<Stretch>, gap: &GapBody, from: u64) -> Result<(), Memory>
-    ensures { OnOk result ((n : ℕ) → stretches_have stretches.new.items n
-        ≡ (stretches_have stretches.old.items n || (nat_le from n && is_in_gap gap.now n))) }
-{
-    let lo = gap.start.get().cast_unsigned().max(from);
-    let hi = gap.list.base().cast_unsigned();
-    stretches.push(Stretch { lo, hi })?;
-    let mut at = hi;
-    'apart: while let Some(members) = gap.list.range_from(at) {
-        let lo = members.start.max(from);
-        let hi = members.end;
-        stretches.push(Stretch { lo, hi })?;
-        at = members.end;
-    }
-    Ok(())
-}
-
-/// Appends the numbers from `from` on of which the pair's reader hears, by an act, that they will not come. After `Memory` the
-/// stretches are of no use.
-fn push_gone(
-    stretches: &mut Vec<Stretch>,
-    placed: &Placed<'_>,
-    pair: Pair,
-    from: u64,
-) -> Result<(), Memory>
-    ensures { OnOk result ((n : ℕ) → stretches_have stretches.new.items n
-        ≡ (stretches_have stretches.old.items n || (nat_le from n && withdraws pair.writer pair.reader n (placed_value placed.now)))) }
-{
-    if !placed.act.spoken_by(pair.writer) || !placed.act.heard_by(pair.reader) {
-        return Ok(());
-    }
-    match &placed.act.body {
-        ActBody::Heartbeat(heartbeat) => {
-            let hi = heartbeat.first.get().cast_unsigned();
-            stretches.push(Stretch { lo: from, hi })?;
-            Ok(())
-        }
-        ActBody::Gap(gap) => push_gap_from(stretches, gap, from),
-        ActBody::Data(_) => Ok(()),
-        ActBody::DataFrag(_) => Ok(()),
-        ActBody::AckNack(_) => Ok(()),
-    }
-}
-
-/// The numbers of which the pair's reader hears, by these acts, that they will not come, each before it is claimed.
+/// The numbers of these withdrawals, each as long as it is not claimed.
 fn gone_unclaimed(
     alloc: Global,
-    acts: &[Placed<'_>],
-    pair: Pair,
+    withdrawals: &[Withdrawal],
     claims: &[Stretch],
 ) -> Result<Vec<Stretch>, Memory>
     requires { AreRising claims.now }
-    ensures { IfOk result (λ gone. (n : ℕ) → stretches_have gone.items n
-        ≡ list_any (λ at. is_unclaimed_at claims.now n at && withdraws pair.writer pair.reader n at) (map placed_value acts.now)) }
+    ensures { IfOk result (λ gone. (n : ℕ) → stretches_have gone.items n ≡ list_any (withdrawn_past claims.now n) withdrawals.now) }
 {
     let mut gone = Vec::new(alloc);
-    for placed in acts {
-        let from = end_at(claims, placed.datagram as u64);
-        push_gone(&mut gone, placed, pair, from)?;
+    for withdrawal in withdrawals {
+        let lo = end_at(claims, withdrawal.datagram).max(withdrawal.lo);
+        let hi = withdrawal.hi;
+        if lo < hi {
+            gone.push(Stretch { lo, hi })?;
+        }
     }
+    Ok(gone)
+}
+
+/// Whether one of these withdrawals ends above a number.
+fn go_past(withdrawals: &[Withdrawal], from: u64) -> bool
+    ensures { result ≡ list_any (λ withdrawal. nat_lt from withdrawal.hi) withdrawals.now }
+{
+    for withdrawal in withdrawals {
+        if from < withdrawal.hi {
+            return true;
+        }
+    }
+    false
+}
+
+/// The numbers of these withdrawals, each as long as none of these answers claims it, of those from `from` on. Other numbers may
+/// be among them.
+pub(crate) fn gone_among(
+    alloc: Global,
+    withdrawals: &[Withdrawal],
+    answers: &[Answer],
+    from: SeqNum,
+) -> Result<Vec<Stretch>, Memory>
+    ensures { IfOk result (λ gone. (n : ℕ) → from ≤ n → stretches_have gone.items n ≡ list_any (withdrawn_unclaimed answers.now n) withdrawals.now) }
+{
+    if !go_past(withdrawals, from.get().cast_unsigned()) {
+        return Ok(Vec::new(alloc));
+    }
+    let mut stretches = claims_of(alloc, answers)?;
+    let claims = rising(alloc, &mut stretches)?;
+    let gone = gone_unclaimed(alloc, withdrawals, &claims)?;
     Ok(gone)
 }

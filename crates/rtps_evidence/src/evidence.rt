@@ -9,13 +9,15 @@ ghost use Rattle.rtps_evidence.specs.Evidence.{claim_by as claim_by_lem, first_b
 
 use crate::acknowledgement::{Claim, find_acknowledgement, find_claim};
 use crate::first_missed::FirstMissed;
+use crate::lacking::Exchange;
 use crate::last_announcement::Announcement;
 use crate::location::Location;
 use crate::missed::count_missed;
-use crate::missed_numbers::{Listener, find_missed};
+use crate::missed_numbers::find_missed;
 use crate::not_received::NotReceived;
 use crate::questions::questions_since;
-use crate::received::{count_received, received_numbers};
+use crate::received::count_received;
+use crate::rising::rising;
 use crate::sent_payload::{Sent, first_sent, other_sent};
 use crate::teller::{Teller, find_teller};
 use crate::writer_summary::WriterSummary;
@@ -100,17 +102,19 @@ impl<'a> Evidence<'a> {
     {
         let acts = index.acts_of(row.pair.writer);
         let answers = index.answers_of(row.pair);
-        let amounts = summary.amounts(alloc, index, row.pair.reader)?;
-        let mut numbers = received_numbers(alloc, acts, answers, row.pair)?;
-        let listener = Listener::of(index, row.pair);
-        let mut missed = find_missed(alloc, index, &listener, &numbers)?;
+        let mut heard = summary.heard_by(alloc, acts, row.pair.reader)?;
+        let exchange = Exchange { acts, answers };
+        let mut lacking = heard.lacking(alloc, &exchange, row, &summary.asked)?;
+        let mut lacking = rising(alloc, &mut lacking)?;
+        let mut missed = find_missed(alloc, index, row.pair, &lacking)?;
         let missed = count_missed(&mut missed, index, row.pair, &summary.asked)?;
-        let received = count_received(&mut numbers, index, row.pair, &summary.asked)?;
+        let received = count_received(&mut lacking, index, row.pair, &summary.asked)?;
+        let amounts = heard.amounts(&summary.asked)?;
         let questions = questions_since(acts, answers, row.pair);
         Ok(Evidence {
             verdict: row.verdict,
             announcement: summary.announcement,
-            acknowledgement: find_acknowledgement(index, row.pair, summary.asked.from),
+            acknowledgement: find_acknowledgement(answers, summary.asked.from),
             payloads: amounts.payloads,
             gone: amounts.gone,
             untold: amounts.untold,

@@ -8,6 +8,7 @@ mod claimed;
 mod evidence;
 mod explanation;
 mod first_missed;
+mod lacking;
 mod last_announcement;
 pub mod laws;
 mod location;
@@ -19,6 +20,7 @@ mod received;
 mod rising;
 mod sent_payload;
 mod teller;
+mod withdrawal;
 mod writer_summary;
 
 pub use acknowledgement::Claim;

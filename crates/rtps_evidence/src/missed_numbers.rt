@@ -1,4 +1,4 @@
-ghost use Rattle.std.specs.Prelude.{ℕ, ◌≡◌, ◌==◌, ◌&&◌, ◌||◌, not, map, IfOk, OnOk, List};
+ghost use Rattle.std.specs.Prelude.{ℕ, true, ◌≡◌, ◌==◌, ◌&&◌, ◌||◌, not, map, IfOk, OnOk, List};
 ghost use Rattle.std.specs.List.{list_any};
 ghost use Rattle.rtps_ids.specs.NumberSet.{is_member};
 ghost use Rattle.rtps_audit.specs.Index.{IsIndexBy};
@@ -97,6 +97,25 @@ fn asked_among(alloc: Global, acts: &[Placed<'_>], pair: Pair) -> Result<Vec<Str
     Ok(asked)
 }
 
+/// Those of these stretches that have a number which the reader lacks.
+fn lacking_among(
+    alloc: Global,
+    asked: &[Stretch],
+    lacking: &[Stretch],
+) -> Result<Vec<Stretch>, Memory>
+    requires { AreRising lacking.now }
+    ensures { IfOk result (λ some. (n : ℕ) → stretches_have lacking.now n ≡ true → stretches_have some.items n ≡ stretches_have asked.now n) }
+{
+    let mut some = Vec::new(alloc);
+    for stretch in asked {
+        let end = end_at(lacking, stretch.hi);
+        if stretch.lo < end {
+            some.push(*stretch)?;
+        }
+    }
+    Ok(some)
+}
+
 /// The number of the payload that the reader hears by an act behind its announcement.
 fn number_behind(placed: &Placed<'_>, listener: &Listener) -> Option<u64>
     ensures { (n : ℕ) → sends_behind listener.now.announced listener.now.pair.writer listener.now.pair.reader n (placed_value placed.now) ≡ is_at n result }
@@ -108,43 +127,43 @@ fn number_behind(placed: &Placed<'_>, listener: &Listener) -> Option<u64>
     }
 }
 
-/// Appends the number of a payload that the reader hears behind its announcement, where it is not received. After `Memory` the
+/// Appends the number of a payload that the reader hears behind its announcement, where these have it. After `Memory` the
 /// numbers are of no use.
 fn push_sent(
     numbers: &mut Vec<u64>,
     placed: &Placed<'_>,
     listener: &Listener,
-    received: &[Stretch],
+    lacking: &[Stretch],
 ) -> Result<(), Memory>
-    requires { AreRising received.now }
+    requires { AreRising lacking.now }
     ensures { OnOk result ((n : ℕ) → numbers_have numbers.new.items n ≡ (numbers_have numbers.old.items n
         || (sends_behind listener.now.announced listener.now.pair.writer listener.now.pair.reader n (placed_value placed.now)
-        && not (stretches_have received.now n)))) }
+        && stretches_have lacking.now n))) }
 {
     let Some(number) = number_behind(placed, listener) else {
         return Ok(());
     };
-    if end_at(received, number) <= number {
+    if number < end_at(lacking, number) {
         numbers.push(number)?;
     }
     Ok(())
 }
 
-/// The numbers of the payloads that the reader hears behind its announcement by these acts, where they are not received.
-fn sent_unreceived(
+/// The numbers of the payloads that the reader hears behind its announcement by these acts, of those that it lacks.
+fn sent_lacking(
     alloc: Global,
     acts: &[Placed<'_>],
     listener: &Listener,
-    received: &[Stretch],
+    lacking: &[Stretch],
 ) -> Result<Vec<u64>, Memory>
-    requires { AreRising received.now }
+    requires { AreRising lacking.now }
     ensures { IfOk result (λ numbers. (n : ℕ) → numbers_have numbers.items n
         ≡ list_any (λ at. sends_behind listener.now.announced listener.now.pair.writer listener.now.pair.reader n at
-        && not (stretches_have received.now n)) (map placed_value acts.now)) }
+        && stretches_have lacking.now n) (map placed_value acts.now)) }
 {
     let mut numbers = Vec::new(alloc);
     for placed in acts {
-        push_sent(&mut numbers, placed, listener, received)?;
+        push_sent(&mut numbers, placed, listener, lacking)?;
     }
     Ok(numbers)
 }
@@ -173,25 +192,29 @@ fn push_number(missed: &mut Vec<Stretch>, number: u64, asked: &[Stretch]) -> Res
     Ok(())
 }
 
-/// The numbers that a pair's reader missed, where these are received, also those that are not asked about.
+/// The numbers that a pair's reader missed, of those that it lacks. Other numbers may be among them.
 pub(crate) fn find_missed(
     alloc: Global,
     index: &Index<'_>,
-    listener: &Listener,
-    received: &[Stretch],
+    pair: Pair,
+    lacking: &[Stretch],
 ) -> Result<Vec<Stretch>, Memory>
-    requires { AreRising received.now }
-    ensures { (intake : Intake) → IsIndexBy intake index.now
-        → ((n : ℕ) → stretches_have received.now n ≡ is_received listener.now.pair.writer listener.now.pair.reader (placed_in intake.acts) n)
-        → IfOk result (λ missed. (n : ℕ) → stretches_have missed.items n ≡ is_missed listener.now.announced listener.now.pair.writer listener.now.pair.reader (placed_in intake.acts) n) }
+    requires { AreRising lacking.now }
+    ensures { (intake : Intake) → IsIndexBy intake index.now → (n : ℕ)
+        → stretches_have lacking.now n ≡ not (is_received pair.writer pair.reader (placed_in intake.acts) n)
+        → IfOk result (λ missed. stretches_have missed.items n ≡ is_missed (place_announced pair.reader (placed_in intake.announcing)) pair.writer pair.reader (placed_in intake.acts) n) }
 {
-    let pair = listener.pair;
-    let numbers = sent_unreceived(alloc, index.acts_of(pair.writer), listener, received)?;
-    if numbers.is_empty() {
+    if lacking.is_empty() {
         return Ok(Vec::new(alloc));
     }
-    let mut asked = asked_among(alloc, index.acts_of(pair.reader), pair)?;
+    let asked = asked_among(alloc, index.acts_of(pair.reader), pair)?;
+    let mut asked = lacking_among(alloc, &asked, lacking)?;
+    if asked.is_empty() {
+        return Ok(Vec::new(alloc));
+    }
     let asked = rising(alloc, &mut asked)?;
+    let listener = Listener::of(index, pair);
+    let numbers = sent_lacking(alloc, index.acts_of(pair.writer), &listener, lacking)?;
     let missed = asked_of(alloc, &numbers, &asked)?;
     Ok(missed)
 }

@@ -1,4 +1,4 @@
-ghost use Rattle.std.specs.Prelude.{ℕ, ◌≡◌, filter, map, List, None};
+ghost use Rattle.std.specs.Prelude.{ℕ, ◌≡◌, ◌-◌, ◌<◌, ◌≤◌, filter, length, map, slice_get, IfSome, List, None};
 ghost use Rattle.std.specs.List.{last_or};
 ghost use Rattle.std.specs.Option.{option_map};
 ghost use Rattle.rtps_receiver.specs.Values.{ActValue, act_body_value};
@@ -77,10 +77,29 @@ fn last_place(answers: &[Answer]) -> Option<Location>
     last
 }
 
+/// How many of these acts, which stand in order, come up to the last one in a datagram before that of a place.
+fn count_before(acts: &[Placed<'_>], place: Location) -> usize
+    ensures within { result ≤ length acts.now }
+    ensures before { 0 < result → IfSome (slice_get acts.now (result - 1)) (λ placed. placed.datagram < place.datagram) }
+{
+    let mut count = acts.len();
+    'back: while 0 < count {
+        if (acts[count - 1].datagram as u64) < place.datagram {
+            return count;
+        }
+        count -= 1;
+    }
+    0
+}
+
 /// How often a pair's writer asked its reader since the reader's last answer, by what the writer says and the answers.
 pub(crate) fn questions_since(acts: &[Placed<'_>], answers: &[Answer], pair: Pair) -> Questions
     ensures { (recording : List (List ActValue)) → map placed_value acts.now ≡ filter (is_from pair.writer) (placed_in recording)
         → answers.now ≡ answers_among pair (placed_in recording) → AreQuestions pair.writer pair.reader (placed_in recording) result }
 {
-    questions_among(acts, pair, last_place(answers))
+    let Some(place) = last_place(answers) else {
+        return questions_among(acts, pair, None);
+    };
+    let before = count_before(acts, place);
+    questions_among(&acts[before..], pair, Some(place))
 }

@@ -1,20 +1,18 @@
-ghost use Rattle.std.specs.Prelude.{ℕ, ◌≡◌, ◌≤◌, ◌<◌, true, false, ◌^◌, ◌&&◌, ◌||◌, filter, map, IfOk, IfSome, OnOk, List};
+ghost use Rattle.std.specs.Prelude.{ℕ, ◌≡◌, ◌<◌, ◌^◌, ◌&&◌, ◌||◌, map, IfOk, IfSome, OnOk, List};
 ghost use Rattle.std.specs.List.{list_any};
-ghost use Rattle.rtps_receiver.specs.Values.{ActValue};
 ghost use Rattle.rtps_audit.specs.Index.{IsIndexBy};
 ghost use Rattle.rtps_audit.specs.Intake.{Intake};
-ghost use Rattle.rtps_audit.specs.Placed.{answers_among, is_from, placed_in, placed_value};
+ghost use Rattle.rtps_audit.specs.Placed.{placed_in, placed_value};
 ghost use Rattle.rtps_evidence.specs.Amount.{stretches_have};
-ghost use Rattle.rtps_evidence.specs.Claimed.{certain_at, is_at};
+ghost use Rattle.rtps_evidence.specs.Claimed.{AreLacking, certain_at, is_at};
 ghost use Rattle.rtps_evidence.specs.Locations.{sends};
-ghost use Rattle.rtps_evidence.specs.Received.{AreReceived, is_received};
+ghost use Rattle.rtps_evidence.specs.Received.{AreReceived};
 ghost use Rattle.rtps_evidence.specs.Rising.{AreRising};
 
-use crate::amount::{AskedNumbers, Stretch, count_of};
+use crate::amount::{AskedNumbers, Stretch, count_of, least_inside, push};
 use crate::claimed::Certainty;
 use crate::not_received::{NotReceived, not_received_at};
-use crate::rising::{end_at, rising};
-use rtps_audit::{Answer, Index, Placed};
+use rtps_audit::{Index, Placed};
 use rtps_discovery::Pair;
 use rtps_ids::Memory;
 use rtps_receiver::ActBody;
@@ -56,16 +54,14 @@ fn push_received(
         return Ok(());
     };
     if certainty.covers(placed.datagram as u64, number) {
-        received.push(Stretch {
-            lo: number,
-            hi: number + 1,
-        })?;
+        let hi = number + 1;
+        push(received, Stretch { lo: number, hi })?;
     }
     Ok(())
 }
 
 /// The numbers of the payloads that the pair's reader hears by these acts, where they are certain to be received.
-fn received_among(
+pub(crate) fn received_among(
     alloc: Global,
     acts: &[Placed<'_>],
     pair: Pair,
@@ -83,42 +79,6 @@ fn received_among(
     Ok(received)
 }
 
-/// The numbers that a pair's reader received for certain, also those that are not asked for, by what its writer says and its
-/// answers.
-fn find_received(
-    alloc: Global,
-    acts: &[Placed<'_>],
-    answers: &[Answer],
-    pair: Pair,
-) -> Result<Vec<Stretch>, Memory>
-    ensures { (recording : List (List ActValue)) → map placed_value acts.now ≡ filter (is_from pair.writer) (placed_in recording)
-        → answers.now ≡ answers_among pair (placed_in recording) → IfOk result (λ received. (n : ℕ)
-        → stretches_have received.items n ≡ is_received pair.writer pair.reader (placed_in recording) n) }
-{
-    if answers.is_empty() {
-        return Ok(Vec::new(alloc));
-    }
-    let certainty = Certainty::of(alloc, acts, answers, pair)?;
-    let received = received_among(alloc, acts, pair, &certainty)?;
-    Ok(received)
-}
-
-/// The least number from `from` on that no stretch has.
-fn least_outside(stretches: &[Stretch], from: u64) -> u64
-    requires { AreRising stretches.now }
-    ensures onward { from ≤ result }
-    ensures outside { stretches_have stretches.now result ≡ false }
-    ensures between { (n : ℕ) → from ≤ n → n < result → stretches_have stretches.now n ≡ true }
-{
-    let mut least = from;
-    let mut end = end_at(stretches, least);
-    'within: while least < end {
-        least = end;
-        end = end_at(stretches, least);
-    }
-    least
-}
-
 /// Of the numbers that are asked for: how many are received, and the least one that is not.
 #[derive(Clone, Copy, Debug)]
 pub(crate) struct Received {
@@ -126,40 +86,23 @@ pub(crate) struct Received {
     pub(crate) not_received: Option<NotReceived>,
 }
 
-/// The numbers that a pair's reader received for certain, as stretches that rise, by what its writer says and its answers.
-pub(crate) fn received_numbers(
-    alloc: Global,
-    acts: &[Placed<'_>],
-    answers: &[Answer],
-    pair: Pair,
-) -> Result<Vec<Stretch>, Memory>
-    ensures rising { IfOk result (λ received. AreRising received.items) }
-    ensures received { (recording : List (List ActValue)) → map placed_value acts.now ≡ filter (is_from pair.writer) (placed_in recording)
-        → answers.now ≡ answers_among pair (placed_in recording) → IfOk result (λ received. (n : ℕ)
-        → stretches_have received.items n ≡ is_received pair.writer pair.reader (placed_in recording) n) }
-{
-    let mut received = find_received(alloc, acts, answers, pair)?;
-    let received = rising(alloc, &mut received)?;
-    Ok(received)
-}
-
-/// Of the numbers that are asked for: how many are received, and the least one that is not, where these are received. It puts
-/// them in another order.
+/// Of the numbers that are asked for: how many are received, and the least one that is not, where these are not received. It
+/// puts them in another order.
 pub(crate) fn count_received(
-    received: &mut Vec<Stretch>,
+    lacking: &mut Vec<Stretch>,
     index: &Index<'_>,
     pair: Pair,
     asked: &AskedNumbers,
 ) -> Result<Received, Memory>
-    requires { AreRising received.old.items }
     ensures { (intake : Intake) → IsIndexBy intake index.now
-        → ((n : ℕ) → stretches_have received.old.items n ≡ is_received pair.writer pair.reader (placed_in intake.acts) n)
+        → AreLacking asked.now.from asked.now.last pair (placed_in intake.acts) lacking.old.items
         → IfOk result (AreReceived asked.now.from asked.now.last pair.writer pair.reader (placed_in intake.acts)) }
 {
-    let first = asked.from.get().cast_unsigned();
+    let from = asked.from.get().cast_unsigned();
     let end = asked.last + 1;
-    let least = least_outside(received, first);
-    let count = count_of(received, first, end)?;
+    let least = least_inside(lacking, from, end);
+    let others = count_of(lacking, from, end)?;
+    let count = end - from - others;
     let not_received = if least < end {
         Some(not_received_at(index, pair, least))
     } else {

@@ -3,10 +3,9 @@ ghost use Rattle.rtps_receiver.specs.Values.{act_value};
 ghost use Rattle.rtps_audit.specs.Index.{IsIndexBy};
 ghost use Rattle.rtps_audit.specs.Intake.{Intake};
 ghost use Rattle.rtps_audit.specs.Placed.{placed_in, placed_value};
-ghost use Rattle.rtps_evidence.specs.Amount.{AreAmounts, AreNumbers, is_sent, is_told};
-ghost use Rattle.rtps_evidence.specs.WriterSummary.{IsSplit, IsSummary, is_for_everyone as is_for_everyone_lem};
+ghost use Rattle.rtps_evidence.specs.WriterSummary.{IsHeardBy, IsSplit, IsSummary, is_for_everyone as is_for_everyone_lem};
 
-use crate::amount::{Amounts, AskedNumbers, HeardNumbers};
+use crate::amount::{AskedNumbers, HeardNumbers};
 use crate::last_announcement::{Announcement, find_announcement, greatest_number};
 use rtps_audit::{Index, Placed};
 use rtps_discovery::Pair;
@@ -113,30 +112,15 @@ impl WriterSummary {
         Ok(summary)
     }
 
-    /// The amounts of the numbers that are asked for, as a reader hears them.
-    pub(crate) fn amounts(
-        &self,
-        alloc: Global,
-        index: &Index<'_>,
-        reader: Guid,
-    ) -> Result<Amounts, Memory>
-        ensures { (intake : Intake) → IsIndexBy intake index.now → IsSummary intake.acts self.now
-            → IfOk result (AreAmounts self.now.asked.from self.now.asked.last self.now.writer reader (placed_in intake.acts)) }
-    {
-        let mut heard = self.heard_by(alloc, index.acts_of(self.writer), reader)?;
-        let amounts = heard.amounts(&self.asked)?;
-        Ok(amounts)
-    }
-
     /// What a reader hears, where these are the acts of the writer.
-    fn heard_by(
+    pub(crate) fn heard_by(
         &self,
         alloc: Global,
         acts: &[Placed<'_>],
         reader: Guid,
     ) -> Result<HeardNumbers, Memory>
         ensures { IsSplit self.now.writer (map placed_value acts.now) self.now.alike self.now.others.items
-            → IfOk result (AreNumbers (is_told self.now.writer reader (map placed_value acts.now)) (is_sent self.now.writer reader (map placed_value acts.now))) }
+            → IfOk result (IsHeardBy self.now.writer reader (map placed_value acts.now)) }
     {
         let pair = Pair {
             writer: self.writer,

@@ -2,8 +2,9 @@ use Rattle.std.proofs.Common.{◌∙◌, ◌||◌, ap, map, refl, sym}
 use Rattle.std.proofs.lemmas.List.{take_all}
 use Rattle.std.proofs.Common.{◌≤◌, length, subst}
 use Rattle.rtps_audit.specs.Placed.{placed_value}
-use Rattle.rtps_evidence.specs.Amount.{stretches_have}
+use Rattle.rtps_evidence.specs.Amount.{some_withdrawn, stretches_have}
 use Rattle.rtps_evidence.specs.Locations.{sends, tells}
+use Rattle.rtps_evidence.specs.Received.{withdraws_before}
 use Rattle.rtps_evidence.specs.WriterSummary.{any_at}
 use Rattle.rtps_evidence.proofs.HeardLemmas.{place_past, place_told}
 use Rattle.rtps_evidence.proofs.writer_summary.WriterSummary.heard_by.Goals as goal
@@ -21,11 +22,13 @@ loop-place-preserved c =
           rw w.heard-is (record {
             told = λ n. place_told (tells self.writer c.args.reader n) acts places self.others.items c.loop-place.place-index _ c.loop-place-test.true same refl w.index-acts-place.result _ _ _ w.if-place-acts.true w.index-acts-place.is (w.in_ok-note.ensures.told n) (so_far.told n);
             sent = λ n. place_told (sends self.writer c.args.reader n) acts places self.others.items c.loop-place.place-index _ c.loop-place-test.true same refl w.index-acts-place.result _ _ _ w.if-place-acts.true w.index-acts-place.is (w.in_ok-note.ensures.sent n) (so_far.sent n);
+            gone = λ n datagram. place_told (withdraws_before self.writer c.args.reader n datagram) acts places self.others.items c.loop-place.place-index _ c.loop-place-test.true same refl w.index-acts-place.result _ _ _ w.if-place-acts.true w.index-acts-place.is (w.in_ok-note.ensures.gone n datagram) (so_far.gone n datagram);
           })
       | else-place-acts w ↦
           rw w.heard-is (record {
             told = λ n. place_past (tells self.writer c.args.reader n) acts places self.others.items c.loop-place.place-index _ c.loop-place-test.true same refl _ _ w.if-place-acts.false (so_far.told n);
             sent = λ n. place_past (sends self.writer c.args.reader n) acts places self.others.items c.loop-place.place-index _ c.loop-place-test.true same refl _ _ w.if-place-acts.false (so_far.sent n);
+            gone = λ n datagram. place_past (withdraws_before self.writer c.args.reader n datagram) acts places self.others.items c.loop-place.place-index _ c.loop-place-test.true same refl _ _ w.if-place-acts.false (so_far.gone n datagram);
           })
     ]
 
@@ -37,4 +40,5 @@ returns c = λ split.
     record {
       told = λ n. c.loop-place.invariant.told n ∙ ap (λ l. stretches_have self.alike.told.items n || any_at (tells self.writer c.args.reader n) acts l) all ∙ sym (split.told c.args.reader n);
       sent = λ n. c.loop-place.invariant.sent n ∙ ap (λ l. stretches_have self.alike.sent.items n || any_at (sends self.writer c.args.reader n) acts l) all ∙ sym (split.sent c.args.reader n);
+      gone = λ n datagram. c.loop-place.invariant.gone n datagram ∙ ap (λ l. some_withdrawn self.alike.gone.items n datagram || any_at (withdraws_before self.writer c.args.reader n datagram) acts l) all ∙ sym (split.gone c.args.reader n datagram);
     }

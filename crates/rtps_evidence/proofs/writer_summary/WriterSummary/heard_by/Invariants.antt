@@ -1,7 +1,8 @@
 use Rattle.std.proofs.Common.{◌||◌, map, take}
 use Rattle.rtps_audit.specs.Placed.{placed_value}
-use Rattle.rtps_evidence.specs.Amount.{AreNumbers, stretches_have}
+use Rattle.rtps_evidence.specs.Amount.{AreNumbers, some_withdrawn, stretches_have}
 use Rattle.rtps_evidence.specs.Locations.{sends, tells}
+use Rattle.rtps_evidence.specs.Received.{withdraws_before}
 use Rattle.rtps_evidence.specs.WriterSummary.{any_at}
 use Rattle.rtps_evidence.proofs.writer_summary.WriterSummary.heard_by.Given as goal
 
@@ -9,4 +10,5 @@ use Rattle.rtps_evidence.proofs.writer_summary.WriterSummary.heard_by.Given as g
 abbrev pub invariant-loop-place : goal.invariant-loop-place
 invariant-loop-place l =
     AreNumbers (λ n. stretches_have l.self.alike.told.items n || any_at (tells l.self.writer l.fn.reader n) (map placed_value l.acts) (take l.place-index l.self.others.items))
-    (λ n. stretches_have l.self.alike.sent.items n || any_at (sends l.self.writer l.fn.reader n) (map placed_value l.acts) (take l.place-index l.self.others.items)) l.heard
+    (λ n. stretches_have l.self.alike.sent.items n || any_at (sends l.self.writer l.fn.reader n) (map placed_value l.acts) (take l.place-index l.self.others.items))
+    (λ n datagram. some_withdrawn l.self.alike.gone.items n datagram || any_at (withdraws_before l.self.writer l.fn.reader n datagram) (map placed_value l.acts) (take l.place-index l.self.others.items)) l.heard

@@ -1,5 +1,5 @@
 use Rattle.rtps_evidence.proofs.MissedLemmas.{IsLeastSo}
-use Rattle.rtps_evidence.proofs.missed.least_inside.Given as goal
+use Rattle.rtps_evidence.proofs.amount.least_inside.Given as goal
 
 -- the least number of the stretches so far
 abbrev pub invariant-loop-stretch : goal.invariant-loop-stretch

@@ -1,0 +1,17 @@
+use Rattle.std.proofs.Common.{◌≡◌, ◌∙◌, ◌≤◌, List, arith, ap, sym, false}
+use Rattle.std.proofs.lemmas.Int.{ints}
+use Rattle.rtps_evidence.specs.Amount.{stretches_have}
+use Rattle.rtps_evidence.specs.declared.amount.Stretch.{Stretch}
+use Rattle.rtps_evidence.proofs.ClaimedLemmas.{none_past, past_same}
+use Rattle.rtps_evidence.proofs.claimed.gone_among.Goals as goal
+
+pub returns : goal.returns
+returns c = λ n low.
+    c.in_ok-gone.ensures n
+    ∙ past_same c.in_ok-claims.claims.items c.deref.result.now c.args.answers.now c.args.withdrawals.now n c.deref.ensures.value (λ datagram m. c.in_ok-claims.ensures.same datagram m ∙ c.in_ok-stretches.ensures datagram m)
+
+pub returns-then-not-go_past : goal.returns-then-not-go_past
+returns-then-not-go_past c = λ n low.
+    let from : c.cast_unsigned.result ≡ c.args.from = omega (arith, ints) in
+    ap (λ (l : List Stretch). stretches_have l n) c.new.ensures.items
+    ∙ sym (none_past c.args.withdrawals.now c.args.answers.now c.cast_unsigned.result n (omega arith) (sym c.go_past.ensures ∙ c.if-not-go_past.true))
