@@ -1,4 +1,4 @@
-use Rattle.std.proofs.Common.{◌≡◌, ◌∙◌, ◌≤◌, List, arith, ap, sym, false}
+use Rattle.std.proofs.Common.{◌≡◌, ◌∙◌, List, arith, ap, sym}
 use Rattle.std.proofs.lemmas.Int.{ints}
 use Rattle.rtps_evidence.specs.Amount.{stretches_have}
 use Rattle.rtps_evidence.specs.declared.amount.Stretch.{Stretch}

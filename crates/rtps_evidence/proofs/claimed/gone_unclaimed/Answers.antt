@@ -1,5 +1,4 @@
-use Rattle.std.proofs.Common.{◌∙◌, ◌||◌, ap, get_or, sym, take}
-use Rattle.std.specs.List.{list_any}
+use Rattle.std.proofs.Common.{◌∙◌, ◌||◌, ap, get_or, sym}
 use Rattle.std.proofs.lemmas.List.Folds.{list_any_more}
 use Rattle.rtps_evidence.specs.Amount.{stretches_have}
 use Rattle.rtps_evidence.specs.Claimed.{withdrawn_past}

@@ -1,4 +1,4 @@
-use Rattle.std.proofs.Common.{◌≡◌, ◌∙◌, ◌<◌, ◌≤◌, max, arith, refl}
+use Rattle.std.proofs.Common.{arith}
 use Rattle.rtps_evidence.specs.declared.amount.Stretch.{Stretch}
 use Rattle.rtps_evidence.proofs.LackingLemmas.{rest_end, rest_more}
 use Rattle.rtps_evidence.proofs.lacking.outside.Goals as goal

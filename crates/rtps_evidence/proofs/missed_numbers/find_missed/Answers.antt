@@ -1,12 +1,11 @@
-use Rattle.std.proofs.Common.{◌≡◌, ◌∙◌, ◌&&◌, ℕ, List, [], ap, arith, filter, map, not, refl, sym}
+use Rattle.std.proofs.Common.{◌≡◌, ◌∙◌, ◌&&◌, List, [], ap, arith, filter, map, refl, sym}
 use Rattle.std.specs.List.{list_any}
 use Rattle.std.proofs.lemmas.Bool.Decides.{nat_tests}
 use Rattle.std.proofs.lemmas.List.{nil_from_length}
 use Rattle.rtps_audit.specs.Placed.{is_from, placed_in, placed_value}
 use Rattle.rtps_discovery.specs.declared.matching.Pair.{Pair}
 use Rattle.rtps_evidence.specs.Amount.{stretches_have}
-use Rattle.rtps_evidence.specs.Missed.{asks_for, is_missed, numbers_have, place_announced, sends_behind}
-use Rattle.rtps_evidence.specs.Received.{is_received}
+use Rattle.rtps_evidence.specs.Missed.{is_missed, numbers_have, place_announced, sends_behind}
 use Rattle.rtps_evidence.specs.declared.amount.Stretch.{Stretch}
 use Rattle.rtps_evidence.proofs.MissedLemmas.{missed_some, received_not_missed}
 use Rattle.rtps_evidence.proofs.missed_numbers.find_missed.Goals as goal

@@ -1,4 +1,4 @@
-use Rattle.std.proofs.Common.{◌∙◌, ◌||◌, ap, get_or, sym, take}
+use Rattle.std.proofs.Common.{◌∙◌, ◌||◌, ap, get_or, sym}
 use Rattle.std.proofs.lemmas.List.Folds.{list_any_more}
 use Rattle.rtps_evidence.specs.Amount.{stretch_has, stretches_have}
 use Rattle.rtps_evidence.specs.declared.amount.Stretch.{Stretch}

@@ -1,7 +1,7 @@
-use Rattle.std.proofs.Common.{◌≡◌, ◌∙◌, List, Some, None, ap, map, subst}
+use Rattle.std.proofs.Common.{◌≡◌, ◌∙◌, List, Some, None, ap, subst}
 use Rattle.std.specs.List.{last_or}
 use Rattle.std.specs.Option.{option_map}
-use Rattle.rtps_audit.specs.Placed.{PlacedValue, placed_in, placed_value}
+use Rattle.rtps_audit.specs.Placed.{PlacedValue, placed_in}
 use Rattle.rtps_audit.specs.declared.answer.Answer.{Answer}
 use Rattle.rtps_evidence.specs.Questions.{AreAsked, place_answered, place_of}
 use Rattle.rtps_evidence.proofs.QuestionLemmas.{asked_rest, asked_same, none_asks_before, place_answered_same}

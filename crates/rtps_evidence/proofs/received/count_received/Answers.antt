@@ -1,8 +1,7 @@
 use Rattle.std.proofs.Common.{◌≡◌, ◌+◌, ◌-◌, ◌<◌, ◌≤◌, arith, refl, subst, Some, None}
 use Rattle.std.proofs.lemmas.Int.{ints}
 use Rattle.rtps_audit.specs.Placed.{placed_in}
-use Rattle.rtps_evidence.specs.Amount.{count_in, stretches_have}
-use Rattle.rtps_evidence.specs.Claimed.{AreLacking}
+use Rattle.rtps_evidence.specs.Amount.{stretches_have}
 use Rattle.rtps_evidence.specs.Received.{AreReceived}
 use Rattle.rtps_evidence.specs.declared.received.Received.{Received}
 use Rattle.rtps_evidence.proofs.CountLemmas.{count_others}

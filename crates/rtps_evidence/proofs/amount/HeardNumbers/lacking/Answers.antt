@@ -1,4 +1,4 @@
-use Rattle.std.proofs.Common.{◌≡◌, ◌∙◌, ◌≤◌, ◌-◌, subst, sym, arith}
+use Rattle.std.proofs.Common.{◌∙◌, subst, sym, arith}
 use Rattle.rtps_audit.specs.Placed.{placed_in}
 use Rattle.rtps_audit.specs.Speech.{speech_by}
 use Rattle.rtps_evidence.specs.Claimed.{AreWithdrawals}
