@@ -3,10 +3,11 @@
 ghost use Rattle.std.specs.Prelude.{ℕ};
 ghost use Rattle.rtps_text.specs.AuditText.{IsAuditedFrom};
 ghost use Rattle.rtps_text.specs.JsonText.{IsJsonTextFrom};
-ghost use Rattle.rtps_text.specs.Laws.{HasOneText};
+ghost use Rattle.rtps_text.specs.Laws.{HasOneText, ShowsTheSameWithoutFragments};
 ghost use Rattle.rtps_text.specs.ListText.{IsListed};
-ghost use Rattle.rtps_text.specs.ShowText.{IsShown};
+ghost use Rattle.rtps_text.specs.ShowText.{IsShown, IsShownWith};
 ghost use Rattle.rtps_text.specs.WhyText.{IsExplainedTextFrom};
+ghost use Rattle.rtps_text.specs.declared.text.Fragments.{Fragments};
 
 use rtps_audit::laws::one_report;
 use rtps_discovery::laws::one_map;
@@ -17,6 +18,7 @@ use rtps_evidence::laws::one_explanation;
 /// on they ask.
 pub fn one_text()
     ensures shown { HasOneText IsShown }
+    ensures shown_with { (choice : Fragments) → HasOneText (IsShownWith choice) }
     ensures listed { HasOneText IsListed }
     ensures audited { (from : ℕ) → HasOneText (IsAuditedFrom from) }
     ensures explained { (from : ℕ) → HasOneText (IsExplainedTextFrom from) }
@@ -26,3 +28,9 @@ pub fn one_text()
     one_report();
     one_explanation();
 }
+
+/// Where no submessage of a recording is a DATA_FRAG with fragments that can be used, `show` prints the same, whether
+/// fragments are read or not.
+pub fn show_is_the_same_without_fragments()
+    ensures { ShowsTheSameWithoutFragments }
+{}

@@ -15,7 +15,7 @@ use crate::follow::Follow;
 use crate::streams::{read_input, write_text};
 use rtps_ids::{Memory, SeqNum};
 use rtps_text::{
-    Ending, Recording, Unwatched, Watch, audit_text, json_text, list_text, sample_text, show_text,
+    Ending, Fragments, Recording, Unwatched, Watch, audit_text, json_text, list_text, sample_text, show_text,
     why_text,
 };
 use std::alloc::Global;
@@ -116,7 +116,7 @@ fn text_of<P: Watch>(
     ensures { IfOk result (λ answer. IsTextOf options.now.command options.now.from recording.now (string_bytes answer.0) answer.1) }
 {
     match options.command {
-        Command::Show => show_text(alloc, recording),
+        Command::Show => show_text(alloc, recording, Fragments::Skipped),
         Command::List => list_text(alloc, recording),
         Command::Audit => audit_text(alloc, recording, options.from, watch),
         Command::Json => json_text(alloc, recording, options.from, watch),
