@@ -1,6 +1,7 @@
 pub mod ListLemmas
 pub mod PiecesLemmas
 pub mod ShowLemmas
+pub mod FragmentLemmas
 pub mod DigitLemmas
 mod JsonLemmas
 mod PartLemmas

@@ -1,34 +1,60 @@
 -- Facts on what `show` prints.
-use Rattle.std.proofs.Common.{◌≡◌, ℕ, ◌+◌, List, [], ◌∷◌, ◌++◌, Ok, refl, ap, append_assoc, ◌∙◌}
+use Rattle.std.proofs.Common.{◌≡◌, ℕ, ◌+◌, List, [], ◌∷◌, ◌++◌, ◌<◌, length, drop, drop_of_length-le, arith, Option, None, Some, Ok, refl, ap, append_assoc, ◌∙◌}
 use Rattle.rtps_receiver.proofs.Offered.{gathered-one}
 use Rattle.rtps_receiver.specs.Acts.{gathered, state_behind}
 use Rattle.rtps_receiver.specs.declared.state.State.{State}
-use Rattle.rtps_wire.specs.Reading.{Outcome, items_among, reading_of, refusal_among}
+use Rattle.rtps_wire.specs.DataFrag.{DataFragValue, data_frag_at}
+use Rattle.rtps_wire.specs.Reading.{Outcome, items_among, refusal_among}
+use Rattle.rtps_wire.specs.Skipped.{skipped_id}
 use Rattle.rtps_wire.specs.Values.{ItemValue}
 use Rattle.rtps_wire.specs.Values.BodyValue.{Skipped}
-use Rattle.rtps_text.specs.ShowText.{body_line, ending_text, item_line, outcomes_text, reading_text, skipped_line, text_from}
+use Rattle.rtps_text.specs.ShowText.{body_line, datagram_text, ending_text, fragments_line, item_line, line_with, outcomes_text, shown_line, text_from, unread_line}
+use Rattle.rtps_text.specs.declared.text.Fragments.{Fragments}
 
 -- the lines of a datagram, and those of the later ones
-pub text_from-cons : (number : ℕ) (datagram : List ℕ) (datagrams : List (List ℕ))
-    → text_from number (datagram ∷ datagrams) ≡ reading_text number (reading_of datagram) ++ text_from (number + 1) datagrams
+pub text_from-cons : (choice : Fragments) (number : ℕ) (datagram : List ℕ) (datagrams : List (List ℕ))
+    → text_from choice number (datagram ∷ datagrams) ≡ datagram_text choice number datagram ++ text_from choice (number + 1) datagrams
 unfolding text_from
-text_from-cons number datagram datagrams = refl
+text_from-cons choice number datagram datagrams = refl
 
-pub text_from-nil : (number : ℕ) → text_from number [] ≡ []
+pub text_from-nil : (choice : Fragments) (number : ℕ) → text_from choice number [] ≡ []
 unfolding text_from
-text_from-nil number = refl
+text_from-nil choice number = refl
 
 -- the line of an item, and those of the later ones in the state behind it
-pub outcomes_text-item : (state : State) (item : ItemValue) (later : List Outcome)
-    → outcomes_text state (Ok item ∷ later) ≡ item_line state item ++ outcomes_text (state_behind state (item ∷ [])) later
-outcomes_text-item state item later =
-    ap (λ lines. (item_line state item ++ lines) ++ ending_text (refusal_among later)) (gathered-one item_line state item (items_among later))
-    ∙ append_assoc (item_line state item) (gathered item_line (state_behind state (item ∷ [])) [] (items_among later)) (ending_text (refusal_among later))
+outcomes_text-shown : (fragments : ℕ → Option DataFragValue) (state : State) (item : ItemValue) (later : List Outcome)
+    → outcomes_text fragments state (Ok item ∷ later) ≡ shown_line fragments state item ++ outcomes_text fragments (state_behind state (item ∷ [])) later
+outcomes_text-shown fragments state item later =
+    let line = shown_line fragments in
+    ap (λ lines. (line state item ++ lines) ++ ending_text (refusal_among later)) (gathered-one line state item (items_among later))
+    ∙ append_assoc (line state item) (gathered line (state_behind state (item ∷ [])) [] (items_among later)) (ending_text (refusal_among later))
+
+-- the same of an item that is not skipped
+pub outcomes_text-item : (fragments : ℕ → Option DataFragValue) (state : State) (item : ItemValue) (later : List Outcome) → skipped_id item.body ≡ None
+    → outcomes_text fragments state (Ok item ∷ later) ≡ item_line state item ++ outcomes_text fragments (state_behind state (item ∷ [])) later
+outcomes_text-item fragments state item later not =
+    outcomes_text-shown fragments state item later ∙ ap (λ line. line ++ outcomes_text fragments (state_behind state (item ∷ [])) later) (plain (fragments item.at))
+  where
+    plain : (found : Option DataFragValue) → line_with state item found ≡ item_line state item
+    plain None = refl
+    plain (Some value) = ap (fragments_line state item value) not
 
 -- the line of what is skipped, and those of the later ones in the same state
-pub outcomes_text-skipped : (state : State) (item : ItemValue) (later : List Outcome) (id : ℕ) → item.body ≡ Skipped id
-    → outcomes_text state (Ok item ∷ later) ≡ skipped_line item.at id ++ outcomes_text state later
-outcomes_text-skipped state item later id is =
+pub outcomes_text-skipped : (fragments : ℕ → Option DataFragValue) (state : State) (item : ItemValue) (later : List Outcome) (id : ℕ) → item.body ≡ Skipped id
+    → outcomes_text fragments state (Ok item ∷ later) ≡ unread_line state item.at id (fragments item.at) ++ outcomes_text fragments state later
+outcomes_text-skipped fragments state item later id is =
     let same : state_behind state (item ∷ []) ≡ state = rw is refl in
-    let line : item_line state item ≡ skipped_line item.at id = ap (body_line state item.at item.order) is in
-    outcomes_text-item state item later ∙ ap (λ s. item_line state item ++ outcomes_text s later) same ∙ ap (λ l. l ++ outcomes_text state later) line
+    outcomes_text-shown fragments state item later
+    ∙ ap (λ s. shown_line fragments state item ++ outcomes_text fragments s later) same
+    ∙ ap (λ line. line ++ outcomes_text fragments state later) (unread (fragments item.at))
+  where
+    unread : (found : Option DataFragValue) → line_with state item found ≡ unread_line state item.at id found
+    unread None = ap (body_line state item.at item.order) is
+    unread (Some value) = ap (λ body. fragments_line state item value (skipped_id body)) is
+
+-- past the end of a datagram nothing is read
+pub nothing_behind : (datagram : List ℕ) (at : ℕ) → length datagram < at → None ≡ data_frag_at (drop at datagram)
+unfolding data_frag_at
+nothing_behind datagram at past =
+    let none : drop at datagram ≡ [] = drop_of_length-le datagram (omega arith) in
+    rw none refl

@@ -1,8 +1,12 @@
 -- What a reader of the definitions would ask of what is printed. own: a text can be trusted only if nothing but the
 -- recording decides it.
-use Rattle.std.specs.Prelude.{ℕ, ◌≡◌, ◌↔◌, List}
+use Rattle.std.specs.Prelude.{ℕ, ◌≡◌, ◌↔◌, All, List, None, drop}
+use Rattle.rtps_wire.specs.DataFrag.{data_frag_at}
+use Rattle.rtps_wire.specs.Reading.{reading_of}
 use Rattle.rtps_text.specs.Recording.{RecordingValue}
+use Rattle.rtps_text.specs.ShowText.{show_text}
 use Rattle.rtps_text.specs.declared.text.Ending.{Ending}
+use Rattle.rtps_text.specs.declared.text.Fragments.TheVariants as fragments
 
 -- of each recording there is one such text, and one ending
 abbrev pub HasOneText : (RecordingValue → List ℕ → Ending → Type 0) → Type 0
@@ -13,3 +17,11 @@ HasOneText IsText =
 -- of each recording the texts and endings of the one are those of the other
 abbrev pub HaveOneText : (RecordingValue → List ℕ → Ending → Type 0) → (RecordingValue → List ℕ → Ending → Type 0) → Type 0
 HaveOneText IsText IsOther = (recording : RecordingValue) (text : List ℕ) (ending : Ending) → IsText recording text ending ↔ IsOther recording text ending
+
+-- no submessage of these datagrams is a DATA_FRAG with fragments that can be used
+abbrev pub HasNoFragments : List (List ℕ) → Type 0
+HasNoFragments datagrams = All (λ datagram. All (λ item. data_frag_at (drop item.at datagram) ≡ None) (reading_of datagram).items) datagrams
+
+-- of such datagrams `show` prints the same, whether fragments are read or not
+abbrev pub ShowsTheSameWithoutFragments : Type 0
+ShowsTheSameWithoutFragments = (datagrams : List (List ℕ)) → HasNoFragments datagrams → show_text fragments.Read datagrams ≡ show_text fragments.Skipped datagrams

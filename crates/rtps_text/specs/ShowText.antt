@@ -1,7 +1,7 @@
 -- What `show` prints of a recording.
 -- own: one line for each datagram, submessage and refusal, of fields with one space between them, so that
 -- common tools can search it and take it apart.
-use Rattle.std.specs.Prelude.{ℕ, ◌≡◌, ◌+◌, ◌/◌, ◌==◌, ◌++◌, Bool, if◌then◌else◌, List, [], ◌∷◌, codes, length, map, slice_index, Option, Some, None}
+use Rattle.std.specs.Prelude.{ℕ, ◌≡◌, ◌+◌, ◌/◌, ◌==◌, ◌++◌, Bool, if◌then◌else◌, List, [], ◌∷◌, codes, drop, length, map, slice_index, Option, Some, None}
 use Rattle.std.specs.Fmt.{decimal, signed_decimal}
 use Rattle.std.specs.Int.{to_be_bytes, w32}
 use Rattle.std.specs.List.{enumerate_from, flat_map, range_with_len}
@@ -16,8 +16,10 @@ use Rattle.rtps_ids.specs.declared.order.Order.TheVariants.{Big, Little}
 use Rattle.rtps_params.specs.Lists.{ListValue}
 use Rattle.rtps_receiver.specs.Acts.{gathered, state_at_start}
 use Rattle.rtps_receiver.specs.declared.state.State.{State}
+use Rattle.rtps_wire.specs.DataFrag.{DataFragValue, data_frag_at}
 use Rattle.rtps_wire.specs.Message.{Reading}
 use Rattle.rtps_wire.specs.Reading.{Outcome, items_among, reading_of, refusal_among}
+use Rattle.rtps_wire.specs.Skipped.{skipped_id}
 use Rattle.rtps_wire.specs.Values.{BodyValue, DataValue, ItemValue, PayloadValue}
 use Rattle.rtps_wire.specs.Values.BodyValue.{Data, Heartbeat, AckNack, Gap, InfoTs, InfoDst, InfoSrc, Skipped}
 use Rattle.rtps_wire.specs.Values.PayloadValue.{Absent, Whole, Key}
@@ -30,6 +32,8 @@ use Rattle.rtps_wire.specs.declared.header.Header.{Header}
 use Rattle.rtps_text.specs.Recording.{RecordingValue}
 use Rattle.rtps_text.specs.declared.text.Ending.{Ending}
 use Rattle.rtps_text.specs.declared.text.Ending.TheVariants.{Clean}
+use Rattle.rtps_text.specs.declared.text.Fragments.{Fragments}
+use Rattle.rtps_text.specs.declared.text.Fragments.TheVariants as fragments
 
 -- a line of fields: a space (32) after each, but a line feed (10) after the last
 abbrev pub line_of : List (List ℕ) → List ℕ
@@ -95,6 +99,16 @@ data_line state at order value = line_of (codes "data" ∷ decimal at ∷ order_
     ∷ codes "reader" ∷ encode_lower value.reader.0 ∷ codes "writer" ∷ encode_lower value.writer.0 ∷ codes "number" ∷ decimal value.number
     ∷ codes "qos" ∷ decimal (qos_octets value.qos) ∷ codes "payload" ∷ payload_text value.payload ∷ state_text state ∷ [])
 
+-- the line of a DATA_FRAG that is read: the number of its first fragment, how many fragments it has, the size of a fragment and of
+-- the sample, and how many octets its fragments have
+abbrev pub data_frag_line : State → ℕ → DataFragValue → List ℕ
+data_frag_line state at value = line_of (codes "data_frag" ∷ decimal at ∷ order_text value.order
+    ∷ codes "reader" ∷ encode_lower value.reader.0 ∷ codes "writer" ∷ encode_lower value.writer.0 ∷ codes "number" ∷ decimal value.number
+    ∷ codes "start" ∷ decimal value.first ∷ codes "count" ∷ decimal value.count
+    ∷ codes "size" ∷ decimal value.shape.fragment ∷ codes "sample" ∷ decimal value.shape.sample
+    ∷ codes "qos" ∷ decimal (qos_octets value.qos) ∷ codes "key" ∷ digit_of value.shape.is_key
+    ∷ codes "octets" ∷ decimal (length value.octets) ∷ state_text state ∷ [])
+
 -- the line of a HEARTBEAT
 abbrev pub heartbeat_line : State → ℕ → Order → HeartbeatBody → List ℕ
 heartbeat_line state at order value = line_of (codes "heartbeat" ∷ decimal at ∷ order_text order
@@ -147,6 +161,30 @@ body_line state at order (Skipped id) = skipped_line at id
 abbrev pub item_line : State → ItemValue → List ℕ
 item_line state item = body_line state item.at item.order item.body
 
+-- the line of a submessage that is not read, or of the fragments that it has
+abbrev pub unread_line : State → ℕ → ℕ → Option DataFragValue → List ℕ
+unread_line state at id None = skipped_line at id
+unread_line state at id (Some value) = data_frag_line state at value
+
+-- the line of an item that has fragments. Only one that is skipped can have some
+abbrev pub fragments_line : State → ItemValue → DataFragValue → Option ℕ → List ℕ
+fragments_line state item value None = item_line state item
+fragments_line state item value (Some id) = data_frag_line state item.at value
+
+-- the line of an item that has these fragments, if it has some
+abbrev pub line_with : State → ItemValue → Option DataFragValue → List ℕ
+line_with state item None = item_line state item
+line_with state item (Some value) = fragments_line state item value (skipped_id item.body)
+
+-- the line of an item by the fragments at each place
+abbrev pub shown_line : (ℕ → Option DataFragValue) → State → ItemValue → List ℕ
+shown_line fragments state item = line_with state item (fragments item.at)
+
+-- the fragments at a place of a datagram, if they are read
+abbrev pub fragments_at : Fragments → List ℕ → ℕ → Option DataFragValue
+fragments_at fragments.Skipped datagram at = None
+fragments_at fragments.Read datagram at = data_frag_at (drop at datagram)
+
 -- the line of a refusal: where it is and why
 abbrev pub refusal_line : Refusal → List ℕ
 refusal_line refusal = line_of (codes "refused" ∷ decimal refusal.at ∷ fault_name refusal.fault ∷ [])
@@ -163,27 +201,36 @@ ending_text None = []
 ending_text (Some refusal) = refusal_line refusal
 
 -- the lines of items and of the refusal that ends them, if one does, from a state on
-abbrev pub outcomes_text : State → List Outcome → List ℕ
-outcomes_text state outcomes = gathered item_line state [] (items_among outcomes) ++ ending_text (refusal_among outcomes)
+abbrev pub outcomes_text : (ℕ → Option DataFragValue) → State → List Outcome → List ℕ
+outcomes_text fragments state outcomes = gathered (shown_line fragments) state [] (items_among outcomes) ++ ending_text (refusal_among outcomes)
 
 -- the lines of items behind a header; none where there is no header
-abbrev pub items_text : Option Header → List ItemValue → List ℕ
-items_text None items = []
-items_text (Some header) items = gathered item_line (state_at_start header) [] items
+abbrev pub items_text : (ℕ → Option DataFragValue) → Option Header → List ItemValue → List ℕ
+items_text fragments None items = []
+items_text fragments (Some header) items = gathered (shown_line fragments) (state_at_start header) [] items
 
 -- the lines of a datagram of this number that is read so: its own, one for each item, in the state behind all items
 -- before it, and that of its refusal, if it has one
-abbrev pub reading_text : ℕ → Reading → List ℕ
-reading_text number reading = datagram_line number reading.header ++ (items_text reading.header reading.items ++ ending_text reading.ending)
+abbrev pub reading_text : (ℕ → Option DataFragValue) → ℕ → Reading → List ℕ
+reading_text fragments number reading =
+    datagram_line number reading.header ++ (items_text fragments reading.header reading.items ++ ending_text reading.ending)
+
+-- the lines of a datagram of this number
+abbrev pub datagram_text : Fragments → ℕ → List ℕ → List ℕ
+datagram_text choice number datagram = reading_text (fragments_at choice datagram) number (reading_of datagram)
 
 -- the lines of datagrams in their order, of which the first has this number
-unfoldable pub text_from : ℕ → List (List ℕ) → List ℕ
-text_from number datagrams = flat_map (λ row. reading_text row.0 (reading_of row.1)) (enumerate_from number datagrams)
+unfoldable pub text_from : Fragments → ℕ → List (List ℕ) → List ℕ
+text_from choice number datagrams = flat_map (λ row. datagram_text choice row.0 row.1) (enumerate_from number datagrams)
 
 -- what `show` prints
-abbrev pub show_text : List (List ℕ) → List ℕ
-show_text datagrams = text_from 1 datagrams
+abbrev pub show_text : Fragments → List (List ℕ) → List ℕ
+show_text choice datagrams = text_from choice 1 datagrams
 
 -- what `show` answers: its text, and it is clean
+abbrev pub IsShownWith : Fragments → RecordingValue → List ℕ → Ending → Type 0
+IsShownWith choice recording text ending = (text ≡ show_text choice recording.datagrams) × (ending ≡ Clean)
+
+-- what it answers where fragments are not read
 abbrev pub IsShown : RecordingValue → List ℕ → Ending → Type 0
-IsShown recording text ending = (text ≡ show_text recording.datagrams) × (ending ≡ Clean)
+IsShown = IsShownWith fragments.Skipped

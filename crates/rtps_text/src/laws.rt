@@ -4,10 +4,11 @@ ghost use Rattle.std.specs.Prelude.{ℕ};
 ghost use Rattle.rtps_text.specs.Asked.{AskedValue, plainly};
 ghost use Rattle.rtps_text.specs.AuditText.{IsAuditedAs, IsAuditedFrom};
 ghost use Rattle.rtps_text.specs.JsonText.{IsJsonTextAs, IsJsonTextFrom};
-ghost use Rattle.rtps_text.specs.Laws.{HasOneText, HaveOneText};
+ghost use Rattle.rtps_text.specs.Laws.{HasOneText, HaveOneText, ShowsTheSameWithoutFragments};
 ghost use Rattle.rtps_text.specs.ListText.{IsListed};
-ghost use Rattle.rtps_text.specs.ShowText.{IsShown};
+ghost use Rattle.rtps_text.specs.ShowText.{IsShown, IsShownWith};
 ghost use Rattle.rtps_text.specs.WhyText.{IsExplainedTextAs, IsExplainedTextFrom};
+ghost use Rattle.rtps_text.specs.declared.text.Fragments.{Fragments};
 
 use rtps_audit::laws::one_report;
 use rtps_discovery::laws::one_map;
@@ -18,6 +19,7 @@ use rtps_evidence::laws::one_explanation;
 /// asked: the number from which on they ask, and what else.
 pub fn one_text()
     ensures shown { HasOneText IsShown }
+    ensures shown_with { (choice : Fragments) → HasOneText (IsShownWith choice) }
     ensures listed { HasOneText IsListed }
     ensures audited { (from : ℕ) → HasOneText (IsAuditedFrom from) }
     ensures explained { (from : ℕ) → HasOneText (IsExplainedTextFrom from) }
@@ -37,4 +39,10 @@ pub fn options_change_nothing()
     ensures audited { (from : ℕ) → HaveOneText (IsAuditedAs (plainly from)) (IsAuditedFrom from) }
     ensures explained { (from : ℕ) → HaveOneText (IsExplainedTextAs (plainly from)) (IsExplainedTextFrom from) }
     ensures json { (from : ℕ) → HaveOneText (IsJsonTextAs (plainly from)) (IsJsonTextFrom from) }
+{}
+
+/// Where no submessage of a recording is a DATA_FRAG with fragments that can be used, `show` prints the same, whether
+/// fragments are read or not.
+pub fn show_is_the_same_without_fragments()
+    ensures { ShowsTheSameWithoutFragments }
 {}

@@ -22,4 +22,4 @@ pub use text::json_object::json_text;
 pub use text::list_text::list_text;
 pub use text::show_text::show_text;
 pub use text::why_text::why_text;
-pub use text::{Ending, sample_text};
+pub use text::{Ending, Fragments, sample_text};

@@ -15,8 +15,8 @@ use crate::follow::Follow;
 use crate::streams::{read_input, write_text};
 use rtps_ids::{Memory, SeqNum};
 use rtps_text::{
-    Asked, Ending, Recording, Unwatched, Watch, audit_text, json_text, list_text, sample_text,
-    show_text, why_text,
+    Asked, Ending, Fragments, Recording, Unwatched, Watch, audit_text, json_text, list_text,
+    sample_text, show_text, why_text,
 };
 use std::alloc::Global;
 use std::io::{Read, Write};
@@ -119,7 +119,7 @@ fn text_of<P: Watch>(
     ensures { IfOk result (λ answer. IsTextOf options.now.command (asked_value options.now.asked) recording.now (string_bytes answer.0) answer.1) }
 {
     match options.command {
-        Command::Show => show_text(alloc, recording),
+        Command::Show => show_text(alloc, recording, Fragments::Skipped),
         Command::List => list_text(alloc, recording),
         Command::Audit => audit_text(alloc, recording, &options.asked, watch),
         Command::Json => json_text(alloc, recording, &options.asked, watch),

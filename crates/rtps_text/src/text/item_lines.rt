@@ -1,21 +1,22 @@
-ghost use Rattle.std.specs.Prelude.{◌≡◌, ◌++◌, OnOk, codes};
+ghost use Rattle.std.specs.Prelude.{◌≡◌, ◌++◌, OnOk, codes, length};
 ghost use Rattle.std.specs.Fmt.{decimal, signed_decimal};
 ghost use Rattle.std.specs.Option.{option_map};
 ghost use Rattle.std.specs.String.{string_bytes};
 ghost use Rattle.hex.specs.Hex.{encode_lower};
 ghost use Rattle.rtps_params.specs.Lists.{list_value};
+ghost use Rattle.rtps_wire.specs.DataFrag.{data_frag_value};
 ghost use Rattle.rtps_wire.specs.Values.{data_value, item_value};
 ghost use Rattle.rtps_text.specs.ShowTail.{IsTailIn};
-ghost use Rattle.rtps_text.specs.ShowText.{ack_nack_line, data_line, gap_line, heartbeat_line, info_dst_line, info_src_line, info_ts_line, item_line, bitmap_text, order_text, qos_octets as qos_octets_lem, skipped_line, version_text};
+ghost use Rattle.rtps_text.specs.ShowText.{ack_nack_line, data_frag_line, data_line, gap_line, heartbeat_line, info_dst_line, info_src_line, info_ts_line, item_line, bitmap_text, digit_of, order_text, qos_octets as qos_octets_lem, skipped_line, version_text};
 
 use crate::text::parts::{
-    order_name, push_bitmap, push_digits, push_field, push_final, push_id, push_live, push_payload,
-    push_tail, push_time, push_version,
+    order_name, push_bitmap, push_digits, push_field, push_final, push_id, push_key, push_live,
+    push_payload, push_tail, push_time, push_version,
 };
 use rtps_ids::{EntityId, GuidPrefix, NumberSet, Order, Stamp, Vendor, Version};
 use rtps_params::ParamList;
 use rtps_receiver::State;
-use rtps_wire::{AckNackBody, Body, DataBody, GapBody, HeartbeatBody, Item};
+use rtps_wire::{AckNackBody, Body, DataBody, DataFrag, GapBody, HeartbeatBody, Item};
 use std::alloc::AllocError;
 
 /// Appends the line of a submessage, at whose place the receiver is in this state. The tail is kept from line to line.
@@ -95,6 +96,56 @@ fn push_data(
     push_field(text, " qos ", qos_octets(&data.qos))?;
     push_payload(text, data.payload)?;
     push_tail(text, tail, state)
+}
+
+/// Appends the line of a DATA_FRAG that is read.
+pub(crate) fn push_data_frag(
+    text: &mut String,
+    tail: &mut String,
+    state: &State,
+    at: usize,
+    data_frag: &DataFrag<'_>,
+) -> Result<(), AllocError>
+    requires { IsTailIn state.now (string_bytes tail.old) }
+    ensures line { OnOk result (string_bytes text.new ≡ string_bytes text.old ++ data_frag_line state.now at (data_frag_value data_frag.now)) }
+    ensures tail { OnOk result (IsTailIn state.now (string_bytes tail.new)) }
+{
+    push_act(
+        text,
+        "data_frag ",
+        at,
+        data_frag.order,
+        data_frag.reader,
+        data_frag.writer,
+    )?;
+    push_fragments(text, data_frag)?;
+    push_sample(text, data_frag)?;
+    push_tail(text, tail, state)
+}
+
+/// Appends the fields that say which fragments there are.
+fn push_fragments(text: &mut String, data_frag: &DataFrag<'_>) -> Result<(), AllocError>
+    ensures { OnOk result (string_bytes text.new
+        ≡ string_bytes text.old ++ (codes " number " ++ (decimal data_frag.now.number
+        ++ (codes " start " ++ (decimal data_frag.now.first ++ (codes " count " ++ (decimal data_frag.now.count
+        ++ (codes " size " ++ (decimal data_frag.now.shape.fragment ++ (codes " sample " ++ decimal data_frag.now.shape.sample)))))))))) }
+{
+    push_field(text, " number ", data_frag.number.get())?;
+    push_field(text, " start ", data_frag.first)?;
+    push_field(text, " count ", data_frag.count)?;
+    push_field(text, " size ", data_frag.shape.fragment)?;
+    push_field(text, " sample ", data_frag.shape.sample)
+}
+
+/// Appends how many octets the inline QoS has, whether the sample is a key, and how many octets the fragments have.
+fn push_sample(text: &mut String, data_frag: &DataFrag<'_>) -> Result<(), AllocError>
+    ensures { OnOk result (string_bytes text.new
+        ≡ string_bytes text.old ++ (codes " qos " ++ (decimal (qos_octets_lem (option_map list_value data_frag.now.qos))
+        ++ (codes " key " ++ (digit_of data_frag.now.shape.is_key ++ (codes " octets " ++ decimal (length data_frag.now.octets.now))))))) }
+{
+    push_field(text, " qos ", qos_octets(&data_frag.qos))?;
+    push_key(text, data_frag.shape.is_key)?;
+    push_field(text, " octets ", data_frag.octets.len())
 }
 
 /// How many octets the inline QoS has.

@@ -124,6 +124,15 @@ pub(crate) fn push_live(text: &mut String, flag: bool) -> Result<(), AllocError>
     text.push_str(if flag { " live 1" } else { " live 0" })
 }
 
+/// Appends the flag by which a writer says that a sample is a key.
+#[tactic(auto, unfolding(crate::specs::ShowText::digit_of))]
+#[inline(always)]
+pub(crate) fn push_key(text: &mut String, flag: bool) -> Result<(), AllocError>
+    ensures { OnOk result (string_bytes text.new ≡ string_bytes text.old ++ (codes " key " ++ digit_of flag)) }
+{
+    text.push_str(if flag { " key 1" } else { " key 0" })
+}
+
 /// Appends a version, with a dot between its parts.
 #[tactic(auto, unfolding(crate::specs::ShowText::version_text))]
 pub(crate) fn push_version(text: &mut String, version: Version) -> Result<(), AllocError>

@@ -1,29 +1,42 @@
 ghost use Rattle.std.specs.Prelude.{◌≡◌, [], ◌∷◌, ◌++◌, IfOk, None, OnOk, Some};
 ghost use Rattle.std.specs.String.{string_bytes};
 ghost use Rattle.rtps_receiver.specs.Acts.{state_behind};
-ghost use Rattle.rtps_wire.specs.Reading.{outcomes_left, reading_of};
+ghost use Rattle.std.specs.Option.{option_map};
+ghost use Rattle.rtps_wire.specs.DataFrag.{data_frag_value};
+ghost use Rattle.rtps_wire.specs.Reading.{outcomes_left};
 ghost use Rattle.rtps_wire.specs.Values.{body_value, item_value};
 ghost use Rattle.rtps_text.specs.ShowTail.{IsTailIn, says_of_state};
-ghost use Rattle.rtps_text.specs.ShowText.{IsShown, datagram_line, outcomes_text, reading_text, refusal_line, text_from};
+ghost use Rattle.rtps_text.specs.ShowText.{IsShownWith, datagram_line, datagram_text, fragments_at as fragments_at_lem, outcomes_text, refusal_line, text_from};
 
 use crate::recording::Recording;
-use crate::text::Ending;
-use crate::text::item_lines::{push_item, push_origin, push_skipped};
+use crate::text::item_lines::{push_data_frag, push_item, push_origin, push_skipped};
 use crate::text::parts::push_field;
+use crate::text::{Ending, Fragments};
 use rtps_ids::Memory;
 use rtps_receiver::State;
-use rtps_wire::{Body, Header, Item, Items, Refusal};
+use rtps_wire::{Body, DataFrag, Header, Item, Items, Refusal};
 use std::alloc::{AllocError, Global};
 use std::fmt;
 
+/// A datagram, and what becomes of fragments in it.
+#[derive(Clone, Copy)]
+struct ShownDatagram<'a> {
+    octets: &'a [u8],
+    fragments: Fragments,
+}
+
 /// What `show` prints of a recording, and that it ends [`Ending::Clean`].
 /// `Memory` is answered where the text, or what is kept for it, cannot grow.
-pub fn show_text(alloc: Global, recording: &Recording) -> Result<(String, Ending), Memory>
-    ensures { IfOk result (λ shown. IsShown recording.now (string_bytes shown.0) shown.1) }
+pub fn show_text(
+    alloc: Global,
+    recording: &Recording,
+    fragments: Fragments,
+) -> Result<(String, Ending), Memory>
+    ensures { IfOk result (λ shown. IsShownWith fragments recording.now (string_bytes shown.0) shown.1) }
 {
     let mut text = String::new(alloc);
     let mut tail = String::new(alloc);
-    push_datagrams(&mut text, &mut tail, recording)?;
+    push_datagrams(&mut text, &mut tail, recording, fragments)?;
     Ok((text, Ending::Clean))
 }
 
@@ -32,13 +45,14 @@ fn push_datagrams(
     text: &mut String,
     tail: &mut String,
     recording: &Recording,
+    fragments: Fragments,
 ) -> Result<(), AllocError>
-    ensures { OnOk result (string_bytes text.new ≡ string_bytes text.old ++ text_from 1 recording.now.datagrams) }
+    ensures { OnOk result (string_bytes text.new ≡ string_bytes text.old ++ text_from fragments 1 recording.now.datagrams) }
 {
     let mut number = 0;
     for octets in recording.datagrams() {
         number += 1;
-        push_datagram(text, tail, number, octets)?;
+        push_datagram(text, tail, number, ShownDatagram { octets, fragments })?;
     }
     Ok(())
 }
@@ -48,14 +62,14 @@ fn push_datagram(
     text: &mut String,
     tail: &mut String,
     number: usize,
-    octets: &[u8],
+    datagram: ShownDatagram<'_>,
 ) -> Result<(), AllocError>
-    ensures { OnOk result (string_bytes text.new ≡ string_bytes text.old ++ reading_text number (reading_of octets.now)) }
+    ensures { OnOk result (string_bytes text.new ≡ string_bytes text.old ++ datagram_text datagram.entry.fragments number datagram.entry.octets.now) }
 {
-    match Items::open(octets) {
+    match Items::open(datagram.octets) {
         Ok((header, items)) => {
             push_opened(text, number, &header)?;
-            push_items(text, tail, State::at_start(header), items)
+            push_items(text, tail, State::at_start(header), items, datagram)
         }
         Err(refusal) => {
             push_unread(text, number)?;
@@ -87,8 +101,10 @@ fn push_items(
     tail: &mut String,
     start: State,
     items: Items<'_>,
+    datagram: ShownDatagram<'_>,
 ) -> Result<(), AllocError>
-    ensures { OnOk result (string_bytes text.new ≡ string_bytes text.old ++ outcomes_text start (outcomes_left items.entry)) }
+    ensures { OnOk result (string_bytes text.new
+        ≡ string_bytes text.old ++ outcomes_text (fragments_at_lem datagram.entry.fragments datagram.entry.octets.now) start (outcomes_left items.entry)) }
 {
     let mut state = start;
     let mut items = items;
@@ -96,7 +112,10 @@ fn push_items(
     'items: loop {
         let at = items.at();
         if let Some(id) = items.take_skipped() {
-            push_skipped(text, at, id)?;
+            match fragments_at(datagram, at) {
+                Some(read) => push_data_frag(text, tail, &state, at, &read)?,
+                None => push_skipped(text, at, id)?,
+            }
             continue;
         }
         match items.next() {
@@ -107,6 +126,20 @@ fn push_items(
             Some(Err(refusal)) => write!(text, "{}", RefusalLine(refusal))?,
             None => return Ok(()),
         }
+    }
+}
+
+/// The fragments of the submessage at this place, if they are read.
+#[inline(always)]
+fn fragments_at(datagram: ShownDatagram<'_>, at: usize) -> Option<DataFrag<'_>>
+    ensures { option_map data_frag_value result ≡ fragments_at_lem datagram.entry.fragments datagram.entry.octets.now at }
+{
+    match datagram.fragments {
+        Fragments::Skipped => None,
+        Fragments::Read => match datagram.octets.get(at..) {
+            Some(submessage) => DataFrag::read(submessage),
+            None => None,
+        },
     }
 }
 

@@ -17,6 +17,9 @@ use Rattle.rtps_text.proofs.laws.one_text.Goals as goal
 pub returns-clause-shown : goal.returns-clause-shown
 returns-clause-shown c = λ recording one other ending last (is, ends) (also, too). (is ∙ sym also, ends ∙ sym too)
 
+pub returns-clause-shown_with : goal.returns-clause-shown_with
+returns-clause-shown_with c = λ choice recording one other ending last (is, ends) (also, too). (is ∙ sym also, ends ∙ sym too)
+
 pub returns-clause-listed : goal.returns-clause-listed
 returns-clause-listed c = λ recording one other ending last ((directory, map, is), ends) ((found, of, also), too).
     let same : directory ≡ found = c.one_map.ensures.unique (acts_in recording.datagrams) directory found map of in

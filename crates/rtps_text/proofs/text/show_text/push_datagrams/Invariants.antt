@@ -9,4 +9,4 @@ invariant-loop-octets l =
     (goal.iterator-loop-octets).can_next l.octets-iterator
     × (goal.iterator-loop-octets).is_finite l.octets-iterator
     × (l.number + length l.octets-iterator ≡ length l.recording.datagrams)
-    × (string_bytes l.text ++ text_from (l.number + 1) l.octets-iterator ≡ string_bytes l.initial.text ++ text_from 1 l.recording.datagrams)
+    × (string_bytes l.text ++ text_from l.fragments (l.number + 1) l.octets-iterator ≡ string_bytes l.initial.text ++ text_from l.fragments 1 l.recording.datagrams)
