@@ -73,6 +73,24 @@ fn explain_rows<'a>(
     Ok(explained)
 }
 
+/// Says of each row of the report on an indexed recording, by the numbers from `from` on, why it has its verdict. It tells how
+/// far it is. `Memory` is answered where what is kept cannot grow.
+pub fn explain<'a, P: Watch>(
+    alloc: Global,
+    index: &Index<'a>,
+    from: SeqNum,
+    watch: &mut P,
+) -> Result<Explained<'a>, Memory>
+    ensures { (recording : List (List ℕ)) → IsIndexOf recording index.now → IfOk result (IsExplainedFrom from recording) }
+{
+    let report = index.report_from(from, watch)?;
+    let rows = explain_rows(alloc, index, index.directory(), &report.rows, from)?;
+    Ok(Explained {
+        rows,
+        counts: report.counts,
+    })
+}
+
 /// Audits a recording, any datagrams in the order of sending, by the numbers from `from` on, and says of each row of the
 /// report why it has its verdict. It tells how far it is. `Memory` is answered where what is kept cannot grow.
 pub fn explain_from<'a, P: Watch>(
@@ -84,10 +102,6 @@ pub fn explain_from<'a, P: Watch>(
     ensures { IfOk result (IsExplainedFrom from (map (λ datagram. datagram.now) recording.now)) }
 {
     let index = Index::build(alloc, recording)?;
-    let report = index.report_from(from, watch)?;
-    let rows = explain_rows(alloc, &index, index.directory(), &report.rows, from)?;
-    Ok(Explained {
-        rows,
-        counts: report.counts,
-    })
+    let explained = explain(alloc, &index, from, watch)?;
+    Ok(explained)
 }

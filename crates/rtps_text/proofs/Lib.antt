@@ -2,7 +2,7 @@ pub mod ListLemmas
 pub mod PiecesLemmas
 pub mod ShowLemmas
 pub mod DigitLemmas
-mod JsonLemmas
-mod PartLemmas
+pub mod JsonLemmas
+pub mod PartLemmas
 mod AskedLemmas
 pub mod Offered

@@ -1,0 +1,6 @@
+pub mod SafeLemmas
+pub mod NumberText
+pub mod ReadLemmas
+pub mod PageLemmas
+pub mod EntryLemmas
+pub mod ChartLemmas

@@ -1,0 +1,75 @@
+ghost use Rattle.std.specs.Prelude.{◌≡◌, ◌++◌, IfOk};
+ghost use Rattle.rtps_audit.specs.Index.{IsIndexOf};
+ghost use Rattle.rtps_page.specs.Page.{IsPage, IsPageOf};
+ghost use Rattle.rtps_page.specs.PageData.{page_options_value};
+ghost use Rattle.rtps_page.specs.SafeText.{in_json, in_line, safe_text};
+ghost use Rattle.rtps_page.specs.declared.page_parts.TheConstants.{HEAD as HEAD_TEXT, MIDDLE as MIDDLE_TEXT, TAIL as TAIL_TEXT};
+
+use crate::page_data::{Subject, data_of};
+use crate::page_options::PageOptions;
+use crate::page_parts::{HEAD, MIDDLE, TAIL};
+use crate::plain_rows::rows_of;
+use crate::safe_text::push_safe;
+use rtps_audit::{Index, Watch};
+use rtps_evidence::explain;
+use rtps_ids::Memory;
+use rtps_text::{Ending, Recording, datagrams_of, ending_asked, rows_asked};
+use std::alloc::{AllocError, Global};
+
+/// What `page` writes of a recording, octets of UTF-8, and how it ends: as `audit` does. It tells how far it is. `Memory` is
+/// answered where the page, or what is kept for it, cannot grow.
+pub fn page_text<'a, P: Watch>(
+    alloc: Global,
+    recording: &'a Recording,
+    options: &'a PageOptions<'a>,
+    watch: &mut P,
+) -> Result<(Vec<u8>, Ending), Memory>
+    ensures { IfOk result (λ page. IsPage (page_options_value options.now) recording.now page.0.items page.1) }
+{
+    let datagrams = datagrams_of(alloc, recording)?;
+    let index = Index::build(alloc, &datagrams)?;
+    let explained = explain(alloc, &index, options.asked.from, watch)?;
+    let explained = rows_asked(alloc, explained, &options.asked, &datagrams)?;
+    let subject = Subject {
+        options,
+        recording,
+        index: &index,
+        directory: index.directory(),
+        explained: &explained,
+    };
+    let page = page_of(alloc, &subject)?;
+    Ok((page, ending_asked(&options.asked, &explained, recording)))
+}
+
+/// The page of its rows and data.
+fn page_of(alloc: Global, subject: &Subject<'_, '_>) -> Result<Vec<u8>, Memory>
+    requires { IsIndexOf subject.now.recording.now.datagrams subject.now.index.now }
+    ensures { IfOk result (λ page. IsPageOf subject.now page.items) }
+{
+    let rows = rows_of(alloc, &subject.explained.rows)?;
+    let data = data_of(alloc, subject)?;
+    let page = joined(alloc, rows.as_bytes(), &data)?;
+    Ok(page)
+}
+
+/// How many octets a page has at least.
+fn least_size(rows: &[u8], object: &[u8]) -> usize {
+    let texts = HEAD.len() + MIDDLE.len() + TAIL.len();
+    rows.len()
+        .saturating_add(object.len())
+        .saturating_add(texts)
+}
+
+/// The page with these lines and this data.
+fn joined(alloc: Global, rows: &[u8], object: &[u8]) -> Result<Vec<u8>, AllocError>
+    ensures { IfOk result (λ page. page.items
+        ≡ HEAD_TEXT.now ++ (safe_text in_line rows.now ++ (MIDDLE_TEXT.now ++ (safe_text in_json object.now ++ TAIL_TEXT.now)))) }
+{
+    let mut page = Vec::with_capacity(alloc, least_size(rows, object))?;
+    page.extend_from_slice(HEAD.as_bytes())?;
+    push_safe(&mut page, b"\\x", rows)?;
+    page.extend_from_slice(MIDDLE.as_bytes())?;
+    push_safe(&mut page, b"\\u00", object)?;
+    page.extend_from_slice(TAIL.as_bytes())?;
+    Ok(page)
+}
