@@ -1,5 +1,5 @@
 -- The tokens of what the data of a page is made of, and how deep it nests.
-use Rattle.std.proofs.Common.{◌≡◌, ◌≤◌, ◌++◌, ◌∷◌, [], ◌∙◌, ℕ, ℤ, List, Bool, true, false, ap, append_assoc, arith, codes, filter, map, pos, refl, sym, Option, None, Some, ◌-◌, ◌==◌, length, nat_lt, if◌then◌else◌}
+use Rattle.std.proofs.Common.{◌≡◌, ◌≤◌, ◌++◌, ◌∷◌, [], ◌∙◌, ℕ, ℤ, List, Bool, true, false, ap, append_assoc, arith, codes, filter, map, pos, refl, sym, Option, None, Some, ◌-◌, ◌==◌, length, nat_lt, if◌then◌else◌, is_some}
 use Rattle.std.proofs.lemmas.List.Folds.{flat_map-map}
 use Rattle.std.specs.List.{flat_map}
 use Rattle.json.specs.Json.{Json, max_depth, string}
@@ -15,12 +15,13 @@ use Rattle.rtps_audit.specs.Placed.{PlacedValue, answers_among, placed_in}
 use Rattle.rtps_audit.specs.declared.report.Counts.{Counts}
 use Rattle.rtps_evidence.specs.Explanation.{ExplanationValue}
 use Rattle.rtps_evidence.specs.declared.location.Location.{Location}
+use Rattle.rtps_text.specs.Asked.{AskedValue}
 use Rattle.rtps_text.specs.JsonText.{Member, array_of, items_of, members_of, number_json, object_of, tokens_of}
 use Rattle.rtps_text.specs.Recording.{RecordingValue}
 use Rattle.rtps_text.proofs.Offered.{joined, report_depth, whole}
 use Rattle.rtps_page.specs.ChartEntries.{base_json, entries_at, entries_by, entries_of, entry_json, gone_json, members_of as numbers_of, named_json, one_gone_json}
 use Rattle.rtps_page.specs.ChartRoom.{charted_pairs, writers_behind}
-use Rattle.rtps_page.specs.PageData.{PageOptionsValue, answers_json, chart_members, directory_members, endpoint_json, expect_json, guid_json, option_members, page_json, report_members, writer_json}
+use Rattle.rtps_page.specs.PageData.{answers_json, chart_members, directory_members, endpoint_json, expect_json, guid_json, option_members, page_json, report_members, writer_json}
 
 -- ---- tokens
 
@@ -97,14 +98,14 @@ expect_within : (expect : Option ℕ) → depth (expect_json expect) ≤ 0
 expect_within None = omega arith
 expect_within (Some rows) = omega arith
 
-options_within : (options : PageOptionsValue) → depth (object_of (option_members options)) ≤ 2
-options_within options =
-    let topics = mapped_within 0 string (λ topic. omega arith) options.topics in
-    omega (arith, topics, expect_within options.expect)
+options_within : (asked : AskedValue) (any : Bool) → depth (object_of (option_members asked any)) ≤ 2
+options_within asked any =
+    let topics = mapped_within 0 string (λ topic. omega arith) asked.rows.topics in
+    omega (arith, topics, expect_within asked.expect)
 
-report_part : (options : PageOptionsValue) (rows : List ExplanationValue) (counts : Counts) (recording : RecordingValue)
-    → members_depth (members_of (report_members options rows counts recording)) ≤ 5
-report_part options rows counts recording = omega (arith, options_within options, report_depth rows counts recording)
+report_part : (asked : AskedValue) (rows : List ExplanationValue) (counts : Counts) (recording : RecordingValue)
+    → members_depth (members_of (report_members asked rows counts recording)) ≤ 5
+report_part asked rows counts recording = omega (arith, options_within asked (is_some recording.reasons), report_depth rows counts recording)
 
 directory_part : (directory : DirectoryValue) → members_depth (members_of (directory_members directory)) ≤ 5
 directory_part directory =
@@ -118,11 +119,11 @@ chart_part acts pairs =
     let answers = mapped_within 3 (answers_json acts) (answers_within acts) pairs in
     omega (arith, writers, answers)
 
-pub page_within : (options : PageOptionsValue) (rows : List ExplanationValue) (counts : Counts) (recording : RecordingValue) (directory : DirectoryValue)
-    → depth (page_json options rows counts recording directory) ≤ max_depth
-page_within options rows counts recording directory =
+pub page_within : (asked : AskedValue) (rows : List ExplanationValue) (counts : Counts) (recording : RecordingValue) (directory : DirectoryValue)
+    → depth (page_json asked rows counts recording directory) ≤ max_depth
+page_within asked rows counts recording directory =
     let acts = placed_in recording.datagrams in
     let pairs = charted_pairs acts rows in
     let late = joined 5 (directory_members directory) (chart_members acts pairs) (directory_part directory) (chart_part acts pairs) in
-    let all = joined 5 (report_members options rows counts recording) (directory_members directory ++ chart_members acts pairs) (report_part options rows counts recording) late in
+    let all = joined 5 (report_members asked rows counts recording) (directory_members directory ++ chart_members acts pairs) (report_part asked rows counts recording) late in
     omega (arith, all)

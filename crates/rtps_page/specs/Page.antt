@@ -9,11 +9,12 @@ use Rattle.rtps_receiver.specs.Acts.{acts_in}
 use Rattle.rtps_discovery.specs.Directory.{DirectoryValue, IsMapOf}
 use Rattle.rtps_evidence.specs.Explanation.{ExplanationValue, explanation_value}
 use Rattle.rtps_evidence.specs.declared.explanation.Explained.{Explained}
+use Rattle.rtps_text.specs.Asked.{AskedValue}
 use Rattle.rtps_text.specs.Findings.{ending_as}
 use Rattle.rtps_text.specs.Recording.{RecordingValue}
 use Rattle.rtps_text.specs.WhyText.{IsExplainedAs, facts_of_rows}
 use Rattle.rtps_text.specs.declared.text.Ending.{Ending}
-use Rattle.rtps_page.specs.PageData.{PageOptionsValue, json_in, page_json, rows_in}
+use Rattle.rtps_page.specs.PageData.{json_in, page_json, rows_in}
 use Rattle.rtps_page.specs.PlainRows.{plain_rows}
 use Rattle.rtps_page.specs.SafeText.{IsSafe, in_json, in_line, safe_text}
 use Rattle.rtps_page.specs.declared.page_data.Subject.{Subject}
@@ -44,11 +45,11 @@ IsPageOf subject page = IsPageWith (rows_in subject) (json_in subject) page
 
 -- what `page` answers: the page of those rows of the report that are asked for, each explained, and of what discovery announced,
 -- and the ending by what is found of them
-pub record IsPage (options : PageOptionsValue) (recording : RecordingValue) (page : List ℕ) (ending : Ending) : Type 0 where
+pub record IsPage (asked : AskedValue) (recording : RecordingValue) (page : List ℕ) (ending : Ending) : Type 0 where
   pub explained : Explained
-  pub explains : IsExplainedAs options.asked recording.datagrams explained
+  pub explains : IsExplainedAs asked recording.datagrams explained
   pub directory : DirectoryValue
   pub is_map : IsMapOf (acts_in recording.datagrams) directory
   pub is_page : IsPageWith (map explanation_value explained.rows.items)
-      (page_json options (map explanation_value explained.rows.items) explained.counts recording directory) page
-  pub ends : ending ≡ ending_as options.asked (facts_of_rows (map explanation_value explained.rows.items) explained.counts recording)
+      (page_json asked (map explanation_value explained.rows.items) explained.counts recording directory) page
+  pub ends : ending ≡ ending_as asked (facts_of_rows (map explanation_value explained.rows.items) explained.counts recording)

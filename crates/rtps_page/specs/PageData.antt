@@ -1,7 +1,7 @@
 -- The data of a page: one value of JSON. RFC 8259 "The JavaScript Object Notation (JSON) Data Interchange Format".
 -- own: what was asked, the report as `audit --json` prints it, what discovery announced as `list` prints it, and for the rows
 -- that have a chart what their writers say and their readers answer. Members stand in the order given here.
-use Rattle.std.specs.Prelude.{ℕ, ◌≡◌, Bool, ◌==◌, ◌++◌, List, [], ◌∷◌, codes, length, map, count_by, Option, None, Some}
+use Rattle.std.specs.Prelude.{ℕ, ◌≡◌, Bool, false, is_some, ◌==◌, ◌++◌, List, [], ◌∷◌, codes, length, map, count_by, Option, None, Some}
 use Rattle.json.specs.Json.{Json, boolean, null, string}
 use Rattle.json.specs.Lex.{tokens}
 use Rattle.json.specs.Print.{print}
@@ -20,29 +20,17 @@ use Rattle.rtps_text.specs.Recording.{RecordingValue}
 use Rattle.rtps_page.specs.ChartEntries.{base_json, entries_by}
 use Rattle.rtps_page.specs.ChartRoom.{charted_pairs, writers_behind}
 use Rattle.rtps_page.specs.declared.page_data.Subject.{Subject}
-use Rattle.rtps_page.specs.declared.page_options.PageOptions.{PageOptions}
-
--- what was asked, with lists of octets where the type borrows texts
-pub record PageOptionsValue : Type 0 where
-  pub asked : AskedValue
-  pub any : Bool
-  pub fragments : Bool
-
--- the options of the code, as a value
-abbrev pub page_options_value : PageOptions → PageOptionsValue
-page_options_value options =
-    record { asked = asked_value options.asked; any = options.any; fragments = options.fragments }
 
 -- how many rows were expected, or null
 abbrev pub expect_json : Option ℕ → Json
 expect_json None = null
 expect_json (Some rows) = count_json rows
 
--- what was asked, as members
-abbrev pub option_members : PageOptionsValue → List Member
-option_members options = (codes "from", count_json options.asked.from) ∷ (codes "any", boolean options.any) ∷ (codes "fragments", boolean options.fragments)
-    ∷ (codes "observed", boolean options.asked.rows.observed) ∷ (codes "strict", boolean options.asked.strict)
-    ∷ (codes "topics", array_of (map string options.asked.rows.topics)) ∷ (codes "expect", expect_json options.asked.expect) ∷ []
+-- what was asked, and whether any capture was read; samples in fragments are not read
+abbrev pub option_members : AskedValue → Bool → List Member
+option_members asked any = (codes "from", count_json asked.from) ∷ (codes "any", boolean any) ∷ (codes "fragments", boolean false)
+    ∷ (codes "observed", boolean asked.rows.observed) ∷ (codes "strict", boolean asked.strict)
+    ∷ (codes "topics", array_of (map string asked.rows.topics)) ∷ (codes "expect", expect_json asked.expect) ∷ []
 
 -- datagrams of one octet: each is refused, and harmless
 abbrev pub of_one_octet : List (List ℕ) → ℕ
@@ -72,8 +60,8 @@ answers_json acts pair = object_of ((codes "writer", guid_json pair.writer) ∷ 
     ∷ (codes "bases", array_of (map base_json (answers_among pair acts))) ∷ [])
 
 -- what was asked, and the report
-abbrev pub report_members : PageOptionsValue → List ExplanationValue → Counts → RecordingValue → List Member
-report_members options rows counts recording = (codes "options", object_of (option_members options)) ∷ (codes "report", report_json rows counts recording)
+abbrev pub report_members : AskedValue → List ExplanationValue → Counts → RecordingValue → List Member
+report_members asked rows counts recording = (codes "options", object_of (option_members asked (is_some recording.reasons))) ∷ (codes "report", report_json rows counts recording)
     ∷ (codes "of_one_octet", count_json (of_one_octet recording.datagrams)) ∷ []
 
 -- what was announced
@@ -87,9 +75,9 @@ chart_members acts pairs = (codes "writers", array_of (map (writer_json acts) (w
     ∷ (codes "answers", array_of (map (answers_json acts) pairs)) ∷ []
 
 -- all of it
-abbrev pub page_json : PageOptionsValue → List ExplanationValue → Counts → RecordingValue → DirectoryValue → Json
-page_json options rows counts recording directory =
-    object_of (report_members options rows counts recording
+abbrev pub page_json : AskedValue → List ExplanationValue → Counts → RecordingValue → DirectoryValue → Json
+page_json asked rows counts recording directory =
+    object_of (report_members asked rows counts recording
     ++ (directory_members directory ++ chart_members (placed_in recording.datagrams) (charted_pairs (placed_in recording.datagrams) rows)))
 
 -- the rows of what the code makes a page of
@@ -99,12 +87,12 @@ rows_in subject = map explanation_value subject.explained.now.rows.items
 -- its members, with charts of these pairs
 abbrev pub members_in : Subject → List Pair → List Member
 members_in subject pairs =
-    report_members (page_options_value subject.options.now) (rows_in subject) subject.explained.now.counts subject.recording.now
+    report_members (asked_value subject.asked.now) (rows_in subject) subject.explained.now.counts subject.recording.now
     ++ (directory_members subject.directory.now ++ chart_members (placed_in subject.recording.now.datagrams) pairs)
 
 -- its data
 abbrev pub json_in : Subject → Json
-json_in subject = page_json (page_options_value subject.options.now) (rows_in subject) subject.explained.now.counts subject.recording.now subject.directory.now
+json_in subject = page_json (asked_value subject.asked.now) (rows_in subject) subject.explained.now.counts subject.recording.now subject.directory.now
 
 -- this is the text of a value, and its tokens are read back
 pub record IsPrinted (value : Json) (text : List ℕ) : Type 0 where

@@ -10,7 +10,6 @@ mod entry_counts;
 mod page;
 mod page_data;
 mod page_directory;
-mod page_options;
 mod page_parts;
 mod plain_lines;
 mod plain_rows;
@@ -18,4 +17,3 @@ mod safe_text;
 mod turn;
 
 pub use page::page_text;
-pub use page_options::PageOptions;

@@ -1,44 +1,43 @@
 ghost use Rattle.std.specs.Prelude.{◌≡◌, ◌++◌, IfOk};
 ghost use Rattle.rtps_audit.specs.Index.{IsIndexOf};
+ghost use Rattle.rtps_text.specs.Asked.{asked_value};
 ghost use Rattle.rtps_page.specs.Page.{IsPage, IsPageOf};
-ghost use Rattle.rtps_page.specs.PageData.{page_options_value};
 ghost use Rattle.rtps_page.specs.SafeText.{in_json, in_line, safe_text};
 ghost use Rattle.rtps_page.specs.declared.page_parts.TheConstants.{HEAD as HEAD_TEXT, MIDDLE as MIDDLE_TEXT, TAIL as TAIL_TEXT};
 
 use crate::page_data::{Subject, data_of};
-use crate::page_options::PageOptions;
 use crate::page_parts::{HEAD, MIDDLE, TAIL};
 use crate::plain_rows::rows_of;
 use crate::safe_text::push_safe;
 use rtps_audit::{Index, Watch};
 use rtps_evidence::explain;
 use rtps_ids::Memory;
-use rtps_text::{Ending, Recording, datagrams_of, ending_asked, rows_asked};
+use rtps_text::{Asked, Ending, Recording, datagrams_of, ending_asked, rows_asked};
 use std::alloc::{AllocError, Global};
 
-/// What `page` writes of a recording, octets of UTF-8, and how it ends: as `audit` does. It tells how far it is. `Memory` is
+/// What `page` writes of a recording, of what is asked, octets of UTF-8, and how it ends: as `audit` does. It tells how far it is. `Memory` is
 /// answered where the page, or what is kept for it, cannot grow.
 pub fn page_text<'a, P: Watch>(
     alloc: Global,
     recording: &'a Recording,
-    options: &'a PageOptions<'a>,
+    asked: &'a Asked<'a>,
     watch: &mut P,
 ) -> Result<(Vec<u8>, Ending), Memory>
-    ensures { IfOk result (λ page. IsPage (page_options_value options.now) recording.now page.0.items page.1) }
+    ensures { IfOk result (λ page. IsPage (asked_value asked.now) recording.now page.0.items page.1) }
 {
     let datagrams = datagrams_of(alloc, recording)?;
     let index = Index::build(alloc, &datagrams)?;
-    let explained = explain(alloc, &index, options.asked.from, watch)?;
-    let explained = rows_asked(alloc, explained, &options.asked, &datagrams)?;
+    let explained = explain(alloc, &index, asked.from, watch)?;
+    let explained = rows_asked(alloc, explained, asked, &datagrams)?;
     let subject = Subject {
-        options,
+        asked,
         recording,
         index: &index,
         directory: index.directory(),
         explained: &explained,
     };
     let page = page_of(alloc, &subject)?;
-    Ok((page, ending_asked(&options.asked, &explained, recording)))
+    Ok((page, ending_asked(asked, &explained, recording)))
 }
 
 /// The page of its rows and data.

@@ -6,27 +6,27 @@ ghost use Rattle.json.specs.Token.{boolean, key};
 ghost use Rattle.json.specs.Tree.{json_tokens};
 ghost use Rattle.rtps_audit.specs.Index.{IsIndexOf};
 ghost use Rattle.rtps_audit.specs.Placed.{placed_in};
+ghost use Rattle.rtps_text.specs.Asked.{asked_value};
 ghost use Rattle.rtps_text.specs.JsonText.{array_of, object_of, tokens_of};
 ghost use Rattle.rtps_page.specs.ChartRoom.{writers_behind};
-ghost use Rattle.rtps_page.specs.PageData.{IsPrinted, answers_json, chart_members, expect_json, json_in, members_in, of_one_octet, option_members, page_options_value, report_members, rows_in, writer_json};
+ghost use Rattle.rtps_page.specs.PageData.{IsPrinted, answers_json, chart_members, expect_json, json_in, members_in, of_one_octet, option_members, report_members, rows_in, writer_json};
 
 use crate::chart_answers::push_all_answers;
 use crate::chart_room::pairs_with_charts;
 use crate::chart_writers::{push_writers, writers_of};
 use crate::page_directory::push_directory;
-use crate::page_options::PageOptions;
 use json::Writer;
 use rtps_audit::Index;
 use rtps_discovery::{Directory, Pair};
 use rtps_evidence::Explained;
 use rtps_ids::Memory;
-use rtps_text::{Recording, push_count, push_report};
+use rtps_text::{Asked, Recording, push_count, push_report};
 use std::alloc::{AllocError, Global};
 
 /// What a page is made of.
 #[derive(Clone, Copy)]
 pub(crate) struct Subject<'r, 'i> {
-    pub(crate) options: &'r PageOptions<'r>,
+    pub(crate) asked: &'r Asked<'r>,
     pub(crate) recording: &'r Recording,
     pub(crate) index: &'i Index<'r>,
     pub(crate) directory: &'i Directory<'r>,
@@ -77,15 +77,14 @@ fn push_expect(writer: &mut Writer, expect: Option<u64>) -> Result<(), AllocErro
     }
 }
 
-/// Appends what was asked.
-fn push_option_members(writer: &mut Writer, options: &PageOptions<'_>) -> Result<(), AllocError>
-    ensures tokens { OnOk result (writer.new.tokens ≡ writer.old.tokens ++ tokens_of (option_members (page_options_value options.now))) }
+/// Appends what was asked, and whether any capture was read.
+fn push_option_members(writer: &mut Writer, asked: &Asked<'_>, any: bool) -> Result<(), AllocError>
+    ensures tokens { OnOk result (writer.new.tokens ≡ writer.old.tokens ++ tokens_of (option_members (asked_value asked.now) any)) }
     ensures before { writer.new.before ≡ writer.old.before }
 {
-    let asked = &options.asked;
     push_count(writer, "from", asked.from.get().cast_unsigned())?;
-    push_flag(writer, "any", options.any)?;
-    push_flag(writer, "fragments", options.fragments)?;
+    push_flag(writer, "any", any)?;
+    push_flag(writer, "fragments", false)?;
     push_flag(writer, "observed", asked.rows.observed)?;
     push_flag(writer, "strict", asked.strict)?;
     push_topics(writer, asked.rows.topics)?;
@@ -93,14 +92,14 @@ fn push_option_members(writer: &mut Writer, options: &PageOptions<'_>) -> Result
 }
 
 /// Appends the object of what was asked.
-fn push_options(writer: &mut Writer, options: &PageOptions<'_>) -> Result<(), AllocError>
+fn push_options(writer: &mut Writer, asked: &Asked<'_>, any: bool) -> Result<(), AllocError>
     ensures tokens { OnOk result (writer.new.tokens
-        ≡ writer.old.tokens ++ key (codes "options") ∷ json_tokens (object_of (option_members (page_options_value options.now)))) }
+        ≡ writer.old.tokens ++ key (codes "options") ∷ json_tokens (object_of (option_members (asked_value asked.now) any))) }
     ensures before { writer.new.before ≡ writer.old.before }
 {
     writer.key("options")?;
     writer.begin_object()?;
-    push_option_members(writer, options)?;
+    push_option_members(writer, asked, any)?;
     writer.end_object()
 }
 
@@ -124,11 +123,12 @@ fn push_reported(
     subject: &Subject<'_, '_>,
 ) -> Result<(), AllocError>
     ensures tokens { OnOk result (writer.new.tokens ≡ writer.old.tokens
-        ++ tokens_of (report_members (page_options_value subject.now.options.now) (rows_in subject.now)
+        ++ tokens_of (report_members (asked_value subject.now.asked.now) (rows_in subject.now)
         subject.now.explained.now.counts subject.now.recording.now)) }
     ensures before { writer.new.before ≡ writer.old.before }
 {
-    push_options(writer, subject.options)?;
+    let any = subject.recording.reasons().is_some();
+    push_options(writer, subject.asked, any)?;
     writer.key("report")?;
     push_report(alloc, writer, subject.explained, subject.recording)?;
     push_count(writer, "of_one_octet", one_octet_among(subject.recording))

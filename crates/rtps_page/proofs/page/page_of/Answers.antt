@@ -2,7 +2,8 @@ use Rattle.std.proofs.Common.{◌++◌, ◌∙◌, List, ℕ, ap, map, refl}
 use Rattle.json.specs.Print.{print}
 use Rattle.json.specs.Tree.{json_tokens}
 use Rattle.rtps_evidence.specs.Explanation.{explanation_value}
-use Rattle.rtps_page.specs.PageData.{json_in, page_options_value, rows_in}
+use Rattle.rtps_text.specs.Asked.{asked_value}
+use Rattle.rtps_page.specs.PageData.{json_in, rows_in}
 use Rattle.rtps_page.specs.PlainRows.{plain_rows}
 use Rattle.rtps_page.specs.SafeText.{in_json, in_line, safe_text}
 use Rattle.rtps_page.specs.declared.page_parts.TheConstants.{HEAD, MIDDLE, TAIL}
@@ -22,5 +23,5 @@ returns c =
           ∙ ap (λ (l : List ℕ). HEAD.now ++ (safe_text in_line (plain_rows (rows_in subject)) ++ (MIDDLE.now ++ (safe_text in_json l ++ TAIL.now)))) object;
       rows_are_safe = text_is_safe in_line (plain_rows (rows_in subject)) refl;
       data_is_safe = text_is_safe in_json (print (json_tokens json)) refl;
-      reads_back = reads_back json (page_within (page_options_value subject.options.now) (rows_in subject) subject.explained.now.counts subject.recording.now subject.directory.now) c.in_ok-data.ensures.reads_back;
+      reads_back = reads_back json (page_within (asked_value subject.asked.now) (rows_in subject) subject.explained.now.counts subject.recording.now subject.directory.now) c.in_ok-data.ensures.reads_back;
     }

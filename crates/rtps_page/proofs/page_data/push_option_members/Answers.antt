@@ -1,4 +1,4 @@
-use Rattle.std.proofs.Common.{◌≡◌, ◌++◌, ◌∷◌, [], ◌∙◌, Bool, List, ℕ, ap, append-nil, arith, codes, decimal, map, sym}
+use Rattle.std.proofs.Common.{◌≡◌, ◌++◌, ◌∷◌, [], ◌∙◌, Bool, List, ℕ, ap, append-nil, arith, codes, false, decimal, map, sym}
 use Rattle.std.proofs.lemmas.Int.{ints}
 use Rattle.std.proofs.lemmas.Result.{on_ok_weaker}
 use Rattle.std.specs.String.{string_bytes}
@@ -12,8 +12,8 @@ use Rattle.rtps_page.proofs.page_data.push_option_members.Goals as goal
 
 pub returns-clause-tokens : goal.returns-clause-tokens
 returns-clause-tokens c =
-    let options = c.args.options.now in
-    let asked = options.asked in
+    let asked = c.args.asked.now in
+    let any = c.args.any in
     let start : List Token = c.args.writer.now.tokens in
     let count : ℕ → List Token = λ n. key (codes "from") ∷ number (decimal n) ∷ [] in
     let flag : List ℕ → Bool → List Token = λ name is. key name ∷ boolean is ∷ [] in
@@ -22,10 +22,10 @@ returns-clause-tokens c =
     let same : c.cast_unsigned.result ≡ asked.from = omega (arith, ints) in
     on_ok_weaker c.push_expect.result
     (λ last.
-    seven_parts start (count asked.from) (flag (codes "any") options.any) (flag (codes "fragments") options.fragments) (flag (codes "observed") asked.rows.observed) (flag (codes "strict") asked.strict) topics expect
+    seven_parts start (count asked.from) (flag (codes "any") any) (flag (codes "fragments") false) (flag (codes "observed") asked.rows.observed) (flag (codes "strict") asked.strict) topics expect
     (c.in_ok-push_count.ensures.tokens ∙ ap (λ n. start ++ count n) same) c.in_ok-push_flag.ensures.tokens c.in_ok-push_flag-2.ensures.tokens c.in_ok-push_flag-3.ensures.tokens c.in_ok-push_flag-4.ensures.tokens
     c.in_ok-push_topics.ensures.tokens last
     ∙ ap
-    (λ l. start ++ (count asked.from ++ (flag (codes "any") options.any ++ (flag (codes "fragments") options.fragments ++ (flag (codes "observed") asked.rows.observed ++ (flag (codes "strict") asked.strict ++ (topics ++ l)))))))
+    (λ l. start ++ (count asked.from ++ (flag (codes "any") any ++ (flag (codes "fragments") false ++ (flag (codes "observed") asked.rows.observed ++ (flag (codes "strict") asked.strict ++ (topics ++ l)))))))
     (sym (append-nil expect)))
     c.push_expect.ensures.tokens
