@@ -1,9 +1,11 @@
 #!/usr/bin/env python3
 """The page of a recording, as `rtps-audit page` should write it, by the second implementation.
 
-    page.py [--from N] FILE > report.html
-    page.py data [--from N] FILE        the data of the page alone: one object of JSON on one line
-    page.py stored [--from N] FILE      the page of the working copy, page.html, with this recording in it
+    page.py [OPTION ..] FILE > report.html
+    page.py data [OPTION ..] FILE        the data of the page alone: one object of JSON on one line
+    page.py stored [OPTION ..] FILE      the page of the working copy, page.html, with this recording in it
+
+An OPTION is one of `audit`, but for limits and --json.
 """
 import json
 import os
@@ -14,11 +16,11 @@ ROOT = os.path.dirname(os.path.dirname(os.path.abspath(__file__)))
 sys.path[:0] = [os.path.join(ROOT, 'bench'), os.path.join(ROOT, 'crates', 'rtps_page', 'page')]
 import parts
 import reference
+from asked import PLAIN, asked_by
 
 # So many entries of acts and answers a page has room for, and so many rows without scripts of each of two kinds.
 ENTRIES = 200000
 PLAIN_ROWS = 1000
-NO_OPTIONS = {'from': 1, 'any': False, 'fragments': False, 'observed': False, 'strict': False, 'topics': [], 'expect': None}
 
 
 def audience(act):
@@ -87,16 +89,22 @@ def endpoint_values(endpoint):
             'reliability': reference.RELIABILITY_WORDS[reliability], 'durability': reference.DURABILITY_WORDS[durability]}
 
 
-def page_values(datagrams, first=1, ignored=None):
-    """the data of a page as Python has it"""
-    report = reference.report_values(datagrams, first) | ({} if ignored is None else {'ignored': ignored})
+def option_values(asked, any_capture):
+    return {'from': asked.first, 'any': any_capture, 'fragments': False, 'observed': asked.observed, 'strict': asked.strict,
+            'topics': asked.topics, 'expect': asked.expect}
+
+
+def page_values(datagrams, asked=PLAIN, ignored=None):
+    """the data of a page as Python has it; where any capture was read, the ignored frames are told by their reasons"""
+    by_reason = isinstance(ignored, dict)
+    report = reference.report_values(datagrams, asked) | (ignored if by_reason else {} if ignored is None else {'ignored': ignored})
     participants, endpoints, _, _, _ = reference.discovery(datagrams)
     traffic = Traffic([reference.acts_of(d) for d in datagrams], report['pairs'])
     pairs = {(row['writer'], row['reader']) for row in traffic.charted(report['pairs'])}
     shown = [row for row in report['pairs'] if (row['writer'], row['reader']) in pairs]
     writers = list(dict.fromkeys(row['writer'] for row in shown))
     return {
-        'options': NO_OPTIONS | {'from': first},
+        'options': option_values(asked, by_reason),
         'report': report,
         'of_one_octet': sum(len(d) == 1 for d in datagrams),
         'participants': [reference.guid_text(guid) for guid in participants],
@@ -135,18 +143,17 @@ def page_text(values):
     return head + plain_rows(values['report']['pairs']) + middle + data_text(values) + tail
 
 
-def values_of(octets, first=1):
+def values_of(octets, asked=PLAIN, any_form=False):
     """the data of the page of an input, or the last line of standard error"""
-    found = reference.input_of(octets)
-    return found if isinstance(found, str) else page_values(*(found[0], first, found[1]))
+    found = reference.input_of(octets, any_form=any_form or asked.strict)
+    return found if isinstance(found, str) else page_values(found[0], asked, found[1])
 
 
 def main():
     words = sys.argv[1:]
     view = words.pop(0) if words[0] in ('data', 'stored') else 'page'
-    first = int(words[1]) if words[0] == '--from' else 1
     with open(words[-1], 'rb') as f:
-        values = values_of(f.read(), first)
+        values = values_of(f.read(), asked_by(words[:-1]), '--any' in words)
     if isinstance(values, str):
         print(f'page.py: {values}', file=sys.stderr)
         return 2

@@ -1,25 +1,28 @@
 #!/usr/bin/env python3
 """Tests the page of a report in a browser: what it shows, and what one can do with it.
 
-    tests/pages.py [--pictures FOLDER] [NAME ..]
+    tests/pages.py [--program PROGRAM] [--pictures FOLDER] [NAME ..]
 
 Pages are made by bench/page.py, the second implementation, of recordings of examples/, of tests/recorded.py and of 90,000 rows.
-Where no Chromium is installed, that is said, and only what needs none is tried. A NAME is a word of the name of a test below.
+A PROGRAM has to write the same pages, octet for octet. Where no Chromium is installed, that is said, and only what needs none is
+tried. A NAME is a word of the name of a test below.
 With --pictures the pages are kept as pictures of 1280 and 390 pixels, light and dark. The last line is 'N passed, M failed'.
 """
 import json
 import os
 import re
 import shutil
+import subprocess
 import sys
 import tempfile
 
 sys.dont_write_bytecode = True
-from program import ROOT, Counts, file_of
+from program import ROOT, Counts, file_of, text_of
 import page
 import parts
 import recorded
 import reference
+from asked import asked_by
 from browser import SHIFT, Browser, Tab, browser_path
 
 EXAMPLES = sorted(name for name in os.listdir(os.path.join(ROOT, 'examples')) if name.endswith(('.rec', '.pcap')))
@@ -89,9 +92,9 @@ def places_of(value):
 
 class PageTests(Counts):
     """the tests, with a browser and the pages that were made"""
-    def __init__(self, room, pictures):
+    def __init__(self, room, program, pictures):
         super().__init__()
-        self.room, self.pictures, self.browser, self.made = room, pictures, None, {}
+        self.room, self.program, self.pictures, self.browser, self.made = room, program, pictures, None, {}
 
     # ---- pages
 
@@ -160,6 +163,34 @@ class PageTests(Counts):
         tab.close()
 
     # ---- without a browser
+
+    def constants(self):
+        self.holds('src/page_parts.rt is what parts.py makes', file_of('crates', 'rtps_page', 'src', 'page_parts.rt').decode(), parts.constants())
+
+    def pages_of_the_program(self):
+        if self.program is None:
+            return
+        rows = os.path.join(ROOT, 'tests', 'rows')
+        for folder in os.path.join(ROOT, 'examples'), rows:
+            for name in sorted(os.listdir(folder)):
+                if name.endswith(('.rec', '.pcap', '.pcapng')):
+                    self.same_page(name, os.path.join(folder, name))
+        for words in (['--from', '2'], ['--strict'], ['--observed'], ['--expect', '2'], ['--topic', 'p*', '--topic', '<&>"\\\t\u00e9']):
+            self.same_page('pose.rec', os.path.join(ROOT, 'examples', 'pose.rec'), words)
+        for name in MADE:
+            path = os.path.join(self.room, f'{name}.rec')
+            with open(path, 'wb') as f:
+                f.write(text_of([] if name == 'none' else getattr(recorded, name)()))
+            self.same_page(name, path)
+
+    def same_page(self, name, path, words=()):
+        """the program writes the page of the second implementation, and ends as its audit does"""
+        words = [*words, *(['--any'] if path.endswith('.pcapng') else [])]
+        with open(path, 'rb') as f:
+            values = page.values_of(f.read(), asked_by(words), '--any' in words)
+        got = subprocess.run([self.program, 'page', *words, path], capture_output=True)
+        audit = subprocess.run([self.program, 'audit', *words, path], capture_output=True)
+        self.holds(f'{name}: the page with {words}', (page.page_text(values), audit.stderr, audit.returncode), (got.stdout.decode(), got.stderr, got.returncode))
 
     def text_of_a_page(self):
         head, middle, tail = parts.parts()
@@ -542,7 +573,7 @@ def is_heard(act, reader):
     return prefix in ('', reader[:24]) and entity in ('', reader[25:])
 
 
-WITHOUT_BROWSER = 'text_of_a_page', 'rows_with_charts'
+WITHOUT_BROWSER = 'constants', 'pages_of_the_program', 'text_of_a_page', 'rows_with_charts'
 IN_BROWSER = (
     'each_row', 'working_copy', 'outcome', 'asked', 'first_screen', 'weaknesses', 'chosen_pairs', 'advice', 'participants', 'kept_apart', 'hostile_names',
     'without_scripts', 'filters', 'orders', 'clicks', 'keyboard', 'charts', 'pointer', 'charts_left_out', 'contrast', 'widths', 'paper',
@@ -567,15 +598,24 @@ def run(tests, names):
         tests.browser.close()
 
 
+def value_of(words, option):
+    """the value of an option, which is taken out of the words with it; None where it is not among them"""
+    if option not in words:
+        return None
+    at = words.index(option)
+    value = words[at + 1]
+    del words[at:at + 2]
+    return value
+
+
 def main():
     words = sys.argv[1:]
-    pictures = words.pop(1) if words[:1] == ['--pictures'] else None
+    program, pictures = value_of(words, '--program'), value_of(words, '--pictures')
     if pictures:
-        words.pop(0)
         os.makedirs(pictures, exist_ok=True)
     room = tempfile.mkdtemp(prefix='pages')
     try:
-        tests = PageTests(room, pictures)
+        tests = PageTests(room, program and os.path.realpath(program), pictures)
         run(tests, words)
     finally:
         shutil.rmtree(room)

@@ -2,6 +2,7 @@
 -- own: what was asked, the report as `audit --json` prints it, what discovery announced as `list` prints it, and for the rows
 -- that have a chart what their writers say and their readers answer. Members stand in the order given here.
 use Rattle.std.specs.Prelude.{ℕ, ◌≡◌, Bool, false, is_some, ◌==◌, ◌++◌, List, [], ◌∷◌, codes, length, map, count_by, Option, None, Some}
+use Rattle.std.specs.Str.{IsUtf8}
 use Rattle.json.specs.Json.{Json, boolean, null, string}
 use Rattle.json.specs.Lex.{tokens}
 use Rattle.json.specs.Print.{print}
@@ -94,7 +95,8 @@ members_in subject pairs =
 abbrev pub json_in : Subject → Json
 json_in subject = page_json (asked_value subject.asked.now) (rows_in subject) subject.explained.now.counts subject.recording.now subject.directory.now
 
--- this is the text of a value, and its tokens are read back
+-- this is the text of a value, in UTF-8, and its tokens are read back
 pub record IsPrinted (value : Json) (text : List ℕ) : Type 0 where
   pub is_text : text ≡ print (json_tokens value)
+  pub utf8 : IsUtf8 text
   pub reads_back : tokens (print (json_tokens value)) ≡ json_tokens value

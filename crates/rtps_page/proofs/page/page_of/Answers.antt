@@ -16,10 +16,10 @@ pub returns : goal.returns
 returns c =
     let subject = c.args.subject.now in
     let json = json_in subject in
-    let rows = c.as_bytes.ensures.value ∙ c.in_ok-rows.ensures ∙ ap (λ items. plain_rows (map explanation_value items)) c.deref.ensures.value in
-    let object = c.deref-2.ensures.value ∙ c.in_ok-data.ensures.is_text in
+    let rows = c.deref-2.ensures ∙ c.in_ok-rows.ensures ∙ ap (λ items. plain_rows (map explanation_value items)) c.deref.ensures.value in
+    let object = c.deref-3.ensures.value ∙ c.in_ok-data.ensures.is_text in
     record {
-      is_page = c.in_ok-page.ensures ∙ ap (λ (l : List ℕ). HEAD.now ++ (safe_text in_line l ++ (MIDDLE.now ++ (safe_text in_json c.deref-2.result.now ++ TAIL.now)))) rows
+      is_page = ap (λ octets. octets.items) c.from_utf8_unchecked.ensures.value ∙ c.in_ok-page.ensures.text ∙ ap (λ (l : List ℕ). HEAD.now ++ (safe_text in_line l ++ (MIDDLE.now ++ (safe_text in_json c.deref-3.result.now ++ TAIL.now)))) rows
           ∙ ap (λ (l : List ℕ). HEAD.now ++ (safe_text in_line (plain_rows (rows_in subject)) ++ (MIDDLE.now ++ (safe_text in_json l ++ TAIL.now)))) object;
       rows_are_safe = text_is_safe in_line (plain_rows (rows_in subject)) refl;
       data_is_safe = text_is_safe in_json (print (json_tokens json)) refl;
