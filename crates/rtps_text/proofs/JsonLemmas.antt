@@ -33,12 +33,12 @@ use Rattle.rtps_text.specs.JsonText.{Member, announcement_json, claim_json, coun
 
 -- ---- tokens
 
-front : (members more : List Member) → members_tokens (members_of (members ++ more)) ≡ tokens_of members ++ members_tokens (members_of more)
+pub front : (members more : List Member) → members_tokens (members_of (members ++ more)) ≡ tokens_of members ++ members_tokens (members_of more)
 front [] more = refl
 front ((name, json) ∷ members) more =
     ap (λ rest. key name ∷ (json_tokens json ++ rest)) (front members more) ∙ sym (append_assoc (key name ∷ json_tokens json) (tokens_of members) (members_tokens (members_of more)))
 
-whole : (members : List Member) → members_tokens (members_of members) ≡ tokens_of members ++ end_object ∷ []
+pub whole : (members : List Member) → members_tokens (members_of members) ≡ tokens_of members ++ end_object ∷ []
 whole [] = refl
 whole ((name, json) ∷ members) = ap (λ rest. key name ∷ (json_tokens json ++ rest)) (whole members) ∙ sym (append_assoc (key name ∷ json_tokens json) (tokens_of members) (end_object ∷ []))
 
@@ -68,7 +68,7 @@ rows_tokens (row ∷ rows) =
 
 -- ---- depth
 
-joined : (most : ℕ) (one other : List Member) → members_depth (members_of one) ≤ most → members_depth (members_of other) ≤ most → members_depth (members_of (one ++ other)) ≤ most
+pub joined : (most : ℕ) (one other : List Member) → members_depth (members_of one) ≤ most → members_depth (members_of other) ≤ most → members_depth (members_of (one ++ other)) ≤ most
 joined most [] other h k = k
 joined most ((name, json) ∷ one) other h k = let rest = joined most one other (omega (arith, h)) k in omega (arith, h, rest)
 
@@ -148,11 +148,14 @@ reasons_within : (reasons : Option Reasons) → members_depth (members_of (reaso
 reasons_within None = omega arith
 reasons_within (Some reasons) = omega arith
 
-report_within : (rows : List ExplanationValue) (counts : Counts) (recording : RecordingValue) → depth (report_json rows counts recording) ≤ max_depth
-report_within rows counts recording =
+pub report_depth : (rows : List ExplanationValue) (counts : Counts) (recording : RecordingValue) → depth (report_json rows counts recording) ≤ 5
+report_depth rows counts recording =
     let frames = joined 0 (ignored_members recording.ignored) (reasons_members recording.reasons) (ignored_within recording.ignored) (reasons_within recording.reasons) in
     let last = joined 0 (counts_members counts) (ignored_members recording.ignored ++ reasons_members recording.reasons) (omega arith) frames in
     omega (arith, rows_within rows, last)
+
+report_within : (rows : List ExplanationValue) (counts : Counts) (recording : RecordingValue) → depth (report_json rows counts recording) ≤ max_depth
+report_within rows counts recording = omega (arith, report_depth rows counts recording)
 
 -- the grammar of JSON reads a report back, where its tokens are read back
 pub report_reads_back : (rows : List ExplanationValue) (counts : Counts) (recording : RecordingValue)

@@ -3,7 +3,7 @@ pub mod PiecesLemmas
 pub mod ShowLemmas
 pub mod FragmentLemmas
 pub mod DigitLemmas
-mod JsonLemmas
-mod PartLemmas
+pub mod JsonLemmas
+pub mod PartLemmas
 mod AskedLemmas
 pub mod Offered

@@ -8,12 +8,12 @@ use Rattle.rtps_tool.specs.Commands.{IsTextOf}
 use Rattle.rtps_tool.specs.Options.{OptionsValue, asked_by}
 use Rattle.rtps_tool.specs.Runs.{RunsWithin, Writes}
 use Rattle.rtps_tool.specs.declared.command.Choice.{Choice}
-use Rattle.rtps_tool.specs.declared.command.Choice.TheVariants.{Show, List as ListChoice, Audit, Why, Sample}
+use Rattle.rtps_tool.specs.declared.command.Choice.TheVariants.{Show, List as ListChoice, Audit, Why, Page, Sample}
 use Rattle.rtps_tool.specs.declared.command.ReportForm.{ReportForm}
 use Rattle.rtps_tool.specs.declared.command.ReportForm.TheVariants.{Lines, Json}
 use Rattle.rtps_tool.specs.declared.faults.RunFault.{RunFault}
 use Rattle.rtps_tool.specs.declared.runs.Command.{Command}
-use Rattle.rtps_tool.specs.declared.runs.Command.TheVariants.{Show as ShowCommand, List as ListCommand, Audit as AuditCommand, Json as JsonCommand, Why as WhyCommand}
+use Rattle.rtps_tool.specs.declared.runs.Command.TheVariants.{Show as ShowCommand, List as ListCommand, Audit as AuditCommand, Json as JsonCommand, Why as WhyCommand, Page as PageCommand}
 
 -- what prints an audit in this form
 abbrev pub audit_command : ReportForm → Command
@@ -26,6 +26,7 @@ options_of (Show file limits captures) = Some (record { command = ShowCommand; a
 options_of (ListChoice file limits captures) = Some (record { command = ListCommand; asked = plainly 1; limits = limits; captures = captures })
 options_of (Audit file from limits captures form demands) = Some (record { command = audit_command form; asked = asked_by demands from; limits = limits; captures = captures })
 options_of (Why file from limits captures demands) = Some (record { command = WhyCommand; asked = asked_by demands from; limits = limits; captures = captures })
+options_of (Page file from limits captures demands) = Some (record { command = PageCommand; asked = asked_by demands from; limits = limits; captures = captures })
 options_of Sample = None
 
 -- the run with these options; without, the sample is written, and the reader stays as it is

@@ -9,8 +9,9 @@ use Rattle.rtps_text.specs.Recording.{RecordingValue}
 use Rattle.rtps_text.specs.ShowText.{IsShown}
 use Rattle.rtps_text.specs.WhyText.{IsExplainedTextAs}
 use Rattle.rtps_text.specs.declared.text.Ending.{Ending}
+use Rattle.rtps_page.specs.Page.{IsPage}
 use Rattle.rtps_tool.specs.declared.runs.Command.{Command}
-use Rattle.rtps_tool.specs.declared.runs.Command.TheVariants.{Show, List as ListCommand, Audit, Json, Why}
+use Rattle.rtps_tool.specs.declared.runs.Command.TheVariants.{Show, List as ListCommand, Audit, Json, Why, Page}
 
 -- by a command and what is asked of an audit: of this recording, this text and this ending
 abbrev pub IsTextOf : Command → AskedValue → RecordingValue → List ℕ → Ending → Type 0
@@ -19,3 +20,4 @@ IsTextOf ListCommand asked = IsListed
 IsTextOf Audit asked = IsAuditedAs asked
 IsTextOf Json asked = IsJsonTextAs asked
 IsTextOf Why asked = IsExplainedTextAs asked
+IsTextOf Page asked = IsPage asked

@@ -1,6 +1,6 @@
 -- The words of the command line, as `clap` reads them.
--- own: a subcommand and one FILE; `sample` reads none. No option changes what a text means, but for those of `audit` and
--- `why`, which say from which number on verdicts ask, which rows are asked for, and what else has to be so; two options say how large a recording may be, a flag asks for any
+-- own: a subcommand and one FILE; `sample` reads none. No option changes what a text means, but for those of `audit`, `why` and
+-- `page`, which say from which number on verdicts ask, which rows are asked for, and what else has to be so; two options say how large a recording may be, a flag asks for any
 -- capture to be read, and a flag of `audit` asks for its report as JSON.
 use Rattle.std.specs.Prelude.{ℕ, ◌≡◌, ◌≢◌, ◌-◌, ◌^◌, ◌||◌, codes, Bool, true, false, List, [], ◌∷◌, IfSome, Option, None, Some, map, unwrap_or}
 use Rattle.std.specs.Option.{option_and_then}
@@ -18,7 +18,7 @@ use Rattle.rtps_tool.specs.declared.captures.Captures.TheVariants.{Classic, Any}
 use Rattle.rtps_tool.specs.declared.command.Choice.{Choice}
 use Rattle.rtps_tool.specs.declared.command.ReportForm.{ReportForm}
 use Rattle.rtps_tool.specs.declared.command.ReportForm.TheVariants.{Lines, Json}
-use Rattle.rtps_tool.specs.declared.command.Choice.TheVariants.{Show, List as ListChoice, Audit, Why, Sample}
+use Rattle.rtps_tool.specs.declared.command.Choice.TheVariants.{Show, List as ListChoice, Audit, Why, Page, Sample}
 use Rattle.rtps_tool.specs.declared.command.WordFault.{WordFault}
 use Rattle.rtps_tool.specs.declared.command.WordFault.TheVariants.{Refused, Help, Version, Memory}
 use Rattle.rtps_tool.specs.declared.demands.Demands.{Demands}
@@ -78,9 +78,11 @@ abbrev pub program : App
 program =
     with_subcommand
     (with_subcommand
+    (with_subcommand
     (with_subcommand (with_subcommand (with_subcommand bare_program (reading_app (codes "show")).top) (reading_app (codes "list")).top)
     audit_app.top)
     (report_app (codes "why")).top)
+    (report_app (codes "page")).top)
     (new_app (codes "sample")).top
 
 -- the subcommand that was chosen
@@ -89,6 +91,7 @@ subcommand_name (Show file limits captures) = codes "show"
 subcommand_name (ListChoice file limits captures) = codes "list"
 subcommand_name (Audit file from limits captures form demands) = codes "audit"
 subcommand_name (Why file from limits captures demands) = codes "why"
+subcommand_name (Page file from limits captures demands) = codes "page"
 subcommand_name Sample = codes "sample"
 
 -- the file that was chosen; `sample` has none
@@ -97,6 +100,7 @@ file_name (Show file limits captures) = Some (string_bytes file)
 file_name (ListChoice file limits captures) = Some (string_bytes file)
 file_name (Audit file from limits captures form demands) = Some (string_bytes file)
 file_name (Why file from limits captures demands) = Some (string_bytes file)
+file_name (Page file from limits captures demands) = Some (string_bytes file)
 file_name Sample = None
 
 -- its FILE is the one that was given, and empty where none was
@@ -114,12 +118,13 @@ IsGivenOr usually (Some text) n =
 abbrev pub IsNumberGiven : Option Text → ℕ → Type 0
 IsNumberGiven text n = IsGivenOr 1 text n
 
--- its number is the one that was given; only `audit` and `why` have one
+-- its number is the one that was given; only `audit`, `why` and `page` have one
 abbrev pub HasItsNumber : Choice → List Row → Type 0
 HasItsNumber (Show file limits captures) rows = Unit {0}
 HasItsNumber (ListChoice file limits captures) rows = Unit {0}
 HasItsNumber (Audit file from limits captures form demands) rows = IsNumberGiven (first_of (codes "N") rows) from
 HasItsNumber (Why file from limits captures demands) rows = IsNumberGiven (first_of (codes "N") rows) from
+HasItsNumber (Page file from limits captures demands) rows = IsNumberGiven (first_of (codes "N") rows) from
 HasItsNumber Sample rows = Unit {0}
 
 -- The flag was given, or not: `clap` gives it the text `true` where it was, and `false` where not.
@@ -143,6 +148,7 @@ HasItsFlag (Show file limits captures) rows = Unit {0}
 HasItsFlag (ListChoice file limits captures) rows = Unit {0}
 HasItsFlag (Audit file from limits captures form demands) rows = IsFlagGiven (one_of (codes "json") rows) (is_json form)
 HasItsFlag (Why file from limits captures demands) rows = Unit {0}
+HasItsFlag (Page file from limits captures demands) rows = Unit {0}
 HasItsFlag Sample rows = Unit {0}
 
 -- any captures are asked for by one flag of two
@@ -159,6 +165,7 @@ HasItsCaptures (Show file limits captures) rows = IsFlagGiven (one_of (codes "an
 HasItsCaptures (ListChoice file limits captures) rows = IsFlagGiven (one_of (codes "any") rows) (is_any captures)
 HasItsCaptures (Audit file from limits captures form demands) rows = AreCapturesGiven rows captures
 HasItsCaptures (Why file from limits captures demands) rows = AreCapturesGiven rows captures
+HasItsCaptures (Page file from limits captures demands) rows = AreCapturesGiven rows captures
 HasItsCaptures Sample rows = Unit {0}
 
 -- the number of rows that was given, and none where none was. `clap` takes no text that is none from 0 to 2^63 - 1; such a text
@@ -175,12 +182,13 @@ pub record AreDemandsGiven (rows : List Row) (demands : Demands) : Type 0 where
   pub expect : IsExpectGiven (first_of (codes "PAIRS") rows) demands.expect
   pub strict : IsFlagGiven (one_of (codes "strict") rows) demands.strict
 
--- it asks of its report what was given; only `audit` and `why` have one
+-- it asks of its report what was given; only `audit`, `why` and `page` have one
 abbrev pub HasItsDemands : Choice → List Row → Type 0
 HasItsDemands (Show file limits captures) rows = Unit {0}
 HasItsDemands (ListChoice file limits captures) rows = Unit {0}
 HasItsDemands (Audit file from limits captures form demands) rows = AreDemandsGiven rows demands
 HasItsDemands (Why file from limits captures demands) rows = AreDemandsGiven rows demands
+HasItsDemands (Page file from limits captures demands) rows = AreDemandsGiven rows demands
 HasItsDemands Sample rows = Unit {0}
 
 -- the limits are those that were given, each the usual one where it was not
@@ -194,6 +202,7 @@ HasItsLimits (Show file limits captures) rows = AreLimitsGiven rows limits
 HasItsLimits (ListChoice file limits captures) rows = AreLimitsGiven rows limits
 HasItsLimits (Audit file from limits captures form demands) rows = AreLimitsGiven rows limits
 HasItsLimits (Why file from limits captures demands) rows = AreLimitsGiven rows limits
+HasItsLimits (Page file from limits captures demands) rows = AreLimitsGiven rows limits
 HasItsLimits Sample rows = Unit {0}
 
 -- the choice has the name of the subcommand that was found, its FILE, its number, its flags, its limits, and what it asks
@@ -249,6 +258,9 @@ pub record WordsAreWanted : Type 0 where
   pub no_file_to_list : faults_of_words (codes "list" ∷ []) ≡ MissingRequiredArgument ∷ []
   pub no_file_to_audit : faults_of_words (codes "audit" ∷ []) ≡ MissingRequiredArgument ∷ []
   pub no_file_to_explain : faults_of_words (codes "why" ∷ []) ≡ MissingRequiredArgument ∷ []
+  pub no_file_to_page : faults_of_words (codes "page" ∷ []) ≡ MissingRequiredArgument ∷ []
+  pub page : faults_of_words (codes "page" ∷ codes "--any" ∷ codes "--from" ∷ codes "3" ∷ codes "--topic" ∷ codes "rt/*" ∷ codes "a.pcapng" ∷ []) ≡ []
+  pub json_of_page : faults_of_words (codes "page" ∷ codes "--json" ∷ codes "a.rec" ∷ []) ≡ UnknownArgument ∷ []
   pub help : faults_of_words (codes "--help" ∷ []) ≡ DisplayHelp ∷ []
   pub version : faults_of_words (codes "--version" ∷ []) ≡ DisplayVersion ∷ []
   pub whole : faults_of_words (codes "audit" ∷ codes "a.rec" ∷ []) ≡ []

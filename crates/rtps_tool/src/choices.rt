@@ -22,7 +22,8 @@ impl Choice {
             Choice::Show { file, .. }
             | Choice::List { file, .. }
             | Choice::Audit { file, .. }
-            | Choice::Why { file, .. } => Some(file.as_str()),
+            | Choice::Why { file, .. }
+            | Choice::Page { file, .. } => Some(file.as_str()),
             Choice::Sample => None,
         }
     }
@@ -73,6 +74,18 @@ impl Choice {
                 ..
             } => Some(Options {
                 command: Command::Why,
+                asked: demands.asked_from(*from),
+                limits: *limits,
+                captures: *captures,
+            }),
+            Choice::Page {
+                from,
+                limits,
+                captures,
+                demands,
+                ..
+            } => Some(Options {
+                command: Command::Page,
                 asked: demands.asked_from(*from),
                 limits: *limits,
                 captures: *captures,

@@ -58,6 +58,14 @@ pub enum Choice {
         captures: Captures,
         demands: Demands,
     },
+    /// Make a page of such an audit, to look at.
+    Page {
+        file: String,
+        from: SeqNum,
+        limits: Limits,
+        captures: Captures,
+        demands: Demands,
+    },
     /// Write a recording to try.
     Sample,
 }
@@ -151,6 +159,7 @@ const NEWCOMERS: &str = "A FILE is what was sent in a test: a capture, as tcpdum
   tcpdump -i eth0 -w test.pcap udp          records a test, until it is interrupted
   rtps-audit audit test.pcap                says whether each reader acknowledged all samples
   rtps-audit why test.pcap                  says which datagrams each of these verdicts rests on
+  rtps-audit page test.pcap > test.html     makes a page of them, to look at in a browser
   rtps-audit sample | rtps-audit audit -    tries this program
 
 Status: 0 all is well, also if there is no pair; 1 a pair is not complete; \
@@ -164,6 +173,8 @@ const AUDITS: &str =
     "Says for each reliable writer and reader that match whether the reader acknowledged all samples";
 
 const EXPLAINS: &str = "Prints the report of audit, with the datagrams that each row rests on";
+
+const PAGES: &str = "Writes the report of audit as a page to look at in a browser, with charts";
 
 const SAMPLES: &str = "Writes an example recording, which audit finds complete";
 
@@ -266,7 +277,9 @@ fn program<'a>(alloc: Global) -> Result<Command<'a>, AllocError>
     let three = two.subcommand(audit)?;
     let why = report_subcommand(alloc, "why", EXPLAINS)?;
     let four = three.subcommand(why)?;
-    four.subcommand(plain_subcommand(alloc, "sample", SAMPLES))
+    let page = report_subcommand(alloc, "page", PAGES)?;
+    let five = four.subcommand(page)?;
+    five.subcommand(plain_subcommand(alloc, "sample", SAMPLES))
 }
 
 /// The FILE of a subcommand; empty where it has none.
@@ -428,6 +441,19 @@ fn why_of(alloc: Global, why: &ArgMatches) -> Result<Choice, AllocError>
     })
 }
 
+/// What the matches of `page` choose.
+fn page_of(alloc: Global, page: &ArgMatches) -> Result<Choice, AllocError>
+    ensures { IfOk result (IsChoice (Some (codes "page", rows_of (found_of page.now)))) }
+{
+    Ok(Choice::Page {
+        file: file_of(alloc, page)?,
+        from: number_of(page),
+        limits: limits_of(page),
+        captures: report_captures_of(page),
+        demands: demands_of(alloc, page)?,
+    })
+}
+
 /// What the matches choose; None where they have no subcommand that can be chosen.
 fn choice_of(alloc: Global, matches: &ArgMatches) -> Result<Option<Choice>, AllocError>
     ensures { IfOk result (λ choice. MatchOption choice
@@ -445,6 +471,9 @@ fn choice_of(alloc: Global, matches: &ArgMatches) -> Result<Option<Choice>, Allo
     }
     if let Some(why) = matches.subcommand_matches("why") {
         return Ok(Some(why_of(alloc, why)?));
+    }
+    if let Some(page) = matches.subcommand_matches("page") {
+        return Ok(Some(page_of(alloc, page)?));
     }
     if matches.subcommand_matches("sample").is_some() {
         return Ok(Some(Choice::Sample));

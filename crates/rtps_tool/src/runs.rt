@@ -14,6 +14,7 @@ use crate::faults::RunFault;
 use crate::follow::Follow;
 use crate::streams::{read_input, write_text};
 use rtps_ids::{Memory, SeqNum};
+use rtps_page::page_text;
 use rtps_text::{
     Asked, Ending, Fragments, Recording, Unwatched, Watch, audit_text, json_text, list_text,
     sample_text, show_text, why_text,
@@ -56,6 +57,8 @@ pub enum Command {
     Json,
     /// Each verdict with what it rests on.
     Why,
+    /// The same as a page of HTML, with charts of what the pairs said.
+    Page,
 }
 
 /// What a run prints, and of what.
@@ -124,6 +127,7 @@ fn text_of<P: Watch>(
         Command::Audit => audit_text(alloc, recording, &options.asked, watch),
         Command::Json => json_text(alloc, recording, &options.asked, watch),
         Command::Why => why_text(alloc, recording, &options.asked, watch),
+        Command::Page => page_text(alloc, recording, &options.asked, watch),
     }
 }
 

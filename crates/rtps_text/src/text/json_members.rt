@@ -22,7 +22,7 @@ use rtps_wire::Payload;
 use std::alloc::AllocError;
 
 /// Appends a number that counts.
-pub(crate) fn push_count(writer: &mut Writer, name: &str, count: u64) -> Result<(), AllocError>
+pub fn push_count(writer: &mut Writer, name: &str, count: u64) -> Result<(), AllocError>
     ensures tokens { OnOk result (writer.new.tokens ≡ writer.old.tokens ++ key name.now ∷ number_token (decimal count) ∷ []) }
     ensures before { writer.new.before ≡ writer.old.before }
 {
@@ -41,7 +41,7 @@ pub(crate) fn push_total(writer: &mut Writer, name: &str, count: u128) -> Result
 }
 
 /// Appends a number.
-pub(crate) fn push_number(writer: &mut Writer, name: &str, number: i64) -> Result<(), AllocError>
+pub fn push_number(writer: &mut Writer, name: &str, number: i64) -> Result<(), AllocError>
     ensures tokens { OnOk result (writer.new.tokens ≡ writer.old.tokens ++ key name.now ∷ number_token (signed_decimal number) ∷ []) }
     ensures before { writer.new.before ≡ writer.old.before }
 {
@@ -50,7 +50,7 @@ pub(crate) fn push_number(writer: &mut Writer, name: &str, number: i64) -> Resul
 }
 
 /// Appends a text.
-pub(crate) fn push_text(writer: &mut Writer, name: &str, text: &str) -> Result<(), AllocError>
+pub fn push_text(writer: &mut Writer, name: &str, text: &str) -> Result<(), AllocError>
     ensures tokens { OnOk result (writer.new.tokens ≡ writer.old.tokens ++ key name.now ∷ string_token text.now ∷ []) }
     ensures before { writer.new.before ≡ writer.old.before }
 {
@@ -59,7 +59,7 @@ pub(crate) fn push_text(writer: &mut Writer, name: &str, text: &str) -> Result<(
 }
 
 /// Appends a GUID, which is written to `text` first.
-pub(crate) fn push_guid(
+pub fn push_guid(
     writer: &mut Writer,
     text: &mut String,
     name: &str,
@@ -74,7 +74,7 @@ pub(crate) fn push_guid(
 }
 
 /// Appends a topic or a type, which is written to `text` first.
-pub(crate) fn push_name(
+pub fn push_name(
     writer: &mut Writer,
     text: &mut String,
     name: &str,

@@ -56,8 +56,8 @@ fn line_of(
     Ok(text)
 }
 
-/// Appends the object of a report.
-fn push_report(
+/// Appends the object of a report. After an `Err` what was written is of no use.
+pub fn push_report(
     alloc: Global,
     writer: &mut Writer,
     explained: &Explained<'_>,

@@ -108,7 +108,7 @@ impl fmt::Display for NameText<'_> {
 
 /// A name as it stands between the quotes.
 #[derive(Drop)]
-pub(crate) struct NameOctets<'a>(pub(crate) &'a [u8]);
+pub struct NameOctets<'a>(pub &'a [u8]);
 
 impl fmt::Display for NameOctets<'_> {
     ghost output = { λ name. Some (flat_map octet_text name.0.now) };
@@ -148,7 +148,7 @@ impl fmt::Display for OctetText {
 
 /// What the line of an endpoint calls its side.
 #[tactic(auto, unfolding(crate::specs::ListText::side_text))]
-fn side_name(side: Side) -> &'static str
+pub fn side_name(side: Side) -> &'static str
     ensures { result.now ≡ side_text side }
 {
     match side {
@@ -158,7 +158,7 @@ fn side_name(side: Side) -> &'static str
 }
 
 #[tactic(auto, unfolding(crate::specs::ListText::reliability_text))]
-fn reliability_name(reliability: Reliability) -> &'static str
+pub fn reliability_name(reliability: Reliability) -> &'static str
     ensures { result.now ≡ reliability_text reliability }
 {
     match reliability {
@@ -168,7 +168,7 @@ fn reliability_name(reliability: Reliability) -> &'static str
 }
 
 #[tactic(auto, unfolding(crate::specs::ListText::durability_text))]
-fn durability_name(durability: Durability) -> &'static str
+pub fn durability_name(durability: Durability) -> &'static str
     ensures { result.now ≡ durability_text durability }
 {
     match durability {

@@ -5,6 +5,7 @@ ghost use Rattle.std.specs.String.{string_bytes};
 ghost use Rattle.rtps_evidence.specs.Locations.{sent_value};
 ghost use Rattle.rtps_evidence.specs.Explanation.{evidence_value, explanation_value};
 ghost use Rattle.rtps_text.specs.Asked.{asked_value};
+ghost use Rattle.rtps_text.specs.Findings.{ending_as};
 ghost use Rattle.rtps_text.specs.AuditText.{is_complete as completes};
 ghost use Rattle.rtps_text.specs.WhyText.{IsExplainedTextAs, explained_text, facts_of_rows, missed_in, explanation_text, missed_lines, received_line, rest_lines, sent_line, shown_by};
 
@@ -156,6 +157,14 @@ fn push_sent(text: &mut String, number: i64, sent: Option<Sent<'_>>) -> Result<(
     push_field(text, "  number ", number)?;
     push_payload(text, sent.payload)?;
     writeln!(text, " {}", PlaceText(sent.place))
+}
+
+/// How a run ends that printed this report, by what was asked.
+pub fn ending_asked(asked: &Asked<'_>, explained: &Explained<'_>, recording: &Recording) -> Ending
+    ensures { result ≡ ending_as (asked_value asked.now)
+        (facts_of_rows (map explanation_value explained.now.rows.items) explained.now.counts recording.now) }
+{
+    ending_of(asked, &facts_of(explained, recording))
 }
 
 /// What is known of a report whose rows are explained, to hold it against what was asked.

@@ -14,4 +14,6 @@ returns c =
     let two_is = c.in_ok-two.ensures.shape c.in_ok-list.ensures.local ∙ ap₂ with_subcommand one_is list_is in
     let three_is = c.in_ok-three.ensures.shape c.in_ok-audit.ensures.local ∙ ap₂ with_subcommand two_is audit_is in
     let four_is = c.in_ok-four.ensures.shape c.in_ok-why.ensures.local ∙ ap₂ with_subcommand three_is why_is in
-    IfOk-weaker c.subcommand-5.result _ _ (λ command added. added.shape c.plain_subcommand.ensures.local ∙ ap₂ with_subcommand four_is sample_is) c.subcommand-5.ensures
+    let page_is = ap (λ (a : App). a.top) c.in_ok-page.ensures.app in
+    let five_is = c.in_ok-five.ensures.shape c.in_ok-page.ensures.local ∙ ap₂ with_subcommand four_is page_is in
+    IfOk-weaker c.subcommand-6.result _ _ (λ command added. added.shape c.plain_subcommand.ensures.local ∙ ap₂ with_subcommand five_is sample_is) c.subcommand-6.ensures

@@ -8,3 +8,6 @@ returns-in-Why g c = rw c.in-Why.is c.why_text.ensures
 
 pub returns-in-Json : goal.returns-in-Json
 returns-in-Json g c = rw c.in-Json.is c.json_text.ensures
+
+pub returns-in-Page : goal.returns-in-Page
+returns-in-Page g c = rw c.in-Page.is c.page_text.ensures

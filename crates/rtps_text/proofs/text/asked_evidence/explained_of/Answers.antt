@@ -1,34 +1,13 @@
-use Rattle.std.proofs.Common.{◌≡◌, ◌∙◌, ℕ, Bor, List, ap, filter, map, refl, subst, sym}
-use Rattle.rtps_receiver.specs.Acts.{acts_in}
+use Rattle.std.proofs.Common.{◌≡◌, ◌∙◌, ℕ, Bor, List, ap, map, subst, sym}
 use Rattle.rtps_evidence.specs.Explanation.{IsExplainedFrom}
-use Rattle.rtps_evidence.specs.declared.explanation.Explanation.{Explanation}
-use Rattle.rtps_rows.specs.Filter.{IsFilterOf}
-use Rattle.rtps_rows.specs.Rows.{is_kept, rows_value}
 use Rattle.rtps_text.specs.Asked.{asked_value}
-use Rattle.rtps_text.proofs.AskedLemmas.{all_explained}
+use Rattle.rtps_text.specs.WhyText.{IsExplainedAs}
 use Rattle.rtps_text.proofs.text.asked_evidence.explained_of.Goals as goal
-
-pub returns-then-asks_all_rows : goal.returns-then-asks_all_rows
-returns-then-asks_all_rows g c =
-    let view : Bor (List ℕ) → List ℕ = λ datagram. datagram.now in
-    let datagrams = c.args.recording.now.datagrams in
-    record {
-      whole = c.in_ok-explained.explained;
-      explains = subst (λ all. IsExplainedFrom c.args.asked.now.from all c.in_ok-explained.explained) (ap (map view) c.deref.ensures.value ∙ c.in_ok-datagrams.ensures) c.in_ok-explained.ensures;
-      rows = sym (all_explained (asked_value c.args.asked.now) (acts_in datagrams) (sym c.asks_all_rows.ensures ∙ c.if-asks_all_rows.true) c.in_ok-explained.explained.rows.items);
-      counts = refl;
-    }
 
 pub returns : goal.returns
 returns g c =
     let view : Bor (List ℕ) → List ℕ = λ datagram. datagram.now in
-    let datagrams = c.args.recording.now.datagrams in
-    let rows = rows_value c.args.asked.now.rows in
-    let wanted = subst (λ all. IsFilterOf rows (acts_in all) c.in_ok-wanted.wanted) (ap (map view) c.deref-2.ensures.value ∙ c.in_ok-datagrams.ensures) c.in_ok-wanted.ensures in
-    record {
-      whole = c.in_ok-explained.explained;
-      explains = subst (λ all. IsExplainedFrom c.args.asked.now.from all c.in_ok-explained.explained) (ap (map view) c.deref.ensures.value ∙ c.in_ok-datagrams.ensures) c.in_ok-explained.ensures;
-      rows = c.in_ok-rows.ensures rows (acts_in datagrams) wanted
-          ∙ ap (filter (λ (row : Explanation). is_kept rows (acts_in datagrams) row.topic.now row.pair)) c.deref-3.ensures.value;
-      counts = refl;
-    }
+    let first = ap (map view) c.deref.ensures.value in
+    let second = ap (map view) c.deref-2.ensures.value in
+    let explained = subst (λ all. IsExplainedFrom c.args.asked.now.from all c.in_ok-explained.explained) (first ∙ sym second) c.in_ok-explained.ensures in
+    subst (λ all. IsExplainedAs (asked_value c.args.asked.now) all c.in_ok-kept.kept) (second ∙ c.in_ok-datagrams.ensures) (c.in_ok-kept.ensures explained)

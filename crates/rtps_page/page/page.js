@@ -1,0 +1,37 @@
+'use strict';
+// Shows the report, and goes where the address says.
+
+function start() {
+  const report = new Report(valueOf(document.getElementById('data').textContent));
+  showOverview(report);
+  const pairs = new Pairs(report);
+  showParticipants(report);
+  document.getElementById('page').hidden = false;
+  const go = () => goToAddress(pairs);
+  window.addEventListener('hashchange', go);
+  go();
+  listenForColours();
+}
+
+function goToAddress(pairs) {
+  const [, at] = /^#pair-(\d+)$/.exec(location.hash) || [];
+  if (at !== undefined) pairs.goTo(Number(at) - 1);
+}
+
+// A chart has the colours of the moment in which it is drawn; on paper the light ones.
+function listenForColours() {
+  matchMedia('(prefers-color-scheme: dark)').addEventListener('change', redrawChart);
+  const onPaper = (isOnPaper) => () => {
+    document.documentElement.classList.toggle('paper', isOnPaper);
+    redrawChart();
+  };
+  window.addEventListener('beforeprint', onPaper(true));
+  window.addEventListener('afterprint', onPaper(false));
+}
+
+try {
+  start();
+} catch (error) {
+  document.body.append(make('p', null, `This report cannot be shown here: ${error}`));
+  throw error;
+}

@@ -1,0 +1,129 @@
+-- The tokens of what the data of a page is made of, and how deep it nests.
+use Rattle.std.proofs.Common.{◌≡◌, ◌≤◌, ◌++◌, ◌∷◌, [], ◌∙◌, ℕ, ℤ, List, Bool, true, false, ap, append_assoc, arith, codes, filter, map, pos, refl, sym, Option, None, Some, ◌-◌, ◌==◌, length, nat_lt, if◌then◌else◌, is_some}
+use Rattle.std.proofs.lemmas.List.Folds.{flat_map-map}
+use Rattle.std.specs.List.{flat_map}
+use Rattle.json.specs.Json.{Json, max_depth, string}
+use Rattle.json.specs.Token.{begin_array, begin_object, end_array, end_object}
+use Rattle.json.specs.Tree.{depth, items_depth, items_tokens, json_tokens, members_depth}
+use Rattle.rtps_ids.specs.declared.identity.Guid.{Guid}
+use Rattle.rtps_receiver.specs.Values.{ActBodyValue}
+use Rattle.rtps_receiver.specs.Values.ActBodyValue.{Data, Heartbeat, AckNack, Gap}
+use Rattle.rtps_discovery.specs.Directory.{DirectoryValue, settled_in}
+use Rattle.rtps_discovery.specs.declared.matching.Pair.{Pair}
+use Rattle.rtps_receiver.specs.Speech.{is_spoken_by}
+use Rattle.rtps_audit.specs.Placed.{PlacedValue, answers_among, placed_in}
+use Rattle.rtps_audit.specs.declared.report.Counts.{Counts}
+use Rattle.rtps_evidence.specs.Explanation.{ExplanationValue}
+use Rattle.rtps_evidence.specs.declared.location.Location.{Location}
+use Rattle.rtps_text.specs.Asked.{AskedValue}
+use Rattle.rtps_text.specs.JsonText.{Member, array_of, items_of, members_of, number_json, object_of, tokens_of}
+use Rattle.rtps_text.specs.Recording.{RecordingValue}
+use Rattle.rtps_text.proofs.Offered.{joined, report_depth, whole}
+use Rattle.rtps_page.specs.ChartEntries.{base_json, entries_at, entries_by, entries_of, entry_json, gone_json, members_of as numbers_of, named_json, one_gone_json}
+use Rattle.rtps_page.specs.ChartRoom.{charted_pairs, writers_behind}
+use Rattle.rtps_page.specs.PageData.{answers_json, chart_members, directory_members, endpoint_json, expect_json, guid_json, option_members, page_json, report_members, writer_json}
+
+-- ---- tokens
+
+list_tokens : (values : List Json) → items_tokens (items_of values) ≡ flat_map json_tokens values ++ end_array ∷ []
+list_tokens [] = refl
+list_tokens (value ∷ values) = ap (λ l. json_tokens value ++ l) (list_tokens values) ∙ sym (append_assoc (json_tokens value) (flat_map json_tokens values) (end_array ∷ []))
+
+-- an array
+pub array_tokens : (values : List Json) → json_tokens (array_of values) ≡ begin_array ∷ (flat_map json_tokens values ++ end_array ∷ [])
+array_tokens values = ap (λ l. begin_array ∷ l) (list_tokens values)
+
+-- an array of values that are made alike
+pub mapped_tokens : {X : Type 0} (f : X → Json) (xs : List X) → json_tokens (array_of (map f xs)) ≡ begin_array ∷ (flat_map (λ x. json_tokens (f x)) xs ++ end_array ∷ [])
+mapped_tokens f xs = array_tokens (map f xs) ∙ ap (λ l. begin_array ∷ (l ++ end_array ∷ [])) (flat_map-map json_tokens f xs)
+
+-- an object
+pub object_tokens : (members : List Member) → json_tokens (object_of members) ≡ begin_object ∷ (tokens_of members ++ end_object ∷ [])
+object_tokens members = ap (λ l. begin_object ∷ l) (whole members)
+
+-- ---- depth
+
+both_within : (most : ℕ) (xs ys : List Json) → items_depth (items_of xs) ≤ most → items_depth (items_of ys) ≤ most → items_depth (items_of (xs ++ ys)) ≤ most
+both_within most [] ys h k = k
+both_within most (x ∷ xs) ys h k = let rest = both_within most xs ys (omega (arith, h)) k in omega (arith, h, rest)
+
+mapped_within : {X : Type 0} (most : ℕ) (f : X → Json) → ((x : X) → depth (f x) ≤ most) → (xs : List X) → items_depth (items_of (map f xs)) ≤ most
+mapped_within most f each [] = omega arith
+mapped_within most f each (x ∷ xs) = omega (arith, each x, mapped_within most f each xs)
+
+flat_within : {X : Type 0} (most : ℕ) (f : X → List Json) → ((x : X) → items_depth (items_of (f x)) ≤ most) → (xs : List X) → items_depth (items_of (flat_map f xs)) ≤ most
+flat_within most f each [] = omega arith
+flat_within most f each (x ∷ xs) = both_within most (f x) (flat_map f xs) (each x) (flat_within most f each xs)
+
+named_within : (named : List ℕ) → items_depth (items_of (named_json named)) ≤ 0
+named_within named = go (length named == 0)
+  where
+    go : (b : Bool) → items_depth (items_of (if b then [] else string named ∷ [])) ≤ 0
+    go true = omega arith
+    go false = omega arith
+
+entry_within : (place : Location) (named kind : List ℕ) (numbers : List ℤ) → depth (entry_json place named kind numbers) ≤ 1
+entry_within place named kind numbers =
+    let last = both_within 0 (map number_json numbers) (named_json named) (mapped_within 0 number_json (λ n. omega arith) numbers) (named_within named) in
+    omega (arith, last)
+
+gone_within : (place : Location) (named : List ℕ) (from past : ℕ) → items_depth (items_of (gone_json place named from past)) ≤ 1
+gone_within place named from past = go (nat_lt from past)
+  where
+    go : (b : Bool) → items_depth (items_of (if b then entry_json place named (codes "gone") (pos from ∷ pos (past - 1) ∷ []) ∷ [] else [])) ≤ 1
+    go true = omega (arith, entry_within place named (codes "gone") (pos from ∷ pos (past - 1) ∷ []))
+    go false = omega arith
+
+entries_within : (place : Location) (named : List ℕ) (body : ActBodyValue) → items_depth (items_of (entries_at place named body)) ≤ 1
+entries_within place named (Data value) = omega (arith, entry_within place named (codes "data") (pos value.number ∷ []))
+entries_within place named (Heartbeat value) =
+    both_within 1 (gone_json place named 1 value.first) (entry_json place named (codes "announced") (value.last ∷ []) ∷ []) (gone_within place named 1 value.first)
+    (omega (arith, entry_within place named (codes "announced") (value.last ∷ [])))
+entries_within place named (Gap value) =
+    both_within 1 (gone_json place named value.start value.list.base) (map (one_gone_json place named) (numbers_of value.list)) (gone_within place named value.start value.list.base)
+    (mapped_within 1 (one_gone_json place named) (λ n. entry_within place named (codes "gone") (pos n ∷ pos n ∷ [])) (numbers_of value.list))
+entries_within place named (AckNack value) = omega arith
+
+writer_within : (acts : List PlacedValue) (writer : Guid) → depth (writer_json acts writer) ≤ 3
+writer_within acts writer =
+    let entries = flat_within 1 entries_of (λ placed. entries_within _ _ placed.act.body) (filter (λ placed. is_spoken_by placed.act writer) acts) in
+    omega (arith, entries)
+
+answers_within : (acts : List PlacedValue) (pair : Pair) → depth (answers_json acts pair) ≤ 3
+answers_within acts pair =
+    let bases = mapped_within 1 base_json (λ answer. omega arith) (answers_among pair acts) in
+    omega (arith, bases)
+
+expect_within : (expect : Option ℕ) → depth (expect_json expect) ≤ 0
+expect_within None = omega arith
+expect_within (Some rows) = omega arith
+
+options_within : (asked : AskedValue) (any : Bool) → depth (object_of (option_members asked any)) ≤ 2
+options_within asked any =
+    let topics = mapped_within 0 string (λ topic. omega arith) asked.rows.topics in
+    omega (arith, topics, expect_within asked.expect)
+
+report_part : (asked : AskedValue) (rows : List ExplanationValue) (counts : Counts) (recording : RecordingValue)
+    → members_depth (members_of (report_members asked rows counts recording)) ≤ 5
+report_part asked rows counts recording = omega (arith, options_within asked (is_some recording.reasons), report_depth rows counts recording)
+
+directory_part : (directory : DirectoryValue) → members_depth (members_of (directory_members directory)) ≤ 5
+directory_part directory =
+    let participants = mapped_within 0 guid_json (λ guid. omega arith) directory.participants in
+    let endpoints = mapped_within 1 endpoint_json (λ endpoint. omega arith) (settled_in directory.endpoints) in
+    omega (arith, participants, endpoints)
+
+chart_part : (acts : List PlacedValue) (pairs : List Pair) → members_depth (members_of (chart_members acts pairs)) ≤ 5
+chart_part acts pairs =
+    let writers = mapped_within 3 (writer_json acts) (writer_within acts) (writers_behind None pairs) in
+    let answers = mapped_within 3 (answers_json acts) (answers_within acts) pairs in
+    omega (arith, writers, answers)
+
+pub page_within : (asked : AskedValue) (rows : List ExplanationValue) (counts : Counts) (recording : RecordingValue) (directory : DirectoryValue)
+    → depth (page_json asked rows counts recording directory) ≤ max_depth
+page_within asked rows counts recording directory =
+    let acts = placed_in recording.datagrams in
+    let pairs = charted_pairs acts rows in
+    let late = joined 5 (directory_members directory) (chart_members acts pairs) (directory_part directory) (chart_part acts pairs) in
+    let all = joined 5 (report_members asked rows counts recording) (directory_members directory ++ chart_members acts pairs) (report_part asked rows counts recording) late in
+    omega (arith, all)

@@ -1,0 +1,74 @@
+ghost use Rattle.std.specs.Prelude.{ℕ, ◌≡◌, ◌++◌, List, OnOk};
+ghost use Rattle.std.specs.List.{flat_map};
+ghost use Rattle.json.specs.Tree.{json_tokens};
+ghost use Rattle.rtps_audit.specs.Index.{IsIndexOf};
+ghost use Rattle.rtps_audit.specs.Placed.{placed_in};
+ghost use Rattle.rtps_page.specs.ChartEntries.{base_json};
+ghost use Rattle.rtps_page.specs.PageData.{answers_json};
+
+use json::Writer;
+use rtps_audit::{Answer, Index};
+use rtps_discovery::Pair;
+use rtps_text::push_guid;
+use std::alloc::AllocError;
+
+/// Appends an answer.
+fn push_base(writer: &mut Writer, answer: Answer) -> Result<(), AllocError>
+    ensures tokens { OnOk result (writer.new.tokens ≡ writer.old.tokens ++ json_tokens (base_json answer)) }
+    ensures before { writer.new.before ≡ writer.old.before }
+{
+    writer.begin_array()?;
+    writer.u64(answer.datagram as u64)?;
+    writer.u64(answer.at as u64)?;
+    writer.i64(answer.base)?;
+    writer.end_array()
+}
+
+/// Appends answers.
+fn push_bases(writer: &mut Writer, answers: &[Answer]) -> Result<(), AllocError>
+    ensures tokens { OnOk result (writer.new.tokens ≡ writer.old.tokens ++ flat_map (λ answer. json_tokens (base_json answer)) answers.now) }
+    ensures before { writer.new.before ≡ writer.old.before }
+{
+    for answer in answers {
+        push_base(writer, *answer)?;
+    }
+    Ok(())
+}
+
+/// Appends the object of a pair's answers.
+fn push_answers(
+    writer: &mut Writer,
+    text: &mut String,
+    index: &Index<'_>,
+    pair: Pair,
+) -> Result<(), AllocError>
+    ensures tokens { (recording : List (List ℕ)) → IsIndexOf recording index.now
+        → OnOk result (writer.new.tokens ≡ writer.old.tokens ++ json_tokens (answers_json (placed_in recording) pair)) }
+    ensures before { writer.new.before ≡ writer.old.before }
+{
+    writer.begin_object()?;
+    push_guid(writer, text, "writer", pair.writer)?;
+    push_guid(writer, text, "reader", pair.reader)?;
+    writer.key("bases")?;
+    writer.begin_array()?;
+    push_bases(writer, index.answers_of(pair))?;
+    writer.end_array()?;
+    writer.end_object()
+}
+
+/// Appends the objects of the answers of pairs.
+pub(crate) fn push_all_answers(
+    writer: &mut Writer,
+    text: &mut String,
+    index: &Index<'_>,
+    pairs: &[Pair],
+) -> Result<(), AllocError>
+    ensures tokens { (recording : List (List ℕ)) → IsIndexOf recording index.now
+        → OnOk result (writer.new.tokens ≡ writer.old.tokens ++ flat_map (λ pair. json_tokens (answers_json (placed_in recording) pair)) pairs.now) }
+    ensures before { writer.new.before ≡ writer.old.before }
+{
+    for pair in pairs {
+        push_answers(writer, text, index, *pair)?;
+    }
+    Ok(())
+}

@@ -1,0 +1,205 @@
+ghost use Rattle.std.specs.Prelude.{◌≡◌, ◌<◌, ◌^◌, ◌++◌, ◌∷◌, [], codes, OnOk};
+ghost use Rattle.std.specs.List.{flat_map};
+ghost use Rattle.std.specs.String.{string_bytes};
+ghost use Rattle.json.specs.Tree.{json_tokens};
+ghost use Rattle.rtps_receiver.specs.Values.{act_body_value};
+ghost use Rattle.rtps_audit.specs.Placed.{placed_value};
+ghost use Rattle.rtps_page.specs.ChartEntries.{audience_text, entries_of, entry_json, entries_at, gone_json, members_of, named_json, one_gone_json};
+ghost use Rattle.rtps_text.specs.JsonText.{number_json};
+
+use crate::entry_counts::has_number;
+use json::Writer;
+use rtps_audit::Placed;
+use rtps_evidence::Location;
+use rtps_ids::{EntityId, NumberSet};
+use rtps_receiver::{ActBody, Audience};
+use rtps_wire::HeartbeatBody;
+use std::alloc::AllocError;
+
+/// The entity id that names every reader.
+const EVERY_READER: EntityId = EntityId([0; 4]);
+
+/// Where an act stands, and whom it names.
+#[derive(Clone, Copy)]
+pub(crate) struct EntryHead<'a> {
+    pub(crate) place: Location,
+    pub(crate) named: &'a str,
+}
+
+/// Appends whom an act names.
+#[tactic(auto, unfolding(crate::specs::ChartEntries::audience_text))]
+pub(crate) fn push_audience(text: &mut String, audience: Option<Audience>) -> Result<(), AllocError>
+    ensures { OnOk result (string_bytes text.new ≡ string_bytes text.old ++ audience_text audience) }
+{
+    let Some(audience) = audience else {
+        return Ok(());
+    };
+    if let Some(prefix) = audience.dest {
+        write!(text, "{prefix}")?;
+    }
+    if audience.reader == EVERY_READER {
+        return Ok(());
+    }
+    write!(text, ".{}", audience.reader)
+}
+
+/// Appends numbers.
+fn push_numbers(writer: &mut Writer, numbers: &[i64]) -> Result<(), AllocError>
+    ensures tokens { OnOk result (writer.new.tokens ≡ writer.old.tokens ++ flat_map (λ number. json_tokens (number_json number)) numbers.now) }
+    ensures before { writer.new.before ≡ writer.old.before }
+{
+    for number in numbers {
+        writer.i64(*number)?;
+    }
+    Ok(())
+}
+
+/// Appends whom an act names, where it names someone.
+fn push_named(writer: &mut Writer, named: &str) -> Result<(), AllocError>
+    ensures tokens { OnOk result (writer.new.tokens ≡ writer.old.tokens ++ flat_map json_tokens (named_json named.now)) }
+    ensures before { writer.new.before ≡ writer.old.before }
+{
+    if named.is_empty() {
+        return Ok(());
+    }
+    writer.string(named)
+}
+
+/// Appends an entry of this kind.
+fn push_entry(
+    writer: &mut Writer,
+    head: EntryHead<'_>,
+    kind: &str,
+    numbers: &[i64],
+) -> Result<(), AllocError>
+    ensures tokens { OnOk result (writer.new.tokens
+        ≡ writer.old.tokens ++ json_tokens (entry_json head.entry.place head.entry.named.now kind.now numbers.now)) }
+    ensures before { writer.new.before ≡ writer.old.before }
+{
+    writer.begin_array()?;
+    writer.u64(head.place.datagram)?;
+    writer.u64(head.place.at as u64)?;
+    writer.string(kind)?;
+    push_numbers(writer, numbers)?;
+    push_named(writer, head.named)?;
+    writer.end_array()
+}
+
+/// Appends an entry of one number.
+fn push_one(
+    writer: &mut Writer,
+    head: EntryHead<'_>,
+    kind: &str,
+    number: i64,
+) -> Result<(), AllocError>
+    ensures tokens { OnOk result (writer.new.tokens
+        ≡ writer.old.tokens ++ json_tokens (entry_json head.entry.place head.entry.named.now kind.now (number ∷ []))) }
+    ensures before { writer.new.before ≡ writer.old.before }
+{
+    push_entry(writer, head, kind, &[number])
+}
+
+/// Appends the entry of the last number of a HEARTBEAT.
+fn push_last(
+    writer: &mut Writer,
+    head: EntryHead<'_>,
+    heartbeat: &HeartbeatBody,
+) -> Result<(), AllocError>
+    ensures tokens { OnOk result (writer.new.tokens
+        ≡ writer.old.tokens ++ json_tokens (entry_json head.entry.place head.entry.named.now (codes "announced") (heartbeat.now.last ∷ []))) }
+    ensures before { writer.new.before ≡ writer.old.before }
+{
+    push_one(writer, head, "announced", heartbeat.last)
+}
+
+/// Appends the entry that the numbers from one on and below another are gone; nothing where there are none.
+fn push_gone(
+    writer: &mut Writer,
+    head: EntryHead<'_>,
+    from: u64,
+    past: u64,
+) -> Result<(), AllocError>
+    requires { past < 2 ^ 63 }
+    ensures tokens { OnOk result (writer.new.tokens
+        ≡ writer.old.tokens ++ flat_map json_tokens (gone_json head.entry.place head.entry.named.now from past)) }
+    ensures before { writer.new.before ≡ writer.old.before }
+{
+    if from >= past {
+        return Ok(());
+    }
+    push_entry(
+        writer,
+        head,
+        "gone",
+        &[from.cast_signed(), (past - 1).cast_signed()],
+    )
+}
+
+/// Appends the entry that one number is gone.
+fn push_one_gone(writer: &mut Writer, head: EntryHead<'_>, number: u64) -> Result<(), AllocError>
+    requires { number < 2 ^ 63 }
+    ensures tokens { OnOk result (writer.new.tokens
+        ≡ writer.old.tokens ++ json_tokens (one_gone_json head.entry.place head.entry.named.now number)) }
+    ensures before { writer.new.before ≡ writer.old.before }
+{
+    let number = number.cast_signed();
+    push_entry(writer, head, "gone", &[number, number])
+}
+
+/// Appends an entry for each number of a set: that it is gone.
+fn push_members(writer: &mut Writer, head: EntryHead<'_>, set: &NumberSet) -> Result<(), AllocError>
+    ensures tokens { OnOk result (writer.new.tokens ≡ writer.old.tokens
+        ++ flat_map (λ number. json_tokens (one_gone_json head.entry.place head.entry.named.now number)) (members_of set.now)) }
+    ensures before { writer.new.before ≡ writer.old.before }
+{
+    let base = set.base().cast_unsigned();
+    for bit in 0..set.count() {
+        let number = base + u64::from(bit);
+        if has_number(set, number) {
+            push_one_gone(writer, head, number)?;
+        }
+    }
+    Ok(())
+}
+
+/// Appends the entries of an act of a writer. Whom it names is written to `text` first.
+pub(crate) fn push_entries(
+    writer: &mut Writer,
+    text: &mut String,
+    placed: &Placed<'_>,
+) -> Result<(), AllocError>
+    ensures tokens { OnOk result (writer.new.tokens ≡ writer.old.tokens ++ flat_map json_tokens (entries_of (placed_value placed.now))) }
+    ensures before { writer.new.before ≡ writer.old.before }
+{
+    text.clear();
+    push_audience(text, placed.act.audience())?;
+    let head = EntryHead {
+        place: Location {
+            datagram: placed.datagram as u64,
+            at: placed.act.at,
+        },
+        named: text,
+    };
+    push_said(writer, head, &placed.act.body)
+}
+
+/// Appends the entries of what an act says.
+fn push_said(writer: &mut Writer, head: EntryHead<'_>, body: &ActBody<'_>) -> Result<(), AllocError>
+    ensures tokens { OnOk result (writer.new.tokens
+        ≡ writer.old.tokens ++ flat_map json_tokens (entries_at head.entry.place head.entry.named.now (act_body_value body.now))) }
+    ensures before { writer.new.before ≡ writer.old.before }
+{
+    match body {
+        ActBody::Data(data) => push_one(writer, head, "data", data.number.get()),
+        ActBody::Heartbeat(heartbeat) => {
+            push_gone(writer, head, 1, heartbeat.first.get().cast_unsigned())?;
+            push_last(writer, head, heartbeat)
+        }
+        ActBody::Gap(gap) => {
+            let start = gap.start.get().cast_unsigned();
+            push_gone(writer, head, start, gap.list.base().cast_unsigned())?;
+            push_members(writer, head, &gap.list)
+        }
+        ActBody::AckNack(_) => Ok(()),
+    }
+}

@@ -1,0 +1,190 @@
+ghost use Rattle.std.specs.Prelude.{ℕ, ◌≡◌, filter, length, map, IfOk, IfSome, List};
+ghost use Rattle.rtps_evidence.specs.Explanation.{explanation_value};
+ghost use Rattle.rtps_audit.specs.Index.{IsIndexOf};
+ghost use Rattle.rtps_audit.specs.Placed.{placed_in};
+ghost use Rattle.rtps_page.specs.ChartEntries.{entries_by};
+ghost use Rattle.rtps_page.specs.ChartRoom.{charted_pairs, given_from, is_last as is_last_lem, need_behind as need_behind_lem, need_of, room_behind as room_behind_lem, used_behind as used_behind_lem};
+
+use crate::entry_counts::entries_of_writer;
+use crate::turn::{Turn, is_turn};
+use rtps_audit::Index;
+use rtps_discovery::Pair;
+use rtps_evidence::Explanation;
+use rtps_ids::Guid;
+use rtps_text::is_complete;
+use std::alloc::{AllocError, Global};
+
+/// How many entries a page has room for.
+const ENTRIES: u128 = 200_000;
+
+/// What a row takes of the room.
+#[derive(Clone, Copy, Debug)]
+pub(crate) struct Need {
+    pub(crate) pair: Pair,
+    /// Whether its verdict is that it is complete.
+    pub(crate) complete: bool,
+    /// How many entries its writer has.
+    pub(crate) acts: u128,
+    /// How many answers its reader has.
+    pub(crate) bases: u64,
+    /// Whether it is given room.
+    pub(crate) charted: bool,
+}
+
+/// How much room is used, and the writer of the row that was given room last.
+#[derive(Clone, Copy, Debug)]
+pub(crate) struct Room {
+    pub(crate) used: u128,
+    pub(crate) last: Option<Guid>,
+}
+
+/// How many entries a writer has.
+#[derive(Clone, Copy)]
+struct Known {
+    writer: Guid,
+    entries: u128,
+}
+
+/// How many entries a writer has, where they may be known from the row before.
+fn entries_known(index: &Index<'_>, before: Option<Known>, writer: Guid) -> Known
+    ensures writer { result.writer ≡ writer }
+    ensures entries { (recording : List (List ℕ)) → IsIndexOf recording index.now
+        → IfSome before (λ known. known.entries ≡ length (entries_by known.writer (placed_in recording)))
+        → result.entries ≡ length (entries_by writer (placed_in recording)) }
+{
+    if let Some(known) = before {
+        if known.writer == writer {
+            return known;
+        }
+    }
+    Known {
+        writer,
+        entries: entries_of_writer(index.acts_of(writer), writer),
+    }
+}
+
+/// What each row takes.
+fn needs_of(
+    alloc: Global,
+    index: &Index<'_>,
+    rows: &[Explanation<'_>],
+) -> Result<Vec<Need>, AllocError>
+    ensures { (recording : List (List ℕ)) → IsIndexOf recording index.now
+        → IfOk result (λ needs. needs.items ≡ map (λ row. need_of (placed_in recording) (explanation_value row)) rows.now) }
+{
+    let mut needs = Vec::with_capacity(alloc, rows.len())?;
+    let mut before = None;
+    for row in rows {
+        let known = entries_known(index, before, row.pair.writer);
+        before = Some(known);
+        needs.push(Need {
+            pair: row.pair,
+            complete: is_complete(&row.evidence.verdict),
+            acts: known.entries,
+            bases: index.answers_of(row.pair).len() as u64,
+            charted: false,
+        })?;
+    }
+    Ok(needs)
+}
+
+/// Whether the writer is the last one.
+pub(crate) fn is_last(last: Option<Guid>, writer: Guid) -> bool
+    ensures { result ≡ is_last_lem last writer }
+{
+    match last {
+        Some(last) => last == writer,
+        None => false,
+    }
+}
+
+/// How much room is used behind a row; None where there is not so much.
+fn used_behind(room: Room, need: &Need) -> Option<u128>
+    ensures { result ≡ used_behind_lem room need.now }
+{
+    let acts = if is_last(room.last, need.pair.writer) {
+        0
+    } else {
+        need.acts
+    };
+    let bases = u128::from(need.bases);
+    let left = ENTRIES.saturating_sub(room.used);
+    if room.used > ENTRIES || bases > left || acts > left - bases {
+        return None;
+    }
+    Some(room.used + (bases + acts))
+}
+
+/// Gives a row room, if it is its turn and there is room for it.
+fn give_one(turn: Turn, room: Room, need: &Need) -> (Room, Need)
+    ensures room { result.0 ≡ room_behind_lem turn room need.now }
+    ensures need { result.1 ≡ need_behind_lem turn room need.now }
+{
+    if !is_turn(turn, need.complete) {
+        return (room, *need);
+    }
+    let Some(used) = used_behind(room, need) else {
+        return (room, *need);
+    };
+    let room = Room {
+        used,
+        last: Some(need.pair.writer),
+    };
+    let need = Need {
+        charted: true,
+        ..*need
+    };
+    (room, need)
+}
+
+/// Gives room to the rows whose turn it is, from this room on.
+fn give_all(
+    alloc: Global,
+    turn: Turn,
+    room: Room,
+    needs: &[Need],
+) -> Result<(Room, Vec<Need>), AllocError>
+    ensures room { IfOk result (λ given. given.0 ≡ (given_from turn room needs.now).room) }
+    ensures needs { IfOk result (λ given. given.1.items ≡ (given_from turn room needs.now).needs) }
+{
+    let mut left = room;
+    let mut given = Vec::with_capacity(alloc, needs.len())?;
+    for need in needs {
+        let (behind, one) = give_one(turn, left, need);
+        left = behind;
+        given.push(one)?;
+    }
+    Ok((left, given))
+}
+
+/// The pairs of the rows that have a chart.
+fn pairs_of(alloc: Global, needs: &[Need]) -> Result<Vec<Pair>, AllocError>
+    ensures { IfOk result (λ pairs. pairs.items ≡ map (λ need. need.pair) (filter (λ need. need.charted) needs.now)) }
+{
+    let mut pairs = Vec::new(alloc);
+    for need in needs {
+        if need.charted {
+            pairs.push(need.pair)?;
+        }
+    }
+    Ok(pairs)
+}
+
+/// Which of these rows have a chart: their pairs, in the order of the rows.
+pub(crate) fn pairs_with_charts(
+    alloc: Global,
+    index: &Index<'_>,
+    rows: &[Explanation<'_>],
+) -> Result<Vec<Pair>, AllocError>
+    ensures { (recording : List (List ℕ)) → IsIndexOf recording index.now
+        → IfOk result (λ pairs. pairs.items ≡ charted_pairs (placed_in recording) (map explanation_value rows.now)) }
+{
+    let needs = needs_of(alloc, index, rows)?;
+    let room = Room {
+        used: 0,
+        last: None,
+    };
+    let (room, needs) = give_all(alloc, Turn::Incomplete, room, &needs)?;
+    let (_, needs) = give_all(alloc, Turn::Complete, room, &needs)?;
+    pairs_of(alloc, &needs)
+}

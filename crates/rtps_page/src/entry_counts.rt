@@ -1,0 +1,70 @@
+ghost use Rattle.std.specs.Prelude.{ℕ, ◌≡◌, ◌≤◌, ◌<◌, ◌^◌, length, map, List};
+ghost use Rattle.rtps_ids.specs.NumberSet.{is_member};
+ghost use Rattle.rtps_receiver.specs.Values.{act_body_value};
+ghost use Rattle.rtps_audit.specs.Placed.{placed_value};
+ghost use Rattle.rtps_evidence.specs.declared.location.Location.{Location as LocationValue};
+ghost use Rattle.rtps_page.specs.ChartEntries.{entries_at, entries_by, gone_json, members_of};
+
+use rtps_audit::Placed;
+use rtps_ids::{Guid, NumberSet};
+use rtps_receiver::ActBody;
+
+/// Whether a number is in a set.
+pub(crate) fn has_number(set: &NumberSet, number: u64) -> bool
+    requires { number < 2 ^ 63 }
+    ensures { result ≡ is_member set.now number }
+{
+    set.contains(number.cast_signed())
+}
+
+/// How many numbers a set has.
+fn members_among(set: &NumberSet) -> u64
+    ensures value { result ≡ length (members_of set.now) }
+    ensures few { result ≤ 256 }
+{
+    let base = set.base().cast_unsigned();
+    let mut count = 0;
+    for bit in 0..set.count() {
+        if has_number(set, base + u64::from(bit)) {
+            count += 1;
+        }
+    }
+    count
+}
+
+/// 1 where there are numbers from one on and below another, and else 0.
+fn one_if_gone(from: u64, past: u64) -> u64
+    ensures value { (place : LocationValue) (named : List ℕ) → result ≡ length (gone_json place named from past) }
+    ensures few { result ≤ 1 }
+{
+    if from < past { 1 } else { 0 }
+}
+
+/// How many entries what an act says has.
+fn entries_in(body: &ActBody<'_>) -> u64
+    ensures value { (place : LocationValue) (named : List ℕ) → result ≡ length (entries_at place named (act_body_value body.now)) }
+    ensures few { result ≤ 257 }
+{
+    match body {
+        ActBody::Data(_) => 1,
+        ActBody::Heartbeat(heartbeat) => one_if_gone(1, heartbeat.first.get().cast_unsigned()) + 1,
+        ActBody::Gap(gap) => {
+            let start = gap.start.get().cast_unsigned();
+            one_if_gone(start, gap.list.base().cast_unsigned()) + members_among(&gap.list)
+        }
+        ActBody::AckNack(_) => 0,
+    }
+}
+
+/// How many entries a writer has by these acts.
+pub(crate) fn entries_of_writer(acts: &[Placed<'_>], writer: Guid) -> u128
+    ensures { result ≡ length (entries_by writer (map placed_value acts.now)) }
+{
+    let mut count = 0u128;
+    for placed in acts {
+        if placed.act.spoken_by(writer) {
+            count += u128::from(entries_in(&placed.act.body));
+        }
+    }
+    count
+}

@@ -1,0 +1,19 @@
+//! The page of a recording: one self-contained document of HTML with its report, what each row rests on, and a chart of what a
+//! pair said.
+#![tactic(auto)]
+
+mod chart_answers;
+mod chart_entries;
+mod chart_room;
+mod chart_writers;
+mod entry_counts;
+mod page;
+mod page_data;
+mod page_directory;
+mod page_parts;
+mod plain_lines;
+mod plain_rows;
+mod safe_text;
+mod turn;
+
+pub use page::page_text;

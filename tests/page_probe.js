@@ -1,0 +1,145 @@
+'use strict';
+// What the tests of the page read of it. Nothing here is a part of the page.
+
+const textsOf = (element, selector) => [...element.querySelectorAll(selector)].map((found) => found.textContent);
+
+// The rows of the table in their order, each with the topic and the type of its group.
+function rowsShown() {
+  return [...document.querySelectorAll('table.pairs tbody')].flatMap((body) => {
+    const [topic, type] = [textsOf(body, 'tr.group > th > .name, tr.group > th > .dds'), textsOf(body, 'tr.group .type > *')];
+    return [...body.querySelectorAll('tr.pair')].map((row) => ({
+      id: row.id,
+      topic,
+      type,
+      badges: textsOf(row, '.badge'),
+      number: row.querySelector('.number').textContent,
+      datagram: textsOf(row, '.in-datagram').map((text) => text.trim()),
+      guids: textsOf(row, 'td > .guid'),
+      counts: textsOf(row, 'td.count'),
+    }));
+  });
+}
+
+function countsShown() {
+  const lines = [...document.querySelectorAll('#counts dl > div')];
+  return Object.fromEntries(lines.map((line) => [line.querySelector('dt').textContent, line.querySelector('.count').textContent]));
+}
+
+// The endpoints in their order: participant, side, entity id, names, and what is said of its matches.
+function endpointsShown() {
+  return [...document.querySelectorAll('table.endpoints tbody')].flatMap((body) => {
+    const rows = [...body.querySelectorAll('tr:not(.group)')].filter((row) => row.cells.length === 4);
+    return rows.map(({ cells: [head, names, qos, matches] }) => ({
+      prefix: body.querySelector('tr.group .guid').textContent,
+      side: head.textContent.split(' ')[0],
+      entity: head.querySelector('.guid').textContent,
+      topic: textsOf(names, ':scope > :first-child > *'),
+      type: textsOf(names, '.type > *'),
+      qos: qos.textContent,
+      matches: matches.textContent,
+    }));
+  });
+}
+
+// Those of these elements that take no room, and so are not in sight.
+function hidden(selector) {
+  return [...document.querySelectorAll(selector)].filter((element) => element.getClientRects().length === 0).map((element) => element.className);
+}
+
+// What would be said of the first row if the page had no room for what was said.
+function adviceWithoutActs() {
+  const report = new Report(valueOf(document.getElementById('data').textContent));
+  report.answers = [];
+  return Object.values(adviceOf(report, report.rows[0])).join(' ');
+}
+
+// ---- what each can read
+
+// The three parts and the share of a colour, whatever form it has.
+function partsOf(colour) {
+  const pen = document.createElement('canvas').getContext('2d', { willReadFrequently: true });
+  pen.fillStyle = colour;
+  pen.fillRect(0, 0, 1, 1);
+  const [r, g, b, a] = pen.getImageData(0, 0, 1, 1).data;
+  return [r, g, b, a / 255];
+}
+
+function luminance([r, g, b]) {
+  const [x, y, z] = [r, g, b].map((part) => (part / 255 <= 0.04045 ? part / 255 / 12.92 : ((part / 255 + 0.055) / 1.055) ** 2.4));
+  return 0.2126 * x + 0.7152 * y + 0.0722 * z;
+}
+
+function contrast(one, other) {
+  const [low, high] = [luminance(one), luminance(other)].sort((a, b) => a - b);
+  return (high + 0.05) / (low + 0.05);
+}
+
+// The colour behind an element: that of the nearest one around it that has one.
+function behind(element) {
+  for (let at = element; at; at = at.parentElement) {
+    const colour = partsOf(getComputedStyle(at).backgroundColor);
+    if (colour[3] === 1) return colour;
+  }
+  return [255, 255, 255, 1];
+}
+
+// Texts in sight of too little contrast to what is behind them, and how many texts there are.
+function faintTexts(least) {
+  const faint = new Set();
+  let count = 0;
+  const walker = document.createTreeWalker(document.body, NodeFilter.SHOW_TEXT);
+  for (let node = walker.nextNode(); node; node = walker.nextNode()) {
+    const element = node.parentElement;
+    if (!node.textContent.trim() || element.closest('script, style') || element.getClientRects().length === 0) continue;
+    count += 1;
+    const style = getComputedStyle(element);
+    const found = contrast(partsOf(style.color), behind(element));
+    if (found < least) faint.add(`${element.tagName}.${element.className} ${found.toFixed(2)} ${node.textContent.slice(0, 30)}`);
+  }
+  for (const name of ['--data', '--announced', '--acknowledged', '--mark', '--faint']) {
+    const found = contrast(partsOf(getComputedStyle(document.documentElement).getPropertyValue(name)), behind(document.body));
+    if (found < least) faint.add(`${name} ${found.toFixed(2)}`);
+  }
+  return { count, faint: [...faint] };
+}
+
+// What is not as a reader of the page by ear needs it.
+function unspoken() {
+  const found = [];
+  let level = 0;
+  for (const head of document.querySelectorAll('h1, h2, h3, h4')) {
+    if (head.getClientRects().length === 0) continue;
+    const next = Number(head.tagName[1]);
+    if (next > level + 1) found.push(`heading ${next} behind ${level}: ${head.textContent}`);
+    level = next;
+  }
+  for (const head of document.querySelectorAll('th')) if (!head.scope) found.push(`th without scope: ${head.textContent}`);
+  for (const field of document.querySelectorAll('input, select')) if (!field.labels.length) found.push(`${field.tagName} without label`);
+  for (const button of document.querySelectorAll('button, a')) if (!button.textContent.trim()) found.push(`${button.tagName} without a name`);
+  const ids = [...document.querySelectorAll('[id]')].map((element) => element.id);
+  if (new Set(ids).size !== ids.length) found.push('an id stands twice');
+  return found;
+}
+
+// The element with the focus, and whether one sees that.
+function focused() {
+  const element = document.activeElement;
+  const style = getComputedStyle(element);
+  return {
+    tag: element.tagName,
+    href: element.getAttribute('href'),
+    isSeen: style.outlineStyle !== 'none' && parseFloat(style.outlineWidth) >= 2,
+  };
+}
+
+// How long a change of the filter takes, until it is drawn, in milliseconds.
+async function timeToFilter(text) {
+  const field = document.getElementById('filter');
+  field.focus();
+  await new Promise((done) => requestAnimationFrame(() => requestAnimationFrame(done)));
+  const before = performance.now();
+  field.value = text;
+  field.dispatchEvent(new Event('input'));
+  document.body.getBoundingClientRect();
+  return performance.now() - before;
+}

@@ -1,0 +1,626 @@
+#!/usr/bin/env python3
+"""Tests the page of a report in a browser: what it shows, and what one can do with it.
+
+    tests/pages.py [--program PROGRAM] [--pictures FOLDER] [NAME ..]
+
+Pages are made by bench/page.py, the second implementation, of recordings of examples/, of tests/recorded.py and of 90,000 rows.
+A PROGRAM has to write the same pages, octet for octet. Where no Chromium is installed, that is said, and only what needs none is
+tried. A NAME is a word of the name of a test below.
+With --pictures the pages are kept as pictures of 1280 and 390 pixels, light and dark. The last line is 'N passed, M failed'.
+"""
+import json
+import os
+import re
+import shutil
+import subprocess
+import sys
+import tempfile
+
+sys.dont_write_bytecode = True
+from program import ROOT, Counts, file_of, text_of
+import page
+import parts
+import recorded
+import reference
+from asked import asked_by
+from browser import SHIFT, Browser, Tab, browser_path
+
+EXAMPLES = sorted(name for name in os.listdir(os.path.join(ROOT, 'examples')) if name.endswith(('.rec', '.pcap')))
+MADE = 'robot', 'hostile', 'greatest', 'chatty', 'unmatched', 'none'
+# The most octets of a page of an example and of one of 90,000 pairs; the most seconds of processor time until the latter is
+# seen, and until a filter is.
+EXAMPLE_SIZE, MANY_SIZE = 100_000, 60_000_000
+FIRST_SIGHT, FILTERED = 2, 0.2
+# What the page says only where it has all acts of a pair.
+OF_ACTS = 'No answer of this reader', 'sends it again', 'sent again'
+PROBE = file_of('tests', 'page_probe.js').decode()
+GROUPED = re.compile(r'(?<=\d)(?=(?:\d{3})+$)')
+
+
+def counted(n):
+    """an integer as the page counts with it"""
+    return GROUPED.sub(',', str(n))
+
+
+def row_wanted(at, row):
+    """what the page shows of a row"""
+    badges = [row['verdict']]
+    if row['verdict'] == 'complete' and row['missed']:
+        badges.append(f"missed {counted(row['missed'])}")
+    elif row['verdict'] == 'complete' and row['gone']:
+        badges.append(f"gone {counted(row['gone'])}")
+    announced, below = row['announced'], row['acknowledged']
+    counts = [str(announced['number']) if announced else '–', str(below['below']) if below else '–']
+    return {
+        'id': f'pair-{at + 1}', 'topic': row['topic'], 'type': row['type'], 'badges': badges, 'number': str(row['number']),
+        'datagram': [f"in datagram {row['datagram']}"] if 'datagram' in row else [], 'guids': [row['writer'], row['reader']],
+        'counts': counts + [counted(row[name]) for name in ('payloads', 'gone', 'untold', 'received', 'missed')],
+    }
+
+
+def in_order(rows):
+    """rows that are shown, in the order of the report"""
+    return sorted(rows, key=lambda row: int(row['id'].removeprefix('pair-')))
+
+
+def kind_of(row):
+    if row['verdict'] != 'complete':
+        return row['verdict']
+    return 'missed' if row['missed'] else 'gone' if row['gone'] else 'complete'
+
+
+KINDS = ['unfounded', 'conflict', 'open', 'missed', 'gone', 'complete']
+
+
+def grouped(rows):
+    """numbered rows by topic and type, in the order of the first of each"""
+    groups = {}
+    for at, row in rows:
+        groups.setdefault((row['topic'], row['type']), []).append((at, row))
+    return [one for group in groups.values() for one in group]
+
+
+def places_of(value):
+    """each place in a row, as the page writes it"""
+    if isinstance(value, list):
+        return {place for one in value for place in places_of(one)}
+    if not isinstance(value, dict):
+        return set()
+    own = {f"datagram {value['datagram']}, octet {value['at']}"} if 'at' in value else set()
+    return own | {place for one in value.values() for place in places_of(one)}
+
+
+class PageTests(Counts):
+    """the tests, with a browser and the pages that were made"""
+    def __init__(self, room, program, pictures):
+        super().__init__()
+        self.room, self.program, self.pictures, self.browser, self.made = room, program, pictures, None, {}
+
+    # ---- pages
+
+    def values(self, name):
+        """the data of a page"""
+        if name not in self.made:
+            if name == 'many':
+                names = [('rt/camera/points', 'sensor_msgs::msg::dds_::PointCloud2_')]
+                self.made[name] = recorded.many(300, names, recorded.some_verdict)
+            elif name == 'none':
+                self.made[name] = page.page_values([])
+            elif name in MADE:
+                self.made[name] = page.page_values(getattr(recorded, name)())
+            else:
+                self.made[name] = page.values_of(file_of('examples', name))
+        return self.made[name]
+
+    def path(self, name):
+        path = os.path.join(self.room, f'{name}.html')
+        if not os.path.exists(path):
+            with open(path, 'w', encoding='utf-8') as f:
+                f.write(page.page_text(self.values(name)))
+        return path
+
+    def rows(self, name):
+        return self.values(name)['report']['pairs']
+
+    def open(self, name, address='', **how):
+        tab = Tab(self.browser, **how)
+        tab.open(self.path(name), address)
+        if how.get('scripts', True):
+            tab.evaluate(PROBE)
+            tab.settle()
+        return tab
+
+    @staticmethod
+    def text(tab, selector):
+        return tab.evaluate(f'document.querySelector({json.dumps(selector)}).textContent')
+
+    @staticmethod
+    def found(tab, selector):
+        return tab.evaluate(f'document.querySelectorAll({json.dumps(selector)}).length')
+
+    @staticmethod
+    def shown(tab):
+        """the rows in sight, by the names of DDS"""
+        return [row | {'topic': row['topic'][-1], 'type': row['type'][-1]} for row in tab.evaluate('rowsShown()')]
+
+    def topics(self, tab):
+        return [row['topic'] for row in self.shown(tab)]
+
+    def ids(self, tab):
+        return [row['id'] for row in self.shown(tab)]
+
+    def wanted(self, name):
+        return [row_wanted(at, row) for at, row in enumerate(self.rows(name))]
+
+    @staticmethod
+    def choose(tab, at):
+        tab.evaluate(f"location.hash = '#pair-{at + 1}'")
+        tab.settle()
+
+    def leave(self, name, tab):
+        """closes a page, which said nothing and asked for nothing"""
+        self.holds(f'{name}: nothing is said or asked for', ([], []), (tab.complaints(), tab.requests()))
+        tab.close()
+
+    # ---- without a browser
+
+    def constants(self):
+        self.holds('src/page_parts.rt is what parts.py makes', file_of('crates', 'rtps_page', 'src', 'page_parts.rt').decode(), parts.constants())
+
+    def pages_of_the_program(self):
+        if self.program is None:
+            return
+        rows = os.path.join(ROOT, 'tests', 'rows')
+        for folder in os.path.join(ROOT, 'examples'), rows:
+            for name in sorted(os.listdir(folder)):
+                if name.endswith(('.rec', '.pcap', '.pcapng')):
+                    self.same_page(name, os.path.join(folder, name))
+        for words in (['--from', '2'], ['--strict'], ['--observed'], ['--expect', '2'], ['--topic', 'p*', '--topic', '<&>"\\\t\u00e9']):
+            self.same_page('pose.rec', os.path.join(ROOT, 'examples', 'pose.rec'), words)
+        for name in MADE:
+            path = os.path.join(self.room, f'{name}.rec')
+            with open(path, 'wb') as f:
+                f.write(text_of([] if name == 'none' else getattr(recorded, name)()))
+            self.same_page(name, path)
+
+    def same_page(self, name, path, words=()):
+        """the program writes the page of the second implementation, and ends as its audit does"""
+        words = [*words, *(['--any'] if path.endswith('.pcapng') else [])]
+        with open(path, 'rb') as f:
+            values = page.values_of(f.read(), asked_by(words), '--any' in words)
+        got = subprocess.run([self.program, 'page', *words, path], capture_output=True)
+        audit = subprocess.run([self.program, 'audit', *words, path], capture_output=True)
+        self.holds(f'{name}: the page with {words}', (page.page_text(values), audit.stderr, audit.returncode), (got.stdout.decode(), got.stderr, got.returncode))
+
+    def text_of_a_page(self):
+        head, middle, tail = parts.parts()
+        for name in (*EXAMPLES, *MADE):
+            values = self.values(name)
+            rows, data = page.plain_rows(values['report']['pairs']), page.data_text(values)
+            self.holds(f'{name}: a page is its parts', head + rows + middle + data + tail, page.page_text(values))
+            self.holds(f'{name}: no octet of a recording begins markup', [], [c for c in '<>&' if c in rows + data])
+            self.holds(f'{name}: the data is read back', values, json.loads(data))
+        values = self.values('robot')
+        stored = parts.stored(page.plain_rows(values['report']['pairs']), page.data_text(values))
+        self.holds('page.html has the page of recorded.py robot: run bench/page.py stored', stored, parts.file_of('page.html'))
+        for name in EXAMPLES:
+            self.holds(f'{name}: its size', True, os.path.getsize(self.path(name)) <= EXAMPLE_SIZE)
+        self.holds('90,000 pairs: their size', True, os.path.getsize(self.path('many')) <= MANY_SIZE)
+
+    def rows_with_charts(self):
+        values = self.values('chatty')
+        charted = {(one['writer'], one['reader']) for one in values['answers']}
+        topics = [row['topic'] for row in self.rows('chatty') if (row['writer'], row['reader']) in charted]
+        self.holds('the rows for which a page has room', ['few', 'later'], topics)
+
+    # ---- what is shown
+
+    def each_row(self):
+        for name in (*EXAMPLES, *MADE):
+            tab = self.open(name)
+            self.holds(f'{name}: each row is that of the report', self.wanted(name), in_order(self.shown(tab)))
+            order = grouped(sorted(enumerate(self.rows(name)), key=lambda one: KINDS.index(kind_of(one[1]))))
+            self.holds(f'{name}: worst first', [f'pair-{at + 1}' for at, _ in order], self.ids(tab))
+            counts = {key: counted(n) for key, n in self.values(name)['report'].items() if key != 'pairs'}
+            self.holds(f'{name}: each count is that of the report', counts, tab.evaluate('countsShown()'))
+            self.leave(name, tab)
+
+    def working_copy(self):
+        """page.html as it lies in its folder, with style and scripts in files of their own"""
+        tab = Tab(self.browser)
+        tab.open(os.path.join(parts.FOLDER, 'page.html'))
+        tab.evaluate(PROBE)
+        self.holds('page.html is shown as it lies there', self.wanted('robot'), in_order(self.shown(tab)))
+        self.holds('page.html: nothing is said', [], tab.complaints())
+        tab.close()
+
+    def outcome(self):
+        wanted = {
+            'robot': '2 of 4 pairs are complete, and 1 sample was missed', 'none': 'No pair was audited', 'unmatched': 'No pair was audited',
+            'open.rec': 'The only pair is not complete, and 1 sample was missed', 'gone.rec': 'The only pair is complete',
+        }
+        for name, sentence in wanted.items():
+            tab = self.open(name)
+            self.holds(f'{name}: the outcome', sentence, self.text(tab, '#outcome'))
+            self.holds(f'{name}: the title', f'{sentence}: rtps-audit', tab.evaluate('document.title'))
+            tab.close()
+
+    def asked(self):
+        """the options that were given"""
+        given = {'from': 7, 'any': True, 'fragments': True, 'observed': True, 'strict': True, 'topics': ["rt/*", "<&'"], 'expect': 9}
+        self.made['asked'] = self.values('robot') | {'options': given}
+        tab = self.open('asked')
+        words = "--from 7 --any --fragments --observed --strict --topic 'rt/*' --topic '<&'' --expect 9"
+        self.holds('the options are told', f'rtps-audit, a report of the numbers from 7 on, with {words}', self.text(tab, '#asked'))
+        self.holds('fewer pairs than expected', '4 pairs. 9 were expected.', self.text(tab, '#warnings li').split(' See')[0])
+        self.leave('asked', tab)
+
+    def first_screen(self):
+        """of a report with an open and an unfounded pair: which topics, since when, and what to do"""
+        tab = self.open('robot')
+        lines = tab.evaluate('''[...document.querySelectorAll('table.topics tbody tr')].map((row) => ({
+            isInSight: row.getBoundingClientRect().bottom <= innerHeight, cells: [...row.cells].map((cell) => cell.innerText) }))''')
+        self.holds('robot: each topic is in sight', [True] * 3, [line['isInSight'] for line in lines])
+        wanted = (('/tf', 'acknowledged sample 12', 'datagram 166', 'tcpdump'), ('/scan', 'samples 24 to 40', 'datagram 159', 'look at the reader'),
+                  ('/odom', 'missed sample 19', 'datagram 115', 'history depth'))
+        for line, words in zip(lines, wanted):
+            self.holds(f'robot: the line of {words[0]}', [], [word for word, cell in zip(words, line['cells']) if word not in cell])
+        self.leave('robot', tab)
+
+    def weaknesses(self):
+        wanted = {
+            'none': ['No pairs.'], 'unmatched': ['No pairs.', '4 topics kept apart.'], 'fragments.rec': ['2 fragments.'], 'pose.rec': [],
+            'gone.rec': ['1 complete pair with numbers gone.'], 'robot': ['1 topic kept apart.'], 'loopback.pcap': ['3 frames ignored.'],
+        }
+        for name, sentences in wanted.items():
+            tab = self.open(name)
+            self.holds(f'{name}: what weakens the report', sentences, tab.evaluate("textsOf(document, '#warnings li > b')"))
+            tab.close()
+
+    def chosen_pairs(self):
+        for name in ('robot', 'conflict.rec', 'unfounded.rec', 'gone.rec', 'greatest', 'cyclone_reliable.rec'):
+            tab = self.open(name)
+            for at, row in enumerate(self.rows(name)):
+                self.choose(tab, at)
+                text = self.text(tab, 'tr.detail .detail-words')
+                self.holds(f'{name}: pair {at + 1} tells each place', [], sorted(place for place in places_of(row) if place not in text))
+                self.holds(f'{name}: one pair is chosen', 1, self.found(tab, 'tr.detail'))
+            self.leave(name, tab)
+
+    def advice(self):
+        """what is to be done in each case; and where the page has no room for what was said"""
+        for words, datagrams in recorded.advised().items():
+            self.made['advised'] = page.page_values(datagrams)
+            with open(os.path.join(self.room, 'advised.html'), 'w', encoding='utf-8') as f:
+                f.write(page.page_text(self.made['advised']))
+            tab = self.open('advised', '#pair-1')
+            self.holds(f'the advice: {words}', True, words in self.text(tab, '.advice'))
+            unknown = tab.evaluate('adviceWithoutActs()')
+            self.holds(f'the advice without acts: {words}', [], [said for said in OF_ACTS if said in unknown])
+            tab.close()
+
+    def participants(self):
+        for name in (*EXAMPLES, *MADE):
+            values, tab = self.values(name), self.open(name)
+            found = reference.list_text(self.datagrams(name))
+            wanted = {(line.split()[1], line.split()[0]) for line in found if line.startswith(('writer', 'reader'))}
+            shown = {f"{one['prefix']}.{one['entity']}": one for one in tab.evaluate('endpointsShown()')}
+            self.holds(f'{name}: each endpoint is shown', sorted(wanted), sorted((guid, one['side']) for guid, one in shown.items()))
+            names = {one['guid']: (one['topic'], one['type'], f"{one['reliability']}, {one['durability']}") for one in values['endpoints']}
+            self.holds(f'{name}: with its names', names, {guid: (one['topic'][-1], one['type'][-1], one['qos']) for guid, one in shown.items()})
+            matches = [guid for line in found if line.startswith('pair ') for guid in line.split()[1:3]]
+            told = {guid: 0 if one['matches'].startswith('no match') else int(one['matches'].split()[0]) for guid, one in shown.items()}
+            self.holds(f'{name}: what matches', {guid: matches.count(guid) for guid in shown}, told)
+            tab.close()
+
+    def datagrams(self, name):
+        if name == 'none':
+            return []
+        return getattr(recorded, name)() if name in MADE else reference.input_of(file_of('examples', name))[0]
+
+    def kept_apart(self):
+        tab = self.open('unmatched')
+        shown = {one['topic'][-1]: one['matches'] for one in tab.evaluate('endpointsShown()') if one['side'] == 'writer'}
+        wanted = {
+            'rt/scan': 'asks for reliable, and the writer offers best-effort', 'rt/map': 'asks for transient-local, and the writer offers volatile',
+            'rt/both': 'offers best-effort; the reader asks for transient-local', 'rt/typed': 'the type of the reader is F',
+            'rt/images': '(best-effort: not audited)', 'rt/alone': 'No reader of this topic matches.',
+        }
+        self.holds('what keeps endpoints apart', [], [topic for topic, words in wanted.items() if words not in shown[topic]])
+        self.leave('unmatched', tab)
+
+    def hostile_names(self):
+        tab = self.open('hostile')
+        self.holds('hostile names make no element', [0, 0, 0], [self.found(tab, name) for name in ('img', 'b b', 'main script')])
+        self.holds('hostile names run nothing', [], tab.events('Page.javascriptDialogOpening'))
+        ends = parts.parts()[2].count('<script>')
+        self.holds('hostile names end no script', ends + 1, self.found(tab, 'script'))
+        self.leave('hostile', tab)
+
+    def without_scripts(self):
+        for name in ('robot', 'hostile', 'none'):
+            tab = self.open(name, scripts=False)
+            tree = tab.send('DOM.getDocument')['root']['nodeId']
+            found = tab.send('DOM.querySelector', nodeId=tree, selector='pre#rows')['nodeId']
+            self.holds(f'{name}: rows are shown without scripts', True, found != 0)
+            text = tab.send('DOM.getOuterHTML', nodeId=found)['outerHTML'].split('>', 1)[1][:-len('</pre>')]
+            self.holds(f'{name}: as plain lines', page.plain_rows(self.rows(name)), text.split('\n', 1)[1])
+            self.picture(tab, f'{name}_without_scripts')
+            self.leave(name, tab)
+
+    # ---- what one can do
+
+    def filters(self):
+        tab = self.open('robot')
+        rows = self.rows('robot')
+        wanted = {
+            'scan': ['rt/scan'], '/amcl': ['rt/tf', 'rt/scan', 'rt/odom'], 'open': ['rt/scan'], 'missed': ['rt/odom'], 'P3 teleop tf': ['rt/tf'],
+            rows[0]['writer']: ['rt/odom'], 'nothing of this': [], 'nav_msgs/msg/odometry': ['rt/odom'],
+            '': ['rt/tf', 'rt/scan', 'rt/odom', 'rt/cmd_vel'],
+        }
+        for text, topics in wanted.items():
+            tab.evaluate(f'timeToFilter({json.dumps(text)})')
+            self.holds(f'robot: the filter {text!r}', topics, self.topics(tab))
+        tab.click('#verdicts .badge.open')
+        tab.click('#verdicts .badge.unfounded')
+        self.holds('robot: two verdicts', ['rt/tf', 'rt/scan'], self.topics(tab))
+        self.holds('robot: what is shown is told', '2 of 4 pairs.', self.text(tab, '#shown'))
+        self.leave('robot', tab)
+
+    def orders(self):
+        tab = self.open('robot')
+        within = {'announced': 'number', 'acknowledged': 'below'}
+        for name in ('announced', 'acknowledged', 'payloads', 'untold', 'received', 'missed'):
+            for order, sign in (('descending', -1), ('ascending', 1)):
+                tab.click(f'.pairs thead th.{name} button')
+                key = lambda one: sign * (one[1][name][within[name]] if name in within else one[1][name])
+                rows = grouped(sorted(enumerate(self.rows('robot')), key=key))
+                self.holds(f'robot: by {name}, {order}', [f'pair-{at + 1}' for at, _ in rows], self.ids(tab))
+                self.holds(f'robot: the head of {name}', order, tab.evaluate(f"document.querySelector('.pairs thead th.{name}').ariaSort"))
+        self.leave('robot', tab)
+
+    def clicks(self):
+        tab = self.open('robot')
+        tab.click('#pair-2 td.payloads')
+        self.holds('a click chooses', '#pair-2', tab.evaluate('location.hash'))
+        self.holds('the row says that it is open', 'true', tab.evaluate("document.querySelector('#pair-2 a').ariaExpanded"))
+        tab.click('#pair-2 a')
+        self.holds('another one closes', 0, self.found(tab, 'tr.detail'))
+        tab.click('table.topics a')
+        self.holds('a topic leads to its pair', '#pair-3', tab.evaluate('location.hash'))
+        tab.click('#pair-3 td.writer a')
+        self.holds('a pair leads to its participant', '#participant-2', tab.evaluate('location.hash'))
+        self.leave('robot', tab)
+
+    def keyboard(self):
+        tab = self.open('robot')
+        seen, reached = [], None
+        for _ in range(60):
+            tab.press('Tab')
+            found = tab.evaluate('focused()')
+            seen.append(found['isSeen'])
+            if found['href'] == '#pair-2' and tab.evaluate("document.activeElement.closest('tr.pair') !== null"):
+                reached = found
+                break
+        self.holds('the keyboard reaches a pair', True, reached is not None)
+        tab.press('Enter')
+        tab.settle()
+        self.holds('Enter chooses it', '#pair-2', tab.evaluate('location.hash'))
+        while seen.append(tab.evaluate('focused()')['isSeen']) or tab.evaluate('focused()')['tag'] != 'CANVAS':
+            tab.press('Tab')
+            if len(seen) > 100:
+                break
+        self.holds('the focus is always seen', [], [at for at, one in enumerate(seen) if not one])
+        dots = tab.evaluate('chartInSight.marks.dots')
+        tab.press('ArrowRight')
+        tab.press('ArrowRight')
+        self.holds('the keyboard reads a dot', self.dot_text(dots[1]), tab.evaluate('chartInSight.readout.textContent'))
+        before = tab.evaluate('chartInSight.view')
+        tab.press('+')
+        tab.press('ArrowRight', SHIFT)
+        after = tab.evaluate('chartInSight.view')
+        self.holds('the keyboard zooms', True, after['x1'] - after['x0'] < before['x1'] - before['x0'])
+        tab.press('0')
+        self.holds('the keyboard shows all', before, tab.evaluate('chartInSight.view'))
+        self.leave('robot', tab)
+
+    @staticmethod
+    def dot_text(dot):
+        return f"DATA of number {dot['number']} in datagram {dot['x']}, octet {dot['at']}{', sent again' if dot['again'] else ''}."
+
+    def charts(self):
+        for name in ('robot', 'gone.rec', 'conflict.rec', 'cyclone_reliable.rec'):
+            tab, values = self.open(name), self.values(name)
+            acts = {one['guid']: one['acts'] for one in values['writers']}
+            bases = {(one['writer'], one['reader']): one['bases'] for one in values['answers']}
+            for at, row in enumerate(self.rows(name)):
+                self.choose(tab, at)
+                heard = [act for act in acts[row['writer']] if is_heard(act, row['reader'])]
+                self.chart(f'{name}: pair {at + 1}', heard, bases[row['writer'], row['reader']], tab.evaluate('chartInSight.marks'))
+            tab.close()
+
+    def chart(self, name, heard, bases, marks):
+        """what a chart has of what a reader hears and of what it answers"""
+        sent = [act for act in heard if act[2] == 'data']
+        dots = [[act[0], act[3], act[1], act[3] in [one[3] for one in sent[:k]]] for k, act in enumerate(sent)]
+        self.holds(f'{name}: the dots', dots, [[dot['x'], dot['y'], dot['at'], dot['again']] for dot in marks['dots']])
+        answers = [[datagram, base - 1] for datagram, _, base in bases]
+        self.holds(f'{name}: the answers', answers, [[one['x'], one['y']] for one in marks['answers']])
+        gone = {n for act in heard if act[2] == 'gone' for n in range(act[3], act[4] + 1)}
+        drawn = {n for band in marks['bands'] for n in range(band['low'], band['high'] + 1)}
+        self.holds(f'{name}: what is gone', gone, drawn)
+
+    def pointer(self):
+        tab = self.open('robot', '#pair-2')
+        box = tab.box('canvas')
+        dot = tab.evaluate('chartInSight.marks.dots.find((dot) => dot.again)')
+        x, y = (tab.evaluate(f"chartInSight.pixel{axis}({dot[axis.lower()]})") for axis in 'XY')
+        tab.hover(box['x'] + x, box['y'] + y)
+        tab.settle()
+        self.holds('the pointer reads a dot', self.dot_text(dot), tab.evaluate('chartInSight.readout.textContent'))
+        before = tab.evaluate('chartInSight.view')
+        tab.drag(box['x'] + x - 60, box['y'] + y - 40, box['x'] + x + 60, box['y'] + y + 40)
+        after = tab.evaluate('chartInSight.view')
+        is_about = after['x0'] < dot['x'] < after['x1'] < before['x1'] and before['y0'] < after['y0'] < dot['y'] < after['y1']
+        self.holds('a drag zooms about it', True, is_about)
+        self.picture(tab, 'robot_zoomed')
+        tab.click('canvas', 2)
+        self.holds('a double click shows all', before, tab.evaluate('chartInSight.view'))
+        for label, is_less in (('Zoom in', True), ('Zoom out', False)):
+            tab.evaluate(f"[...document.querySelectorAll('.controls button')].find((e) => e.textContent === '{label}').click()")
+            wide = tab.evaluate('chartInSight.view.x1 - chartInSight.view.x0')
+            self.holds(f'the button {label}', is_less, wide < before['x1'] - before['x0'])
+        self.leave('robot', tab)
+
+    def charts_left_out(self):
+        tab = self.open('chatty')
+        shown = {}
+        for at, row in enumerate(self.rows('chatty')):
+            self.choose(tab, at)
+            shown[row['topic']] = tab.evaluate("[...document.querySelectorAll('canvas, .no-chart')].map((e) => e.tagName)")
+        self.holds('a chart for which there is no room', {'few': ['CANVAS'], 'many': ['P'], 'later': ['CANVAS']}, shown)
+        self.leave('chatty', tab)
+
+    # ---- for everyone, everywhere
+
+    def contrast(self):
+        for dark in (False, True):
+            for name in ('robot', 'conflict.rec', 'gone.rec', 'unmatched', 'none'):
+                tab = self.open(name, '#pair-1', dark=dark)
+                found = tab.evaluate('faintTexts(4.5)')
+                self.holds(f'{name}: contrast, {"dark" if dark else "light"}', [], found['faint'])
+                self.holds(f'{name}: by ear', [], tab.evaluate('unspoken()'))
+                tab.close()
+
+    def widths(self):
+        for name in ('robot', 'hostile', 'cyclone_reliable.rec', 'unmatched', 'none'):
+            for width in (360, 390, 768, 1280, 1920):
+                tab = self.open(name, '#pair-1', width=width)
+                self.holds(f'{name}: it fits in {width} pixels', width, tab.evaluate('document.documentElement.scrollWidth'))
+                self.holds(f'{name}: each row is in sight at {width} pixels', [], tab.evaluate("hidden('tbody tr')"))
+                tab.close()
+
+    def paper(self):
+        tab = self.open('robot', '#pair-2', dark=True)
+        tab.evaluate("addEventListener('beforeprint', () => { window.drawnFor = chartInSight.colour('--paper'); })")
+        self.holds('it is printed', b'%PDF', tab.print()[:4])
+        colours = tab.evaluate("[window.drawnFor, chartInSight.colour('--paper')]")
+        self.holds('the chart is drawn for paper, and then for the screen', ['#ffffff', '#14171a'], colours)
+        tab.send('Emulation.setEmulatedMedia', media='print', features=[{'name': 'prefers-color-scheme', 'value': 'dark'}])
+        tab.resize(700, 1000)
+        tab.settle()
+        self.holds('it fits on paper', 700, tab.evaluate('document.documentElement.scrollWidth'))
+        self.holds('what is on paper', [], tab.evaluate("hidden('table.pairs, tr.pair, tr.pair td, tr.detail, canvas')"))
+        self.holds('what is not on paper', 2, tab.evaluate("hidden('.tools, .controls').length"))
+        self.holds('it is light on paper', [], tab.evaluate('faintTexts(4.5)')['faint'])
+        self.holds('it is white on paper', [255, 255, 255, 1], tab.evaluate('behind(document.body)'))
+        self.picture(tab, 'robot_on_paper', True)
+        self.leave('robot', tab)
+
+    def many_pairs(self):
+        tab = Tab(self.browser)
+        tab.send('Performance.enable', timeDomain='threadTicks')
+        before = self.thread_time(tab)
+        tab.open(self.path('many'))
+        tab.settle()
+        first = self.thread_time(tab) - before
+        tab.evaluate(PROBE)
+        tab.evaluate("timeToFilter('')")
+        slowest = max(self.time_to_filter(tab, text) for text in ('000a07', 'unfounded', 'p1', 'nothing', ''))
+        size = os.path.getsize(self.path('many'))
+        print(f'90,000 pairs: {size:,} octets, seen after {first:.2f} s of processor time, filtered in {slowest * 1000:.0f} ms')
+        self.holds('90,000 pairs: first sight', True, first < FIRST_SIGHT)
+        self.holds('90,000 pairs: a filter', True, slowest < FILTERED)
+        self.holds('90,000 pairs: what is shown', '90,000 pairs; the first 100 are shown.', self.text(tab, '#shown'))
+        tab.click('#pairs > button.more')
+        self.holds('90,000 pairs: more of them', '90,000 pairs; the first 600 are shown.', self.text(tab, '#shown'))
+        self.choose(tab, 77776)
+        self.holds('90,000 pairs: one by its address', [row_wanted(77776, self.rows('many')[77776])], self.shown(tab))
+        self.leave('many', tab)
+
+    def time_to_filter(self, tab, text):
+        before = self.thread_time(tab)
+        tab.evaluate(f'timeToFilter({json.dumps(text)})')
+        return self.thread_time(tab) - before
+
+    @staticmethod
+    def thread_time(tab):
+        return next(one['value'] for one in tab.send('Performance.getMetrics')['metrics'] if one['name'] == 'ThreadTime')
+
+    # ---- pictures
+
+    def picture(self, tab, name, whole=False):
+        if self.pictures:
+            tab.picture(os.path.join(self.pictures, f'{name}.png'), whole)
+
+    def taken(self):
+        for name in (*EXAMPLES, *MADE, 'many'):
+            for width in (1280, 390):
+                for dark in (False, True):
+                    look = f'{name}_{width}_{"dark" if dark else "light"}'
+                    tab = self.open(name, width=width, dark=dark)
+                    self.picture(tab, look)
+                    if name != 'many':
+                        self.choose(tab, 0)
+                        self.picture(tab, f'{look}_pair', True)
+                    tab.close()
+
+
+def is_heard(act, reader):
+    """whether the audience of an entry has a reader"""
+    to = act[5:] if act[2] == 'gone' else act[4:]
+    prefix, _, entity = to[0].partition('.') if to else ('', '', '')
+    return prefix in ('', reader[:24]) and entity in ('', reader[25:])
+
+
+WITHOUT_BROWSER = 'constants', 'pages_of_the_program', 'text_of_a_page', 'rows_with_charts'
+IN_BROWSER = (
+    'each_row', 'working_copy', 'outcome', 'asked', 'first_screen', 'weaknesses', 'chosen_pairs', 'advice', 'participants', 'kept_apart', 'hostile_names',
+    'without_scripts', 'filters', 'orders', 'clicks', 'keyboard', 'charts', 'pointer', 'charts_left_out', 'contrast', 'widths', 'paper',
+    'many_pairs',
+)
+
+
+def run(tests, names):
+    is_named = lambda name: not names or any(word in name for word in names)
+    for name in filter(is_named, WITHOUT_BROWSER):
+        getattr(tests, name)()
+    if browser_path() is None:
+        print('tests/pages.py: no Chromium is installed, so no page was tried in a browser')
+        return
+    tests.browser = Browser()
+    try:
+        for name in filter(is_named, IN_BROWSER):
+            getattr(tests, name)()
+        if tests.pictures:
+            tests.taken()
+    finally:
+        tests.browser.close()
+
+
+def value_of(words, option):
+    """the value of an option, which is taken out of the words with it; None where it is not among them"""
+    if option not in words:
+        return None
+    at = words.index(option)
+    value = words[at + 1]
+    del words[at:at + 2]
+    return value
+
+
+def main():
+    words = sys.argv[1:]
+    program, pictures = value_of(words, '--program'), value_of(words, '--pictures')
+    if pictures:
+        os.makedirs(pictures, exist_ok=True)
+    room = tempfile.mkdtemp(prefix='pages')
+    try:
+        tests = PageTests(room, program and os.path.realpath(program), pictures)
+        run(tests, words)
+    finally:
+        shutil.rmtree(room)
+    return tests.told()
+
+
+if __name__ == '__main__':
+    sys.exit(main())
