@@ -8,6 +8,7 @@ use Rattle.rtps_receiver.specs.Acts.{acts_in}
 use Rattle.rtps_receiver.specs.Values.{ActValue}
 use Rattle.rtps_discovery.specs.Directory.{DirectoryValue}
 use Rattle.rtps_discovery.specs.declared.matching.Pair.{Pair}
+use Rattle.rtps_audit.specs.Intake.{intake_of}
 use Rattle.rtps_audit.specs.declared.report.Counts.{Counts}
 use Rattle.rtps_audit.specs.declared.report.Report.{Report}
 use Rattle.rtps_audit.specs.declared.report.Row.{Row}
@@ -110,16 +111,16 @@ report_of_explained asked recording explained report explains rows counts =
 
 -- the rows with missed numbers are as many by their evidence as by the recording
 pub missed_of_explained : (asked : AskedValue) (recording : List (List ℕ)) (explained : Explained) → IsExplainedAs asked recording explained
-    → missed_in (map explanation_value explained.rows.items) ≡ missed_rows asked.from recording (map row_of explained.rows.items)
+    → missed_in (map explanation_value explained.rows.items) ≡ missed_rows asked.from (intake_of recording) (map row_of explained.rows.items)
 missed_of_explained asked recording explained explains =
-    let shown : All (λ (row : Explanation). IsEvidenceFrom asked.from row.pair recording row.evidence) explained.rows.items =
-    All-same (λ (row : Explanation). IsEvidenceFrom asked.from row.pair recording row.evidence) _ _ explains.rows
-    (All-filter _ (λ (row : Explanation). IsEvidenceFrom asked.from row.pair recording row.evidence) explains.whole.rows.items explains.explains.shown) in
+    let shown : All (λ (row : Explanation). IsEvidenceFrom asked.from row.pair (intake_of recording) row.evidence) explained.rows.items =
+    All-same (λ (row : Explanation). IsEvidenceFrom asked.from row.pair (intake_of recording) row.evidence) _ _ explains.rows
+    (All-filter _ (λ (row : Explanation). IsEvidenceFrom asked.from row.pair (intake_of recording) row.evidence) explains.whole.rows.items explains.explains.shown) in
     let by_evidence = λ (row : ExplanationValue). not (row.evidence.missed == 0) in
-    let by_recording = λ (row : Row). not (missed_of asked.from recording row.pair == 0) in
+    let by_recording = λ (row : Row). not (missed_of asked.from (intake_of recording) row.pair == 0) in
     count_map explanation_value by_evidence explained.rows.items
     ∙ count_same (λ (row : Explanation). not (row.evidence.missed == 0)) (λ (row : Explanation). by_recording (row_of row)) explained.rows.items
-    (All-weaker (λ (row : Explanation). IsEvidenceFrom asked.from row.pair recording row.evidence)
+    (All-weaker (λ (row : Explanation). IsEvidenceFrom asked.from row.pair (intake_of recording) row.evidence)
     (λ (row : Explanation). not (row.evidence.missed == 0) ≡ by_recording (row_of row)) (λ row evidence. ap (λ (n : ℕ). not (n == 0)) evidence.missed.count) explained.rows.items shown)
     ∙ sym (count_map row_of by_recording explained.rows.items)
 

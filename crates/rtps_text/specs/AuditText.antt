@@ -9,9 +9,10 @@ use Rattle.rtps_receiver.specs.Values.{ActValue}
 use Rattle.rtps_discovery.specs.Directory.{DirectoryValue, IsMapOf, settled_at}
 use Rattle.rtps_discovery.specs.declared.matching.Pair.{Pair}
 use Rattle.rtps_audit.specs.Delivery.{last_announced_from}
+use Rattle.rtps_audit.specs.Intake.{Intake, acts_together, intake_of}
 use Rattle.rtps_audit.specs.Placed.{placed_in}
 use Rattle.rtps_audit.specs.Report.{IsReportFrom}
-use Rattle.rtps_audit.specs.Speech.{speech_of}
+use Rattle.rtps_audit.specs.Speech.{speech_by}
 use Rattle.rtps_audit.specs.declared.report.Counts.{Counts}
 use Rattle.rtps_audit.specs.declared.report.Report.{Report}
 use Rattle.rtps_audit.specs.declared.report.Row.{Row}
@@ -19,7 +20,7 @@ use Rattle.rtps_audit.specs.declared.verdict.Verdict.{Verdict}
 use Rattle.rtps_audit.specs.declared.verdict.Verdict.TheVariants.{Unfounded, Conflict, Open, Complete}
 use Rattle.rtps_evidence.specs.Amount.{count_in}
 use Rattle.rtps_evidence.specs.Explanation.{topic_of}
-use Rattle.rtps_evidence.specs.Missed.{is_missed}
+use Rattle.rtps_evidence.specs.Missed.{is_missed, place_announced}
 use Rattle.rtps_rows.specs.Rows.{RowsValue, is_kept}
 use Rattle.rtps_text.specs.Asked.{AskedValue}
 use Rattle.rtps_text.specs.Findings.{ending_as}
@@ -95,23 +96,23 @@ pub record IsReportAs (asked : AskedValue) (recording : List (List ℕ)) (report
   pub whole : Report
   pub reports : IsReportFrom asked.from recording whole
   pub directory : DirectoryValue
-  pub is_map : IsMapOf (acts_in recording) directory
+  pub is_map : IsMapOf (acts_together (intake_of recording).announcing) directory
   pub rows : report.rows.items ≡ filter (is_row_kept asked.rows (acts_in recording) directory) whole.rows.items
   pub counts : report.counts ≡ whole.counts
 
 -- how many numbers from `from` on the reader of a pair missed
-abbrev pub missed_of : ℕ → List (List ℕ) → Pair → ℕ
-missed_of from recording pair =
-    count_in (is_missed pair.writer pair.reader (placed_in recording)) from (last_announced_from from (speech_of pair.writer pair.reader recording) + 1)
+abbrev pub missed_of : ℕ → Intake → Pair → ℕ
+missed_of from intake pair =
+    count_in (is_missed (place_announced pair.reader (placed_in intake.announcing)) pair.writer pair.reader (placed_in intake.acts)) from (last_announced_from from (speech_by pair.writer pair.reader intake.acts) + 1)
 
 -- how many of these rows have missed numbers
-abbrev pub missed_rows : ℕ → List (List ℕ) → List Row → ℕ
-missed_rows from recording rows = count_by (λ row. not (missed_of from recording row.pair == 0)) rows
+abbrev pub missed_rows : ℕ → Intake → List Row → ℕ
+missed_rows from intake rows = count_by (λ row. not (missed_of from intake row.pair == 0)) rows
 
 -- it is the report that is asked for, and how many of its rows have missed numbers, where that is asked
 pub record IsCounted (asked : AskedValue) (recording : List (List ℕ)) (counted : AskedReport) : Type 0 where
   pub reports : IsReportAs asked recording counted.report
-  pub missed : asked.strict ≡ true → counted.missed ≡ missed_rows asked.from recording counted.report.rows.items
+  pub missed : asked.strict ≡ true → counted.missed ≡ missed_rows asked.from (intake_of recording) counted.report.rows.items
 
 -- what is known of a report with these rows and counts, of which so many have missed numbers
 abbrev pub facts_of_report : ℕ → List Row → Counts → RecordingValue → Facts
@@ -129,7 +130,7 @@ pub record IsAuditedAs (asked : AskedValue) (recording : RecordingValue) (text :
   pub report : Report
   pub reports : IsReportAs asked recording.datagrams report
   pub is_text : text ≡ report_text report.rows.items report.counts recording.ignored
-  pub ends : ending ≡ ending_as asked (facts_of_report (missed_rows asked.from recording.datagrams report.rows.items) report.rows.items report.counts recording)
+  pub ends : ending ≡ ending_as asked (facts_of_report (missed_rows asked.from (intake_of recording.datagrams) report.rows.items) report.rows.items report.counts recording)
 
 -- and of all numbers
 abbrev pub IsAudited : RecordingValue → List ℕ → Ending → Type 0

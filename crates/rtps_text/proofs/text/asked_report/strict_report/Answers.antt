@@ -1,4 +1,5 @@
 use Rattle.std.proofs.Common.{◌≡◌, ◌∙◌, ap, map, refl, sym}
+use Rattle.rtps_audit.specs.Intake.{intake_of}
 use Rattle.rtps_evidence.specs.Explanation.{explanation_value, row_of}
 use Rattle.rtps_text.specs.Asked.{asked_value}
 use Rattle.rtps_text.specs.AuditText.{missed_rows}
@@ -15,5 +16,5 @@ returns g c =
     record {
       reports = report_of_explained asked datagrams explained _ c.in_ok-explained.ensures rows refl;
       missed = λ strict. c.missed_among.ensures ∙ ap (λ all. missed_in (map explanation_value all)) c.deref-2.ensures.value
-          ∙ missed_of_explained asked datagrams explained c.in_ok-explained.ensures ∙ ap (missed_rows asked.from datagrams) (sym rows);
+          ∙ missed_of_explained asked datagrams explained c.in_ok-explained.ensures ∙ ap (missed_rows asked.from (intake_of datagrams)) (sym rows);
     }
