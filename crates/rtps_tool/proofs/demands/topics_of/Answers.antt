@@ -1,4 +1,4 @@
-use Rattle.std.proofs.Common.{◌∙◌, ap, codes, sym, subst, unwrap_or, map, [], List, ℕ, Bor}
+use Rattle.std.proofs.Common.{◌∙◌, ap, codes, sym, unwrap_or, map, [], List, ℕ, Bor}
 use Rattle.std.proofs.lemmas.Result.{IfOk-weaker}
 use Rattle.std.specs.Option.{option_map}
 use Rattle.clap.specs.Words.{found_of}
