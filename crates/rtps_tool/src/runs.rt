@@ -15,8 +15,8 @@ use crate::follow::Follow;
 use crate::streams::{read_input, write_text};
 use rtps_ids::{Memory, SeqNum};
 use rtps_text::{
-    Ending, Fragments, Recording, Unwatched, Watch, audit_text, json_text, list_text, sample_text, show_text,
-    why_text,
+    Ending, Fragments, Recording, Unwatched, Watch, audit_text, json_text, list_text, sample_text,
+    show_text, why_text,
 };
 use std::alloc::Global;
 use std::io::{Read, Write};
