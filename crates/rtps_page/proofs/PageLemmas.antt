@@ -7,11 +7,13 @@ use Rattle.json.specs.Token.{begin_array, begin_object, end_array, end_object}
 use Rattle.json.specs.Tree.{depth, items_depth, items_tokens, json_tokens, members_depth}
 use Rattle.rtps_ids.specs.declared.identity.Guid.{Guid}
 use Rattle.rtps_receiver.specs.Values.{ActBodyValue}
-use Rattle.rtps_receiver.specs.Values.ActBodyValue.{Data, Heartbeat, AckNack, Gap}
+use Rattle.rtps_receiver.specs.Values.ActBodyValue.{Data, Heartbeat, AckNack, Gap, DataFrag}
 use Rattle.rtps_discovery.specs.Directory.{DirectoryValue, settled_in}
 use Rattle.rtps_discovery.specs.declared.matching.Pair.{Pair}
 use Rattle.rtps_receiver.specs.Speech.{is_spoken_by}
+use Rattle.rtps_wire.specs.Values.{PayloadValue}
 use Rattle.rtps_audit.specs.Placed.{PlacedValue, answers_among, placed_in}
+use Rattle.rtps_audit.specs.Speech.{acts_by_datagram}
 use Rattle.rtps_audit.specs.declared.report.Counts.{Counts}
 use Rattle.rtps_evidence.specs.Explanation.{ExplanationValue}
 use Rattle.rtps_evidence.specs.declared.location.Location.{Location}
@@ -19,7 +21,7 @@ use Rattle.rtps_text.specs.Asked.{AskedValue}
 use Rattle.rtps_text.specs.JsonText.{Member, array_of, items_of, members_of, number_json, object_of, tokens_of}
 use Rattle.rtps_text.specs.Recording.{RecordingValue}
 use Rattle.rtps_text.proofs.Offered.{joined, report_depth, whole}
-use Rattle.rtps_page.specs.ChartEntries.{base_json, entries_at, entries_by, entries_of, entry_json, gone_json, members_of as numbers_of, named_json, one_gone_json}
+use Rattle.rtps_page.specs.ChartEntries.{base_json, entries_at, entries_by, entries_of, entry_json, gone_json, members_of as numbers_of, named_json, one_gone_json, piece_json}
 use Rattle.rtps_page.specs.ChartRoom.{charted_pairs, writers_behind}
 use Rattle.rtps_page.specs.PageData.{answers_json, chart_members, directory_members, endpoint_json, expect_json, guid_json, option_members, page_json, report_members, writer_json}
 
@@ -74,6 +76,10 @@ gone_within place named from past = go (nat_lt from past)
     go true = omega (arith, entry_within place named (codes "gone") (pos from ∷ pos (past - 1) ∷ []))
     go false = omega arith
 
+piece_within : (place : Location) (named : List ℕ) (number : ℕ) (told : Option PayloadValue) → items_depth (items_of (piece_json place named number told)) ≤ 1
+piece_within place named number None = omega (arith, entry_within place named (codes "data") (pos number ∷ []))
+piece_within place named number (Some payload) = omega arith
+
 entries_within : (place : Location) (named : List ℕ) (body : ActBodyValue) → items_depth (items_of (entries_at place named body)) ≤ 1
 entries_within place named (Data value) = omega (arith, entry_within place named (codes "data") (pos value.number ∷ []))
 entries_within place named (Heartbeat value) =
@@ -82,6 +88,7 @@ entries_within place named (Heartbeat value) =
 entries_within place named (Gap value) =
     both_within 1 (gone_json place named value.start value.list.base) (map (one_gone_json place named) (numbers_of value.list)) (gone_within place named value.start value.list.base)
     (mapped_within 1 (one_gone_json place named) (λ n. entry_within place named (codes "gone") (pos n ∷ pos n ∷ [])) (numbers_of value.list))
+entries_within place named (DataFrag value) = piece_within place named value.number value.told
 entries_within place named (AckNack value) = omega arith
 
 writer_within : (acts : List PlacedValue) (writer : Guid) → depth (writer_json acts writer) ≤ 3
@@ -122,7 +129,7 @@ chart_part acts pairs =
 pub page_within : (asked : AskedValue) (rows : List ExplanationValue) (counts : Counts) (recording : RecordingValue) (directory : DirectoryValue)
     → depth (page_json asked rows counts recording directory) ≤ max_depth
 page_within asked rows counts recording directory =
-    let acts = placed_in recording.datagrams in
+    let acts = placed_in (acts_by_datagram recording.datagrams) in
     let pairs = charted_pairs acts rows in
     let late = joined 5 (directory_members directory) (chart_members acts pairs) (directory_part directory) (chart_part acts pairs) in
     let all = joined 5 (report_members asked rows counts recording) (directory_members directory ++ chart_members acts pairs) (report_part asked rows counts recording) late in

@@ -13,8 +13,9 @@ use Rattle.rtps_ids.specs.declared.identity.GuidPrefix.{GuidPrefix}
 use Rattle.rtps_receiver.specs.Audience.{audience_of}
 use Rattle.rtps_receiver.specs.Speech.{is_entity, is_spoken_by, unknown_entity}
 use Rattle.rtps_receiver.specs.Values.{ActBodyValue}
-use Rattle.rtps_receiver.specs.Values.ActBodyValue.{Data, Heartbeat, AckNack, Gap}
+use Rattle.rtps_receiver.specs.Values.ActBodyValue.{Data, Heartbeat, AckNack, Gap, DataFrag}
 use Rattle.rtps_receiver.specs.declared.speech.Audience.{Audience}
+use Rattle.rtps_wire.specs.Values.{PayloadValue}
 use Rattle.rtps_audit.specs.Placed.{PlacedValue}
 use Rattle.rtps_audit.specs.declared.answer.Answer.{Answer}
 use Rattle.rtps_evidence.specs.Locations.{location_of}
@@ -55,11 +56,18 @@ one_gone_json place named number = entry_json place named (codes "gone") (pos nu
 abbrev pub members_of : NumberSetValue → List ℕ
 members_of set = filter (is_member set) (range_with_len set.base set.count)
 
+-- that fragments of a number are sent; nothing where the act tells the sample that was put together of them, since the fragments
+-- that complete it stand in the same place
+abbrev pub piece_json : Location → List ℕ → ℕ → Option PayloadValue → List Json
+piece_json place named number None = entry_json place named (codes "data") (pos number ∷ []) ∷ []
+piece_json place named number (Some payload) = []
+
 -- the entries of what an act says there
 abbrev pub entries_at : Location → List ℕ → ActBodyValue → List Json
 entries_at place named (Data value) = entry_json place named (codes "data") (pos value.number ∷ []) ∷ []
 entries_at place named (Heartbeat value) = gone_json place named 1 value.first ++ entry_json place named (codes "announced") (value.last ∷ []) ∷ []
 entries_at place named (Gap value) = gone_json place named value.start value.list.base ++ map (one_gone_json place named) (members_of value.list)
+entries_at place named (DataFrag value) = piece_json place named value.number value.told
 entries_at place named (AckNack value) = []
 
 -- the entries of an act

@@ -5,8 +5,8 @@ use Rattle.std.specs.Prelude.{ℕ, ◌≡◌, ◌++◌, List, map, Some}
 use Rattle.json.specs.Json.{Json, document}
 use Rattle.json.specs.Print.{print}
 use Rattle.json.specs.Tree.{json_tokens}
-use Rattle.rtps_receiver.specs.Acts.{acts_in}
 use Rattle.rtps_discovery.specs.Directory.{DirectoryValue, IsMapOf}
+use Rattle.rtps_audit.specs.Intake.{acts_together, intake_of}
 use Rattle.rtps_evidence.specs.Explanation.{ExplanationValue, explanation_value}
 use Rattle.rtps_evidence.specs.declared.explanation.Explained.{Explained}
 use Rattle.rtps_text.specs.Asked.{AskedValue}
@@ -49,7 +49,7 @@ pub record IsPage (asked : AskedValue) (recording : RecordingValue) (page : List
   pub explained : Explained
   pub explains : IsExplainedAs asked recording.datagrams explained
   pub directory : DirectoryValue
-  pub is_map : IsMapOf (acts_in recording.datagrams) directory
+  pub is_map : IsMapOf (acts_together (intake_of recording.datagrams).announcing) directory
   pub is_page : IsPageWith (map explanation_value explained.rows.items)
       (page_json asked (map explanation_value explained.rows.items) explained.counts recording directory) page
   pub ends : ending ≡ ending_as asked (facts_of_rows (map explanation_value explained.rows.items) explained.counts recording)

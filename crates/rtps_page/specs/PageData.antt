@@ -12,6 +12,7 @@ use Rattle.rtps_discovery.specs.Directory.{DirectoryValue, settled_in}
 use Rattle.rtps_discovery.specs.Endpoint.{EndpointValue}
 use Rattle.rtps_discovery.specs.declared.matching.Pair.{Pair}
 use Rattle.rtps_audit.specs.Placed.{PlacedValue, answers_among, placed_in}
+use Rattle.rtps_audit.specs.Speech.{acts_by_datagram}
 use Rattle.rtps_audit.specs.declared.report.Counts.{Counts}
 use Rattle.rtps_evidence.specs.Explanation.{ExplanationValue, explanation_value}
 use Rattle.rtps_text.specs.Asked.{AskedValue, asked_value}
@@ -79,7 +80,7 @@ chart_members acts pairs = (codes "writers", array_of (map (writer_json acts) (w
 abbrev pub page_json : AskedValue → List ExplanationValue → Counts → RecordingValue → DirectoryValue → Json
 page_json asked rows counts recording directory =
     object_of (report_members asked rows counts recording
-    ++ (directory_members directory ++ chart_members (placed_in recording.datagrams) (charted_pairs (placed_in recording.datagrams) rows)))
+    ++ (directory_members directory ++ chart_members (placed_in (acts_by_datagram recording.datagrams)) (charted_pairs (placed_in (acts_by_datagram recording.datagrams)) rows)))
 
 -- the rows of what the code makes a page of
 abbrev pub rows_in : Subject → List ExplanationValue
@@ -89,7 +90,7 @@ rows_in subject = map explanation_value subject.explained.now.rows.items
 abbrev pub members_in : Subject → List Pair → List Member
 members_in subject pairs =
     report_members (asked_value subject.asked.now) (rows_in subject) subject.explained.now.counts subject.recording.now
-    ++ (directory_members subject.directory.now ++ chart_members (placed_in subject.recording.now.datagrams) pairs)
+    ++ (directory_members subject.directory.now ++ chart_members (placed_in (acts_by_datagram subject.recording.now.datagrams)) pairs)
 
 -- its data
 abbrev pub json_in : Subject → Json

@@ -1,7 +1,8 @@
 ghost use Rattle.std.specs.Prelude.{ℕ, ◌≡◌, ◌++◌, List, OnOk};
 ghost use Rattle.std.specs.List.{flat_map};
 ghost use Rattle.json.specs.Tree.{json_tokens};
-ghost use Rattle.rtps_audit.specs.Index.{IsIndexOf};
+ghost use Rattle.rtps_audit.specs.Index.{IsIndexBy};
+ghost use Rattle.rtps_audit.specs.Intake.{Intake};
 ghost use Rattle.rtps_audit.specs.Placed.{placed_in};
 ghost use Rattle.rtps_page.specs.ChartEntries.{base_json};
 ghost use Rattle.rtps_page.specs.PageData.{answers_json};
@@ -42,8 +43,8 @@ fn push_answers(
     index: &Index<'_>,
     pair: Pair,
 ) -> Result<(), AllocError>
-    ensures tokens { (recording : List (List ℕ)) → IsIndexOf recording index.now
-        → OnOk result (writer.new.tokens ≡ writer.old.tokens ++ json_tokens (answers_json (placed_in recording) pair)) }
+    ensures tokens { (intake : Intake) → IsIndexBy intake index.now
+        → OnOk result (writer.new.tokens ≡ writer.old.tokens ++ json_tokens (answers_json (placed_in intake.acts) pair)) }
     ensures before { writer.new.before ≡ writer.old.before }
 {
     writer.begin_object()?;
@@ -63,8 +64,8 @@ pub(crate) fn push_all_answers(
     index: &Index<'_>,
     pairs: &[Pair],
 ) -> Result<(), AllocError>
-    ensures tokens { (recording : List (List ℕ)) → IsIndexOf recording index.now
-        → OnOk result (writer.new.tokens ≡ writer.old.tokens ++ flat_map (λ pair. json_tokens (answers_json (placed_in recording) pair)) pairs.now) }
+    ensures tokens { (intake : Intake) → IsIndexBy intake index.now
+        → OnOk result (writer.new.tokens ≡ writer.old.tokens ++ flat_map (λ pair. json_tokens (answers_json (placed_in intake.acts) pair)) pairs.now) }
     ensures before { writer.new.before ≡ writer.old.before }
 {
     for pair in pairs {

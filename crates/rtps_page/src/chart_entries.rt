@@ -1,10 +1,12 @@
 ghost use Rattle.std.specs.Prelude.{◌≡◌, ◌<◌, ◌^◌, ◌++◌, ◌∷◌, [], codes, OnOk};
 ghost use Rattle.std.specs.List.{flat_map};
+ghost use Rattle.std.specs.Option.{option_map};
 ghost use Rattle.std.specs.String.{string_bytes};
 ghost use Rattle.json.specs.Tree.{json_tokens};
 ghost use Rattle.rtps_receiver.specs.Values.{act_body_value};
+ghost use Rattle.rtps_wire.specs.Values.{payload_value};
 ghost use Rattle.rtps_audit.specs.Placed.{placed_value};
-ghost use Rattle.rtps_page.specs.ChartEntries.{audience_text, entries_of, entry_json, entries_at, gone_json, members_of, named_json, one_gone_json};
+ghost use Rattle.rtps_page.specs.ChartEntries.{audience_text, entries_of, entry_json, entries_at, gone_json, members_of, named_json, one_gone_json, piece_json};
 ghost use Rattle.rtps_text.specs.JsonText.{number_json};
 
 use crate::entry_counts::has_number;
@@ -12,7 +14,7 @@ use json::Writer;
 use rtps_audit::Placed;
 use rtps_evidence::Location;
 use rtps_ids::{EntityId, NumberSet};
-use rtps_receiver::{ActBody, Audience};
+use rtps_receiver::{ActBody, Audience, FragmentBody};
 use rtps_wire::HeartbeatBody;
 use std::alloc::AllocError;
 
@@ -183,6 +185,22 @@ pub(crate) fn push_entries(
     push_said(writer, head, &placed.act.body)
 }
 
+/// Appends the entry of fragments; nothing where the act tells the sample that was put together of them.
+fn push_piece(
+    writer: &mut Writer,
+    head: EntryHead<'_>,
+    piece: &FragmentBody<'_>,
+) -> Result<(), AllocError>
+    ensures tokens { OnOk result (writer.new.tokens
+        ≡ writer.old.tokens ++ flat_map json_tokens (piece_json head.entry.place head.entry.named.now piece.now.number (option_map payload_value piece.now.told))) }
+    ensures before { writer.new.before ≡ writer.old.before }
+{
+    match piece.told {
+        Some(_) => Ok(()),
+        None => push_one(writer, head, "data", piece.number.get()),
+    }
+}
+
 /// Appends the entries of what an act says.
 fn push_said(writer: &mut Writer, head: EntryHead<'_>, body: &ActBody<'_>) -> Result<(), AllocError>
     ensures tokens { OnOk result (writer.new.tokens
@@ -200,6 +218,7 @@ fn push_said(writer: &mut Writer, head: EntryHead<'_>, body: &ActBody<'_>) -> Re
             push_gone(writer, head, start, gap.list.base().cast_unsigned())?;
             push_members(writer, head, &gap.list)
         }
+        ActBody::DataFrag(piece) => push_piece(writer, head, piece),
         ActBody::AckNack(_) => Ok(()),
     }
 }

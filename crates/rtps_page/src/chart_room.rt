@@ -1,6 +1,7 @@
 ghost use Rattle.std.specs.Prelude.{ℕ, ◌≡◌, filter, length, map, IfOk, IfSome, List};
 ghost use Rattle.rtps_evidence.specs.Explanation.{explanation_value};
-ghost use Rattle.rtps_audit.specs.Index.{IsIndexOf};
+ghost use Rattle.rtps_audit.specs.Index.{IsIndexBy};
+ghost use Rattle.rtps_audit.specs.Intake.{Intake};
 ghost use Rattle.rtps_audit.specs.Placed.{placed_in};
 ghost use Rattle.rtps_page.specs.ChartEntries.{entries_by};
 ghost use Rattle.rtps_page.specs.ChartRoom.{charted_pairs, given_from, is_last as is_last_lem, need_behind as need_behind_lem, need_of, room_behind as room_behind_lem, used_behind as used_behind_lem};
@@ -48,9 +49,9 @@ struct Known {
 /// How many entries a writer has, where they may be known from the row before.
 fn entries_known(index: &Index<'_>, before: Option<Known>, writer: Guid) -> Known
     ensures writer { result.writer ≡ writer }
-    ensures entries { (recording : List (List ℕ)) → IsIndexOf recording index.now
-        → IfSome before (λ known. known.entries ≡ length (entries_by known.writer (placed_in recording)))
-        → result.entries ≡ length (entries_by writer (placed_in recording)) }
+    ensures entries { (intake : Intake) → IsIndexBy intake index.now
+        → IfSome before (λ known. known.entries ≡ length (entries_by known.writer (placed_in intake.acts)))
+        → result.entries ≡ length (entries_by writer (placed_in intake.acts)) }
 {
     if let Some(known) = before {
         if known.writer == writer {
@@ -69,8 +70,8 @@ fn needs_of(
     index: &Index<'_>,
     rows: &[Explanation<'_>],
 ) -> Result<Vec<Need>, AllocError>
-    ensures { (recording : List (List ℕ)) → IsIndexOf recording index.now
-        → IfOk result (λ needs. needs.items ≡ map (λ row. need_of (placed_in recording) (explanation_value row)) rows.now) }
+    ensures { (intake : Intake) → IsIndexBy intake index.now
+        → IfOk result (λ needs. needs.items ≡ map (λ row. need_of (placed_in intake.acts) (explanation_value row)) rows.now) }
 {
     let mut needs = Vec::with_capacity(alloc, rows.len())?;
     let mut before = None;
@@ -176,8 +177,8 @@ pub(crate) fn pairs_with_charts(
     index: &Index<'_>,
     rows: &[Explanation<'_>],
 ) -> Result<Vec<Pair>, AllocError>
-    ensures { (recording : List (List ℕ)) → IsIndexOf recording index.now
-        → IfOk result (λ pairs. pairs.items ≡ charted_pairs (placed_in recording) (map explanation_value rows.now)) }
+    ensures { (intake : Intake) → IsIndexBy intake index.now
+        → IfOk result (λ pairs. pairs.items ≡ charted_pairs (placed_in intake.acts) (map explanation_value rows.now)) }
 {
     let needs = needs_of(alloc, index, rows)?;
     let room = Room {

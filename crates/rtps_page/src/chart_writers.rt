@@ -2,7 +2,8 @@ ghost use Rattle.std.specs.Prelude.{ℕ, ◌≡◌, ◌++◌, filter, map, IfOk,
 ghost use Rattle.std.specs.List.{flat_map};
 ghost use Rattle.json.specs.Tree.{json_tokens};
 ghost use Rattle.rtps_receiver.specs.Speech.{is_spoken_by};
-ghost use Rattle.rtps_audit.specs.Index.{IsIndexOf};
+ghost use Rattle.rtps_audit.specs.Index.{IsIndexBy};
+ghost use Rattle.rtps_audit.specs.Intake.{Intake};
 ghost use Rattle.rtps_audit.specs.Placed.{placed_in, placed_value};
 ghost use Rattle.rtps_page.specs.ChartEntries.{entries_by};
 ghost use Rattle.rtps_page.specs.ChartRoom.{writers_behind};
@@ -57,8 +58,8 @@ fn push_writer(
     index: &Index<'_>,
     guid: Guid,
 ) -> Result<(), AllocError>
-    ensures tokens { (recording : List (List ℕ)) → IsIndexOf recording index.now
-        → OnOk result (writer.new.tokens ≡ writer.old.tokens ++ json_tokens (writer_json (placed_in recording) guid)) }
+    ensures tokens { (intake : Intake) → IsIndexBy intake index.now
+        → OnOk result (writer.new.tokens ≡ writer.old.tokens ++ json_tokens (writer_json (placed_in intake.acts) guid)) }
     ensures before { writer.new.before ≡ writer.old.before }
 {
     writer.begin_object()?;
@@ -77,8 +78,8 @@ pub(crate) fn push_writers(
     index: &Index<'_>,
     guids: &[Guid],
 ) -> Result<(), AllocError>
-    ensures tokens { (recording : List (List ℕ)) → IsIndexOf recording index.now
-        → OnOk result (writer.new.tokens ≡ writer.old.tokens ++ flat_map (λ guid. json_tokens (writer_json (placed_in recording) guid)) guids.now) }
+    ensures tokens { (intake : Intake) → IsIndexBy intake index.now
+        → OnOk result (writer.new.tokens ≡ writer.old.tokens ++ flat_map (λ guid. json_tokens (writer_json (placed_in intake.acts) guid)) guids.now) }
     ensures before { writer.new.before ≡ writer.old.before }
 {
     for guid in guids {

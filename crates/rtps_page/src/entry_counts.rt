@@ -1,13 +1,15 @@
 ghost use Rattle.std.specs.Prelude.{ℕ, ◌≡◌, ◌≤◌, ◌<◌, ◌^◌, length, map, List};
+ghost use Rattle.std.specs.Option.{option_map};
 ghost use Rattle.rtps_ids.specs.NumberSet.{is_member};
 ghost use Rattle.rtps_receiver.specs.Values.{act_body_value};
+ghost use Rattle.rtps_wire.specs.Values.{payload_value};
 ghost use Rattle.rtps_audit.specs.Placed.{placed_value};
 ghost use Rattle.rtps_evidence.specs.declared.location.Location.{Location as LocationValue};
-ghost use Rattle.rtps_page.specs.ChartEntries.{entries_at, entries_by, gone_json, members_of};
+ghost use Rattle.rtps_page.specs.ChartEntries.{entries_at, entries_by, gone_json, members_of, piece_json};
 
 use rtps_audit::Placed;
 use rtps_ids::{Guid, NumberSet};
-use rtps_receiver::ActBody;
+use rtps_receiver::{ActBody, FragmentBody};
 
 /// Whether a number is in a set.
 pub(crate) fn has_number(set: &NumberSet, number: u64) -> bool
@@ -40,6 +42,17 @@ fn one_if_gone(from: u64, past: u64) -> u64
     if from < past { 1 } else { 0 }
 }
 
+/// 1 where an act says that fragments are sent, and 0 where it tells the sample that was put together of them.
+fn one_if_piece(piece: &FragmentBody<'_>) -> u64
+    ensures value { (place : LocationValue) (named : List ℕ) → result ≡ length (piece_json place named piece.now.number (option_map payload_value piece.now.told)) }
+    ensures few { result ≤ 1 }
+{
+    match piece.told {
+        Some(_) => 0,
+        None => 1,
+    }
+}
+
 /// How many entries what an act says has.
 fn entries_in(body: &ActBody<'_>) -> u64
     ensures value { (place : LocationValue) (named : List ℕ) → result ≡ length (entries_at place named (act_body_value body.now)) }
@@ -52,6 +65,7 @@ fn entries_in(body: &ActBody<'_>) -> u64
             let start = gap.start.get().cast_unsigned();
             one_if_gone(start, gap.list.base().cast_unsigned()) + members_among(&gap.list)
         }
+        ActBody::DataFrag(piece) => one_if_piece(piece),
         ActBody::AckNack(_) => 0,
     }
 }

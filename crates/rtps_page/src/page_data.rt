@@ -4,7 +4,8 @@ ghost use Rattle.std.specs.String.{string_bytes};
 ghost use Rattle.json.specs.Json.{string};
 ghost use Rattle.json.specs.Token.{boolean, key};
 ghost use Rattle.json.specs.Tree.{json_tokens};
-ghost use Rattle.rtps_audit.specs.Index.{IsIndexOf};
+ghost use Rattle.rtps_audit.specs.Index.{IsIndexBy, IsIndexOf};
+ghost use Rattle.rtps_audit.specs.Intake.{Intake};
 ghost use Rattle.rtps_audit.specs.Placed.{placed_in};
 ghost use Rattle.rtps_text.specs.Asked.{asked_value};
 ghost use Rattle.rtps_text.specs.JsonText.{array_of, object_of, tokens_of};
@@ -141,9 +142,9 @@ fn push_all_writers(
     index: &Index<'_>,
     pairs: &[Pair],
 ) -> Result<(), AllocError>
-    ensures tokens { (recording : List (List ℕ)) → IsIndexOf recording index.now
+    ensures tokens { (intake : Intake) → IsIndexBy intake index.now
         → OnOk result (writer.new.tokens ≡ writer.old.tokens ++ key (codes "writers")
-        ∷ json_tokens (array_of (map (writer_json (placed_in recording)) (writers_behind None pairs.now)))) }
+        ∷ json_tokens (array_of (map (writer_json (placed_in intake.acts)) (writers_behind None pairs.now)))) }
     ensures before { writer.new.before ≡ writer.old.before }
 {
     let mut text = String::new(alloc);
@@ -161,9 +162,9 @@ fn push_answered(
     index: &Index<'_>,
     pairs: &[Pair],
 ) -> Result<(), AllocError>
-    ensures tokens { (recording : List (List ℕ)) → IsIndexOf recording index.now
+    ensures tokens { (intake : Intake) → IsIndexBy intake index.now
         → OnOk result (writer.new.tokens ≡ writer.old.tokens ++ key (codes "answers")
-        ∷ json_tokens (array_of (map (answers_json (placed_in recording)) pairs.now))) }
+        ∷ json_tokens (array_of (map (answers_json (placed_in intake.acts)) pairs.now))) }
     ensures before { writer.new.before ≡ writer.old.before }
 {
     let mut text = String::new(alloc);
@@ -180,8 +181,8 @@ fn push_charts(
     index: &Index<'_>,
     pairs: &[Pair],
 ) -> Result<(), AllocError>
-    ensures tokens { (recording : List (List ℕ)) → IsIndexOf recording index.now
-        → OnOk result (writer.new.tokens ≡ writer.old.tokens ++ tokens_of (chart_members (placed_in recording) pairs.now)) }
+    ensures tokens { (intake : Intake) → IsIndexBy intake index.now
+        → OnOk result (writer.new.tokens ≡ writer.old.tokens ++ tokens_of (chart_members (placed_in intake.acts) pairs.now)) }
     ensures before { writer.new.before ≡ writer.old.before }
 {
     push_all_writers(alloc, writer, index, pairs)?;

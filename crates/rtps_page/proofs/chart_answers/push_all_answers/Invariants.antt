@@ -1,12 +1,13 @@
 use Rattle.std.proofs.Common.{◌≡◌, ◌++◌, ℕ, List, take}
 use Rattle.std.specs.List.{flat_map}
 use Rattle.json.specs.Tree.{json_tokens}
-use Rattle.rtps_audit.specs.Index.{IsIndexOf}
+use Rattle.rtps_audit.specs.Index.{IsIndexBy}
+use Rattle.rtps_audit.specs.Intake.{Intake}
 use Rattle.rtps_audit.specs.Placed.{placed_in}
 use Rattle.rtps_page.specs.PageData.{answers_json}
 use Rattle.rtps_page.proofs.chart_answers.push_all_answers.Given as goal
 
 -- the objects so far
 abbrev pub invariant-loop-pair : goal.invariant-loop-pair
-invariant-loop-pair l = ((recording : List (List ℕ)) → IsIndexOf recording l.index → l.writer.tokens ≡ l.initial.writer.tokens ++ flat_map (λ pair. json_tokens (answers_json (placed_in recording) pair)) (take l.pair-index l.pairs))
+invariant-loop-pair l = ((intake : Intake) → IsIndexBy intake l.index → l.writer.tokens ≡ l.initial.writer.tokens ++ flat_map (λ pair. json_tokens (answers_json (placed_in intake.acts) pair)) (take l.pair-index l.pairs))
     × (l.writer.before ≡ l.initial.writer.before)

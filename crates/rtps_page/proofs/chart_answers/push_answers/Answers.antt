@@ -11,16 +11,16 @@ use Rattle.rtps_page.proofs.EntryLemmas.{answers_tokens}
 use Rattle.rtps_page.proofs.chart_answers.push_answers.Goals as goal
 
 pub returns-clause-tokens : goal.returns-clause-tokens
-returns-clause-tokens c = λ recording is.
+returns-clause-tokens c = λ intake is.
     let start : List Token = c.args.writer.now.tokens in
     let pair = c.args.pair in
-    let acts = placed_in recording in
+    let acts = placed_in intake.acts in
     let bases : List Token = flat_map (λ answer. json_tokens (base_json answer)) (answers_among pair acts) in
     on_ok_weaker c.end_object.result
     (λ last.
     six_parts start (begin_object ∷ []) (key (codes "writer") ∷ string (guid_text pair.writer) ∷ []) (key (codes "reader") ∷ string (guid_text pair.reader) ∷ []) (key (codes "bases") ∷ []) (begin_array ∷ [])
     (bases ++ (end_array ∷ end_object ∷ [])) c.in_ok-begin_object.ensures.ok c.in_ok-push_guid.ensures.tokens c.in_ok-push_guid-2.ensures.tokens c.in_ok-key.ensures.ok c.in_ok-begin_array.ensures.ok
     (three_parts c.begin_array.new.self.tokens bases (end_array ∷ []) (end_object ∷ [])
-    (c.in_ok-push_bases.ensures.tokens ∙ ap (λ l. c.begin_array.new.self.tokens ++ flat_map (λ answer. json_tokens (base_json answer)) l) (c.answers_of.ensures recording is)) c.in_ok-end_array.ensures.ok last)
+    (c.in_ok-push_bases.ensures.tokens ∙ ap (λ l. c.begin_array.new.self.tokens ++ flat_map (λ answer. json_tokens (base_json answer)) l) (c.answers_of.ensures intake is)) c.in_ok-end_array.ensures.ok last)
     ∙ ap (λ tokens. start ++ tokens) (sym (answers_tokens acts pair)))
     c.end_object.ensures.ok

@@ -5,6 +5,6 @@ use Rattle.rtps_page.proofs.EntryLemmas.{entries_from}
 use Rattle.rtps_page.proofs.chart_room.entries_known.Goals as goal
 
 pub returns-clause-entries : goal.returns-clause-entries
-returns-clause-entries c = λ recording is known.
-    c.entries_of_writer.ensures ∙ ap (λ (l : List PlacedValue). length (entries_by c.args.writer l)) (c.acts_of.ensures recording is)
-    ∙ ap length (entries_from c.args.writer (placed_in recording))
+returns-clause-entries c = λ intake is known.
+    c.entries_of_writer.ensures ∙ ap (λ (l : List PlacedValue). length (entries_by c.args.writer l)) (c.acts_of.ensures intake is)
+    ∙ ap length (entries_from c.args.writer (placed_in intake.acts))

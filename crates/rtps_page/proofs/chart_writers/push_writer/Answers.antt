@@ -11,11 +11,11 @@ use Rattle.rtps_page.proofs.EntryLemmas.{entries_from, writer_tokens}
 use Rattle.rtps_page.proofs.chart_writers.push_writer.Goals as goal
 
 pub returns-clause-tokens : goal.returns-clause-tokens
-returns-clause-tokens c = λ recording is.
+returns-clause-tokens c = λ intake is.
     let start : List Token = c.args.writer.now.tokens in
     let guid = c.args.guid in
-    let acts = placed_in recording in
-    let entries = ap (λ (l : List PlacedValue). flat_map json_tokens (entries_by guid l)) (c.acts_of.ensures recording is) ∙ ap (flat_map json_tokens) (entries_from guid acts) in
+    let acts = placed_in intake.acts in
+    let entries = ap (λ (l : List PlacedValue). flat_map json_tokens (entries_by guid l)) (c.acts_of.ensures intake is) ∙ ap (flat_map json_tokens) (entries_from guid acts) in
     on_ok_weaker c.end_object.result
     (λ last.
     seven_parts start (begin_object ∷ []) (key (codes "guid") ∷ string (guid_text guid) ∷ []) (key (codes "acts") ∷ []) (begin_array ∷ []) (flat_map json_tokens (entries_by guid acts)) (end_array ∷ [])

@@ -11,13 +11,13 @@ use Rattle.rtps_page.proofs.PageLemmas.{mapped_tokens}
 use Rattle.rtps_page.proofs.page_data.push_answered.Goals as goal
 
 pub returns-clause-tokens : goal.returns-clause-tokens
-returns-clause-tokens c = λ recording is.
+returns-clause-tokens c = λ intake is.
     let start : List Token = c.args.writer.now.tokens in
-    let acts = placed_in recording in
+    let acts = placed_in intake.acts in
     let pairs = c.args.pairs.now in
     on_ok_weaker c.end_array.result
     (λ last.
     four_parts start (key (codes "answers") ∷ []) (begin_array ∷ []) (flat_map (λ pair. json_tokens (answers_json acts pair)) pairs) (end_array ∷ []) c.in_ok-key.ensures.ok c.in_ok-begin_array.ensures.ok
-    (c.in_ok-push_all_answers.ensures.tokens recording is) last
+    (c.in_ok-push_all_answers.ensures.tokens intake is) last
     ∙ ap (λ tokens. start ++ key (codes "answers") ∷ tokens) (sym (mapped_tokens (answers_json acts) pairs)))
     c.end_array.ensures.ok

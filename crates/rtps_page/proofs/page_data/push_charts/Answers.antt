@@ -10,12 +10,12 @@ use Rattle.rtps_page.specs.PageData.{answers_json, writer_json}
 use Rattle.rtps_page.proofs.page_data.push_charts.Goals as goal
 
 pub returns-clause-tokens : goal.returns-clause-tokens
-returns-clause-tokens c = λ recording is.
+returns-clause-tokens c = λ intake is.
     let start : List Token = c.args.writer.now.tokens in
-    let acts = placed_in recording in
+    let acts = placed_in intake.acts in
     let pairs = c.args.pairs.now in
     let one : List Token = key (codes "writers") ∷ json_tokens (array_of (map (writer_json acts) (writers_behind None pairs))) in
     let two : List Token = key (codes "answers") ∷ json_tokens (array_of (map (answers_json acts) pairs)) in
     on_ok_weaker c.push_answered.result
-    (λ last. two_parts start one two (c.in_ok-push_all_writers.ensures.tokens recording is) last ∙ ap (λ l. start ++ (one ++ l)) (sym (append-nil two)))
-    (c.push_answered.ensures.tokens recording is)
+    (λ last. two_parts start one two (c.in_ok-push_all_writers.ensures.tokens intake is) last ∙ ap (λ l. start ++ (one ++ l)) (sym (append-nil two)))
+    (c.push_answered.ensures.tokens intake is)
