@@ -24,7 +24,7 @@ from measure import run
 
 ROOT = os.path.dirname(os.path.dirname(os.path.realpath(__file__)))
 PROGRAM = os.path.join(ROOT, 'crates', 'rtps_main', 'out', 'rtps_main')
-COMMANDS = {'show': ['show'], 'list': ['list'], 'audit': ['audit'], 'why': ['why'], 'json': ['audit', '--json']}
+COMMANDS = {'show': ['show'], 'list': ['list'], 'audit': ['audit'], 'why': ['why'], 'json': ['audit', '--json'], 'page': ['page']}
 PLAIN_COMMANDS = 'show', 'list', 'audit'
 KIB, MIB, GIB = 1 << 10, 1 << 20, 1 << 30
 

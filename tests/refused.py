@@ -149,6 +149,8 @@ def of_program(library, program, recording):
     runs.append((' from 3 on', ['why', '--from', '3', '-'], recording))
     runs.append((' of a GAP whose list has 128 ranges', ['audit', '-'], many_ranges()))
     runs.append((' of readers that are named', ['audit', '--json', '-'], named_readers()))
+    runs.append(('', ['page', '-'], recording))
+    runs.append((' of readers that are named', ['page', '--observed', '-'], named_readers()))
     runs.append((' of a capture', ['audit', '--max-datagrams', '6', '--max-octets', '100000', '-'], capture))
     runs.append((' of any capture', ['audit', '--any', '-'], file_of('examples', 'ipv6.pcapng')))
     for name, words, text in runs:

@@ -98,7 +98,7 @@ class Report {
     return this.rows.length > 0 && this.rows[0].received !== undefined;
   }
 
-  // what the writer of a row said, as far as a reader of a row hears it, or undefined where the page has no room for it
+  // what the writer of a row said, to whichever reader, or undefined where the page has no room for it
   actsOf(row) {
     return this.basesOf(row) && this.acts.get(row.writer);
   }

@@ -16,7 +16,7 @@ use Rattle.rtps_text.specs.JsonText.{array_of, count_json, number_json}
 use Rattle.rtps_text.specs.ListText.{guid_text}
 use Rattle.rtps_page.specs.ChartEntries.{base_json, entries_by, entries_of, entry_json, named_json}
 use Rattle.rtps_page.specs.PageData.{answers_json, writer_json}
-use Rattle.rtps_page.proofs.PageLemmas.{array_tokens, mapped_tokens}
+use Rattle.rtps_page.proofs.PageLemmas.{array_tokens}
 
 -- the tokens of an entry, part by part
 pub entry_tokens : (place : Location) (named kind : List ℕ) (numbers : List ℤ)

@@ -21,7 +21,7 @@ use Rattle.rtps_text.specs.Asked.{AskedValue}
 use Rattle.rtps_text.specs.JsonText.{Member, array_of, items_of, members_of, number_json, object_of, tokens_of}
 use Rattle.rtps_text.specs.Recording.{RecordingValue}
 use Rattle.rtps_text.proofs.Offered.{joined, report_depth, whole}
-use Rattle.rtps_page.specs.ChartEntries.{base_json, entries_at, entries_by, entries_of, entry_json, gone_json, members_of as numbers_of, named_json, one_gone_json, piece_json}
+use Rattle.rtps_page.specs.ChartEntries.{base_json, entries_at, entries_of, entry_json, gone_json, members_of as numbers_of, named_json, one_gone_json, piece_json}
 use Rattle.rtps_page.specs.ChartRoom.{charted_pairs, writers_behind}
 use Rattle.rtps_page.specs.PageData.{answers_json, chart_members, directory_members, endpoint_json, expect_json, guid_json, option_members, page_json, report_members, writer_json}
 

@@ -1,8 +1,7 @@
 -- The grammar of JSON reads the same tokens where markup in a text that was printed is written as its two digits.
-use Rattle.std.proofs.Common.{◌≡◌, ◌+◌, ◌<◌, ◌≤◌, ◌++◌, ◌∷◌, [], ◌∙◌, ◌==◌, ◌||◌, ◌&&◌, ◌⊎◌, ℕ, zero, suc, List, Some, Bool, true, false, ap, ap₂, append_assoc, append-nil, arith, cond, inl, inr, option_and_then, refl, subst, sym}
+use Rattle.std.proofs.Common.{◌≡◌, ◌<◌, ◌≤◌, ◌++◌, ◌∷◌, [], ◌∙◌, ◌&&◌, ◌⊎◌, ℕ, zero, suc, List, Some, Bool, true, false, ap, ap₂, append_assoc, append-nil, arith, cond, inl, inr, option_and_then, refl, subst, sym}
 use Rattle.std.proofs.lemmas.Bool.{cases_eq, cases_lt, le-ltb, ne_eqb}
 use Rattle.std.proofs.lemmas.List.Concat.{flat_map-append}
-use Rattle.std.specs.List.{flat_map}
 use lib.Utf8.{encode}
 use Rattle.hex.specs.Hex.{encode_with}
 use Rattle.json.specs.Json.{Json, Items, Members, null, boolean, number, string, array, object, no_items, item, no_members, member, document, if_last, max_depth, value}

@@ -1,9 +1,8 @@
 -- What is written in place of markup has none, and a text of other octets stays as it is.
-use Rattle.std.proofs.Common.{◌≡◌, ◌+◌, ◌-◌, ◌<◌, ◌≤◌, ◌++◌, zero, suc, arith, drop, drop-drop, get_or, if◌then◌else◌, length, slice_index, take, ◌∷◌, [], ◌∙◌, ◌==◌, ◌||◌, ◌⊎◌, ℕ, List, Bool, true, false, ap, ap₂, inl, inr, refl, subst, sym}
+use Rattle.std.proofs.Common.{◌≡◌, ◌+◌, ◌-◌, ◌<◌, ◌≤◌, ◌++◌, zero, suc, arith, drop, drop-drop, get_or, if◌then◌else◌, length, slice_index, take, ◌∷◌, [], ◌∙◌, ◌||◌, ◌⊎◌, ℕ, List, Bool, true, false, ap, ap₂, inl, inr, refl, subst, sym}
 use Rattle.std.proofs.lemmas.Bool.{cases_eq, ne_eqb}
 use Rattle.std.proofs.lemmas.List.{drop_more, length-drop}
 use Rattle.std.proofs.lemmas.List.Folds.{list_any-append}
-use Rattle.std.specs.List.{flat_map, list_any}
 use Rattle.hex.specs.Hex.{encode_lower, encode_with}
 use Rattle.rtps_page.specs.SafeText.{IsSafe, is_markup, safe_octet, safe_text}
 

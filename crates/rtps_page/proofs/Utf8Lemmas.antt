@@ -1,5 +1,5 @@
 -- A text of UTF-8 without its markup is one.
-use Rattle.std.proofs.Common.{◌≡◌, ◌<◌, ◌≤◌, ◌++◌, ◌∷◌, [], ◌∙◌, ℕ, zero, suc, List, IsUtf8, ap, ap₂, append-nil, arith, get_or, inl, inr, length, refl, subst, sym, true}
+use Rattle.std.proofs.Common.{◌≡◌, ◌<◌, ◌≤◌, ◌++◌, ◌∷◌, [], ◌∙◌, ℕ, suc, List, IsUtf8, ap, ap₂, append-nil, arith, get_or, inl, inr, length, refl, subst, sym, true}
 use Rattle.std.proofs.lemmas.Bool.{and_parts, cases_lt}
 use Rattle.std.proofs.lemmas.List.Concat.{flat_map-append}
 use Rattle.std.proofs.lemmas.Str.{IsUtf8-append, IsUtf8-encode, IsUtf8-nil, encode_ascii, inside_one}

@@ -1,6 +1,6 @@
 -- The rows of a page as plain lines, for where scripts are switched off. own: a line of fields with a tabulator (9) between them
 -- for each row, first at most 1,000 that are not complete, then at most 1,000 that are.
-use Rattle.std.specs.Prelude.{ℕ, ℤ, ◌++◌, List, [], ◌∷◌, codes, filter, take, Option, None, Some}
+use Rattle.std.specs.Prelude.{ℕ, ◌++◌, List, [], ◌∷◌, codes, filter, take, Option, None, Some}
 use Rattle.std.specs.Fmt.{decimal, signed_decimal}
 use Rattle.std.specs.List.{flat_map}
 use Rattle.rtps_audit.specs.declared.verdict.Verdict.{Verdict}

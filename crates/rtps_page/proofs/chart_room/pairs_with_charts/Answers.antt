@@ -1,4 +1,4 @@
-use Rattle.std.proofs.Common.{◌≡◌, ◌∙◌, List, ap, filter, map, subst, sym}
+use Rattle.std.proofs.Common.{◌≡◌, ◌∙◌, List, filter, map, subst}
 use Rattle.std.specs.Prelude.{IfOk}
 use Rattle.rtps_evidence.specs.Explanation.{explanation_value}
 use Rattle.rtps_audit.specs.Placed.{placed_in}

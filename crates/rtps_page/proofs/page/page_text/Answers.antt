@@ -1,4 +1,4 @@
-use Rattle.std.proofs.Common.{◌≡◌, ◌∙◌, ℕ, Bor, List, ap, map, subst, sym}
+use Rattle.std.proofs.Common.{◌∙◌, ℕ, Bor, List, ap, map, subst, sym}
 use Rattle.rtps_evidence.specs.Explanation.{IsExplainedFrom}
 use Rattle.rtps_audit.specs.Index.{IsIndexOf}
 use Rattle.rtps_audit.specs.Intake.{intake_of}

@@ -1,4 +1,4 @@
-use Rattle.std.proofs.Common.{◌++◌, ◌∷◌, [], ◌+◌, ◌∙◌, ap, arith, sym, length}
+use Rattle.std.proofs.Common.{◌++◌, ◌∷◌, [], ◌+◌, ◌∙◌, ap, arith, sym}
 use Rattle.std.proofs.lemmas.List.{append_assoc, length-append}
 use Rattle.rtps_page.proofs.ChartLemmas.{counts_no, counts_yes}
 use Rattle.rtps_page.proofs.page_data.one_octet_among.Goals as goal

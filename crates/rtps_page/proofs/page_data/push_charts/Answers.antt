@@ -1,4 +1,4 @@
-use Rattle.std.proofs.Common.{◌++◌, ◌∷◌, [], ◌∙◌, List, None, ap, append-nil, codes, map, sym}
+use Rattle.std.proofs.Common.{◌++◌, ◌∷◌, ◌∙◌, List, None, ap, append-nil, codes, map, sym}
 use Rattle.std.proofs.lemmas.Result.{on_ok_weaker}
 use Rattle.json.specs.Token.{Token, key}
 use Rattle.json.specs.Tree.{json_tokens}

@@ -1,6 +1,5 @@
-use Rattle.std.proofs.Common.{◌++◌, ◌∷◌, [], ◌∙◌, List, ap, codes, map, sym}
+use Rattle.std.proofs.Common.{◌++◌, ◌∷◌, [], ◌∙◌, List, ap, codes, sym}
 use Rattle.std.specs.List.{flat_map}
-use Rattle.json.specs.Json.{Json}
 use Rattle.json.specs.Token.{Token, begin_array, end_array, key}
 use Rattle.json.specs.Tree.{json_tokens}
 use Rattle.rtps_ids.specs.declared.identity.Guid.{Guid}
