@@ -1,7 +1,8 @@
 ghost use Rattle.std.specs.Prelude.{◌≡◌, ◌++◌, IfOk};
 ghost use Rattle.std.specs.Str.{IsUtf8};
 ghost use Rattle.std.specs.String.{string_bytes};
-ghost use Rattle.rtps_audit.specs.Index.{IsIndexOf};
+ghost use Rattle.rtps_audit.specs.Index.{IsIndexBy};
+ghost use Rattle.rtps_audit.specs.Intake.{intake_of};
 ghost use Rattle.rtps_text.specs.Asked.{asked_value};
 ghost use Rattle.rtps_page.specs.Page.{IsPage, IsPageOf};
 ghost use Rattle.rtps_page.specs.SafeText.{in_json, in_line, safe_text};
@@ -44,7 +45,7 @@ pub fn page_text<'a, P: Watch>(
 
 /// The page of its rows and data.
 fn page_of(alloc: Global, subject: &Subject<'_, '_>) -> Result<String, Memory>
-    requires { IsIndexOf subject.now.recording.now.datagrams subject.now.index.now }
+    requires { IsIndexBy (intake_of subject.now.recording.now.datagrams) subject.now.index.now }
     ensures { IfOk result (λ page. IsPageOf subject.now (string_bytes page)) }
 {
     let rows = rows_of(alloc, &subject.explained.rows)?;

@@ -4,8 +4,8 @@ ghost use Rattle.std.specs.String.{string_bytes};
 ghost use Rattle.json.specs.Json.{string};
 ghost use Rattle.json.specs.Token.{boolean, key};
 ghost use Rattle.json.specs.Tree.{json_tokens};
-ghost use Rattle.rtps_audit.specs.Index.{IsIndexBy, IsIndexOf};
-ghost use Rattle.rtps_audit.specs.Intake.{Intake};
+ghost use Rattle.rtps_audit.specs.Index.{IsIndexBy};
+ghost use Rattle.rtps_audit.specs.Intake.{Intake, intake_of};
 ghost use Rattle.rtps_audit.specs.Placed.{placed_in};
 ghost use Rattle.rtps_text.specs.Asked.{asked_value};
 ghost use Rattle.rtps_text.specs.JsonText.{array_of, object_of, tokens_of};
@@ -196,7 +196,7 @@ fn push_members(
     subject: &Subject<'_, '_>,
     pairs: &[Pair],
 ) -> Result<(), Memory>
-    requires { IsIndexOf subject.now.recording.now.datagrams subject.now.index.now }
+    requires { IsIndexBy (intake_of subject.now.recording.now.datagrams) subject.now.index.now }
     ensures tokens { OnOk result (writer.new.tokens ≡ writer.old.tokens ++ tokens_of (members_in subject.now pairs.now)) }
     ensures before { writer.new.before ≡ writer.old.before }
 {
@@ -214,7 +214,7 @@ fn push_data(
     subject: &Subject<'_, '_>,
     pairs: &[Pair],
 ) -> Result<(), Memory>
-    requires { IsIndexOf subject.now.recording.now.datagrams subject.now.index.now }
+    requires { IsIndexBy (intake_of subject.now.recording.now.datagrams) subject.now.index.now }
     ensures tokens { OnOk result (writer.new.tokens ≡ writer.old.tokens ++ json_tokens (object_of (members_in subject.now pairs.now))) }
     ensures before { writer.new.before ≡ writer.old.before }
 {
@@ -226,7 +226,7 @@ fn push_data(
 
 /// The text of the data.
 pub(crate) fn data_of(alloc: Global, subject: &Subject<'_, '_>) -> Result<Vec<u8>, Memory>
-    requires { IsIndexOf subject.now.recording.now.datagrams subject.now.index.now }
+    requires { IsIndexBy (intake_of subject.now.recording.now.datagrams) subject.now.index.now }
     ensures { IfOk result (λ text. IsPrinted (json_in subject.now) text.items) }
 {
     let pairs = pairs_with_charts(alloc, subject.index, &subject.explained.rows)?;
