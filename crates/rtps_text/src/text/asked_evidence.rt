@@ -14,7 +14,7 @@ use rtps_rows::RowFilter;
 use std::alloc::{AllocError, Global};
 
 /// The datagrams of a recording.
-pub(crate) fn datagrams_of(alloc: Global, recording: &Recording) -> Result<Vec<&[u8]>, AllocError>
+pub fn datagrams_of(alloc: Global, recording: &Recording) -> Result<Vec<&[u8]>, AllocError>
     ensures { IfOk result (λ datagrams. map (λ datagram. datagram.now) datagrams.items ≡ recording.now.datagrams) }
 {
     let mut datagrams = Vec::with_capacity(alloc, recording.len())?;
@@ -47,7 +47,7 @@ pub(crate) fn explained_of<'a, P: Watch>(
 }
 
 /// Those of these rows that are asked for.
-fn kept_of<'a>(
+pub fn kept_of<'a>(
     alloc: Global,
     rows: &[Explanation<'a>],
     wanted: &RowFilter<'_>,

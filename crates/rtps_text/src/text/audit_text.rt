@@ -73,7 +73,7 @@ fn are_complete(rows: &[Row]) -> bool
 }
 
 /// Whether nothing is to be reported of a pair with this verdict.
-pub(crate) fn is_complete(verdict: &Verdict) -> bool
+pub fn is_complete(verdict: &Verdict) -> bool
     ensures { result ≡ completes verdict.now }
 {
     match verdict {

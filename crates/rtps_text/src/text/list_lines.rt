@@ -108,7 +108,7 @@ impl fmt::Display for NameText<'_> {
 
 /// A name as it stands between the quotes.
 #[derive(Drop)]
-pub(crate) struct NameOctets<'a>(pub(crate) &'a [u8]);
+pub struct NameOctets<'a>(pub &'a [u8]);
 
 impl fmt::Display for NameOctets<'_> {
     ghost output = { λ name. Some (flat_map octet_text name.0.now) };
