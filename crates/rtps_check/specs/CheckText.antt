@@ -21,7 +21,7 @@ use Rattle.rtps_check.specs.Sections.{section}
 use Rattle.rtps_check.specs.TopicTable.{topic_table}
 use Rattle.rtps_check.specs.Totals.{totals_of}
 use Rattle.rtps_check.specs.declared.advice.Scope.{Scope}
-use Rattle.rtps_check.specs.declared.check_text.Checked.{Checked}
+use Rattle.rtps_check.specs.declared.checked_text.Checked.{Checked}
 use Rattle.rtps_check.specs.declared.parted.Parted.{Parted}
 use Rattle.rtps_check.specs.declared.totals.Totals.{Totals}
 
@@ -52,18 +52,27 @@ abbrev pub no_pair_text : List ExplanationValue → List ℕ
 no_pair_text [] = codes "record from before the start; rtps-audit list prints the writers, the readers and which of them match\n"
 no_pair_text (row ∷ rows) = codes "record where the datagrams of the readers and the writers pass, and switch off shared memory\n"
 
--- how many of the pairs are complete, and how many of the numbers asked about are received
+-- how many of the pairs are complete
+abbrev pub pairs_text : Totals → List ℕ
+pairs_text totals =
+    part_text totals.complete_pairs totals.pairs ++ 32 ∷ words_for totals.pairs (record { one = codes "pair is"; many = codes "pairs are" })
+
+-- how many of the numbers asked about are received
+abbrev pub numbers_text : Totals → List ℕ
+numbers_text totals =
+    part_text totals.received totals.numbers ++ 32 ∷ words_for totals.numbers (record { one = codes "number"; many = codes "numbers" })
+
+-- the line of both
 abbrev pub complete_line : Totals → List ℕ
-complete_line totals =
-    part_text totals.complete_pairs totals.pairs
-    ++ (32 ∷ words_for totals.pairs (record { one = codes "pair is"; many = codes "pairs are" })
-    ++ (codes " complete, "
-    ++ (part_text totals.received totals.numbers
-    ++ (32 ∷ words_for totals.numbers (record { one = codes "number"; many = codes "numbers" }) ++ codes " received\n"))))
+complete_line totals = pairs_text totals ++ (codes " complete, " ++ (numbers_text totals ++ codes " received\n"))
+
+-- the lines where there is no pair
+abbrev pub no_pair_lines : List ExplanationValue → List ℕ
+no_pair_lines left_out = codes "there is no pair to judge\n  -> " ++ no_pair_text left_out
 
 -- the first lines
 abbrev pub first_lines : Totals → List ExplanationValue → List ℕ
-first_lines totals left_out = if totals.pairs == 0 then codes "there is no pair to judge\n  -> " ++ no_pair_text left_out else complete_line totals
+first_lines totals left_out = if totals.pairs == 0 then no_pair_lines left_out else complete_line totals
 
 -- parts of the recording were not read that may have samples
 abbrev pub is_unread : Counts → Option Reasons → Bool

@@ -15,13 +15,17 @@ abbrev pub listed : List ℕ → List (List ℕ) → List ℕ
 listed separator [] = []
 listed separator (text ∷ texts) = text ++ flat_map (λ other. separator ++ other) texts
 
--- the line of pairs that the recording cannot speak of, by topic: so many, and the names of their topics
+-- so many pairs, by topic, and the names of their topics
+abbrev pub left_out_text : List ExplanationValue → List ℕ
+left_out_text rows =
+    amount_text (length rows) (record { one = codes "pair is"; many = codes "pairs are" })
+    ++ (codes " left out, not seen here (one process, shared memory, another host or interface): "
+    ++ (listed (codes ", ") (map topic_name (topics_of rows)) ++ codes "\n"))
+
+-- the line of the pairs that the recording cannot speak of; nothing where there is none
 abbrev pub left_out_line : List ExplanationValue → List ℕ
 left_out_line [] = []
-left_out_line (row ∷ rows) =
-    amount_text (length (row ∷ rows)) (record { one = codes "pair is"; many = codes "pairs are" })
-    ++ (codes " left out, not seen here (one process, shared memory, another host or interface): "
-    ++ (listed (codes ", ") (map topic_name (topics_of (row ∷ rows))) ++ codes "\n"))
+left_out_line (row ∷ rows) = left_out_text (row ∷ rows)
 
 -- how many there are of a thing, and what to do; nothing where there is none
 abbrev pub note : ℕ → WordsValue → List ℕ → List ℕ

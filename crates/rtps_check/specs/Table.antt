@@ -1,5 +1,5 @@
 -- A table of texts. own: columns as wide as their widest text are read without counting.
-use Rattle.std.specs.Prelude.{ℕ, ◌-◌, ◌++◌, max, List, [], ◌∷◌, codes, fold, length, map, replicate, slice_index_or, string_bytes, zip}
+use Rattle.std.specs.Prelude.{ℕ, ◌-◌, ◌++◌, max, List, [], ◌∷◌, codes, fold, length, map, replicate, slice_index_or, string_bytes}
 use Rattle.std.specs.List.{flat_map}
 use Rattle.rtps_check.specs.declared.table.TableLine.{TableLine}
 
@@ -36,9 +36,15 @@ cell_widths lines = map (λ column. cell_width column lines) columns
 abbrev pub cell_text : List ℕ × ℕ → List ℕ
 cell_text cell = codes "  " ++ (spaces (cell.1 - length cell.0) ++ cell.0)
 
+-- these texts, each to the right of its column
+abbrev pub cells_text : List (List ℕ) → List ℕ → List ℕ
+cells_text [] widths = []
+cells_text (cell ∷ cells) [] = []
+cells_text (cell ∷ cells) (width ∷ widths) = cell_text (cell, width) ++ cells_text cells widths
+
 -- a line: its name to the left, its other texts to the right of their columns
 abbrev pub table_line : ℕ → List ℕ → TableLineValue → List ℕ
-table_line width widths line = line.name ++ (spaces (width - length line.name) ++ (flat_map cell_text (zip line.cells widths) ++ codes "\n"))
+table_line width widths line = line.name ++ (spaces (width - length line.name) ++ (cells_text line.cells widths ++ codes "\n"))
 
 -- these lines, with their columns aligned
 abbrev pub table_text : List TableLineValue → List ℕ

@@ -30,7 +30,11 @@ topic_name (row ∷ rows) = flat_map octet_text row.topic
 abbrev pub topic_line : ℕ → List ExplanationValue → TableLineValue
 topic_line from rows = record { name = topic_name rows; cells = cells_of (totals_of from rows) }
 
--- the lines of the topics behind an empty line; nothing where there is none
+-- the heads and the lines of topics, behind an empty line
+abbrev pub table_of : ℕ → List (List ExplanationValue) → List ℕ
+table_of from topics = 10 ∷ table_text (table_head ∷ map (topic_line from) topics)
+
+-- the table of topics; nothing where there is none
 abbrev pub topic_table : ℕ → List (List ExplanationValue) → List ℕ
 topic_table from [] = []
-topic_table from (topic ∷ topics) = 10 ∷ table_text (table_head ∷ topic_line from topic ∷ map (topic_line from) topics)
+topic_table from (topic ∷ topics) = table_of from (topic ∷ topics)

@@ -8,14 +8,13 @@ ghost use Rattle.rtps_check.specs.Advice.{advice_of as advice_of_lem, are_alike 
 use crate::totals::natural;
 use rtps_audit::Verdict;
 use rtps_evidence::{Announcement, Claim, Evidence, Sent, Teller};
-use rtps_ids::SeqNum;
 use rtps_wire::Payload;
 
 /// What an advice needs to know beside its pair.
 #[derive(Clone, Copy)]
 pub(crate) struct Scope {
     /// The number from which on numbers are asked for.
-    pub(crate) from: SeqNum,
+    pub(crate) from: u64,
     /// Whether parts of the recording were not read that may have samples.
     pub(crate) unread: bool,
 }
@@ -135,7 +134,7 @@ fn untold_advice(scope: Scope, evidence: &Evidence<'_>, number: i64) -> Advice
 {
     if is_above(evidence.announcement, number) {
         Advice::Unannounced
-    } else if natural(number) == scope.from.get().cast_unsigned() {
+    } else if natural(number) == scope.from {
         Advice::BeganLate
     } else {
         Advice::Lacking
@@ -176,21 +175,36 @@ impl Advice {
         ensures { result.now ≡ sentence_of self }
     {
         match self {
-            Advice::Dropped => "the writer dropped it before the reader got it: look at the network, or raise the history depth or the lifespan",
-            Advice::AskedFor => "the reader asked for it and may still lack it: look at the network and the writer, or record longer",
-            Advice::OpenUnread => "it may be in a fragment or frame that was not read: see below what to do for these",
-            Advice::OpenUntold => "the recording does not have it: record at the writer's side, on the interface that it uses",
-            Advice::NotAsked => "the reader may have all: stop publishing, wait some seconds, and only then end the recording",
-            Advice::NeverAnswered => "the reader was asked and acknowledged nothing: see that it runs, and record both directions",
-            Advice::Silent => "the reader was asked and did not answer: it ended, nothing reaches it, or its answers take another way",
-            Advice::Alike => "compare their octets: the writer makes a new payload to resend it, or two processes use one GUID",
-            Advice::Unlike => "two processes use one GUID, as after a copied disk image or a restart; or the writer has a defect",
-            Advice::Relayed => "the sample and the answer are in one datagram: a relay packed them, or the recording was changed",
-            Advice::UnfoundedUnread => "it may be in a fragment or frame that was not read: see below what to do for these",
-            Advice::Late => "the datagrams are out of order, or the copy that the reader received is not here: record on one host",
-            Advice::Unannounced => "the reader acknowledged what nobody announced: it has a defect, or another writer had this GUID before",
-            Advice::BeganLate => "record from before the start; for a reader that joined late, --from gives the first number that it should get",
-            Advice::Lacking => "the recording lacks it: see how many packets tcpdump says it dropped, and switch off shared memory",
+            Advice::Dropped =>
+                "the writer dropped it before the reader got it: look at the network, or raise the history depth or the lifespan",
+            Advice::AskedFor =>
+                "the reader asked for it and may still lack it: look at the network and the writer, or record longer",
+            Advice::OpenUnread =>
+                "it may be in a fragment or frame that was not read: see below what to do for these",
+            Advice::OpenUntold =>
+                "the recording does not have it: record at the writer's side, on the interface that it uses",
+            Advice::NotAsked =>
+                "the reader may have all: stop publishing, wait some seconds, and only then end the recording",
+            Advice::NeverAnswered =>
+                "the reader was asked and acknowledged nothing: see that it runs, and record both directions",
+            Advice::Silent =>
+                "the reader was asked and did not answer: it ended, nothing reaches it, or its answers take another way",
+            Advice::Alike =>
+                "compare their octets: the writer makes a new payload to resend it, or two processes use one GUID",
+            Advice::Unlike =>
+                "two processes use one GUID, as after a copied disk image or a restart; or the writer has a defect",
+            Advice::Relayed =>
+                "the sample and the answer are in one datagram: a relay packed them, or the recording was changed",
+            Advice::UnfoundedUnread =>
+                "it may be in a fragment or frame that was not read: see below what to do for these",
+            Advice::Late =>
+                "the datagrams are out of order, or the copy that the reader received is not here: record on one host",
+            Advice::Unannounced =>
+                "the reader acknowledged what nobody announced: it has a defect, or another writer had this GUID before",
+            Advice::BeganLate =>
+                "record from before the start; for a reader that joined late, --from gives the first number that it should get",
+            Advice::Lacking =>
+                "the recording lacks it: see how many packets tcpdump says it dropped, and switch off shared memory",
         }
     }
 }

@@ -79,11 +79,7 @@ fn missed_words() -> Words
 }
 
 /// Appends that there are fewer pairs than were expected, if so.
-fn push_few(
-    alloc: Global,
-    causes: &mut Vec<String>,
-    few: Option<FewRows>,
-) -> Result<(), AllocError>
+fn push_few(alloc: Global, causes: &mut Vec<String>, few: Option<FewRows>) -> Result<(), AllocError>
     ensures { OnOk result (map string_bytes causes.new.items ≡ map string_bytes causes.old.items ++ few_cause few) }
 {
     let Some(few) = few else {
@@ -129,7 +125,12 @@ fn push_unread(
     push_cause(alloc, causes, u128::from(findings.pieces), pieces_words())?;
     push_cause(alloc, causes, u128::from(findings.cut), cut_words())?;
     push_cause(alloc, causes, findings.fragments, fragments_words())?;
-    push_cause(alloc, causes, u128::from(findings.unsettled), unsettled_words())
+    push_cause(
+        alloc,
+        causes,
+        u128::from(findings.unsettled),
+        unsettled_words(),
+    )
 }
 
 /// Appends all causes, for rows of which this is counted.

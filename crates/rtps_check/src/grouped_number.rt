@@ -29,7 +29,7 @@ fn push_with_commas(text: &mut String, digits: &[u8]) -> Result<(), AllocError>
     ensures { OnOk result (string_bytes text.new ≡ string_bytes text.old ++ with_commas digits.now) }
 {
     let mut rest = digits;
-    while let Some((digit, more)) = rest.split_first() {
+    'digits: while let Some((digit, more)) = rest.split_first() {
         text.push(char::from(*digit))?;
         push_comma(text, more.len())?;
         rest = more;

@@ -4,7 +4,7 @@
 mod advice;
 mod by_topic;
 mod causes;
-mod check_text;
+mod checked_text;
 mod grouped_number;
 mod notes;
 mod parted;
@@ -13,4 +13,4 @@ mod table;
 mod topic_table;
 mod totals;
 
-pub use check_text::check_text;
+pub use checked_text::check_text;

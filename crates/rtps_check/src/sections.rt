@@ -10,7 +10,6 @@ use crate::advice::{Scope, advice_of};
 use crate::totals::asked_about;
 use rtps_audit::Verdict;
 use rtps_evidence::{Evidence, Explanation, FirstMissed, Sent};
-use rtps_ids::SeqNum;
 use rtps_text::{
     AcknowledgedLine, AnnouncedLine, AskedLine, ClaimedLine, NameOctets, QuestionsLine, ToldLine,
     VerdictText, is_complete, push_sent,
@@ -42,7 +41,7 @@ impl fmt::Display for MissedText {
 
 /// The verdict, and how many of the numbers asked about are received.
 #[derive(Drop)]
-struct ReceivedText<'a>(SeqNum, &'a Evidence<'a>);
+struct ReceivedText<'a>(u64, &'a Evidence<'a>);
 
 impl fmt::Display for ReceivedText<'_> {
     ghost output = { λ text. Some (received_text text.0 (evidence_value text.1.now)) };
@@ -62,7 +61,7 @@ impl fmt::Display for ReceivedText<'_> {
 
 /// The line of a pair.
 #[derive(Drop)]
-struct RowHead<'a>(SeqNum, &'a Explanation<'a>);
+struct RowHead<'a>(u64, &'a Explanation<'a>);
 
 impl fmt::Display for RowHead<'_> {
     ghost output = { λ line. Some (row_head line.0 (explanation_value line.1.now)) };
@@ -163,12 +162,8 @@ fn push_noted(text: &mut String, row: &Explanation<'_>, scope: Scope) -> Result<
 }
 
 /// The lines of those of these pairs that someone has to look at.
-fn lines_of(
-    alloc: Global,
-    rows: &[Explanation<'_>],
-    scope: Scope,
-) -> Result<String, AllocError>
-    ensures { IfOk result (λ lines. string_bytes lines ≡ flat_map (λ row. noted_lines scope (explanation_value row)) rows.now) }
+fn lines_of(alloc: Global, rows: &[Explanation<'_>], scope: Scope) -> Result<String, AllocError>
+    ensures { IfOk result (λ lines. string_bytes lines ≡ flat_map (noted_lines scope) (map explanation_value rows.now)) }
 {
     let mut lines = String::new(alloc);
     for row in rows {
@@ -183,8 +178,25 @@ fn push_head(text: &mut String, rows: &[Explanation<'_>]) -> Result<(), AllocErr
 {
     match rows.first() {
         None => Ok(()),
-        Some(row) => writeln!(text, "{} {}", NameOctets(row.topic), NameOctets(row.type_name)),
+        Some(row) => writeln!(
+            text,
+            "{} {}",
+            NameOctets(row.topic),
+            NameOctets(row.type_name)
+        ),
     }
+}
+
+/// Appends lines behind an empty one and the line of a topic; nothing where there are none.
+fn push_headed(text: &mut String, rows: &[Explanation<'_>], lines: &str) -> Result<(), AllocError>
+    ensures { OnOk result (string_bytes text.new ≡ string_bytes text.old ++ headed (topic_head (map explanation_value rows.now)) lines.now) }
+{
+    if lines.is_empty() {
+        return Ok(());
+    }
+    text.push_str("\n")?;
+    push_head(text, rows)?;
+    text.push_str(lines)
 }
 
 /// Appends the lines of a topic behind an empty line; nothing where nobody has to look at one of its pairs.
@@ -197,12 +209,7 @@ fn push_section(
     ensures { OnOk result (string_bytes text.new ≡ string_bytes text.old ++ section scope (map explanation_value rows.now)) }
 {
     let lines = lines_of(alloc, rows, scope)?;
-    if lines.is_empty() {
-        return Ok(());
-    }
-    text.push_str("\n")?;
-    push_head(text, rows)?;
-    text.push_str(&lines)
+    push_headed(text, rows, &lines)
 }
 
 /// Appends the lines of topics.
@@ -213,7 +220,7 @@ pub(crate) fn push_sections(
     scope: Scope,
 ) -> Result<(), AllocError>
     ensures { OnOk result (string_bytes text.new
-        ≡ string_bytes text.old ++ flat_map (λ topic. section scope (map explanation_value topic.now)) topics.now) }
+        ≡ string_bytes text.old ++ flat_map (section scope) (map (λ topic. map explanation_value topic.now) topics.now)) }
 {
     for rows in topics {
         push_section(alloc, text, rows, scope)?;

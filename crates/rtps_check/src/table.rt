@@ -1,7 +1,6 @@
-ghost use Rattle.std.specs.Prelude.{◌≡◌, ◌++◌, [], IfOk, OnOk, length, map, slice_index_or, zip};
-ghost use Rattle.std.specs.List.{flat_map};
+ghost use Rattle.std.specs.Prelude.{◌≡◌, ◌++◌, [], IfOk, OnOk, length, map, slice_index_or};
 ghost use Rattle.std.specs.String.{string_bytes};
-ghost use Rattle.rtps_check.specs.Table.{cell_text, cell_width as cell_width_lem, cell_widths as cell_widths_lem, name_width as name_width_lem, spaces, table_line, table_line_value, table_text};
+ghost use Rattle.rtps_check.specs.Table.{cell_text, cells_text, cell_width as cell_width_lem, cell_widths as cell_widths_lem, name_width as name_width_lem, spaces, table_line, table_line_value, table_text};
 
 use std::alloc::{AllocError, Global};
 
@@ -12,14 +11,12 @@ pub(crate) struct TableLine {
     pub(crate) cells: Vec<String>,
 }
 
-/// How many columns stand behind the names.
-const COLUMNS: usize = 7;
-
 /// Appends so many spaces.
 fn push_spaces(text: &mut String, count: usize) -> Result<(), AllocError>
     ensures { OnOk result (string_bytes text.new ≡ string_bytes text.old ++ spaces count) }
 {
-    for _ in 0..count {
+    for place in 0..count {
+        let _ = place;
         text.push_str(" ")?;
     }
     Ok(())
@@ -62,9 +59,13 @@ fn cell_widths(alloc: Global, lines: &[TableLine]) -> Result<Vec<usize>, AllocEr
     ensures { IfOk result (λ widths. widths.items ≡ cell_widths_lem (map table_line_value lines.now)) }
 {
     let mut widths = Vec::new(alloc);
-    for column in 0..COLUMNS {
-        widths.push(cell_width(lines, column))?;
-    }
+    widths.push(cell_width(lines, 0))?;
+    widths.push(cell_width(lines, 1))?;
+    widths.push(cell_width(lines, 2))?;
+    widths.push(cell_width(lines, 3))?;
+    widths.push(cell_width(lines, 4))?;
+    widths.push(cell_width(lines, 5))?;
+    widths.push(cell_width(lines, 6))?;
     Ok(widths)
 }
 
@@ -79,10 +80,15 @@ fn push_cell(text: &mut String, cell: &str, width: usize) -> Result<(), AllocErr
 
 /// Appends the texts of a line to the right of their columns.
 fn push_cells(text: &mut String, cells: &[String], widths: &[usize]) -> Result<(), AllocError>
-    ensures { OnOk result (string_bytes text.new ≡ string_bytes text.old ++ flat_map cell_text (zip (map string_bytes cells.now) widths.now)) }
+    ensures { OnOk result (string_bytes text.new ≡ string_bytes text.old ++ cells_text (map string_bytes cells.now) widths.now) }
 {
-    for (cell, width) in cells.iter().zip(widths) {
+    let mut left = widths;
+    for cell in cells {
+        let Some((width, others)) = left.split_first() else {
+            return Ok(());
+        };
         push_cell(text, cell, *width)?;
+        left = others;
     }
     Ok(())
 }

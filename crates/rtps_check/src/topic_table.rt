@@ -3,13 +3,12 @@ ghost use Rattle.std.specs.String.{string_bytes};
 ghost use Rattle.rtps_evidence.specs.Explanation.{explanation_value};
 ghost use Rattle.rtps_check.specs.GroupedNumber.{grouped, part_text};
 ghost use Rattle.rtps_check.specs.Table.{table_line_value};
-ghost use Rattle.rtps_check.specs.TopicTable.{cells_of as cells_of_lem, table_head as table_head_lem, topic_line as topic_line_lem, topic_name as topic_name_lem, topic_table};
+ghost use Rattle.rtps_check.specs.TopicTable.{cells_of as cells_of_lem, table_head as table_head_lem, table_of, topic_line as topic_line_lem, topic_name as topic_name_lem, topic_table};
 
 use crate::grouped_number::{push_grouped, push_part};
 use crate::table::{TableLine, push_table};
 use crate::totals::{Totals, totals_of};
 use rtps_evidence::Explanation;
-use rtps_ids::SeqNum;
 use rtps_text::NameOctets;
 use std::alloc::{AllocError, Global};
 
@@ -74,11 +73,7 @@ pub(crate) fn topic_name(alloc: Global, rows: &[Explanation<'_>]) -> Result<Stri
 }
 
 /// The line of a topic.
-fn topic_line(
-    alloc: Global,
-    rows: &[Explanation<'_>],
-    from: SeqNum,
-) -> Result<TableLine, AllocError>
+fn topic_line(alloc: Global, rows: &[Explanation<'_>], from: u64) -> Result<TableLine, AllocError>
     ensures { IfOk result (λ line. table_line_value line ≡ topic_line_lem from (map explanation_value rows.now)) }
 {
     let name = topic_name(alloc, rows)?;
@@ -90,10 +85,10 @@ fn topic_line(
 fn table_lines(
     alloc: Global,
     topics: &[&[Explanation<'_>]],
-    from: SeqNum,
+    from: u64,
 ) -> Result<Vec<TableLine>, AllocError>
     ensures { IfOk result (λ lines. map table_line_value lines.items
-        ≡ table_head_lem ∷ map (λ topic. topic_line_lem from (map explanation_value topic.now)) topics.now) }
+        ≡ table_head_lem ∷ map (topic_line_lem from) (map (λ topic. map explanation_value topic.now) topics.now)) }
 {
     let mut lines = Vec::new(alloc);
     lines.push(table_head(alloc)?)?;
@@ -103,20 +98,34 @@ fn table_lines(
     Ok(lines)
 }
 
-/// Appends the table of topics behind an empty line; nothing where there is none.
+/// Appends the heads and the lines of topics, behind an empty line.
+fn push_lines(
+    alloc: Global,
+    text: &mut String,
+    topics: &[&[Explanation<'_>]],
+    from: u64,
+) -> Result<(), AllocError>
+    ensures { OnOk result (string_bytes text.new
+        ≡ string_bytes text.old ++ table_of from (map (λ topic. map explanation_value topic.now) topics.now)) }
+{
+    let lines = table_lines(alloc, topics, from)?;
+    text.push_str("\n")?;
+    push_table(alloc, text, &lines)
+}
+
+/// Appends the table of topics; nothing where there is none.
 pub(crate) fn push_topic_table(
     alloc: Global,
     text: &mut String,
     topics: &[&[Explanation<'_>]],
-    from: SeqNum,
+    from: u64,
 ) -> Result<(), AllocError>
     ensures { OnOk result (string_bytes text.new
         ≡ string_bytes text.old ++ topic_table from (map (λ topic. map explanation_value topic.now) topics.now)) }
 {
     if topics.is_empty() {
-        return Ok(());
+        Ok(())
+    } else {
+        push_lines(alloc, text, topics, from)
     }
-    text.push_str("\n")?;
-    let lines = table_lines(alloc, topics, from)?;
-    push_table(alloc, text, &lines)
 }

@@ -5,7 +5,6 @@ ghost use Rattle.rtps_check.specs.Totals.{asked_about as asked_about_lem, is_con
 
 use rtps_audit::Verdict;
 use rtps_evidence::{Announcement, Evidence, Explanation};
-use rtps_ids::SeqNum;
 use rtps_text::is_complete;
 
 /// What is counted of rows.
@@ -37,19 +36,17 @@ pub(crate) fn natural(number: i64) -> u64
 }
 
 /// How many numbers are asked about, from `from` on.
-pub(crate) fn asked_about(from: SeqNum, announcement: Option<Announcement>) -> u64
+pub(crate) fn asked_about(from: u64, announcement: Option<Announcement>) -> u64
     ensures { result ≡ asked_about_lem from announcement }
 {
     match announcement {
         None => 0,
-        Some(announcement) => {
-            (natural(announcement.number) + 1).saturating_sub(from.get().cast_unsigned())
-        }
+        Some(announcement) => { (natural(announcement.number) + 1).saturating_sub(from) }
     }
 }
 
 /// How many numbers of a complete pair are neither known to be received nor missed.
-fn unsure_of(from: SeqNum, evidence: &Evidence<'_>) -> u64
+fn unsure_of(from: u64, evidence: &Evidence<'_>) -> u64
     ensures { result ≡ unsure_of_lem from (evidence_value evidence.now) }
 {
     match evidence.verdict {
@@ -60,13 +57,29 @@ fn unsure_of(from: SeqNum, evidence: &Evidence<'_>) -> u64
     }
 }
 
+/// How many numbers are received.
+fn received_of(evidence: &Evidence<'_>) -> u64
+    ensures { result ≡ evidence.now.received }
+{
+    evidence.received
+}
+
+/// How many numbers are missed.
+fn missed_of(evidence: &Evidence<'_>) -> u64
+    ensures { result ≡ evidence.now.missed }
+{
+    evidence.missed
+}
+
 impl Totals {
     ghost use Rattle.std.specs.Prelude.{ℕ, []};
     ghost use Rattle.rtps_check.specs.Totals.{AreWithin, with_row as with_row_lem};
 
     /// Of no row.
     fn none() -> Totals
-        ensures { (from : ℕ) → result ≡ totals_of_lem from [] }
+        ensures counted { (from : ℕ) → result ≡ totals_of_lem from [] }
+        ensures pairs { result.pairs ≡ 0 }
+        ensures within { AreWithin result }
     {
         Totals {
             pairs: 0,
@@ -83,9 +96,9 @@ impl Totals {
     }
 
     /// With one more row.
-    fn with_row(self, row: &Explanation<'_>, from: SeqNum) -> Totals
-        requires { AreWithin self }
-        requires { self.pairs + 1 < 2 ^ 64 }
+    fn with_row(self, row: &Explanation<'_>, from: u64) -> Totals
+        requires counted { AreWithin self }
+        requires few { self.pairs + 1 < 2 ^ 64 }
         ensures counted { result ≡ with_row_lem from self (explanation_value row.now) }
         ensures within { AreWithin result }
     {
@@ -98,8 +111,8 @@ impl Totals {
             conflict_pairs: self.conflict_pairs + u64::from(is_conflict(verdict)),
             unfounded_pairs: self.unfounded_pairs + u64::from(is_unfounded(verdict)),
             numbers: self.numbers + u128::from(asked_about(from, evidence.announcement)),
-            received: self.received + u128::from(evidence.received),
-            missed: self.missed + u128::from(evidence.missed),
+            received: self.received + u128::from(received_of(evidence)),
+            missed: self.missed + u128::from(missed_of(evidence)),
             missed_pairs: self.missed_pairs + u64::from(evidence.missed > 0),
             unsure: self.unsure + u128::from(unsure_of(from, evidence)),
         }
@@ -134,7 +147,7 @@ fn is_unfounded(verdict: &Verdict) -> bool
 }
 
 /// What is counted of rows that ask for the numbers from `from` on.
-pub(crate) fn totals_of(rows: &[Explanation<'_>], from: SeqNum) -> Totals
+pub(crate) fn totals_of(rows: &[Explanation<'_>], from: u64) -> Totals
     ensures { result ≡ totals_of_lem from (map explanation_value rows.now) }
 {
     let mut totals = Totals::none();
