@@ -10,6 +10,8 @@
                                            else is not so
     reference.py show|list|audit|why|json --any FILE
                                            the same, of a capture of either form, with fragments put together
+    reference.py check [--json] [--from N] [--topic PATTERN].. [--expect N] FILE
+                                           prints what `rtps-audit check` should print
     reference.py compare PROGRAM [COUNT [SEED]]
                                            runs PROGRAM on COUNT random recordings, and says where it differs
     reference.py runs [COUNT [SEED]]       compares verdicts and received numbers with those of all runs, on COUNT random
@@ -30,6 +32,7 @@ import tempfile
 
 import any_capture
 from asked import PLAIN, Asked, asked_by
+from check import because, check_lines
 
 READ = {0x06, 0x07, 0x08, 0x09, 0x0c, 0x0e, 0x15}
 FRAGMENTS = {0x12, 0x13, 0x16}
@@ -908,6 +911,39 @@ def answer(view, text, first=1, limits=USUAL, any_form=False):
     return text, status
 
 
+def checked_rows(datagrams, asked):
+    """the rows of what is asked, with what `check` tells of them"""
+    named = {guid_text(guid): (topic, kind) for guid, _, topic, kind, _, _ in discovery(datagrams)[1]}
+    recording = [acts_of(d) for d in datagrams]
+    rows = []
+    for values in report_values(datagrams, asked)['pairs']:
+        w, r = (bytes.fromhex(values[guid].replace('.', '')) for guid in ('writer', 'reader'))
+        more = {'key': named[values['writer']], 'judged': judge(recording, w, r, asked.first), 'lines': evidence(recording, w, r, asked.first)}
+        rows.append(values | more)
+    return rows
+
+
+def check(octets, asked, as_json=False, limits=USUAL):
+    """text and status of `check`"""
+    read = input_of(octets, limits, True)
+    if isinstance(read, str):
+        return '', 2
+    datagrams, ignored = read
+    observed = Asked(asked.first, asked.topics, True, asked.expect, True)
+    rows, all_rows = checked_rows(datagrams, observed), checked_rows(datagrams, Asked(asked.first, asked.topics))
+    report = report_values(datagrams, observed) | (ignored or {})
+    # A datagram of one octet is refused, and is no reason to look at it.
+    counts = report | {'refused': report['refused'] - sum(len(d) < 2 for d in datagrams)}
+    reasons = because(rows, counts, asked.expect or 0)
+    if as_json:
+        head = {'status': 'unclean' if reasons else 'clean', 'because': reasons}
+        lines = [json.dumps(head | report, separators=(',', ':'))]
+    else:
+        left_out = [row for row in all_rows if row not in rows]
+        lines = check_lines(rows, left_out, counts, asked.first, asked.expect or 0)
+    return ''.join(line + '\n' for line in lines), int(bool(reasons))
+
+
 # ---- random recordings
 
 A, B, C = b'\xaa' * 12, b'\xbb' * 12, b'\xcc' * 12
@@ -1342,6 +1378,11 @@ def main():
         run = compare if sys.argv[1] == 'compare' else texts
         return run(sys.argv[2], count, int(sys.argv[4]) if len(sys.argv) > 4 else 1)
     words = sys.argv[2:-1]
+    if sys.argv[1] == 'check':
+        with open(sys.argv[-1], 'rb') as f:
+            text, status = check(f.read(), asked_by(words), '--json' in words)
+        sys.stdout.write(text)
+        return status
     with open(sys.argv[-1], 'rb') as f:
         text, told, status = answer_as(sys.argv[1], f.read(), asked_by(words), any_form='--any' in words)
     sys.stdout.write(text)

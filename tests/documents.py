@@ -100,11 +100,23 @@ def names(tests, name, page):
             tests.holds(f'{name} names {path}', True, os.path.exists(os.path.join(ROOT, path)))
 
 
+def advice(tests):
+    """what to do for a pair: the table of the guide is that of the second implementation, with the sentences of the definition"""
+    sys.path.insert(0, os.path.join(ROOT, 'bench'))
+    from check import ADVICE
+    guide, definition = (file_of(*path).decode() for path in (('docs', 'GUIDE.md'), ('crates', 'rtps_check', 'specs', 'Advice.antt')))
+    rows = ''.join(f'| `{verdict}` | {fits} | {sentence} |\n' for _, verdict, fits, sentence in ADVICE)
+    tests.holds('the guide has the table of what to do', True, rows in guide)
+    sentences = re.findall(r'^sentence_of \w+ = codes "(.*)"$', definition, re.MULTILINE)
+    tests.holds('the sentences are those of the definition', [sentence for *_, sentence in ADVICE], sentences)
+
+
 def main():
     if len(sys.argv) != 2:
         raise SystemExit(__doc__)
     program, tests, others, commands = os.path.realpath(sys.argv[1]), Counts(), 0, 0
     example = file_of('crates', 'rtps_example', 'src', 'main.rt').decode()
+    advice(tests)
     with tempfile.TemporaryDirectory() as folder:
         os.symlink(os.path.join(ROOT, 'examples'), os.path.join(folder, 'examples'))
         whole = [f'bin/rtps-audit {view} examples/{name}' for view in ('audit', 'why', 'audit --json') for name in EXAMPLES]

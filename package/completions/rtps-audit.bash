@@ -3,13 +3,14 @@ _rtps_audit() {
     local word=${COMP_WORDS[COMP_CWORD]} command=${COMP_WORDS[1]-}
     COMPREPLY=()
     if [ "$COMP_CWORD" -eq 1 ]; then
-        mapfile -t COMPREPLY < <(compgen -W 'show list audit why page sample help -h --help -V --version' -- "$word")
+        mapfile -t COMPREPLY < <(compgen -W 'check show list audit why page sample help -h --help -V --version' -- "$word")
         return
     fi
     case $command in
-    show | list | audit | why | page)
+    check | show | list | audit | why | page)
         local options='--any --max-datagrams --max-octets -h --help'
         case $command in
+        check) options='--from --topic --expect --max-datagrams --max-octets -h --help' ;;
         audit) options="--from --topic --observed --expect --strict --json $options" ;;
         why | page) options="--from --topic --observed --expect --strict $options" ;;
         esac
@@ -22,7 +23,7 @@ _rtps_audit() {
         esac
         ;;
     sample) mapfile -t COMPREPLY < <(compgen -W '-h --help' -- "$word") ;;
-    help) [ "$COMP_CWORD" -eq 2 ] && mapfile -t COMPREPLY < <(compgen -W 'show list audit why page sample help' -- "$word") ;;
+    help) [ "$COMP_CWORD" -eq 2 ] && mapfile -t COMPREPLY < <(compgen -W 'check show list audit why page sample help' -- "$word") ;;
     esac
 }
 complete -F _rtps_audit rtps-audit

@@ -1,5 +1,6 @@
 # Completions of rtps-audit for fish.
 complete -c rtps-audit -f
+complete -c rtps-audit -n __fish_use_subcommand -a check -d 'Says which topics lost data, and what to do: for a person and for a test job'
 complete -c rtps-audit -n __fish_use_subcommand -a show -d 'Shows each datagram of a recording and its submessages'
 complete -c rtps-audit -n __fish_use_subcommand -a list -d 'Lists participants, endpoints and pairs of writers and readers that match'
 complete -c rtps-audit -n __fish_use_subcommand -a audit -d 'Says for each reliable writer and reader that match whether the reader acknowledged all samples'
@@ -9,14 +10,14 @@ complete -c rtps-audit -n __fish_use_subcommand -a sample -d 'Writes an example 
 complete -c rtps-audit -n __fish_use_subcommand -a help -d 'Print this message or the help of the given subcommand(s)'
 complete -c rtps-audit -n __fish_use_subcommand -s V -l version -d 'Print version'
 complete -c rtps-audit -s h -l help -d 'Print help'
-complete -c rtps-audit -n '__fish_seen_subcommand_from show list audit why page' -F
-complete -c rtps-audit -n '__fish_seen_subcommand_from audit why page' -x -l from -d 'The first number to ask for; smaller numbers are left out'
-complete -c rtps-audit -n '__fish_seen_subcommand_from audit why page' -x -l topic -d 'Only rows whose topic is PATTERN, in which * stands for any octets'
+complete -c rtps-audit -n '__fish_seen_subcommand_from check show list audit why page' -F
+complete -c rtps-audit -n '__fish_seen_subcommand_from check audit why page' -x -l from -d 'The first number to ask for; smaller numbers are left out'
+complete -c rtps-audit -n '__fish_seen_subcommand_from check audit why page' -x -l topic -d 'Only rows whose topic is PATTERN, in which * stands for any octets'
 complete -c rtps-audit -n '__fish_seen_subcommand_from audit why page' -l observed -d 'Only rows of pairs that the recording can speak of'
-complete -c rtps-audit -n '__fish_seen_subcommand_from audit why page' -x -l expect -d 'Status 1 also if the report has fewer rows than this'
+complete -c rtps-audit -n '__fish_seen_subcommand_from check audit why page' -x -l expect -d 'Status 1 also if the report has fewer rows than this'
 complete -c rtps-audit -n '__fish_seen_subcommand_from audit why page' -l strict -d 'Status 1 also if there is no row, numbers were missed, or something is left out'
 complete -c rtps-audit -n '__fish_seen_subcommand_from audit' -l json -d 'Print one JSON object, with what each verdict rests on'
 complete -c rtps-audit -n '__fish_seen_subcommand_from show list audit why page' -l any -d 'Read any capture'
-complete -c rtps-audit -n '__fish_seen_subcommand_from show list audit why page' -x -l max-datagrams -d 'The most datagrams that the recording may have'
-complete -c rtps-audit -n '__fish_seen_subcommand_from show list audit why page' -x -l max-octets -d 'The most octets that FILE may have'
-complete -c rtps-audit -n '__fish_seen_subcommand_from help' -a 'show list audit why page sample help'
+complete -c rtps-audit -n '__fish_seen_subcommand_from check show list audit why page' -x -l max-datagrams -d 'The most datagrams that the recording may have'
+complete -c rtps-audit -n '__fish_seen_subcommand_from check show list audit why page' -x -l max-octets -d 'The most octets that FILE may have'
+complete -c rtps-audit -n '__fish_seen_subcommand_from help' -a 'check show list audit why page sample help'

@@ -138,7 +138,11 @@ fn run_args(rt: &HostRuntime, args: &[String]) -> Result<u8, AllocError> {
 /// Runs what these words ask for, and returns the status to end with.
 fn run_words(rt: &HostRuntime, words: &[&str]) -> u8 {
     match read_words(rt.alloc(), words) {
-        Ok(choice) => finish(rt, &run_on_file(rt, &choice)),
+        Ok(choice) => {
+            let outcome = run_on_file(rt, &choice);
+            tell_findings(rt, &choice, &outcome);
+            finish(rt, &outcome)
+        }
         Err(fault) => refuse_words(rt, &fault),
     }
 }
@@ -331,16 +335,20 @@ fn tell_reason(rt: &HostRuntime, file: &str, error: &io::Error) {
     let _ = writeln!(rt.stderr(), "rtps-audit: {file}: {reason}");
 }
 
-/// Prints a fault, or what was found beside rows that are not complete, and returns the status to end with.
+/// Prints what was found beside rows that are not complete. `check` says it in its text.
+fn tell_findings(rt: &HostRuntime, choice: &Choice, outcome: &Result<Ending, RunFault>) {
+    if let Choice::Check { .. } = choice {
+        return;
+    }
+    if let Ok(Ending::Unmet(findings)) = outcome {
+        let _ = write_findings(findings, &mut rt.stderr());
+    }
+}
+
+/// Prints a fault, if there is one, and returns the status to end with.
 fn finish(rt: &HostRuntime, outcome: &Result<Ending, RunFault>) -> u8 {
-    match outcome {
-        Err(fault) => {
-            let _ = write_fault(fault, &mut rt.stderr());
-        }
-        Ok(Ending::Unmet(findings)) => {
-            let _ = write_findings(findings, &mut rt.stderr());
-        }
-        Ok(Ending::Clean | Ending::Unclean) => {}
+    if let Err(fault) = outcome {
+        let _ = write_fault(fault, &mut rt.stderr());
     }
     status(outcome)
 }

@@ -37,15 +37,15 @@ pub struct Findings {
 
 /// What is known of a report, to hold it against what was asked.
 #[derive(Clone, Copy)]
-pub(crate) struct Facts {
+pub struct Facts {
     /// How many rows it has.
-    pub(crate) rows: u64,
+    pub rows: u64,
     /// How many of them have missed numbers.
-    pub(crate) missed: u64,
+    pub missed: u64,
     /// Whether each is complete.
-    pub(crate) complete: bool,
-    pub(crate) counts: Counts,
-    pub(crate) reasons: Option<Reasons>,
+    pub complete: bool,
+    pub counts: Counts,
+    pub reasons: Option<Reasons>,
 }
 
 impl Findings {
@@ -131,7 +131,7 @@ fn cut_in(reasons: Option<Reasons>) -> u64
 }
 
 /// How a run ends that printed a report of which this is known.
-pub(crate) fn ending_of(asked: &Asked<'_>, facts: &Facts) -> Ending
+pub fn ending_of(asked: &Asked<'_>, facts: &Facts) -> Ending
     ensures { result ≡ ending_by (findings_of_lem (asked_value asked.now) facts.now) facts.now.complete }
 {
     let findings = findings_of(asked, facts);

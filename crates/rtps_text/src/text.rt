@@ -7,9 +7,9 @@ use crate::findings::Findings;
 
 pub(crate) mod asked_evidence;
 mod asked_report;
-mod audit_lines;
+pub(crate) mod audit_lines;
 pub(crate) mod audit_text;
-mod delivery_lines;
+pub(crate) mod delivery_lines;
 mod item_lines;
 mod json_delivery;
 pub(crate) mod json_members;
@@ -18,7 +18,7 @@ pub(crate) mod list_lines;
 pub(crate) mod list_text;
 mod parts;
 pub(crate) mod show_text;
-mod why_lines;
+pub(crate) mod why_lines;
 pub(crate) mod why_text;
 
 /// How a run ends that wrote its whole text.

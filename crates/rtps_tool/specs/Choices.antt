@@ -7,13 +7,14 @@ use Rattle.rtps_text.specs.declared.text.Ending.{Ending}
 use Rattle.rtps_tool.specs.Commands.{IsTextOf}
 use Rattle.rtps_tool.specs.Options.{OptionsValue, asked_by}
 use Rattle.rtps_tool.specs.Runs.{RunsWithin, Writes}
+use Rattle.rtps_tool.specs.declared.captures.Captures.TheVariants.{Any}
 use Rattle.rtps_tool.specs.declared.command.Choice.{Choice}
-use Rattle.rtps_tool.specs.declared.command.Choice.TheVariants.{Show, List as ListChoice, Audit, Why, Page, Sample}
+use Rattle.rtps_tool.specs.declared.command.Choice.TheVariants.{Check, Show, List as ListChoice, Audit, Why, Page, Sample}
 use Rattle.rtps_tool.specs.declared.command.ReportForm.{ReportForm}
 use Rattle.rtps_tool.specs.declared.command.ReportForm.TheVariants.{Lines, Json}
 use Rattle.rtps_tool.specs.declared.faults.RunFault.{RunFault}
 use Rattle.rtps_tool.specs.declared.runs.Command.{Command}
-use Rattle.rtps_tool.specs.declared.runs.Command.TheVariants.{Show as ShowCommand, List as ListCommand, Audit as AuditCommand, Json as JsonCommand, Why as WhyCommand, Page as PageCommand}
+use Rattle.rtps_tool.specs.declared.runs.Command.TheVariants.{Check as CheckCommand, Show as ShowCommand, List as ListCommand, Audit as AuditCommand, Json as JsonCommand, Why as WhyCommand, Page as PageCommand}
 
 -- what prints an audit in this form
 abbrev pub audit_command : ReportForm → Command
@@ -22,6 +23,7 @@ audit_command Json = JsonCommand
 
 -- the options of its run; `sample` reads nothing, and has none
 abbrev pub options_of : Choice → Option OptionsValue
+options_of (Check file from limits demands) = Some (record { command = CheckCommand; asked = asked_by demands from; limits = limits; captures = Any })
 options_of (Show file limits captures) = Some (record { command = ShowCommand; asked = plainly 1; limits = limits; captures = captures })
 options_of (ListChoice file limits captures) = Some (record { command = ListCommand; asked = plainly 1; limits = limits; captures = captures })
 options_of (Audit file from limits captures form demands) = Some (record { command = audit_command form; asked = asked_by demands from; limits = limits; captures = captures })

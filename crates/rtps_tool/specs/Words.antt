@@ -18,7 +18,7 @@ use Rattle.rtps_tool.specs.declared.captures.Captures.TheVariants.{Classic, Any}
 use Rattle.rtps_tool.specs.declared.command.Choice.{Choice}
 use Rattle.rtps_tool.specs.declared.command.ReportForm.{ReportForm}
 use Rattle.rtps_tool.specs.declared.command.ReportForm.TheVariants.{Lines, Json}
-use Rattle.rtps_tool.specs.declared.command.Choice.TheVariants.{Show, List as ListChoice, Audit, Why, Page, Sample}
+use Rattle.rtps_tool.specs.declared.command.Choice.TheVariants.{Check, Show, List as ListChoice, Audit, Why, Page, Sample}
 use Rattle.rtps_tool.specs.declared.command.WordFault.{WordFault}
 use Rattle.rtps_tool.specs.declared.command.WordFault.TheVariants.{Refused, Help, Version, Memory}
 use Rattle.rtps_tool.specs.declared.demands.Demands.{Demands}
@@ -69,6 +69,16 @@ report_app name = demanding (with_rule (reading_app name) from_rule)
 abbrev pub audit_app : App
 audit_app = with_rule (report_app (codes "audit")) (flag_rule (codes "json"))
 
+-- a subcommand that reads a file within two limits
+abbrev pub limited_app : Text → App
+limited_app name =
+    with_rule (with_rule (with_rule (new_app name) file_rule) (number_rule (codes "DATAGRAMS") (codes "max-datagrams")))
+    (number_rule (codes "OCTETS") (codes "max-octets"))
+
+-- the subcommand `check`: it reads any capture, and what else `audit` may ask of its report is asked always
+abbrev pub check_app : App
+check_app = with_rule (with_rule (with_rule (limited_app (codes "check")) from_rule) pattern_rule) expect_rule
+
 -- a program that has a version and wants a subcommand
 abbrev pub bare_program : App
 bare_program = record (new_app (codes "rtps-audit")) { top = record (new_app (codes "rtps-audit")).top { has_version = true; subcommand_required = true } }
@@ -79,7 +89,8 @@ program =
     with_subcommand
     (with_subcommand
     (with_subcommand
-    (with_subcommand (with_subcommand (with_subcommand bare_program (reading_app (codes "show")).top) (reading_app (codes "list")).top)
+    (with_subcommand
+    (with_subcommand (with_subcommand (with_subcommand bare_program check_app.top) (reading_app (codes "show")).top) (reading_app (codes "list")).top)
     audit_app.top)
     (report_app (codes "why")).top)
     (report_app (codes "page")).top)
@@ -87,6 +98,7 @@ program =
 
 -- the subcommand that was chosen
 abbrev pub subcommand_name : Choice → Text
+subcommand_name (Check file from limits demands) = codes "check"
 subcommand_name (Show file limits captures) = codes "show"
 subcommand_name (ListChoice file limits captures) = codes "list"
 subcommand_name (Audit file from limits captures form demands) = codes "audit"
@@ -96,6 +108,7 @@ subcommand_name Sample = codes "sample"
 
 -- the file that was chosen; `sample` has none
 abbrev pub file_name : Choice → Option Text
+file_name (Check file from limits demands) = Some (string_bytes file)
 file_name (Show file limits captures) = Some (string_bytes file)
 file_name (ListChoice file limits captures) = Some (string_bytes file)
 file_name (Audit file from limits captures form demands) = Some (string_bytes file)
@@ -118,8 +131,9 @@ IsGivenOr usually (Some text) n =
 abbrev pub IsNumberGiven : Option Text → ℕ → Type 0
 IsNumberGiven text n = IsGivenOr 1 text n
 
--- its number is the one that was given; only `audit`, `why` and `page` have one
+-- its number is the one that was given; only `check`, `audit`, `why` and `page` have one
 abbrev pub HasItsNumber : Choice → List Row → Type 0
+HasItsNumber (Check file from limits demands) rows = IsNumberGiven (first_of (codes "N") rows) from
 HasItsNumber (Show file limits captures) rows = Unit {0}
 HasItsNumber (ListChoice file limits captures) rows = Unit {0}
 HasItsNumber (Audit file from limits captures form demands) rows = IsNumberGiven (first_of (codes "N") rows) from
@@ -144,6 +158,7 @@ is_any Any = true
 
 -- its form is the one that was asked for; only `audit` has one
 abbrev pub HasItsFlag : Choice → List Row → Type 0
+HasItsFlag (Check file from limits demands) rows = Unit {0}
 HasItsFlag (Show file limits captures) rows = Unit {0}
 HasItsFlag (ListChoice file limits captures) rows = Unit {0}
 HasItsFlag (Audit file from limits captures form demands) rows = IsFlagGiven (one_of (codes "json") rows) (is_json form)
@@ -161,6 +176,7 @@ pub record AreCapturesGiven (rows : List Row) (captures : Captures) : Type 0 whe
 
 -- it reads the captures that were asked for
 abbrev pub HasItsCaptures : Choice → List Row → Type 0
+HasItsCaptures (Check file from limits demands) rows = Unit {0}
 HasItsCaptures (Show file limits captures) rows = IsFlagGiven (one_of (codes "any") rows) (is_any captures)
 HasItsCaptures (ListChoice file limits captures) rows = IsFlagGiven (one_of (codes "any") rows) (is_any captures)
 HasItsCaptures (Audit file from limits captures form demands) rows = AreCapturesGiven rows captures
@@ -182,8 +198,16 @@ pub record AreDemandsGiven (rows : List Row) (demands : Demands) : Type 0 where
   pub expect : IsExpectGiven (first_of (codes "PAIRS") rows) demands.expect
   pub strict : IsFlagGiven (one_of (codes "strict") rows) demands.strict
 
--- it asks of its report what was given; only `audit`, `why` and `page` have one
+-- what `check` asks: the patterns and the number that were given, and all that the flags ask for
+pub record AreChecksGiven (rows : List Row) (demands : Demands) : Type 0 where
+  pub topics : map string_bytes demands.topics.items ≡ unwrap_or (all_of (codes "PATTERN") rows) []
+  pub observed : demands.observed ≡ true
+  pub expect : IsExpectGiven (first_of (codes "PAIRS") rows) demands.expect
+  pub strict : demands.strict ≡ true
+
+-- it asks of its report what was given; only `check`, `audit`, `why` and `page` have one
 abbrev pub HasItsDemands : Choice → List Row → Type 0
+HasItsDemands (Check file from limits demands) rows = AreChecksGiven rows demands
 HasItsDemands (Show file limits captures) rows = Unit {0}
 HasItsDemands (ListChoice file limits captures) rows = Unit {0}
 HasItsDemands (Audit file from limits captures form demands) rows = AreDemandsGiven rows demands
@@ -198,6 +222,7 @@ pub record AreLimitsGiven (rows : List Row) (limits : Limits) : Type 0 where
 
 -- its limits are those that were given
 abbrev pub HasItsLimits : Choice → List Row → Type 0
+HasItsLimits (Check file from limits demands) rows = AreLimitsGiven rows limits
 HasItsLimits (Show file limits captures) rows = AreLimitsGiven rows limits
 HasItsLimits (ListChoice file limits captures) rows = AreLimitsGiven rows limits
 HasItsLimits (Audit file from limits captures form demands) rows = AreLimitsGiven rows limits
@@ -254,6 +279,10 @@ faults_of_words words = fault_of program (codes "rtps-audit" ∷ words)
 -- JSON, or any capture, is asked for.
 pub record WordsAreWanted : Type 0 where
   pub no_subcommand : faults_of_words [] ≡ MissingSubcommand ∷ []
+  pub no_file_to_check : faults_of_words (codes "check" ∷ []) ≡ MissingRequiredArgument ∷ []
+  pub whole_check : faults_of_words (codes "check" ∷ codes "a.pcapng" ∷ []) ≡ []
+  pub topic_of_check : faults_of_words (codes "check" ∷ codes "--topic" ∷ codes "rt/*" ∷ codes "--expect" ∷ codes "3" ∷ codes "--from" ∷ codes "2" ∷ codes "a.rec" ∷ []) ≡ []
+  pub strict_of_check : faults_of_words (codes "check" ∷ codes "--strict" ∷ codes "a.rec" ∷ []) ≡ UnknownArgument ∷ []
   pub no_file_to_show : faults_of_words (codes "show" ∷ []) ≡ MissingRequiredArgument ∷ []
   pub no_file_to_list : faults_of_words (codes "list" ∷ []) ≡ MissingRequiredArgument ∷ []
   pub no_file_to_audit : faults_of_words (codes "audit" ∷ []) ≡ MissingRequiredArgument ∷ []

@@ -4,6 +4,7 @@ ghost use Rattle.rtps_tool.specs.Choices.{RunsBy, audit_command as audit_command
 ghost use Rattle.rtps_tool.specs.Options.{options_value};
 ghost use Rattle.rtps_tool.specs.Words.{file_name};
 
+use crate::captures::Captures;
 use crate::command::{Choice, ReportForm};
 use crate::faults::RunFault;
 use crate::follow::Follow;
@@ -19,7 +20,8 @@ impl Choice {
         ensures { option_map (λ name. name.now) result ≡ file_name self.now }
     {
         match self {
-            Choice::Show { file, .. }
+            Choice::Check { file, .. }
+            | Choice::Show { file, .. }
             | Choice::List { file, .. }
             | Choice::Audit { file, .. }
             | Choice::Why { file, .. }
@@ -33,6 +35,17 @@ impl Choice {
         ensures { option_map options_value result ≡ options_of self.now }
     {
         match self {
+            Choice::Check {
+                from,
+                limits,
+                demands,
+                ..
+            } => Some(Options {
+                command: Command::Check,
+                asked: demands.asked_from(*from),
+                limits: *limits,
+                captures: Captures::Any,
+            }),
             Choice::Show {
                 limits,
                 captures,

@@ -2,10 +2,10 @@ ghost use Rattle.std.specs.Prelude.{◌≡◌, ◌⊎◌, ◌||◌, true, false,
 ghost use Rattle.std.specs.String.{string_bytes};
 ghost use Rattle.clap.specs.Words.{app_of, fault_of, first_of, found_of, new_app, one_of, rows_of, rule_of, subcommand_of, subcommand_rows_of, takes};
 ghost use Rattle.clap.specs.declared.builder.command.Command.TheViews.{out-Command};
-ghost use Rattle.rtps_tool.specs.Words.{bare_program as bare_app, audit_app, flag_rule, is_any, is_json, number_rule, program as program_app, reading_app, report_app, AreCapturesGiven, AreLimitsGiven, IsChoice, IsFlagGiven, IsGivenOr, IsNumberGiven, IsOneOf, HasItsKind};
+ghost use Rattle.rtps_tool.specs.Words.{bare_program as bare_app, audit_app, check_app, limited_app, flag_rule, is_any, is_json, number_rule, program as program_app, reading_app, report_app, AreCapturesGiven, AreLimitsGiven, IsChoice, IsFlagGiven, IsGivenOr, IsNumberGiven, IsOneOf, HasItsKind};
 
 use crate::captures::Captures;
-use crate::demands::{Demands, demands_of, with_demands};
+use crate::demands::{Demands, checks_of, demands_of, with_demands, with_rows};
 use crate::runs::Limits;
 use clap::builder::ValueParser;
 use clap::error::ErrorKind;
@@ -28,6 +28,13 @@ pub enum ReportForm {
 /// are read.
 #[derive(Debug, Drop)]
 pub enum Choice {
+    /// Say which topics lost data, of the writers' numbers from `from` on, and what to do. Any capture is read.
+    Check {
+        file: String,
+        from: SeqNum,
+        limits: Limits,
+        demands: Demands,
+    },
     /// Show each datagram and its submessages.
     Show {
         file: String,
@@ -157,12 +164,18 @@ const NEWCOMERS: &str = "A FILE is what was sent in a test: a capture, as tcpdum
     or a text with one datagram a line in hexadecimal digits.
 
   tcpdump -i eth0 -w test.pcap udp          records a test, until it is interrupted
+  rtps-audit check test.pcap                says which topics lost data, and what to do
   rtps-audit audit test.pcap                says whether each reader acknowledged all samples
   rtps-audit why test.pcap                  says which datagrams each of these verdicts rests on
   rtps-audit page test.pcap > test.html     makes a page of them, to look at in a browser
   rtps-audit sample | rtps-audit audit -    tries this program
 
 Status: 0 all is well, also if there is no pair; 1 a pair is not complete; \
+    2 the arguments or the recording are refused; 3 input, output or memory failed";
+
+const CHECKS: &str = "Says which topics lost data, and what to do: for a person and for a test job";
+
+const CHECK_STATUSES: &str = "Status: 0 clean; 1 not clean: the last line says why; \
     2 the arguments or the recording are refused; 3 input, output or memory failed";
 
 const SHOWS: &str = "Shows each datagram of a recording and its submessages";
@@ -222,6 +235,39 @@ fn reading_subcommand<'a>(
     three.arg(number_option(alloc, "OCTETS", "max-octets", OCTETS_HELP))
 }
 
+/// A subcommand that reads a FILE within two limits.
+fn limited_subcommand<'a>(
+    alloc: Global,
+    name: &'a str,
+    about: &'a str,
+) -> Result<Command<'a>, AllocError>
+    ensures app { IfOk result (λ command. app_of command ≡ limited_app name.now) }
+    ensures local { IfOk result (λ command. (out-Command command).has_globals ≡ false) }
+{
+    let file = Arg::new(alloc, "FILE")
+        .required(true)
+        .action(ArgAction::Set)
+        .help(FILE_HELP);
+    let bare = Command::new(alloc, name)
+        .about(about)
+        .after_help(CHECK_STATUSES);
+    let one = bare.arg(file)?;
+    let datagrams = number_option(alloc, "DATAGRAMS", "max-datagrams", DATAGRAMS_HELP);
+    let two = one.arg(datagrams)?;
+    two.arg(number_option(alloc, "OCTETS", "max-octets", OCTETS_HELP))
+}
+
+/// The subcommand `check`: it reads a FILE, asks for numbers from some number on, and chooses rows.
+fn check_subcommand<'a>(alloc: Global) -> Result<Command<'a>, AllocError>
+    ensures app { IfOk result (λ command. app_of command ≡ check_app) }
+    ensures local { IfOk result (λ command. (out-Command command).has_globals ≡ false) }
+{
+    let from = number_option(alloc, "N", "from", FROM_HELP);
+    let limited = limited_subcommand(alloc, "check", CHECKS)?;
+    let numbered = limited.arg(from)?;
+    with_rows(alloc, numbered)
+}
+
 /// A subcommand that judges: it reads a FILE, asks for numbers from some number on, and may ask more of its report.
 fn report_subcommand<'a>(
     alloc: Global,
@@ -269,8 +315,10 @@ fn bare_program<'a>(alloc: Global) -> Command<'a>
 fn program<'a>(alloc: Global) -> Result<Command<'a>, AllocError>
     ensures { IfOk result (λ command. app_of command ≡ program_app) }
 {
+    let check = check_subcommand(alloc)?;
+    let zero = bare_program(alloc).subcommand(check)?;
     let show = reading_subcommand(alloc, "show", SHOWS)?;
-    let one = bare_program(alloc).subcommand(show)?;
+    let one = zero.subcommand(show)?;
     let list = reading_subcommand(alloc, "list", LISTS)?;
     let two = one.subcommand(list)?;
     let audit = audit_subcommand(alloc)?;
@@ -391,6 +439,18 @@ fn report_captures_of(found: &ArgMatches) -> Captures
     captures_by(any, strict)
 }
 
+/// What the matches of `check` choose.
+fn check_of(alloc: Global, check: &ArgMatches) -> Result<Choice, AllocError>
+    ensures { IfOk result (IsChoice (Some (codes "check", rows_of (found_of check.now)))) }
+{
+    Ok(Choice::Check {
+        file: file_of(alloc, check)?,
+        from: number_of(check),
+        limits: limits_of(check),
+        demands: checks_of(alloc, check)?,
+    })
+}
+
 /// What the matches of `show` choose.
 fn show_of(alloc: Global, show: &ArgMatches) -> Result<Choice, AllocError>
     ensures { IfOk result (IsChoice (Some (codes "show", rows_of (found_of show.now)))) }
@@ -460,6 +520,9 @@ fn choice_of(alloc: Global, matches: &ArgMatches) -> Result<Option<Choice>, Allo
         ((chosen : Choice) → ¬ IsChoice (subcommand_rows_of matches.now) chosen)
         (IsChoice (subcommand_rows_of matches.now))) }
 {
+    if let Some(check) = matches.subcommand_matches("check") {
+        return Ok(Some(check_of(alloc, check)?));
+    }
     if let Some(show) = matches.subcommand_matches("show") {
         return Ok(Some(show_of(alloc, show)?));
     }

@@ -2,7 +2,7 @@ ghost use Rattle.std.specs.Prelude.{◌≡◌, [], IfOk, Some, codes, false, map
 ghost use Rattle.std.specs.String.{string_bytes};
 ghost use Rattle.clap.specs.Words.{all_of, app_of, first_of, found_of, rows_of, rule_of};
 ghost use Rattle.clap.specs.declared.builder.command.Command.TheViews.{out-Command};
-ghost use Rattle.rtps_tool.specs.Words.{AreDemandsGiven, IsExpectGiven, demanding, expect_rule, pattern_rule};
+ghost use Rattle.rtps_tool.specs.Words.{AreChecksGiven, AreDemandsGiven, IsExpectGiven, demanding, expect_rule, pattern_rule};
 
 use crate::command::{GREATEST, flag, is_given};
 use clap::builder::ValueParser;
@@ -81,6 +81,16 @@ fn expect_option<'a>(alloc: Global) -> Arg<'a>
         .help(EXPECT_HELP)
 }
 
+/// A subcommand with the options that choose rows.
+pub(crate) fn with_rows<'a>(alloc: Global, command: Command<'a>) -> Result<Command<'a>, AllocError>
+    requires { (out-Command command).has_globals ≡ false }
+    ensures app { IfOk result (λ made. app_of made ≡ with_rule (with_rule (app_of command.entry) pattern_rule) expect_rule) }
+    ensures local { IfOk result (λ made. (out-Command made).has_globals ≡ false) }
+{
+    let one = command.arg(pattern_option(alloc))?;
+    one.arg(expect_option(alloc))
+}
+
 /// A subcommand with the options that ask more of a report.
 pub(crate) fn with_demands<'a>(
     alloc: Global,
@@ -147,5 +157,17 @@ pub(crate) fn demands_of(alloc: Global, found: &ArgMatches) -> Result<Demands, A
         observed: is_given(found, "observed"),
         expect: expect_of(found),
         strict: is_given(found, "strict"),
+    })
+}
+
+/// What the matches of `check` ask: all that a job may ask.
+pub(crate) fn checks_of(alloc: Global, found: &ArgMatches) -> Result<Demands, AllocError>
+    ensures { IfOk result (AreChecksGiven (rows_of (found_of found.now))) }
+{
+    Ok(Demands {
+        topics: topics_of(alloc, found)?,
+        observed: true,
+        expect: expect_of(found),
+        strict: true,
     })
 }

@@ -13,6 +13,7 @@ use crate::captures::Captures;
 use crate::faults::RunFault;
 use crate::follow::Follow;
 use crate::streams::{read_input, write_text};
+use rtps_check::check_text;
 use rtps_ids::{Memory, SeqNum};
 use rtps_page::page_text;
 use rtps_text::{
@@ -47,6 +48,8 @@ impl Limits {
 /// What is printed of a recording.
 #[derive(Clone, Copy, Debug, PartialEq, Eq)]
 pub enum Command {
+    /// Which topics lost data, what to do, and whether the recording is clean.
+    Check,
     /// Each datagram and its submessages.
     Show,
     /// Participants, endpoints whose announcements agree, and matches.
@@ -122,6 +125,7 @@ fn text_of<P: Watch>(
     ensures { IfOk result (λ answer. IsTextOf options.now.command (asked_value options.now.asked) recording.now (string_bytes answer.0) answer.1) }
 {
     match options.command {
+        Command::Check => check_text(alloc, recording, &options.asked, watch),
         Command::Show => show_text(alloc, recording, Fragments::Skipped),
         Command::List => list_text(alloc, recording),
         Command::Audit => audit_text(alloc, recording, &options.asked, watch),

@@ -63,7 +63,7 @@ pub fn rows_asked<'a>(
 }
 
 /// Those of these rows that are asked for.
-fn kept_of<'a>(
+pub fn kept_of<'a>(
     alloc: Global,
     rows: &[Explanation<'a>],
     wanted: &RowFilter<'_>,

@@ -6,7 +6,7 @@ use std::fmt;
 
 /// The first line: how many pairs there are.
 #[derive(Drop)]
-pub(crate) struct PairsLine(pub(crate) usize);
+pub struct PairsLine(pub usize);
 
 impl fmt::Display for PairsLine {
     ghost output = { λ line. Some (pairs_line line.0) };
@@ -18,7 +18,7 @@ impl fmt::Display for PairsLine {
 
 /// The line of a pair and its verdict.
 #[derive(Drop)]
-pub(crate) struct RowLine(pub(crate) Row);
+pub struct RowLine(pub Row);
 
 impl fmt::Display for RowLine {
     ghost output = { λ line. Some (row_line line.0) };
@@ -37,7 +37,7 @@ impl fmt::Display for RowLine {
 
 /// The last line: what was counted, and how many frames of a capture were ignored.
 #[derive(Drop)]
-pub(crate) struct ReportCountsLine(pub(crate) Counts, pub(crate) Option<u64>);
+pub struct ReportCountsLine(pub Counts, pub Option<u64>);
 
 impl fmt::Display for ReportCountsLine {
     ghost output = { λ line. Some (report_counts_line line.0 line.1) };
@@ -93,7 +93,7 @@ impl fmt::Display for IgnoredText {
 
 /// A verdict and its numbers.
 #[derive(Drop)]
-pub(crate) struct VerdictText(pub(crate) Verdict);
+pub struct VerdictText(pub Verdict);
 
 impl fmt::Display for VerdictText {
     ghost output = { λ text. Some (verdict_text text.0) };

@@ -7,7 +7,7 @@ use std::fmt;
 
 /// The line of how many of so many numbers are received.
 #[derive(Drop)]
-pub(crate) struct ReceivedLine(pub(crate) u64, pub(crate) u128);
+pub struct ReceivedLine(pub u64, pub u128);
 
 impl fmt::Display for ReceivedLine {
     ghost output = { λ line. Some (received_line line.0 line.1) };
@@ -19,7 +19,7 @@ impl fmt::Display for ReceivedLine {
 
 /// The line of how many numbers are missed.
 #[derive(Drop)]
-pub(crate) struct MissedLine(pub(crate) u64);
+pub struct MissedLine(pub u64);
 
 impl fmt::Display for MissedLine {
     ghost output = { λ line. Some (missed_line line.0) };
@@ -31,7 +31,7 @@ impl fmt::Display for MissedLine {
 
 /// The line of the least number that is missed.
 #[derive(Drop)]
-pub(crate) struct AskedLine(pub(crate) FirstMissed);
+pub struct AskedLine(pub FirstMissed);
 
 impl fmt::Display for AskedLine {
     ghost output = { λ line. Some (asked_line line.0) };
@@ -71,7 +71,7 @@ impl fmt::Display for SinceText {
 
 /// The line of the least number that is not received and of what keeps it; nothing where all are received.
 #[derive(Drop)]
-pub(crate) struct NotReceivedLine(pub(crate) Option<NotReceived>);
+pub struct NotReceivedLine(pub Option<NotReceived>);
 
 impl fmt::Display for NotReceivedLine {
     ghost output = { λ line. Some (not_received_line line.0) };
@@ -160,7 +160,7 @@ impl fmt::Display for PlaceComma {
 
 /// The line of how often the writer asked for an answer since the last one.
 #[derive(Drop)]
-pub(crate) struct QuestionsLine(pub(crate) u64, pub(crate) Option<Location>);
+pub struct QuestionsLine(pub u64, pub Option<Location>);
 
 impl fmt::Display for QuestionsLine {
     ghost output = { λ line. Some (questions_line line.0 line.1) };

@@ -9,7 +9,7 @@ use std::fmt;
 
 /// The line of a pair and its verdict.
 #[derive(Drop)]
-pub(crate) struct PairLine<'a>(pub(crate) &'a Explanation<'a>);
+pub struct PairLine<'a>(pub &'a Explanation<'a>);
 
 impl fmt::Display for PairLine<'_> {
     ghost output = { λ line. Some (pair_line (explanation_value line.0.now)) };
@@ -28,7 +28,7 @@ impl fmt::Display for PairLine<'_> {
 
 /// The line of the topic and the type that a pair is about.
 #[derive(Drop)]
-pub(crate) struct NamesLine<'a>(pub(crate) &'a Explanation<'a>);
+pub struct NamesLine<'a>(pub &'a Explanation<'a>);
 
 impl fmt::Display for NamesLine<'_> {
     ghost output = { λ line. Some (names_line line.0.now.topic.now line.0.now.type_name.now) };
@@ -45,7 +45,7 @@ impl fmt::Display for NamesLine<'_> {
 
 /// The line of the last number that the writer announced.
 #[derive(Drop)]
-pub(crate) struct AnnouncedLine(pub(crate) Option<Announcement>);
+pub struct AnnouncedLine(pub Option<Announcement>);
 
 impl fmt::Display for AnnouncedLine {
     ghost output = { λ line. Some (announced_line line.0) };
@@ -66,7 +66,7 @@ impl fmt::Display for AnnouncedLine {
 
 /// The line of the greatest base with which the reader answered.
 #[derive(Drop)]
-pub(crate) struct AcknowledgedLine(pub(crate) Option<Claim>);
+pub struct AcknowledgedLine(pub Option<Claim>);
 
 impl fmt::Display for AcknowledgedLine {
     ghost output = { λ line. Some (acknowledged_line line.0) };
@@ -86,7 +86,7 @@ impl fmt::Display for AcknowledgedLine {
 
 /// The line of how many numbers have a payload, are gone without one, or have no word.
 #[derive(Drop)]
-pub(crate) struct AmountsLine<'a>(pub(crate) &'a Evidence<'a>);
+pub struct AmountsLine<'a>(pub &'a Evidence<'a>);
 
 impl fmt::Display for AmountsLine<'_> {
     ghost output = { λ line. Some (amounts_line line.0.now.payloads line.0.now.gone line.0.now.untold) };
@@ -103,7 +103,7 @@ impl fmt::Display for AmountsLine<'_> {
 
 /// The line of a number and of what told it first.
 #[derive(Drop)]
-pub(crate) struct ToldLine(pub(crate) i64, pub(crate) Option<Teller>);
+pub struct ToldLine(pub i64, pub Option<Teller>);
 
 impl fmt::Display for ToldLine {
     ghost output = { λ line. Some (told_line line.0 line.1) };
@@ -124,7 +124,7 @@ impl fmt::Display for ToldLine {
 
 /// The line of the answer that claimed a number too early; nothing where there is none.
 #[derive(Drop)]
-pub(crate) struct ClaimedLine(pub(crate) Option<Claim>);
+pub struct ClaimedLine(pub Option<Claim>);
 
 impl fmt::Display for ClaimedLine {
     ghost output = { λ line. Some (claimed_line line.0) };
@@ -144,7 +144,7 @@ impl fmt::Display for ClaimedLine {
 
 /// Where a submessage stands.
 #[derive(Drop)]
-pub(crate) struct PlaceText(pub(crate) Location);
+pub struct PlaceText(pub Location);
 
 impl fmt::Display for PlaceText {
     ghost output = { λ text. Some (place_text text.0) };
@@ -158,7 +158,7 @@ impl fmt::Display for PlaceText {
 
 /// The name that `show` gives a submessage.
 #[tactic(auto, unfolding(crate::specs::WhyText::kind_text))]
-pub(crate) fn kind_name(kind: Kind) -> &'static str
+pub fn kind_name(kind: Kind) -> &'static str
     ensures { result.now ≡ kind_text kind }
 {
     match kind {

@@ -148,7 +148,7 @@ fn push_shown(text: &mut String, evidence: &Evidence<'_>) -> Result<(), AllocErr
 }
 
 /// Appends the line of what was sent for a number; nothing where nothing was.
-fn push_sent(text: &mut String, number: i64, sent: Option<Sent<'_>>) -> Result<(), AllocError>
+pub fn push_sent(text: &mut String, number: i64, sent: Option<Sent<'_>>) -> Result<(), AllocError>
     ensures { OnOk result (string_bytes text.new ≡ string_bytes text.old ++ sent_line number (option_map sent_value sent.entry)) }
 {
     let Some(sent) = sent else {
@@ -168,7 +168,7 @@ pub fn ending_asked(asked: &Asked<'_>, explained: &Explained<'_>, recording: &Re
 }
 
 /// What is known of a report whose rows are explained, to hold it against what was asked.
-pub(crate) fn facts_of(explained: &Explained<'_>, recording: &Recording) -> Facts
+pub fn facts_of(explained: &Explained<'_>, recording: &Recording) -> Facts
     ensures { result ≡ facts_of_rows (map explanation_value explained.now.rows.items) explained.now.counts recording.now }
 {
     Facts {

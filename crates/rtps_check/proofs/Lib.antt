@@ -1,0 +1,4 @@
+pub mod CellLemmas
+pub mod CheckedLemmas
+pub mod CommaLemmas
+pub mod TopicLemmas

@@ -1,0 +1,11 @@
+pub mod Advice
+pub mod ByTopic
+pub mod Causes
+pub mod CheckText
+pub mod GroupedNumber
+pub mod Notes
+pub mod Parted
+pub mod Sections
+pub mod Table
+pub mod TopicTable
+pub mod Totals
