@@ -22,17 +22,19 @@ open_advice scope evidence =
     else (if is_none evidence.teller then (if scope.unread then OpenUnread else OpenUntold)
     else (if evidence.asked_since == 0 then NotAsked else (if is_none evidence.acknowledgement then NeverAnswered else Silent)))
 
--- a payload is as large as one of the other kind
+-- no payload
 abbrev pub is_absent : PayloadValue → Bool
 is_absent Absent = true
 is_absent (Whole octets) = false
 is_absent (Key octets) = false
 
+-- a whole sample of so many octets
 abbrev pub is_whole_of : ℕ → PayloadValue → Bool
 is_whole_of size Absent = false
 is_whole_of size (Whole octets) = length octets == size
 is_whole_of size (Key octets) = false
 
+-- a key of so many octets
 abbrev pub is_key_of : ℕ → PayloadValue → Bool
 is_key_of size Absent = false
 is_key_of size (Whole octets) = false
@@ -50,6 +52,7 @@ are_carried_alike None other = false
 are_carried_alike (Some one) None = false
 are_carried_alike (Some one) (Some other) = are_alike one other
 
+-- and of what was sent
 abbrev pub are_sent_alike : Option SentValue → Option SentValue → Bool
 are_sent_alike None other = false
 are_sent_alike (Some one) None = false
@@ -88,6 +91,7 @@ advice_by scope (Open number) evidence = open_advice scope evidence
 advice_by scope (Conflict number) evidence = conflict_advice evidence
 advice_by scope (Unfounded datagram number) evidence = unfounded_advice scope evidence number
 
+-- by its verdict
 abbrev pub advice_of : Scope → EvidenceValue → Advice
 advice_of scope evidence = advice_by scope evidence.verdict evidence
 

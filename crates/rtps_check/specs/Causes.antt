@@ -15,12 +15,15 @@ findings_in Clean = no_findings
 findings_in Unclean = no_findings
 findings_in (Unmet findings) = findings
 
+-- the words for pairs
 abbrev pub pair_words : WordsValue
 pair_words = record { one = codes "pair"; many = codes "pairs" }
 
+-- for those that are not complete
 abbrev pub incomplete_words : WordsValue
 incomplete_words = record { one = codes "pair is not complete"; many = codes "pairs are not complete" }
 
+-- for numbers that were missed
 abbrev pub missed_words : WordsValue
 missed_words = record { one = codes "number was missed"; many = codes "numbers were missed" }
 

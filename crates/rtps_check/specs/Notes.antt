@@ -50,18 +50,23 @@ abbrev pub pieces_words : WordsValue
 pieces_words =
     record { one = codes "frame is a fragment of a packet that is not whole"; many = codes "frames are fragments of packets that are not whole" }
 
+-- for frames that are cut
 abbrev pub cut_words : WordsValue
 cut_words = record { one = codes "frame is cut"; many = codes "frames are cut" }
 
+-- for frames of something else
 abbrev pub other_words : WordsValue
 other_words = record { one = codes "frame carries no UDP over IP"; many = codes "frames carry no UDP over IP" }
 
+-- for fragments that are left
 abbrev pub fragments_words : WordsValue
 fragments_words = record { one = codes "fragment is of a sample that is not whole"; many = codes "fragments are of samples that are not whole" }
 
+-- for endpoints whose announcements disagree
 abbrev pub unsettled_words : WordsValue
 unsettled_words = record { one = codes "endpoint announced itself in two ways"; many = codes "endpoints announced themselves in two ways" }
 
+-- for datagrams with a fault
 abbrev pub refused_words : WordsValue
 refused_words = record { one = codes "datagram is malformed"; many = codes "datagrams are malformed" }
 
@@ -70,24 +75,30 @@ abbrev pub unsure_note : ℕ → List ℕ
 unsure_note number =
     note number unsure_words (codes "mostly they were: with KEEP_LAST a writer drops samples before it asks; a greater history depth shows it")
 
+-- of fragments of packets
 abbrev pub pieces_note : ℕ → List ℕ
 pieces_note number =
     note number pieces_words (codes "record at the writer's side, and see that tcpdump drops nothing: they may have samples or announcements")
 
+-- of frames that are cut
 abbrev pub cut_note : ℕ → List ℕ
 cut_note number = note number cut_words (codes "record whole frames, without a snap length (tcpdump -s), and end tcpdump with Ctrl-C")
 
+-- of frames of something else
 abbrev pub other_note : ℕ → List ℕ
 other_note number = note number other_words (codes "nothing is to be done: ARP, TCP and ICMP are such frames")
 
+-- of fragments that are left
 abbrev pub fragments_note : ℕ → List ℕ
 fragments_note number =
     note number fragments_words (codes "record at the writer's side, and see that tcpdump drops nothing: pairs with such samples may not be complete")
 
+-- of endpoints whose announcements disagree
 abbrev pub unsettled_note : ℕ → List ℕ
 unsettled_note number =
     note number unsettled_words (codes "they are in no pair: see that no process starts again with its old GUID, and that no QoS changes")
 
+-- of datagrams with a fault
 abbrev pub refused_note : ℕ → List ℕ
 refused_note number = note number refused_words (codes "rtps-audit show prints refused and the fault: what stands behind it is not read")
 

@@ -8,18 +8,21 @@ use Rattle.rtps_evidence.specs.declared.last_announcement.Announcement.{Announce
 use Rattle.rtps_text.specs.AuditText.{is_complete}
 use Rattle.rtps_check.specs.declared.totals.Totals.{Totals}
 
+-- the reader may lack a number
 abbrev pub is_open : Verdict → Bool
 is_open (Complete last) = false
 is_open (Open number) = true
 is_open (Conflict number) = false
 is_open (Unfounded datagram number) = false
 
+-- a number has two payloads
 abbrev pub is_conflict : Verdict → Bool
 is_conflict (Complete last) = false
 is_conflict (Open number) = false
 is_conflict (Conflict number) = true
 is_conflict (Unfounded datagram number) = false
 
+-- a number was acknowledged too early
 abbrev pub is_unfounded : Verdict → Bool
 is_unfounded (Complete last) = false
 is_unfounded (Open number) = false
