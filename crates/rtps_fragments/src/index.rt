@@ -1,0 +1,66 @@
+ghost use Rattle.std.specs.Prelude.{ℕ, ◌≡◌, ◌+◌, ◌<◌, ◌^◌, map, IfOk, List, OnOk};
+ghost use Rattle.rtps_audit.specs.Index.{IsIndexBy};
+ghost use Rattle.rtps_audit.specs.Intake.{Intake, intake_more};
+ghost use Rattle.rtps_fragments.specs.Merging.{merged_from};
+ghost use Rattle.rtps_fragments.specs.RecordedSamples.{AreSamplesOf, intake_with};
+ghost use Rattle.rtps_fragments.specs.FragmentVerdict.{IsFragmentVerdictFrom};
+ghost use Rattle.rtps_fragments.specs.SampleActs.{fragment_speech_of};
+ghost use Rattle.rtps_fragments.specs.Sending.{piece_acts_of, sending_of};
+ghost use Rattle.rtps_fragments.specs.Telling.{told_value};
+ghost use Rattle.rtps_wire.specs.Reading.{reading_of};
+ghost use Rattle.rtps_wire.specs.Tally.{tally_of};
+
+use crate::laws::recorded_verdict_is_of_runs;
+use crate::merging::merge;
+use crate::samples::Samples;
+use crate::sending::Sending;
+use crate::told::Told;
+use rtps_audit::{Index, Verdict};
+use rtps_discovery::Pair;
+use rtps_ids::{Memory, SeqNum};
+use rtps_wire::tally;
+use std::alloc::Global;
+
+/// Takes in one datagram more, and behind each of its acts the samples that it tells. After `Memory` the index is of no use.
+fn note_datagram<'s>(
+    index: &mut Index<'s>,
+    alloc: Global,
+    datagram: &'s [u8],
+    told: &'s [Told],
+) -> Result<(), Memory>
+    requires { index.old.tallies.datagrams + 1 < 2 ^ 64 }
+    ensures { OnOk result ((intake : Intake) → IsIndexBy intake index.old
+        → IsIndexBy (intake_more intake (tally_of (reading_of datagram.now)) (merged_from 0 (map (λ one. one.act) (piece_acts_of datagram.now)) (map told_value told.now)) (map (λ one. one.act) (piece_acts_of datagram.now))) index.new) }
+{
+    let sending = Sending::read(alloc, datagram)?;
+    let acts = merge(alloc, &sending.acts, told)?;
+    index.note(tally(datagram), &acts, &sending.acts)?;
+    Ok(())
+}
+
+/// The index of a recording with its samples. It borrows the octets of both. `Memory` is answered where there is none for it.
+pub fn index_with<'s>(
+    alloc: Global,
+    recording: &[&'s [u8]],
+    samples: &'s Samples,
+) -> Result<Index<'s>, Memory>
+    requires { AreSamplesOf (map (λ datagram. datagram.now) recording.now) samples.now }
+    ensures { IfOk result (IsIndexBy (intake_with (map (λ datagram. datagram.now) recording.now))) }
+{
+    let mut index = Index::new(alloc);
+    for place in 0..recording.len() {
+        note_datagram(&mut index, alloc, recording[place], &samples.told[place])?;
+    }
+    Ok(index)
+}
+
+/// Judges by the index of a recording with its samples what the recording says of a writer and a reader, of the writer's numbers from
+/// `from` on. The verdict is that by all runs in which the reader takes fragments one by one. `Memory` is answered where what is
+/// kept of that cannot grow.
+pub fn judge_with_samples(index: &Index<'_>, pair: Pair, from: SeqNum) -> Result<Verdict, Memory>
+    ensures { (recording : List (List ℕ)) → IsIndexBy (intake_with recording) index.now
+        → IfOk result (IsFragmentVerdictFrom from (fragment_speech_of pair.writer pair.reader (sending_of recording))) }
+{
+    recorded_verdict_is_of_runs();
+    index.judge_from(pair, from)
+}

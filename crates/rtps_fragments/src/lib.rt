@@ -1,0 +1,21 @@
+//! What a reader is told by samples that are sent in fragments (DDSI-RTPS 2.5, 8.3.8.3 "DataFrag").
+#![tactic(auto)]
+
+mod addressed;
+mod came;
+mod hearing;
+mod index;
+pub mod laws;
+mod merging;
+mod overheard;
+mod piece;
+mod samples;
+mod sending;
+mod telling;
+mod told;
+
+pub use index::{index_with, judge_with_samples};
+pub use overheard::OverheardSamples;
+pub use piece::{Fragments, SampleKey, Sent};
+pub use samples::Samples;
+pub use told::Told;

@@ -1,0 +1,56 @@
+ghost use Rattle.std.specs.Prelude.{◌≡◌};
+ghost use Rattle.rtps_fragments.specs.Telling.{shape_of};
+
+use rtps_ids::{Guid, SeqNum};
+use rtps_receiver::Audience;
+use rtps_wire::Shape;
+
+/// Consecutive fragments of one sample.
+#[derive(Clone, Copy, Debug)]
+pub struct Fragments<'a> {
+    /// The number of the first of them. Fragments count from 1.
+    pub first: u32,
+    /// How many there are.
+    pub count: u16,
+    /// Their octets, one after another.
+    pub octets: &'a [u8],
+}
+
+/// A sample that is sent in fragments of one shape.
+#[derive(Clone, Copy, PartialEq, Eq, PartialOrd, Ord, Debug)]
+pub struct SampleKey {
+    pub writer: Guid,
+    /// The number of the sample.
+    pub number: SeqNum,
+    /// The size of the sample, in octets.
+    pub sample: u32,
+    /// The size of a fragment, in octets.
+    pub fragment: u16,
+    /// Whether the sample is a key.
+    pub is_key: bool,
+}
+
+impl SampleKey {
+    /// The shape of the sample.
+    pub fn shape(self) -> Shape
+        ensures { result ≡ shape_of self }
+    {
+        Shape {
+            sample: self.sample,
+            fragment: self.fragment,
+            is_key: self.is_key,
+        }
+    }
+}
+
+/// Fragments that a DATA_FRAG sends.
+#[derive(Clone, Copy, Debug)]
+pub struct Sent<'a> {
+    /// The place of the DATA_FRAG among the acts of its datagram.
+    pub act: usize,
+    /// The sample that they are of.
+    pub key: SampleKey,
+    /// To whom they are sent.
+    pub audience: Audience,
+    pub fragments: Fragments<'a>,
+}
