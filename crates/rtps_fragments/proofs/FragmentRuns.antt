@@ -1,0 +1,156 @@
+-- What a reader that takes fragments one by one can come to have.
+use Rattle.std.proofs.Common.{◌≡◌, ℕ, zero, suc, ◌≤◌, List, [], ◌∷◌, ◌++◌, Some, slice_get, refl, ◌∙◌, ap, subst, arith, ◌⊎◌, inl, inr}
+use Rattle.std.proofs.lemmas.List.Elements.{Contains-append_left, Contains-push, Contains-push_cases}
+use Rattle.rtps_wire.specs.Values.{PayloadValue}
+use Rattle.rtps_audit.specs.Delivery.{Word}
+use Rattle.rtps_fragments.specs.FragmentDelivery.{Fragment, FragmentSpeech, FragmentState, fragment_start, FragmentEvent, HasPayloadOf, HasWordOf, HasPayload, HasWord, HoldsWord, HoldsFragment, FragmentsFollow, FragmentsEnd}
+use Rattle.rtps_fragments.specs.FragmentDelivery.FragmentEvent.{Take, TakeFragment}
+use Rattle.rtps_fragments.specs.FragmentVerdict.{IsSaidBefore, IsSentBefore, IsPayloadBefore, IsWordBefore}
+
+-- ---- more words and fragments make no fewer payloads
+
+pub payload_of_more : (said other : ℕ → Word → Type 0) (there also : Fragment → Type 0) → ((n : ℕ) (word : Word) → said n word → other n word) → ((f : Fragment) → there f → also f)
+    → (n : ℕ) (payload : PayloadValue) → HasPayloadOf said there n payload → HasPayloadOf other also n payload
+payload_of_more said other there also words fragments n payload (inl told) = inl (words n _ told)
+payload_of_more said other there also words fragments n payload (inr put) =
+    inr (record { shape = put.shape; parts = put.parts; some = put.some; all = put.all; each = λ i octets at. fragments _ (put.each i octets at); payload_is = put.payload_is })
+
+pub word_of_more : (said other : ℕ → Word → Type 0) (there also : Fragment → Type 0) → ((n : ℕ) (word : Word) → said n word → other n word) → ((f : Fragment) → there f → also f)
+    → (n : ℕ) → HasWordOf said there n → HasWordOf other also n
+word_of_more said other there also words fragments n (inl gone) = inl (words n _ gone)
+word_of_more said other there also words fragments n (inr (payload, has)) = inr (payload, payload_of_more said other there also words fragments n payload has)
+
+-- what is said before a place is said before a later one
+pub said_later : {from : ℕ} (speech : FragmentSpeech) (i j : ℕ) → i ≤ j → (n : ℕ) (word : Word) → IsSaidBefore from speech i n word → IsSaidBefore from speech j n word
+said_later speech i j le n word said = record { place = said.place; act = said.act; earlier = let lt = said.earlier in omega arith; gives = said.gives }
+
+pub sent_later : {from : ℕ} (speech : FragmentSpeech) (i j : ℕ) → i ≤ j → (f : Fragment) → IsSentBefore from speech i f → IsSentBefore from speech j f
+sent_later speech i j le f sent = record { place = sent.place; piece = sent.piece; earlier = let lt = sent.earlier in omega arith; gives = sent.gives }
+
+-- ---- taking what was given
+
+-- events one after another
+pub follow_on : (from : ℕ) (speech : FragmentSpeech) (a b c : FragmentState) (es fs : List FragmentEvent) → FragmentsFollow from speech a es b → FragmentsFollow from speech b fs c
+    → FragmentsFollow from speech a (es ++ fs) c
+follow_on from speech a b c [] fs h k = subst (λ s. FragmentsFollow from speech s fs c) h k
+follow_on from speech a b c (e ∷ es) fs h k = (h.0, h.1, follow_on from speech h.0 b c es fs h.2 k)
+
+-- The reader takes more of the number n, and of no other: nothing more is sent, and nothing is lost.
+pub record TakesMore (n : ℕ) (old new : FragmentState) : Type 0 where
+  pub sent : new.sent ≡ old.sent
+  pub words : (m : ℕ) (word : Word) → HoldsWord old m word → HoldsWord new m word
+  pub fragments : (f : Fragment) → HoldsFragment old f → HoldsFragment new f
+  pub new_words : (m : ℕ) (word : Word) → HoldsWord new m word → HoldsWord old m word ⊎ (n ≡ m)
+  pub new_fragments : (f : Fragment) → HoldsFragment new f → HoldsFragment old f ⊎ (n ≡ f.number)
+
+takes_none : (n : ℕ) (s : FragmentState) → TakesMore n s s
+takes_none n s = record { sent = refl; words = λ m word h. h; fragments = λ f h. h; new_words = λ m word h. inl h; new_fragments = λ f h. inl h }
+
+takes_both : (n : ℕ) (a b c : FragmentState) → TakesMore n a b → TakesMore n b c → TakesMore n a c
+takes_both n a b c h k = record {
+  sent = k.sent ∙ h.sent;
+  words = λ m word x. k.words m word (h.words m word x);
+  fragments = λ f x. k.fragments f (h.fragments f x);
+  new_words = λ m word x. elim (k.new_words m word x) [ inl before ↦ h.new_words m word before | inr same ↦ inr same ];
+  new_fragments = λ f x. elim (k.new_fragments f x) [ inl before ↦ h.new_fragments f before | inr same ↦ inr same ];
+}
+
+-- what was had is still had
+pub payload_stays : (n : ℕ) (old new : FragmentState) → TakesMore n old new → (m : ℕ) (payload : PayloadValue) → HasPayload old m payload → HasPayload new m payload
+payload_stays n old new more m payload has = payload_of_more (HoldsWord old) (HoldsWord new) (HoldsFragment old) (HoldsFragment new) more.words more.fragments m payload has
+
+pub word_stays : (n : ℕ) (old new : FragmentState) → TakesMore n old new → (m : ℕ) → HasWord old m → HasWord new m
+word_stays n old new more m has = word_of_more (HoldsWord old) (HoldsWord new) (HoldsFragment old) (HoldsFragment new) more.words more.fragments m has
+
+-- from a state on, the reader takes more of n until this holds
+abbrev pub Takes : ℕ → FragmentSpeech → FragmentState → ℕ → (FragmentState → Type 0) → Type 0
+Takes from speech s n P = (events : List FragmentEvent) × (t : FragmentState) × FragmentsFollow from speech s events t × TakesMore n s t × P t
+
+abbrev pub took_word : FragmentState → ℕ → Word → FragmentState
+took_word t n word = record { sent = t.sent; held = t.held ++ (n, word) ∷ []; fragments = t.fragments }
+
+abbrev pub took_fragment : FragmentState → Fragment → FragmentState
+took_fragment t f = record { sent = t.sent; held = t.held; fragments = t.fragments ++ f ∷ [] }
+
+word_more : (t : FragmentState) (n : ℕ) (word : Word) → TakesMore n t (took_word t n word)
+word_more t n word = record {
+  sent = refl;
+  words = λ m other h. Contains-append_left t.held _ _ h;
+  fragments = λ f h. h;
+  new_words = λ m other h. elim (Contains-push_cases t.held (n, word) (m, other) h) [
+    | inl before ↦ inl before
+    | inr here ↦ inr (ap (λ (p : ℕ × Word). p.0) here)
+  ];
+  new_fragments = λ f h. inl h;
+}
+
+fragment_more : (t : FragmentState) (n : ℕ) (f : Fragment) → n ≡ f.number → TakesMore n t (took_fragment t f)
+fragment_more t n f same = record {
+  sent = refl;
+  words = λ m other h. h;
+  fragments = λ g h. Contains-append_left t.fragments _ _ h;
+  new_words = λ m other h. inl h;
+  new_fragments = λ g h. elim (Contains-push_cases t.fragments f g h) [
+    | inl before ↦ inl before
+    | inr here ↦ inr (same ∙ ap (λ (x : Fragment). x.number) here)
+  ];
+}
+
+take_word : {from : ℕ} (speech : FragmentSpeech) (s : FragmentState) (n : ℕ) (word : Word) → IsSaidBefore from speech s.sent n word → Takes from speech s n (λ t. HoldsWord t n word)
+take_word speech s n word said = (
+  Take said.place said.act n word ∷ [],
+  took_word s n word,
+  (took_word s n word, (said.earlier, said.gives, refl), refl),
+  word_more s n word,
+  Contains-push s.held (n, word),
+)
+
+-- each of these parts is held as the fragment that it is
+abbrev HoldsParts : FragmentState → (ℕ → List ℕ → Fragment) → List (List ℕ) → Type 0
+HoldsParts t part parts = (i : ℕ) (octets : List ℕ) → slice_get parts i ≡ Some octets → HoldsFragment t (part i octets)
+
+holds_parts : (t : FragmentState) (part : ℕ → List ℕ → Fragment) (octets : List ℕ) (parts : List (List ℕ)) → HoldsFragment t (part 0 octets) → HoldsParts t (λ i. part (suc i)) parts
+    → HoldsParts t part (octets ∷ parts)
+holds_parts t part octets parts first rest zero other at = let same : octets ≡ other = cc in subst (λ o. HoldsFragment t (part 0 o)) same first
+holds_parts t part octets parts first rest (suc i) other at = rest i other at
+
+take_parts : {from : ℕ} (speech : FragmentSpeech) (s : FragmentState) (n : ℕ) (part : ℕ → List ℕ → Fragment) (parts : List (List ℕ)) → ((i : ℕ) (octets : List ℕ) → n ≡ (part i octets).number)
+    → ((i : ℕ) (octets : List ℕ) → slice_get parts i ≡ Some octets → IsSentBefore from speech s.sent (part i octets)) → Takes from speech s n (λ t. HoldsParts t part parts)
+take_parts speech s n part [] number sent = ([], s, refl, takes_none n s, λ i octets at. absurd (none octets at))
+  where
+    none : (octets : List ℕ) → slice_get {X = List ℕ} [] 0 ≡ Some octets → ⊥
+    none octets at = cc
+take_parts {from} speech s n part (octets ∷ parts) number sent =
+    let given : IsSentBefore from speech s.sent (part 0 octets) = sent 0 octets refl in
+    let next : FragmentState = took_fragment s (part 0 octets) in
+    let rest = take_parts speech next n (λ i. part (suc i)) parts (λ i o. number (suc i) o) (λ i o at. sent (suc i) o at) in (
+      TakeFragment given.place given.piece (part 0 octets) ∷ rest.0,
+      rest.1,
+      (next, (given.earlier, given.gives, refl), rest.2),
+      takes_both n s next rest.1 (fragment_more s n (part 0 octets) (number 0 octets)) rest.3,
+      holds_parts rest.1 part octets parts (rest.3.fragments (part 0 octets) (Contains-push s.fragments (part 0 octets))) rest.4,
+    )
+
+-- a payload that was given or can be put together can be had
+pub take_payload : {from : ℕ} (speech : FragmentSpeech) (s : FragmentState) (n : ℕ) (payload : PayloadValue) → IsPayloadBefore from speech s.sent n payload → Takes from speech s n (λ t. HasPayload t n payload)
+take_payload speech s n payload (inl told) =
+    let (events, t, follows, more, holds) = take_word speech s n _ told in
+    (events, t, follows, more, inl holds)
+take_payload speech s n payload (inr put) =
+    let (events, t, follows, more, each) = take_parts speech s n (λ i octets. record { number = n; shape = put.shape; index = suc i; octets = octets }) put.parts (λ i octets. refl) put.each in
+    (events, t, follows, more, inr (record { shape = put.shape; parts = put.parts; some = put.some; all = put.all; each = each; payload_is = put.payload_is }))
+
+-- and so can a word
+pub take_any : {from : ℕ} (speech : FragmentSpeech) (s : FragmentState) (n : ℕ) → IsWordBefore from speech s.sent n → Takes from speech s n (λ t. HasWord t n)
+take_any speech s n (inl gone) =
+    let (events, t, follows, more, holds) = take_word speech s n _ gone in
+    (events, t, follows, more, inl holds)
+take_any speech s n (inr (payload, before)) =
+    let (events, t, follows, more, has) = take_payload speech s n payload before in
+    (events, t, follows, more, inr (payload, has))
+
+-- a run goes on by what is taken
+pub end_more : (from : ℕ) (speech : FragmentSpeech) (n : ℕ) (s t : FragmentState) (events : List FragmentEvent) → FragmentsEnd from speech s → FragmentsFollow from speech s events t → TakesMore n s t
+    → FragmentsEnd from speech t
+end_more from speech n s t events ((before, reached), all) follows more =
+    ((before ++ events, follow_on from speech fragment_start s t before events reached follows), more.sent ∙ all)

@@ -1,0 +1,112 @@
+-- The fragments that are heard among acts, whoever hears them.
+use Rattle.std.proofs.Common.{◌≡◌, ℕ, Bool, true, false, cond, List, [], ◌∷◌, ◌++◌, length, map, drop, filter, Option, Some, None, refl, sym, ◌∙◌, ap, subst, inl, inr, ◌⊎◌, append-nil}
+use Rattle.std.specs.Prelude.{Contains}
+use Rattle.std.specs.List.{filter_map, flat_map}
+use Rattle.std.proofs.lemmas.Bool.{cases_Bool}
+use Rattle.std.proofs.lemmas.List.Concat.{flat_map-append}
+use Rattle.std.proofs.lemmas.List.Elements.{All-contains, filter-append, filter_map-append, filter_passes}
+use Rattle.rtps_wire.specs.Values.{PayloadValue}
+use Rattle.rtps_audit.proofs.Offered.{contains_head, contains_tail, kept_if_passed, kept_is_there}
+use Rattle.rtps_fragments.specs.FragmentDelivery.{Shape, last_fragment, payload_by, Fragment, Piece, fragments_of}
+use Rattle.rtps_fragments.specs.Samples.{came_of, payloads_of, samples_of, told_by}
+use Rattle.rtps_fragments.specs.SampleActs.{PieceAct, fragments_in, is_piece_of}
+use Rattle.rtps_fragments.proofs.Audiences.{flat_from, flat_has}
+use Rattle.rtps_fragments.proofs.ToldLemmas.{come_or_told, none_came}
+
+-- the fragments of the acts that pass a test
+abbrev pub heard_of : (PieceAct → Bool) → List PieceAct → List Fragment
+heard_of hears parts = flat_map (λ part. fragments_in part.piece) (filter hears parts)
+
+pub heard-append : (hears : PieceAct → Bool) (xs ys : List PieceAct) → heard_of hears (xs ++ ys) ≡ heard_of hears xs ++ heard_of hears ys
+heard-append hears xs ys =
+    ap (flat_map (λ (part : PieceAct). fragments_in part.piece)) (filter-append hears xs ys) ∙ flat_map-append (λ (part : PieceAct). fragments_in part.piece) (filter hears xs) (filter hears ys)
+
+-- those of one act
+abbrev pub heard_one : Bool → Option Piece → List Fragment
+heard_one true piece = fragments_in piece
+heard_one false piece = []
+
+pub heard-cons : (hears : PieceAct → Bool) (part : PieceAct) (parts : List PieceAct) → heard_of hears (part ∷ parts) ≡ heard_one (hears part) part.piece ++ heard_of hears parts
+heard-cons hears part parts = by (hears part)
+  where
+    by : (b : Bool) → flat_map (λ (p : PieceAct). fragments_in p.piece) (cond b (part ∷ filter hears parts) (filter hears parts)) ≡ heard_one b part.piece ++ heard_of hears parts
+    by true = refl
+    by false = refl
+
+-- with one act more
+pub heard-more : (hears : PieceAct → Bool) (parts : List PieceAct) (part : PieceAct) → heard_of hears (parts ++ part ∷ []) ≡ heard_of hears parts ++ heard_one (hears part) part.piece
+heard-more hears parts part = heard-append hears parts (part ∷ []) ∙ ap (λ fs. heard_of hears parts ++ fs) (heard-cons hears part [] ∙ append-nil (heard_one (hears part) part.piece))
+
+-- what is heard is of an act that passes
+pub heard_from : (hears : PieceAct → Bool) (parts : List PieceAct) (f : Fragment) → Contains (heard_of hears parts) f → (part : PieceAct) × Contains parts part × (hears part ≡ true) × Contains (fragments_in part.piece) f
+heard_from hears parts f among =
+    let (part, kept, has) = flat_from (λ (p : PieceAct). fragments_in p.piece) (filter hears parts) f among in
+    (part, kept_is_there hears parts part kept, passes hears parts part kept, has)
+  where
+    passes : (hears : PieceAct → Bool) (parts : List PieceAct) (part : PieceAct) → Contains (filter hears parts) part → hears part ≡ true
+    passes hears parts part kept = All-contains (λ p. hears p ≡ true) (filter hears parts) part (filter_passes hears parts) kept
+
+pub heard_has : (hears : PieceAct → Bool) (parts : List PieceAct) (part : PieceAct) (f : Fragment) → Contains parts part → hears part ≡ true → Contains (fragments_in part.piece) f → Contains (heard_of hears parts) f
+heard_has hears parts part f among passes has = flat_has (λ (p : PieceAct). fragments_in p.piece) (filter hears parts) part f (kept_if_passed hears parts part among passes) has
+
+-- ---- tests that agree on the parts of a sample
+
+pub none_of : (n : ℕ) (shape : Shape) (b : Bool) (piece : Option Piece) → is_piece_of n shape piece ≡ false → filter_map (came_of n shape) (heard_one b piece) ≡ []
+none_of n shape false piece e = refl
+none_of n shape true None e = refl
+none_of n shape true (Some piece) e = none_came n shape piece.number piece.shape piece.first piece.parts e
+
+pub came_alike : (n : ℕ) (shape : Shape) (hears other : PieceAct → Bool) (parts : List PieceAct) → ((part : PieceAct) → Contains parts part → is_piece_of n shape part.piece ≡ true → hears part ≡ other part)
+    → filter_map (came_of n shape) (heard_of hears parts) ≡ filter_map (came_of n shape) (heard_of other parts)
+came_alike n shape hears other [] agree = refl
+came_alike n shape hears other (part ∷ parts) agree =
+    let rest = came_alike n shape hears other parts (λ p among is. agree p (contains_tail part parts p among) is) in
+    split hears
+    ∙ ap (λ cs. cs ++ filter_map (came_of n shape) (heard_of hears parts)) (first (cases_Bool (is_piece_of n shape part.piece)))
+    ∙ ap (λ cs. filter_map (came_of n shape) (heard_one (other part) part.piece) ++ cs) rest
+    ∙ sym (split other)
+  where
+    split : (test : PieceAct → Bool) → filter_map (came_of n shape) (heard_of test (part ∷ parts)) ≡ filter_map (came_of n shape) (heard_one (test part) part.piece) ++ filter_map (came_of n shape) (heard_of test parts)
+    split test = ap (filter_map (came_of n shape)) (heard-cons test part parts) ∙ filter_map-append (came_of n shape) (heard_one (test part) part.piece) (heard_of test parts)
+
+    first : (is_piece_of n shape part.piece ≡ true) ⊎ (is_piece_of n shape part.piece ≡ false)
+        → filter_map (came_of n shape) (heard_one (hears part) part.piece) ≡ filter_map (came_of n shape) (heard_one (other part) part.piece)
+    first (inl is) = ap (λ b. filter_map (came_of n shape) (heard_one b part.piece)) (agree part (contains_head part parts) is)
+    first (inr apart) = none_of n shape (hears part) part.piece apart ∙ sym (none_of n shape (other part) part.piece apart)
+
+abbrev made : Shape → List (ℕ × List ℕ) → List PayloadValue
+made shape came = map (payload_by shape) (samples_of (last_fragment shape) came)
+
+-- what a piece tells depends on what came of its sample alone
+pub told_alike : (before other : List Fragment) (piece : Piece) → filter_map (came_of piece.number piece.shape) before ≡ filter_map (came_of piece.number piece.shape) other → told_by before piece ≡ told_by other piece
+told_alike before other piece same =
+    ap (λ k. drop k (payloads_of piece.number piece.shape (before ++ fragments_of piece))) (ap (λ came. length (made piece.shape came)) same)
+    ∙ ap (drop (length (payloads_of piece.number piece.shape other))) (ap (made piece.shape) all)
+  where
+    all : filter_map (came_of piece.number piece.shape) (before ++ fragments_of piece) ≡ filter_map (came_of piece.number piece.shape) (other ++ fragments_of piece)
+    all =
+        filter_map-append (came_of piece.number piece.shape) before (fragments_of piece)
+        ∙ ap (λ cs. cs ++ filter_map (came_of piece.number piece.shape) (fragments_of piece)) same
+        ∙ sym (filter_map-append (came_of piece.number piece.shape) other (fragments_of piece))
+
+-- ---- one act more
+
+-- by one act more, what can be put together could be before, or is told by its piece, which is heard
+abbrev pub IsToldBy : (PieceAct → Bool) → List PieceAct → PieceAct → ℕ → PayloadValue → Type 0
+IsToldBy hears before part n payload = (piece : Piece) × (part.piece ≡ Some piece) × (hears part ≡ true) × (piece.number ≡ n) × Contains (told_by (heard_of hears before) piece) payload
+
+pub one_more : (hears : PieceAct → Bool) (n : ℕ) (shape : Shape) (before : List PieceAct) (part : PieceAct) (payload : PayloadValue) → Contains (payloads_of n shape (heard_of hears (before ++ part ∷ []))) payload
+    → Contains (payloads_of n shape (heard_of hears before)) payload ⊎ IsToldBy hears before part n payload
+one_more hears n shape before part payload among = by (hears part) part.piece refl refl (subst (λ fs. Contains (payloads_of n shape fs) payload) (heard-more hears before part) among)
+  where
+    nothing : Contains (payloads_of n shape (heard_of hears before ++ [])) payload → Contains (payloads_of n shape (heard_of hears before)) payload
+    nothing there = subst (λ fs. Contains (payloads_of n shape fs) payload) (append-nil (heard_of hears before)) there
+
+    by : (b : Bool) (o : Option Piece) → hears part ≡ b → part.piece ≡ o → Contains (payloads_of n shape (heard_of hears before ++ heard_one b o)) payload
+        → Contains (payloads_of n shape (heard_of hears before)) payload ⊎ IsToldBy hears before part n payload
+    by false o e is there = inl (nothing there)
+    by true None e is there = inl (nothing there)
+    by true (Some piece) e is there = elim (come_or_told n shape (heard_of hears before) piece payload there) [
+      | inl old ↦ inl old
+      | inr (number, shapes, told) ↦ inr (piece, is, e, number, told)
+    ]

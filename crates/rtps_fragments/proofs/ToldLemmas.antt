@@ -1,0 +1,203 @@
+-- The payloads that pieces tell, one piece after another, are those that are put together of all their fragments.
+use Rattle.std.proofs.Common.{◌≡◌, ℕ, suc, Bool, true, false, cond, ◌&&◌, not, List, [], ◌∷◌, ◌++◌, length, map, drop, Option, Some, None, refl, sym, ◌∙◌, ap, subst, inl, inr, ◌⊎◌, append_assoc, append-nil}
+use Rattle.std.specs.Prelude.{Contains, ◌==◌}
+use Rattle.std.specs.List.{filter_map, flat_map, cons_option}
+use Rattle.std.proofs.lemmas.Bool.{cases_Bool}
+use Rattle.std.proofs.lemmas.Bool.Decides.{Decides-eqb}
+use Rattle.std.proofs.lemmas.List.{map-append}
+use Rattle.std.proofs.lemmas.List.Elements.{filter_map-append, Contains-append_left, Contains-append_right, Contains-append_cases}
+use Rattle.std.proofs.Math.Seq.{drop-append_seam}
+use Rattle.rtps_wire.specs.Values.{PayloadValue}
+use Rattle.rtps_audit.specs.Delivery.{Word}
+use Rattle.rtps_audit.specs.Delivery.Word.{Told}
+use Rattle.rtps_audit.proofs.Offered.{contains_mapped, contains_none, made_from, makes, mapped_contains}
+use Rattle.rtps_fragments.specs.FragmentDelivery.{Shape, last_fragment, payload_by, Fragment, Piece, fragments_from, fragments_of}
+use Rattle.rtps_fragments.specs.Samples.{is_shape, is_of, came_of, samples_of, payloads_of, told_by, tell, acts_told}
+use Rattle.rtps_fragments.proofs.SampleLemmas.{samples_grow}
+
+-- ---- which fragments are of a sample
+
+both_true : (a b : Bool) → (a && b) ≡ true → (a ≡ true) × (b ≡ true)
+both_true true b e = (refl, e)
+both_true false b e = cc
+
+same_flag : (a b : Bool) → (cond a b (not b)) ≡ true → a ≡ b
+same_flag true true e = refl
+same_flag true false e = cc
+same_flag false true e = cc
+same_flag false false e = refl
+
+own_flag : (a : Bool) → (cond a a (not a)) ≡ true
+own_flag true = refl
+own_flag false = refl
+
+shape_is : (one other : Shape) → one.sample ≡ other.sample → one.fragment ≡ other.fragment → one.is_key ≡ other.is_key → one ≡ other
+shape_is one other sample fragment key =
+    let a : ℕ → Shape = λ n. record { sample = n; fragment = one.fragment; is_key = one.is_key } in
+    let b : ℕ → Shape = λ n. record { sample = other.sample; fragment = n; is_key = one.is_key } in
+    let c : Bool → Shape = λ k. record { sample = other.sample; fragment = other.fragment; is_key = k } in
+    ap a sample ∙ ap b fragment ∙ ap c key
+
+same_shape : (one other : Shape) → is_shape one other ≡ true → one ≡ other
+same_shape one other e =
+    let (sample, rest) = both_true (one.sample == other.sample) _ e in
+    let (fragment, key) = both_true (one.fragment == other.fragment) _ rest in
+    shape_is one other ((Decides-eqb one.sample other.sample).0 sample) ((Decides-eqb one.fragment other.fragment).0 fragment) (same_flag one.is_key other.is_key key)
+
+pub and_true : (a b : Bool) → a ≡ true → b ≡ true → (a && b) ≡ true
+and_true true true e f = refl
+and_true true false e f = cc
+and_true false b e f = cc
+
+pub own_shape : (n : ℕ) (shape : Shape) → is_of n shape n shape ≡ true
+own_shape n shape =
+    let sample = (Decides-eqb shape.sample shape.sample).1 refl in
+    let fragment = (Decides-eqb shape.fragment shape.fragment).1 refl in
+    and_true (n == n) _ ((Decides-eqb n n).1 refl) (and_true (shape.sample == shape.sample) _ sample (and_true (shape.fragment == shape.fragment) _ fragment (own_flag shape.is_key)))
+
+same_sample : (n : ℕ) (shape : Shape) (number : ℕ) (other : Shape) → is_of n shape number other ≡ true → (number ≡ n) × (other ≡ shape)
+same_sample n shape number other e =
+    let (is, also) = both_true (number == n) _ e in
+    ((Decides-eqb number n).0 is, same_shape other shape also)
+
+-- ---- what came of a sample are its fragments
+
+abbrev pub fragment_of : ℕ → Shape → ℕ × List ℕ → Fragment
+fragment_of n shape one = record { number = n; shape = shape; index = one.0; octets = one.1 }
+
+fragment_is : (f : Fragment) (n : ℕ) (shape : Shape) (one : ℕ × List ℕ) → f.number ≡ n → f.shape ≡ shape → ◌≡◌ {A = ℕ × List ℕ} (f.index, f.octets) one → f ≡ fragment_of n shape one
+fragment_is f n shape one number same is =
+    let a : ℕ → Fragment = λ m. record { number = m; shape = f.shape; index = f.index; octets = f.octets } in
+    let b : Shape → Fragment = λ s. record { number = n; shape = s; index = f.index; octets = f.octets } in
+    let c : ℕ × List ℕ → Fragment = λ p. fragment_of n shape p in
+    ap a number ∙ ap b same ∙ ap c is
+
+pub if_then : {X : Type 0} (b : Bool) (x y : X) → cond b (Some x) None ≡ Some y → (b ≡ true) × (x ≡ y)
+if_then true x y e = (refl, (let h = e in cc))
+if_then false x y e = cc
+
+pub came_is_there : (n : ℕ) (shape : Shape) (fragments : List Fragment) (one : ℕ × List ℕ) → Contains (filter_map (came_of n shape) fragments) one → Contains fragments (fragment_of n shape one)
+came_is_there n shape fragments one among =
+    let (f, there, is) = made_from (came_of n shape) fragments one among in
+    let (test, pair) = if_then (is_of n shape f.number f.shape) _ one is in
+    let (number, same) = same_sample n shape f.number f.shape test in
+    subst (Contains fragments) (fragment_is f n shape one number same pair) there
+
+pub there_came : (n : ℕ) (shape : Shape) (fragments : List Fragment) (one : ℕ × List ℕ) → Contains fragments (fragment_of n shape one) → Contains (filter_map (came_of n shape) fragments) one
+there_came n shape fragments one among =
+    makes (came_of n shape) fragments (fragment_of n shape one) one among (ap (λ b. cond b (Some one) None) (own_shape n shape))
+
+-- no fragment of another sample came
+pub none_came : (n : ℕ) (shape : Shape) (number : ℕ) (other : Shape) (i : ℕ) (parts : List (List ℕ)) → is_of n shape number other ≡ false → filter_map (came_of n shape) (fragments_from number other i parts) ≡ []
+none_came n shape number other i [] e = refl
+none_came n shape number other i (octets ∷ parts) e =
+    let first : Option (ℕ × List ℕ) = Some (i, octets) in
+    ap (λ b. cons_option (cond b first None) (filter_map (came_of n shape) (fragments_from number other (suc i) parts))) e
+    ∙ none_came n shape number other (suc i) parts e
+
+-- ---- payloads
+
+pub payloads_grow : (n : ℕ) (shape : Shape) (before more : List Fragment) → (rest : List PayloadValue) × (payloads_of n shape (before ++ more) ≡ payloads_of n shape before ++ rest)
+payloads_grow n shape before more =
+    let one = filter_map (came_of n shape) before in
+    let grown = samples_grow (last_fragment shape) one (filter_map (came_of n shape) more) in (
+      map (payload_by shape) grown.0,
+      ap (λ came. map (payload_by shape) (samples_of (last_fragment shape) came)) (filter_map-append (came_of n shape) before more)
+          ∙ ap (map (payload_by shape)) grown.1
+          ∙ map-append (payload_by shape) (samples_of (last_fragment shape) one) grown.0,
+    )
+
+-- a piece tells what could not be put together before it
+pub told_more : (before : List Fragment) (piece : Piece) → payloads_of piece.number piece.shape (before ++ fragments_of piece) ≡ payloads_of piece.number piece.shape before ++ told_by before piece
+told_more before piece =
+    let old = payloads_of piece.number piece.shape before in
+    let (rest, is) = payloads_grow piece.number piece.shape before (fragments_of piece) in
+    is ∙ ap (λ xs. old ++ xs) (sym (drop-append_seam old rest) ∙ ap (drop (length old)) (sym is))
+
+-- of one shape, the payload of n can be put together
+abbrev pub IsPut : ℕ → List Fragment → PayloadValue → Type 0
+IsPut n fragments payload = (shape : Shape) × Contains (payloads_of n shape fragments) payload
+
+pub put_stays : (n : ℕ) (before more : List Fragment) (payload : PayloadValue) → IsPut n before payload → IsPut n (before ++ more) payload
+put_stays n before more payload (shape, among) =
+    let (rest, is) = payloads_grow n shape before more in
+    (shape, subst (λ xs. Contains xs payload) (sym is) (Contains-append_left (payloads_of n shape before) rest payload among))
+
+-- one of these acts tells the payload of n
+abbrev pub Tells : List (ℕ → Option Word) → ℕ → PayloadValue → Type 0
+Tells acts n payload = (act : ℕ → Option Word) × Contains acts act × (act n ≡ Some (Told payload))
+
+-- by a piece more, what can be put together could be before, or is told
+pub come_or_told : (n : ℕ) (shape : Shape) (before : List Fragment) (piece : Piece) (payload : PayloadValue) → Contains (payloads_of n shape (before ++ fragments_of piece)) payload
+    → Contains (payloads_of n shape before) payload ⊎ ((piece.number ≡ n) × (piece.shape ≡ shape) × Contains (told_by before piece) payload)
+come_or_told n shape before piece payload among = elim (cases_Bool (is_of n shape piece.number piece.shape)) [
+  | inl is ↦ same (same_sample n shape piece.number piece.shape is)
+  | inr apart ↦ inl (subst (λ came. Contains (map (payload_by shape) (samples_of (last_fragment shape) came)) payload) (other apart) among)
+]
+  where
+    same : (piece.number ≡ n) × (piece.shape ≡ shape) → Contains (payloads_of n shape before) payload ⊎ ((piece.number ≡ n) × (piece.shape ≡ shape) × Contains (told_by before piece) payload)
+    same (number, shapes) =
+        let moved : Contains (payloads_of piece.number piece.shape (before ++ fragments_of piece)) payload =
+        subst (λ m. Contains (payloads_of m piece.shape (before ++ fragments_of piece)) payload) (sym number) (subst (λ s. Contains (payloads_of n s (before ++ fragments_of piece)) payload) (sym shapes) among) in
+        elim (Contains-append_cases (payloads_of piece.number piece.shape before) (told_by before piece) payload (subst (λ xs. Contains xs payload) (told_more before piece) moved)) [
+          | inl old ↦ inl (subst (λ s. Contains (payloads_of n s before) payload) shapes (subst (λ m. Contains (payloads_of m piece.shape before) payload) number old))
+          | inr new ↦ inr (number, shapes, new)
+        ]
+
+    other : is_of n shape piece.number piece.shape ≡ false → filter_map (came_of n shape) (before ++ fragments_of piece) ≡ filter_map (came_of n shape) before
+    other apart =
+        filter_map-append (came_of n shape) before (fragments_of piece)
+        ∙ ap (λ xs. filter_map (came_of n shape) before ++ xs) (none_came n shape piece.number piece.shape piece.first piece.parts apart)
+        ∙ append-nil (filter_map (came_of n shape) before)
+
+put_or_told : (n : ℕ) (before : List Fragment) (piece : Piece) (payload : PayloadValue) → IsPut n (before ++ fragments_of piece) payload
+    → IsPut n before payload ⊎ Tells (map (tell piece.number) (told_by before piece)) n payload
+put_or_told n before piece payload (shape, among) = elim (come_or_told n shape before piece payload among) [
+  | inl old ↦ inl (shape, old)
+  | inr (number, shapes, new) ↦
+      inr (tell piece.number payload, mapped_contains (tell piece.number) (told_by before piece) payload new, ap (λ b. cond b (Some (Told payload)) None) ((Decides-eqb n piece.number).1 (sym number)))
+]
+
+-- and by pieces more
+pub put_or_acts : (n : ℕ) (before : List Fragment) (pieces : List Piece) (payload : PayloadValue) → IsPut n (before ++ flat_map fragments_of pieces) payload
+    → IsPut n before payload ⊎ Tells (acts_told before pieces) n payload
+put_or_acts n before [] payload put = inl (subst (λ fs. IsPut n fs payload) (append-nil before) put)
+put_or_acts n before (piece ∷ pieces) payload put =
+    elim (put_or_acts n (before ++ fragments_of piece) pieces payload (subst (λ fs. IsPut n fs payload) (sym (append_assoc before (fragments_of piece) (flat_map fragments_of pieces))) put)) [
+      | inl earlier ↦ elim (put_or_told n before piece payload earlier) [
+        | inl old ↦ inl old
+        | inr (act, among, says) ↦ inr (act, Contains-append_left (map (tell piece.number) (told_by before piece)) (acts_told (before ++ fragments_of piece) pieces) act among, says)
+      ]
+      | inr (act, among, says) ↦ inr (act, Contains-append_right (map (tell piece.number) (told_by before piece)) (acts_told (before ++ fragments_of piece) pieces) act among, says)
+    ]
+
+-- what a piece tells can be put together
+pub told_is_come : (n : ℕ) (before : List Fragment) (piece : Piece) (payload : PayloadValue) → piece.number ≡ n → Contains (told_by before piece) payload → IsPut n (before ++ fragments_of piece) payload
+told_is_come n before piece payload number there =
+    let put : Contains (payloads_of piece.number piece.shape (before ++ fragments_of piece)) payload =
+    subst (λ xs. Contains xs payload) (sym (told_more before piece)) (Contains-append_right (payloads_of piece.number piece.shape before) (told_by before piece) payload there) in
+    (piece.shape, subst (λ m. Contains (payloads_of m piece.shape (before ++ fragments_of piece)) payload) number put)
+
+told_is_put : (n : ℕ) (before : List Fragment) (piece : Piece) (act : ℕ → Option Word) (word : Word) → Contains (map (tell piece.number) (told_by before piece)) act → act n ≡ Some word
+    → (payload : PayloadValue) × (word ≡ Told payload) × IsPut n (before ++ fragments_of piece) payload
+told_is_put n before piece act word among says =
+    let (payload, there, is) = contains_mapped (tell piece.number) (told_by before piece) act among in
+    let (test, told) = if_then (n == piece.number) (Told payload) word (ap (λ (f : ℕ → Option Word). f n) is ∙ says) in
+    (payload, sym told, told_is_come n before piece payload (sym ((Decides-eqb n piece.number).0 test)) there)
+
+-- and what pieces tell
+pub acts_are_put : (n : ℕ) (before : List Fragment) (pieces : List Piece) (act : ℕ → Option Word) (word : Word) → Contains (acts_told before pieces) act → act n ≡ Some word
+    → (payload : PayloadValue) × (word ≡ Told payload) × IsPut n (before ++ flat_map fragments_of pieces) payload
+acts_are_put n before [] act word among says = absurd (contains_none act among)
+acts_are_put n before (piece ∷ pieces) act word among says =
+    elim (Contains-append_cases (map (tell piece.number) (told_by before piece)) (acts_told (before ++ fragments_of piece) pieces) act among) [
+      | inl here ↦
+          let (payload, is, put) = told_is_put n before piece act word here says in
+          (payload, is, subst (λ fs. IsPut n fs payload) assoc (put_stays n (before ++ fragments_of piece) (flat_map fragments_of pieces) payload put))
+      | inr there ↦
+          let (payload, is, put) = acts_are_put n (before ++ fragments_of piece) pieces act word there says in
+          (payload, is, subst (λ fs. IsPut n fs payload) assoc put)
+    ]
+  where
+    assoc : (before ++ fragments_of piece) ++ flat_map fragments_of pieces ≡ before ++ (fragments_of piece ++ flat_map fragments_of pieces)
+    assoc = append_assoc before (fragments_of piece) (flat_map fragments_of pieces)

@@ -1,0 +1,118 @@
+-- Laws over definitions alone, whatever the number is from which on numbers are asked for. own: what a reader of the definitions
+-- would ask of them.
+use Rattle.std.specs.Prelude.{ℕ, ◌+◌, ◌<◌, ◌≤◌, ◌≡◌, ◌≢◌, ◌↔◌, ◌⊎◌, length, List, [], map, Some, None, true, Contains}
+use Rattle.rtps_ids.specs.declared.identity.Guid.{Guid}
+use Rattle.rtps_wire.specs.Values.{PayloadValue}
+use Rattle.rtps_receiver.specs.Speech.{is_spoken_by, origin_of}
+use Rattle.rtps_receiver.specs.Values.{ActValue}
+use Rattle.rtps_audit.specs.Delivery.{Speech, Claims, last_announced_from}
+use Rattle.rtps_audit.specs.RunVerdict.{IsTold, IsVerdictFrom}
+use Rattle.rtps_audit.specs.PlainVerdict.{SpeaksTwo}
+use Rattle.rtps_audit.specs.Speech.{announced_of_body}
+use Rattle.rtps_audit.specs.declared.verdict.Verdict.{Verdict}
+use Rattle.rtps_fragments.specs.FragmentDelivery.{Fragment, FragmentSpeech, GivesFragment, IsPutTogether, Piece, Shape, last_fragment, said_in}
+use Rattle.rtps_fragments.specs.FragmentVerdict.{IsPayloadBefore, IsWordBefore, IsFragmentVerdictFrom}
+use Rattle.rtps_fragments.specs.Samples.{payloads_of, told_in}
+use Rattle.rtps_fragments.specs.SampleActs.{PieceAct, acts_with_samples, fragment_speech_of, piece_acts_in, acts_of_sample, sample_act, samples_told, speech_by}
+use Rattle.rtps_fragments.specs.SamplesSent.{everyone, is_left, samples_sent, sent_by}
+
+-- of all that is given, two different payloads are told or can be put together for n
+abbrev pub GivesTwoPayloads : ℕ → FragmentSpeech → ℕ → Type 0
+GivesTwoPayloads from speech n =
+    (x : PayloadValue) × (y : PayloadValue) × IsPayloadBefore from speech (length speech) n x × IsPayloadBefore from speech (length speech) n y × (x ≢ y)
+
+-- A recording with fragments and one without tell alike: they have as many datagrams, the same claims and the same last announced
+-- number. Before each place both have a word for the same numbers, and both give two payloads for the same numbers.
+pub record TellsAlike (from : ℕ) (pieces : FragmentSpeech) (told : Speech) : Type 0 where
+  pub counted : length told ≡ length pieces
+  pub claims : (j n : ℕ) → Claims from (said_in pieces) j n ↔ Claims from told j n
+  pub announced : last_announced_from from (said_in pieces) ≡ last_announced_from from told
+  pub words : (j n : ℕ) → IsWordBefore from pieces j n ↔ IsTold from told j n
+  pub payloads : (n : ℕ) → GivesTwoPayloads from pieces n ↔ SpeaksTwo from told n
+
+-- where they tell alike, the verdict by runs that take fragments one by one is the verdict without fragments, each with its numbers
+abbrev pub FragmentsTellAlike : Type 0
+FragmentsTellAlike =
+    (from : ℕ) (pieces : FragmentSpeech) (told : Speech) (verdict : Verdict) → TellsAlike from pieces told
+    → IsFragmentVerdictFrom from pieces verdict ↔ IsVerdictFrom from told verdict
+
+-- each fragment that is given is one from 1 to the last one of its shape
+abbrev pub HasFragmentsWithin : ℕ → FragmentSpeech → Type 0
+HasFragmentsWithin from speech = (i k : ℕ) (fragment : Fragment) → GivesFragment from speech i k fragment → (0 < fragment.index) × (fragment.index ≤ last_fragment fragment.shape)
+
+-- a recording with fragments and the one into which its samples are told tell alike
+abbrev pub SamplesTellAlike : Type 0
+SamplesTellAlike = (from : ℕ) (speech : FragmentSpeech) → HasFragmentsWithin from speech → TellsAlike from speech (told_in speech)
+
+-- the verdict by runs that take fragments one by one is the verdict of the recording into which the samples are told
+abbrev pub FragmentVerdictIsTold : Type 0
+FragmentVerdictIsTold =
+    (from : ℕ) (speech : FragmentSpeech) (verdict : Verdict) → HasFragmentsWithin from speech → IsFragmentVerdictFrom from speech verdict ↔ IsVerdictFrom from (told_in speech) verdict
+
+-- An act with a piece announces the piece's number. The piece's fragments are some from 1 to the last one of its shape.
+pub record IsPieceAct (one : PieceAct) (piece : Piece) : Type 0 where
+  pub announces : announced_of_body one.act.body ≡ Some piece.number
+  pub first : 0 < piece.first
+  pub last : piece.first + length piece.parts ≤ last_fragment piece.shape + 1
+
+-- each act with a piece announces it, and has fragments of its shape
+abbrev pub ArePieceActs : List (List PieceAct) → Type 0
+ArePieceActs recording = (datagram : List PieceAct) (one : PieceAct) (piece : Piece) → Contains recording datagram → Contains datagram one → one.piece ≡ Some piece → IsPieceAct one piece
+
+-- of any writer and reader, a recording with pieces and its acts with the samples among them tell alike
+abbrev pub ActsTellAlike : Type 0
+ActsTellAlike =
+    (from : ℕ) (writer reader : Guid) (recording : List (List PieceAct)) → ArePieceActs recording
+    → TellsAlike from (fragment_speech_of writer reader recording) (speech_by writer reader (acts_with_samples recording))
+
+-- of any writer and reader, the verdict by runs that take fragments one by one is the verdict of the acts with the samples among them
+abbrev pub FragmentVerdictOfActs : Type 0
+FragmentVerdictOfActs =
+    (from : ℕ) (writer reader : Guid) (recording : List (List PieceAct)) (verdict : Verdict) → ArePieceActs recording
+    → IsFragmentVerdictFrom from (fragment_speech_of writer reader recording) verdict ↔ IsVerdictFrom from (speech_by writer reader (acts_with_samples recording)) verdict
+
+-- no act has a piece
+abbrev pub HasNoPieces : List (List PieceAct) → Type 0
+HasNoPieces recording = (datagram : List PieceAct) (one : PieceAct) → Contains recording datagram → Contains datagram one → one.piece ≡ None
+
+-- where no act has a piece, the acts are as they are
+abbrev pub ActsStayWithoutPieces : Type 0
+ActsStayWithoutPieces = (recording : List (List PieceAct)) → HasNoPieces recording → acts_with_samples recording ≡ map (map (λ one. one.act)) recording
+
+-- where no act has a piece, the verdict by runs that take fragments is that of the acts as they are
+abbrev pub VerdictStaysWithoutPieces : Type 0
+VerdictStaysWithoutPieces =
+    (from : ℕ) (writer reader : Guid) (recording : List (List PieceAct)) (verdict : Verdict) → HasNoPieces recording
+    → IsFragmentVerdictFrom from (fragment_speech_of writer reader recording) verdict ↔ IsVerdictFrom from (speech_by writer reader (map (map (λ one. one.act)) recording)) verdict
+
+-- a piece is left exactly where of all fragments that its writer sends no payload of its number can be put together
+abbrev pub PiecesLeftAreOfNoSample : Type 0
+PiecesLeftAreOfNoSample =
+    (recording : List (List PieceAct)) → ArePieceActs recording → (one : PieceAct) (piece : Piece) → Contains (piece_acts_in recording) one → one.piece ≡ Some piece
+    → (is_left (piece_acts_in recording) one.act one.piece ≡ true)
+    ↔ ((payload : PayloadValue) → ¬ IsPutTogether (Contains (sent_by (origin_of one.act) (piece_acts_in recording))) piece.number payload)
+
+-- among these acts, the payload of n is to be noted as a sample of the writer
+abbrev pub IsNoted : List PieceAct → Guid → ℕ → PayloadValue → Type 0
+IsNoted all writer n payload =
+    (one : PieceAct) × Contains all one × (is_spoken_by one.act writer ≡ true) × Contains (samples_sent all one.act one.piece) (sample_act one.act n everyone payload)
+
+-- what is noted as a sample is put together of all fragments that the writer sends. What can be put together of them is noted, or two
+-- payloads are that differ
+abbrev pub NotedSamplesAreSent : Type 0
+NotedSamplesAreSent =
+    (recording : List (List PieceAct)) → ArePieceActs recording → (writer : Guid) (n : ℕ) (payload : PayloadValue)
+    → (IsNoted (piece_acts_in recording) writer n payload → IsPutTogether (Contains (sent_by writer (piece_acts_in recording))) n payload)
+    × (IsPutTogether (Contains (sent_by writer (piece_acts_in recording))) n payload
+    → IsNoted (piece_acts_in recording) writer n payload
+    ⊎ ((x : PayloadValue) × (y : PayloadValue) × IsNoted (piece_acts_in recording) writer n x × IsNoted (piece_acts_in recording) writer n y × (x ≢ y)))
+
+-- fewer fragments than a sample has make no payload of it
+abbrev pub FewFragmentsMakeNoSample : Type 0
+FewFragmentsMakeNoSample = (n : ℕ) (shape : Shape) (fragments : List Fragment) → length fragments < last_fragment shape → payloads_of n shape fragments ≡ []
+
+-- what an act tells of a sample depends on the acts with its pieces alone
+abbrev pub SamplesStandAlone : Type 0
+SamplesStandAlone =
+    (all before : List PieceAct) (act : ActValue) (piece : Piece)
+    → samples_told all before act (Some piece) ≡ samples_told (acts_of_sample (origin_of act) piece.number piece.shape all) (acts_of_sample (origin_of act) piece.number piece.shape before) act (Some piece)

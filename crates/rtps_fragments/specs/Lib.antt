@@ -1,0 +1,9 @@
+pub mod FragmentDelivery
+pub mod FragmentVerdict
+pub mod Samples
+pub mod SampleActs
+pub mod SamplesSent
+pub mod Laws
+pub mod Pieces
+pub mod Came
+pub mod Telling

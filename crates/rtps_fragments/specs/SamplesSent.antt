@@ -1,0 +1,53 @@
+-- What a recording sends of samples, whoever hears them. DDSI-RTPS 2.5, 8.3.8.3 "DataFrag", and 8.5 "Discovery Module", by which
+-- anybody may note what a built-in writer announces. own: fragments of which no sample is ever whole are counted, since what they
+-- would tell is not known.
+use Rattle.std.specs.Prelude.{ℕ, Bool, false, true, not, ◌==◌, ◌&&◌, List, [], ◌∷◌, ◌++◌, filter, map, count_by, Option, Some, None}
+use Rattle.std.specs.List.{flat_map, list_any}
+use Rattle.rtps_ids.specs.declared.identity.Guid.{Guid}
+use Rattle.rtps_receiver.specs.Speech.{is_spoken_by, origin_of, unknown_entity}
+use Rattle.rtps_receiver.specs.Values.{ActValue}
+use Rattle.rtps_receiver.specs.declared.speech.Audience.{Audience}
+use Rattle.rtps_wire.specs.Values.{PayloadValue}
+use Rattle.rtps_fragments.specs.FragmentDelivery.{Fragment, Piece}
+use Rattle.rtps_fragments.specs.Samples.{payloads_of}
+use Rattle.rtps_fragments.specs.SampleActs.{PieceAct, fragments_in, sample_act}
+
+-- all fragments that a writer sends
+abbrev pub sent_by : Guid → List PieceAct → List Fragment
+sent_by writer acts = flat_map (λ one. fragments_in one.piece) (filter (λ one. is_spoken_by one.act writer) acts)
+
+-- ---- what samples of built-in writers announce
+
+-- everyone, and every reader
+abbrev pub everyone : Audience
+everyone = record { dest = None; reader = unknown_entity }
+
+-- the samples of the number and the shape of this piece that a reader which hears everything is told, for everyone
+abbrev pub samples_sent : List PieceAct → ActValue → Option Piece → List ActValue
+samples_sent all act (Some piece) = map (sample_act act piece.number everyone) (payloads_of piece.number piece.shape (sent_by (origin_of act) all))
+samples_sent all act None = []
+
+-- the acts of a recording, and behind them its samples: what a directory notes of them
+abbrev pub acts_to_note : List PieceAct → List ActValue
+acts_to_note all = map (λ one. one.act) all ++ flat_map (λ one. samples_sent all one.act one.piece) all
+
+-- ---- fragments of no sample
+
+-- there is a payload
+abbrev pub is_some_payload : List PayloadValue → Bool
+is_some_payload [] = false
+is_some_payload (payload ∷ payloads) = true
+
+-- by all that the writer sends, a sample of number n in the shape of this piece is whole
+abbrev pub is_whole : List PieceAct → Guid → ℕ → Option Piece → Bool
+is_whole all writer n (Some piece) = (piece.number == n) && is_some_payload (payloads_of n piece.shape (sent_by writer all))
+is_whole all writer n None = false
+
+-- the act has a piece, and no sample of its number is ever whole
+abbrev pub is_left : List PieceAct → ActValue → Option Piece → Bool
+is_left all act (Some piece) = not (list_any (λ other. is_spoken_by other.act (origin_of act) && is_whole all (origin_of act) piece.number other.piece) all)
+is_left all act None = false
+
+-- how many pieces are of no sample
+abbrev pub pieces_left : List PieceAct → ℕ
+pieces_left all = count_by (λ one. is_left all one.act one.piece) all

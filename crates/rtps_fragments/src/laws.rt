@@ -1,0 +1,79 @@
+//! Laws over definitions alone. Each function does nothing: its clause is the law, and its proof the law's proof.
+
+ghost use Rattle.rtps_fragments.specs.Laws.{FragmentsTellAlike, SamplesTellAlike, FragmentVerdictIsTold, ActsTellAlike, FragmentVerdictOfActs, ActsStayWithoutPieces, VerdictStaysWithoutPieces, PiecesLeftAreOfNoSample, NotedSamplesAreSent, FewFragmentsMakeNoSample, SamplesStandAlone};
+
+use rtps_audit::laws::{runs_exist_where_founded, verdicts_agree};
+
+/// Where a recording with fragments and one without tell alike, and claim and announce the same, the verdict by all runs in which
+/// the reader takes fragments one by one is the verdict of the recording without fragments.
+pub fn fragments_tell_alike()
+    ensures { FragmentsTellAlike }
+{
+    verdicts_agree();
+    runs_exist_where_founded();
+}
+
+/// A recording with fragments and the one into which its samples are told tell alike: of each sample the first payload that can be
+/// put together, and a second one where some fragment came with different octets.
+pub fn samples_tell_alike()
+    ensures { SamplesTellAlike }
+{}
+
+/// The verdict by all runs in which the reader takes fragments one by one is the verdict of the recording into which the samples are
+/// told, with its numbers, from any number on.
+pub fn fragment_verdict_is_told()
+    ensures { FragmentVerdictIsTold }
+{
+    fragments_tell_alike();
+    samples_tell_alike();
+}
+
+/// Of any writer and reader, a recording with pieces and its acts with the samples among them tell alike, whoever hears which pieces of
+/// a sample.
+pub fn acts_tell_alike()
+    ensures { ActsTellAlike }
+{}
+
+/// Of any writer and reader, the verdict by all runs in which the reader takes fragments one by one is the verdict of the acts of the
+/// recording with the samples among them, with its numbers, from any number on.
+pub fn fragment_verdict_of_acts()
+    ensures { FragmentVerdictOfActs }
+{
+    fragments_tell_alike();
+    acts_tell_alike();
+}
+
+/// Where no act has a piece, no sample is told: the acts are as they are.
+pub fn acts_stay_without_pieces()
+    ensures { ActsStayWithoutPieces }
+{}
+
+/// Where no act has a piece, the verdict by all runs in which the reader takes fragments is that of the acts as they are.
+pub fn verdict_stays_without_pieces()
+    ensures { VerdictStaysWithoutPieces }
+{
+    fragment_verdict_of_acts();
+    acts_stay_without_pieces();
+}
+
+/// A piece counts as left exactly where of all fragments that its writer sends, whoever hears them, no payload of its number can be put
+/// together.
+pub fn pieces_left_are_of_no_sample()
+    ensures { PiecesLeftAreOfNoSample }
+{}
+
+/// What a directory is to note as a sample of a writer can be put together of all fragments that the writer sends, whoever hears them.
+/// What can be put together of them is noted, or two payloads are that differ.
+pub fn noted_samples_are_sent()
+    ensures { NotedSamplesAreSent }
+{}
+
+/// Fewer fragments than a sample has make no payload of it, so that nothing is put together before as many came.
+pub fn few_fragments_make_no_sample()
+    ensures { FewFragmentsMakeNoSample }
+{}
+
+/// What an act tells of a sample depends on the acts with its pieces alone: those of its writer, its number and its shape.
+pub fn samples_stand_alone()
+    ensures { SamplesStandAlone }
+{}

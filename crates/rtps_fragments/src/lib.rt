@@ -1,0 +1,12 @@
+//! What a reader is told by samples that are sent in fragments (DDSI-RTPS 2.5, 8.3.8.3 "DataFrag").
+#![tactic(auto)]
+
+mod addressed;
+mod came;
+mod hearing;
+pub mod laws;
+mod piece;
+mod told;
+
+pub use piece::{Fragments, SampleKey, Sent, Shape};
+pub use told::Told;
