@@ -1,9 +1,10 @@
 -- What came to the audiences of samples, with fragments more.
-use Rattle.std.proofs.Common.{◌≡◌, ℕ, zero, suc, ◌+◌, ◌<◌, ◌≤◌, Bool, true, false, cond, not, ◌&&◌, List, [], ◌∷◌, ◌++◌, length, map, drop, filter, Option, Some, None, slice_get, refl, sym, ◌∙◌, ap, subst, arith, inl, inr, ◌⊎◌, append_assoc, append-nil}
-use Rattle.std.specs.Prelude.{Contains, ◌==◌, ◌||◌, nat_lt}
+use Rattle.std.proofs.Common.{◌≡◌, ℕ, zero, suc, ◌+◌, ◌<◌, ◌≤◌, Bool, true, false, cond, not, ◌&&◌, List, [], ◌∷◌, ◌++◌, length, map, drop, take, filter, Option, Some, None, slice_get, refl, sym, ◌∙◌, ap, subst, arith, inl, inr, ◌⊎◌, append_assoc, append-nil}
+use Rattle.std.specs.Prelude.{Contains, Err, OnOk, Ok, Result, ◌==◌, ◌||◌, nat_lt}
 use Rattle.std.specs.BTreeMap.{BTreeMap, get}
 use Rattle.std.specs.Cmp.{IsTotalOrder, bool_cmp_total}
 use Rattle.std.specs.List.{flat_map, list_any}
+use Rattle.std.specs.Option.{unwrap_or}
 use Rattle.std.specs.Ordering.{bool_cmp, is_eq, nat_cmp, ordering_reverse, ordering_then}
 use Rattle.std.specs.declared.cmp.Ordering.{Ordering}
 use Rattle.std.specs.declared.cmp.Ordering.TheVariants.{Less, Equal, Greater}
@@ -21,7 +22,7 @@ use Rattle.rtps_receiver.specs.declared.speech.Audience.{Audience}
 use Rattle.rtps_fragments.specs.Came.{IsCame}
 use Rattle.rtps_fragments.specs.FragmentDelivery.{last_fragment}
 use Rattle.rtps_fragments.specs.SampleActs.{once}
-use Rattle.rtps_fragments.specs.Telling.{AreHeardSo, HasCame, SentValue, added, came_to, dests_of, hearing_cmp, is_above, is_above_reader, is_for_audience, is_sample, readers_of, sample_cmp, shape_of, told_by_sent, told_to_audience}
+use Rattle.rtps_fragments.specs.Telling.{AreHeardSo, HasCame, SentValue, ToldValue, added, came_to, dests_of, hearing_cmp, is_above, is_above_reader, is_for_audience, is_sample, readers_of, sample_cmp, shape_of, told_by_sent, told_to_audience}
 use Rattle.rtps_fragments.specs.declared.came.Came.{Came}
 use Rattle.rtps_fragments.specs.declared.hearing.Hearing.{Hearing}
 use Rattle.rtps_fragments.specs.declared.piece.SampleKey.{SampleKey}
@@ -131,6 +132,19 @@ either_way key audience before sent true false e = came_apart key audience befor
 either_way key audience before sent false true e = sym (came_apart key audience before sent e)
 either_way key audience before sent false false e = refl
 
+take_next : {X : Type 0} (xs : List X) (i : ℕ) (x : X) → slice_get xs i ≡ Some x → take (suc i) xs ≡ take i xs ++ x ∷ []
+take_next [] i x e = cc
+take_next (y ∷ ys) zero x e = let h = e in cc
+take_next (y ∷ ys) (suc i) x e = ap (λ zs. y ∷ zs) (take_next ys i x e)
+
+flat_next : {X Y : Type 0} (f : X → List Y) (xs : List X) (i : ℕ) (x : X) → slice_get xs i ≡ Some x → flat_map f (take (i + 1) xs) ≡ flat_map f (take i xs) ++ f x
+flat_next f xs i x at = let more : i + 1 ≡ suc i = omega arith in ap (λ n. flat_map f (take n xs)) more ∙ ap (flat_map f) (take_next xs i x at) ∙ flat_map-append f (take i xs) (x ∷ []) ∙ ap (λ ys. flat_map f (take i xs) ++ ys) (append-nil (f x))
+
+got_within : {X : Type 0} (xs : List X) (i : ℕ) (x : X) → slice_get xs i ≡ Some x → i < length xs
+got_within [] i x e = cc
+got_within (y ∷ ys) zero x e = omega arith
+got_within (y ∷ ys) (suc i) x e = let lt = got_within ys i x e in omega arith
+
 -- ---- one audience more
 
 same_item : {X : Type 0} (x y : X) → Some x ≡ Some y → x ≡ y
@@ -153,11 +167,18 @@ here_next dest reader key = grind (arith, nat_tests)
 pub here_not : (dest reader : ℕ) (key : SampleKey) → is_above_reader dest reader (record { sample = key; dest = dest; reader = reader }) ≡ false
 here_not dest reader key = grind (arith, nat_tests)
 
+-- for each audience of each sample, what came is kept
+abbrev pub EachHeard : List SentValue → List SentValue → SentValue → (Hearing → Bool) → BTreeMap Hearing Came → Type 0
+EachHeard all before sent done kept =
+    (hearing : Hearing) (dest : Option GuidPrefix) (reader : EntityId) → slice_get (dests_of hearing.sample all) hearing.dest ≡ Some dest
+    → slice_get (readers_of hearing.sample all) hearing.reader ≡ Some reader
+    → HasCame (last_fragment (shape_of hearing.sample)) (came_to hearing.sample (record { dest = dest; reader = reader }) (cond (done hearing) (before ++ sent ∷ []) before)) (get hearing_cmp kept hearing)
+
 module _ (all before : List SentValue) (sent : SentValue) (i j : ℕ) (to : Option GuidPrefix) (named : EntityId) (old new : BTreeMap Hearing Came)
-    (at_dest : slice_get (dests_of sent.key all) i ≡ Some to) (at_reader : slice_get (readers_of sent.key all) j ≡ Some named) (heard : AreHeardSo all before sent (is_above_reader i j) old) where
+    (at_dest : slice_get (dests_of sent.key all) i ≡ Some to) (at_reader : slice_get (readers_of sent.key all) j ≡ Some named) (heard : EachHeard all before sent (is_above_reader i j) old) where
   -- where fragments do not come, what is kept stays
   pub not_heard : is_for_audience sent.audience (record { dest = to; reader = named }) ≡ false → ((other : Hearing) → get hearing_cmp new other ≡ get hearing_cmp old other)
-      → AreHeardSo all before sent (is_above_reader i (suc j)) new
+      → EachHeard all before sent (is_above_reader i (suc j)) new
   not_heard never same hearing dest reader dest_at reader_at = by (comes hearing.sample (record { dest = dest; reader = reader }) sent) refl
     where
       was : HasCame (last_fragment (shape_of hearing.sample)) (came_to hearing.sample (record { dest = dest; reader = reader }) (cond (is_above_reader i j hearing) (before ++ sent ∷ []) before)) (get hearing_cmp new hearing)
@@ -187,7 +208,7 @@ module _ (all before : List SentValue) (sent : SentValue) (i j : ℕ) (to : Opti
   pub heard_here : is_for_audience sent.audience (record { dest = to; reader = named }) ≡ true
       → ((came : List (ℕ × List ℕ)) → HasCame (last_fragment (shape_of sent.key)) came (get hearing_cmp old (record { sample = sent.key; dest = i; reader = j })) → HasCame (last_fragment (shape_of sent.key)) (came ++ sent.came) (get hearing_cmp new (record { sample = sent.key; dest = i; reader = j })))
       → ((other : Hearing) → is_eq (hearing_cmp (record { sample = sent.key; dest = i; reader = j }) other) ≡ false → get hearing_cmp new other ≡ get hearing_cmp old other)
-      → AreHeardSo all before sent (is_above_reader i (suc j)) new
+      → EachHeard all before sent (is_above_reader i (suc j)) new
   heard_here reached here others hearing dest reader dest_at reader_at = elim (cases_Bool (is_eq (hearing_cmp own hearing))) [
     | inl is ↦ subst At (hearing_is own hearing is) at_own dest_at reader_at
     | inr apart ↦ elsewhere apart (comes hearing.sample (record { dest = dest; reader = reader }) sent) refl
@@ -244,3 +265,96 @@ module _ (all before : List SentValue) (sent : SentValue) (i j : ℕ) (to : Opti
                   let is : hearing ≡ h0 = ap one key ∙ ap two at_i ∙ ap three at_j in
                   let clash : true ≡ false = sym (own_hearing h0) ∙ ap (λ h. is_eq (hearing_cmp h0 h)) (sym is) ∙ apart in
                   cc
+
+-- what a map lends of an audience is what came to it
+pub lent_came : (last : ℕ) (came : List (ℕ × List ℕ)) (found value : Option Came) (fresh lent : Came) → HasCame last came found → value ≡ found → lent ≡ unwrap_or value fresh → IsCame last [] fresh → IsCame last came lent
+lent_came last came None value fresh lent has same is none = subst (λ cs. IsCame last cs lent) (sym has) (subst (IsCame last []) (sym (is ∙ ap (λ o. unwrap_or o fresh) same)) none)
+lent_came last came (Some kept) value fresh lent has same is none = subst (IsCame last came) (sym (is ∙ ap (λ o. unwrap_or o fresh) same)) has
+
+-- ---- each reader of a destination
+
+-- what was told to this reader comes behind what was told to the readers before it
+pub told_next : (before : List SentValue) (sent : SentValue) (to : Option GuidPrefix) (readers : List EntityId) (j : ℕ) (named : EntityId) (start told new : List ToldValue) → slice_get readers j ≡ Some named
+    → told ≡ start ++ flat_map (λ reader. told_to_audience before sent (record { dest = to; reader = reader })) (take j readers) → new ≡ told ++ told_to_audience before sent (record { dest = to; reader = named })
+    → new ≡ start ++ flat_map (λ reader. told_to_audience before sent (record { dest = to; reader = reader })) (take (j + 1) readers)
+told_next before sent to readers j named start told new at so is =
+    let f : EntityId → List ToldValue = λ reader. told_to_audience before sent (record { dest = to; reader = reader }) in
+    is ∙ ap (λ ts. ts ++ f named) so ∙ append_assoc start (flat_map f (take j readers)) (f named) ∙ ap (λ ts. start ++ ts) (sym (flat_next f readers j named at))
+
+-- the whole of one destination is done where each reader is
+pub row_done : (dest reader : ℕ) (hearing : Hearing) → hearing.reader < reader → is_above_reader dest reader hearing ≡ is_above (suc dest) hearing
+row_done dest reader hearing lt = by hearing.dest hearing.reader lt
+  where
+    by : (d r : ℕ) → r < reader → (nat_lt d dest || (d == dest && nat_lt r reader)) ≡ nat_lt d (suc dest)
+    by d r lt = grind (arith, nat_tests)
+
+pub row_begun : (dest : ℕ) (hearing : Hearing) → is_above_reader dest 0 hearing ≡ is_above dest hearing
+row_begun dest hearing = by hearing.dest hearing.reader
+  where
+    by : (d r : ℕ) → (nat_lt d dest || (d == dest && nat_lt r 0)) ≡ nat_lt d dest
+    by d r = grind (arith, nat_tests)
+
+-- what an `Ok` says, one step on
+pub on_ok : {X E : Type 0} (result : Result X E) (P Q : Type 0) → (P → Q) → OnOk result P → OnOk result Q
+on_ok (Ok x) P Q says is = says is
+on_ok (Err e) P Q says is = tt
+
+-- before the first reader of a destination
+pub heard_begun : (all before : List SentValue) (sent : SentValue) (dest : ℕ) (kept : BTreeMap Hearing Came) → AreHeardSo all before sent (is_above dest) kept → AreHeardSo all before sent (is_above_reader dest 0) kept
+heard_begun all before sent dest kept heard = record {
+  each = λ hearing to reader at_dest at_reader. subst (λ done. HasCame (last_fragment (shape_of hearing.sample)) (came_to hearing.sample (record { dest = to; reader = reader }) (cond done (before ++ sent ∷ []) before)) (get hearing_cmp kept hearing))
+      (sym (row_begun dest hearing)) (heard.each hearing to reader at_dest at_reader);
+}
+
+module _ (all before : List SentValue) (sent : SentValue) (i j : ℕ) (to : Option GuidPrefix) (named : EntityId) (old new : BTreeMap Hearing Came)
+    (at_dest : slice_get (dests_of sent.key all) i ≡ Some to) (at_reader : slice_get (readers_of sent.key all) j ≡ Some named) (heard : AreHeardSo all before sent (is_above_reader i j) old) where
+  -- what came to an audience before
+  pub heard_now : HasCame (last_fragment (shape_of sent.key)) (came_to sent.key (record { dest = to; reader = named }) before) (get hearing_cmp old (record { sample = sent.key; dest = i; reader = j }))
+  heard_now =
+      let h0 : Hearing = record { sample = sent.key; dest = i; reader = j } in
+      subst (λ done. HasCame (last_fragment (shape_of sent.key)) (came_to sent.key (record { dest = to; reader = named }) (cond done (before ++ sent ∷ []) before)) (get hearing_cmp old h0)) (here_not i j sent.key) (heard.each h0 to named at_dest at_reader)
+
+  -- where fragments do not come to this audience
+  pub row_passed : is_for_audience sent.audience (record { dest = to; reader = named }) ≡ false → new ≡ old → AreHeardSo all before sent (is_above_reader i (j + 1)) new
+  row_passed never same =
+      let more : suc j ≡ j + 1 = omega arith in
+      let next : AreHeardSo all before sent (is_above_reader i (suc j)) new = record {
+        each = not_heard all before sent i j to named old new at_dest at_reader heard.each never (λ other. ap (λ (m : BTreeMap Hearing Came). get hearing_cmp m other) same);
+      } in
+      subst (λ n. AreHeardSo all before sent (is_above_reader i n) new) more next
+
+  -- where they come
+  pub row_heard : is_for_audience sent.audience (record { dest = to; reader = named }) ≡ true
+      → ((came : List (ℕ × List ℕ)) → HasCame (last_fragment (shape_of sent.key)) came (get hearing_cmp old (record { sample = sent.key; dest = i; reader = j })) → HasCame (last_fragment (shape_of sent.key)) (came ++ sent.came) (get hearing_cmp new (record { sample = sent.key; dest = i; reader = j })))
+      → ((other : Hearing) → is_eq (hearing_cmp (record { sample = sent.key; dest = i; reader = j }) other) ≡ false → get hearing_cmp new other ≡ get hearing_cmp old other)
+      → AreHeardSo all before sent (is_above_reader i (j + 1)) new
+  row_heard reached here others =
+      let more : suc j ≡ j + 1 = omega arith in
+      let next : AreHeardSo all before sent (is_above_reader i (suc j)) new = record { each = heard_here all before sent i j to named old new at_dest at_reader heard.each reached here others } in
+      subst (λ n. AreHeardSo all before sent (is_above_reader i n) new) more next
+
+-- what is told to an audience that fragments come to, and to another one
+pub told_here : (before : List SentValue) (sent : SentValue) (audience : Audience) → is_for_audience sent.audience audience ≡ true → told_by_sent sent audience (came_to sent.key audience before) ≡ told_to_audience before sent audience
+told_here before sent audience reached = ap (λ b. cond b (told_by_sent sent audience (came_to sent.key audience before)) []) (sym reached)
+
+pub told_nothing : (before : List SentValue) (sent : SentValue) (audience : Audience) → is_for_audience sent.audience audience ≡ false → [] ≡ told_to_audience before sent audience
+told_nothing before sent audience never = ap (λ b. cond b (told_by_sent sent audience (came_to sent.key audience before)) []) (sym never)
+
+-- behind the last reader of a destination
+pub heard_row : (all before : List SentValue) (sent : SentValue) (dest reader : ℕ) (kept : BTreeMap Hearing Came) → length (readers_of sent.key all) ≤ reader → AreHeardSo all before sent (is_above_reader dest reader) kept
+    → AreHeardSo all before sent (is_above (suc dest)) kept
+heard_row all before sent dest reader kept past heard = record { each = λ hearing to named at_dest at_reader. by hearing to named at_dest at_reader (comes hearing.sample (record { dest = to; reader = named }) sent) refl }
+  where
+    both : (a b : Bool) → (a && b) ≡ true → a ≡ true
+    both true b e = refl
+    both false b e = cc
+
+    by : (hearing : Hearing) (to : Option GuidPrefix) (named : EntityId) → slice_get (dests_of hearing.sample all) hearing.dest ≡ Some to → slice_get (readers_of hearing.sample all) hearing.reader ≡ Some named → (b : Bool) → comes hearing.sample (record { dest = to; reader = named }) sent ≡ b
+        → HasCame (last_fragment (shape_of hearing.sample)) (came_to hearing.sample (record { dest = to; reader = named }) (cond (is_above (suc dest) hearing) (before ++ sent ∷ []) before)) (get hearing_cmp kept hearing)
+    by hearing to named at_dest at_reader false e =
+        subst (λ came. HasCame (last_fragment (shape_of hearing.sample)) came (get hearing_cmp kept hearing)) (either_way hearing.sample (record { dest = to; reader = named }) before sent (is_above_reader dest reader hearing) (is_above (suc dest) hearing) e) (heard.each hearing to named at_dest at_reader)
+    by hearing to named at_dest at_reader true e =
+        let key = sample_is hearing.sample sent.key (both (is_sample hearing.sample sent.key) (is_for_audience sent.audience (record { dest = to; reader = named })) e) in
+        let within : hearing.reader < length (readers_of sent.key all) = got_within (readers_of sent.key all) hearing.reader named (ap (λ k. slice_get (readers_of k all) hearing.reader) (sym key) ∙ at_reader) in
+        subst (λ done. HasCame (last_fragment (shape_of hearing.sample)) (came_to hearing.sample (record { dest = to; reader = named }) (cond done (before ++ sent ∷ []) before)) (get hearing_cmp kept hearing))
+        (row_done dest reader hearing (omega arith)) (heard.each hearing to named at_dest at_reader)

@@ -157,9 +157,8 @@ HasCame last came None = came ≡ []
 HasCame last came (Some kept) = IsCame last came kept
 
 -- For each audience of each sample among all that is sent, what came by these is kept.
-abbrev pub AreHeard : List SentValue → List SentValue → BTreeMap Hearing Came → Type 0
-AreHeard all before kept =
-    (hearing : Hearing) (dest : Option GuidPrefix) (reader : EntityId) → slice_get (dests_of hearing.sample all) hearing.dest ≡ Some dest
+pub record AreHeard (all before : List SentValue) (kept : BTreeMap Hearing Came) : Type 0 where
+  pub each : (hearing : Hearing) (dest : Option GuidPrefix) (reader : EntityId) → slice_get (dests_of hearing.sample all) hearing.dest ≡ Some dest
     → slice_get (readers_of hearing.sample all) hearing.reader ≡ Some reader
     → HasCame (last_fragment (shape_of hearing.sample)) (came_to hearing.sample (record { dest = dest; reader = reader }) before) (get hearing_cmp kept hearing)
 
@@ -168,10 +167,9 @@ pub record IsKeptAs (addressed : Addressed) (key : SampleKey) (all : List SentVa
   pub dests : addressed.dests.items ≡ dests_of key all
   pub readers : addressed.readers.items ≡ readers_of key all
 
--- the same, where these fragments came to some audiences, and not yet to the others
-abbrev pub AreHeardSo : List SentValue → List SentValue → SentValue → (Hearing → Bool) → BTreeMap Hearing Came → Type 0
-AreHeardSo all before sent done kept =
-    (hearing : Hearing) (dest : Option GuidPrefix) (reader : EntityId) → slice_get (dests_of hearing.sample all) hearing.dest ≡ Some dest
+-- The same, where these fragments came to some audiences, and not yet to the others.
+pub record AreHeardSo (all before : List SentValue) (sent : SentValue) (done : Hearing → Bool) (kept : BTreeMap Hearing Came) : Type 0 where
+  pub each : (hearing : Hearing) (dest : Option GuidPrefix) (reader : EntityId) → slice_get (dests_of hearing.sample all) hearing.dest ≡ Some dest
     → slice_get (readers_of hearing.sample all) hearing.reader ≡ Some reader
     → HasCame (last_fragment (shape_of hearing.sample)) (came_to hearing.sample (record { dest = dest; reader = reader }) (if done hearing then before ++ sent ∷ [] else before)) (get hearing_cmp kept hearing)
 

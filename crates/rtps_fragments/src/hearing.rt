@@ -34,6 +34,38 @@ pub(crate) struct Hearing {
     pub(crate) reader: usize,
 }
 
+/// One audience of a sample.
+#[derive(Clone, Copy)]
+struct Listener {
+    hearing: Hearing,
+    audience: Audience,
+    alloc: Global,
+}
+
+/// Fragments come to an audience, and the samples that they tell it are appended. After `Memory` what is kept is of no use.
+fn tell_listener<'a>(
+    kept: &mut BTreeMap<Hearing, Came<'a>>,
+    listener: Listener,
+    sent: &Sent<'a>,
+    told: &mut Vec<Told>,
+) -> Result<(), Memory>
+    requires { IsSent sent.now }
+    ensures here { OnOk result ((came : List (ℕ × List ℕ)) → HasCame (last_fragment (shape_of sent.now.key)) came (get hearing_cmp kept.old listener.hearing)
+        → HasCame (last_fragment (shape_of sent.now.key)) (came ++ (sent_value sent.now).came) (get hearing_cmp kept.new listener.hearing)) }
+    ensures others { OnOk result ((other : HearingValue) → is_eq (hearing_cmp listener.hearing other) ≡ false
+        → get hearing_cmp kept.new other ≡ get hearing_cmp kept.old other) }
+    ensures told { OnOk result ((came : List (ℕ × List ℕ)) → HasCame (last_fragment (shape_of sent.now.key)) came (get hearing_cmp kept.old listener.hearing)
+        → map told_value told.new.items ≡ map told_value told.old.items ++ told_by_sent (sent_value sent.now) listener.audience came) }
+{
+    if let Some(came) = kept.get_mut(&listener.hearing) {
+        return came.tell(sent, listener.audience, told);
+    }
+    let mut came = Came::new(listener.alloc);
+    came.tell(sent, listener.audience, told)?;
+    kept.insert(listener.hearing, came)?;
+    Ok(())
+}
+
 /// What came of each sample to each of its audiences, and the samples that were told by it.
 #[derive(Drop)]
 pub(crate) struct Hearings<'a> {
@@ -53,25 +85,6 @@ impl<'a> Hearings<'a> {
             told: Vec::new(alloc),
             alloc,
         }
-    }
-
-    /// Fragments come to an audience, and the samples that they tell it are appended. After `Memory` it is of no use.
-    fn hear(
-        &mut self,
-        hearing: Hearing,
-        sent: &Sent<'a>,
-        audience: Audience,
-    ) -> Result<(), Memory>
-        requires { IsSent sent.now }
-        ensures here { OnOk result ((came : List (ℕ × List ℕ)) → HasCame (last_fragment (shape_of sent.now.key)) came (get hearing_cmp self.old.came hearing)
-            → HasCame (last_fragment (shape_of sent.now.key)) (came ++ (sent_value sent.now).came) (get hearing_cmp self.new.came hearing)) }
-        ensures others { OnOk result ((other : HearingValue) → is_eq (hearing_cmp hearing other) ≡ false
-            → get hearing_cmp self.new.came other ≡ get hearing_cmp self.old.came other) }
-        ensures told { OnOk result ((came : List (ℕ × List ℕ)) → HasCame (last_fragment (shape_of sent.now.key)) came (get hearing_cmp self.old.came hearing)
-            → map told_value self.new.told.items ≡ map told_value self.old.told.items ++ told_by_sent (sent_value sent.now) audience came) }
-    {
-        let came = self.came.entry(hearing)?.or_insert(Came::new(self.alloc));
-        came.tell(sent, audience, &mut self.told)
     }
 
     /// Fragments come to the audiences of one destination, by its place among those that the sample is sent to.
@@ -100,7 +113,12 @@ impl<'a> Hearings<'a> {
                     dest,
                     reader,
                 };
-                self.hear(hearing, sent, audience)?;
+                let listener = Listener {
+                    hearing,
+                    audience,
+                    alloc: self.alloc,
+                };
+                tell_listener(&mut self.came, listener, sent, &mut self.told)?;
             }
         }
         Ok(())
