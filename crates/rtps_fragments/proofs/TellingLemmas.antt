@@ -22,7 +22,7 @@ use Rattle.rtps_receiver.specs.declared.speech.Audience.{Audience}
 use Rattle.rtps_fragments.specs.Came.{IsCame}
 use Rattle.rtps_fragments.specs.FragmentDelivery.{last_fragment}
 use Rattle.rtps_fragments.specs.SampleActs.{once}
-use Rattle.rtps_fragments.specs.Telling.{AreHeardSo, HasCame, SentValue, ToldValue, added, came_to, dests_of, hearing_cmp, is_above, is_above_reader, is_for_audience, is_sample, readers_of, sample_cmp, shape_of, told_by_sent, told_to_audience}
+use Rattle.rtps_fragments.specs.Telling.{AreHeard, AreHeardSo, HasCame, SentValue, ToldValue, added, came_to, dests_of, hearing_cmp, is_above, is_above_reader, is_for_audience, is_sample, readers_of, sample_cmp, shape_of, told_by_sent, told_to_audience, told_to_dest}
 use Rattle.rtps_fragments.specs.declared.came.Came.{Came}
 use Rattle.rtps_fragments.specs.declared.hearing.Hearing.{Hearing}
 use Rattle.rtps_fragments.specs.declared.piece.SampleKey.{SampleKey}
@@ -358,3 +358,43 @@ heard_row all before sent dest reader kept past heard = record { each = λ heari
         let within : hearing.reader < length (readers_of sent.key all) = got_within (readers_of sent.key all) hearing.reader named (ap (λ k. slice_get (readers_of k all) hearing.reader) (sym key) ∙ at_reader) in
         subst (λ done. HasCame (last_fragment (shape_of hearing.sample)) (came_to hearing.sample (record { dest = to; reader = named }) (cond done (before ++ sent ∷ []) before)) (get hearing_cmp kept hearing))
         (row_done dest reader hearing (omega arith)) (heard.each hearing to named at_dest at_reader)
+
+-- ---- each destination
+
+-- before the first destination
+pub heard_first : (all before : List SentValue) (sent : SentValue) (kept : BTreeMap Hearing Came) → AreHeard all before kept → AreHeardSo all before sent (is_above 0) kept
+heard_first all before sent kept heard = record {
+  each = λ hearing to named at_dest at_reader. subst (λ done. HasCame (last_fragment (shape_of hearing.sample)) (came_to hearing.sample (record { dest = to; reader = named }) (cond done (before ++ sent ∷ []) before)) (get hearing_cmp kept hearing))
+      (sym (none_below hearing.dest)) (heard.each hearing to named at_dest at_reader);
+}
+  where
+    none_below : (n : ℕ) → nat_lt n 0 ≡ false
+    none_below n = grind (arith, nat_tests)
+
+-- behind the last destination
+pub heard_last : (all before : List SentValue) (sent : SentValue) (dest : ℕ) (kept : BTreeMap Hearing Came) → length (dests_of sent.key all) ≤ dest → AreHeardSo all before sent (is_above dest) kept → AreHeard all (before ++ sent ∷ []) kept
+heard_last all before sent dest kept past heard = record { each = λ hearing to named at_dest at_reader. by hearing to named at_dest at_reader (comes hearing.sample (record { dest = to; reader = named }) sent) refl }
+  where
+    both : (a b : Bool) → (a && b) ≡ true → a ≡ true
+    both true b e = refl
+    both false b e = cc
+
+    below : (a b : ℕ) → a < b → nat_lt a b ≡ true
+    below a b lt = grind (arith, nat_tests)
+
+    by : (hearing : Hearing) (to : Option GuidPrefix) (named : EntityId) → slice_get (dests_of hearing.sample all) hearing.dest ≡ Some to → slice_get (readers_of hearing.sample all) hearing.reader ≡ Some named → (b : Bool) → comes hearing.sample (record { dest = to; reader = named }) sent ≡ b
+        → HasCame (last_fragment (shape_of hearing.sample)) (came_to hearing.sample (record { dest = to; reader = named }) (before ++ sent ∷ [])) (get hearing_cmp kept hearing)
+    by hearing to named at_dest at_reader false e =
+        subst (λ came. HasCame (last_fragment (shape_of hearing.sample)) came (get hearing_cmp kept hearing)) (either_way hearing.sample (record { dest = to; reader = named }) before sent (is_above dest hearing) true e) (heard.each hearing to named at_dest at_reader)
+    by hearing to named at_dest at_reader true e =
+        let key = sample_is hearing.sample sent.key (both (is_sample hearing.sample sent.key) (is_for_audience sent.audience (record { dest = to; reader = named })) e) in
+        let within : hearing.dest < length (dests_of sent.key all) = got_within (dests_of sent.key all) hearing.dest to (ap (λ k. slice_get (dests_of k all) hearing.dest) (sym key) ∙ at_dest) in
+        subst (λ done. HasCame (last_fragment (shape_of hearing.sample)) (came_to hearing.sample (record { dest = to; reader = named }) (cond done (before ++ sent ∷ []) before)) (get hearing_cmp kept hearing))
+        (below hearing.dest dest (omega arith)) (heard.each hearing to named at_dest at_reader)
+
+-- what was told to this destination comes behind what was told to those before it
+pub told_dest : (all before : List SentValue) (sent : SentValue) (dests : List (Option GuidPrefix)) (i : ℕ) (to : Option GuidPrefix) (start told new : List ToldValue) → slice_get dests i ≡ Some to → told ≡ start ++ flat_map (told_to_dest all before sent) (take i dests)
+    → new ≡ told ++ told_to_dest all before sent to → new ≡ start ++ flat_map (told_to_dest all before sent) (take (i + 1) dests)
+told_dest all before sent dests i to start told new at so is =
+    let f = told_to_dest all before sent in
+    is ∙ ap (λ ts. ts ++ f to) so ∙ append_assoc start (flat_map f (take i dests)) (f to) ∙ ap (λ ts. start ++ ts) (sym (flat_next f dests i to at))
