@@ -28,7 +28,7 @@ entity_is one other e = let make : List ℕ → EntityId = λ o. record { 0 = o 
 pub own_entity : (entity : EntityId) → is_entity entity entity ≡ true
 own_entity entity = (bytes_eq-Decides entity.0 entity.0).1 refl
 
-dest_is : (one other : Option GuidPrefix) → is_same_dest one other ≡ true → one ≡ other
+pub dest_is : (one other : Option GuidPrefix) → is_same_dest one other ≡ true → one ≡ other
 dest_is (Some one) (Some other) e = ap Some (prefix_is one other e)
 dest_is (Some one) None e = cc
 dest_is None (Some other) e = cc

@@ -20,3 +20,4 @@ pub mod SamplesAlone
 pub mod CameLemmas
 pub mod TellingLemmas
 pub mod ToldSoFar
+pub mod AddressedLemmas

@@ -103,6 +103,7 @@ kept_readers None = unknown_entity ∷ []
 pub record AreAddressed (all : List SentValue) (kept : BTreeMap SampleKey Addressed) : Type 0 where
   pub dests : (key : SampleKey) → kept_dests (get sample_cmp kept key) ≡ dests_of key all
   pub readers : (key : SampleKey) → kept_readers (get sample_cmp kept key) ≡ readers_of key all
+  pub none : (key : SampleKey) → get sample_cmp kept key ≡ None → sent_of key all ≡ []
 
 -- ---- what is told
 

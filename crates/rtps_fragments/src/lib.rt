@@ -6,6 +6,7 @@ mod came;
 mod hearing;
 pub mod laws;
 mod piece;
+mod telling;
 mod told;
 
 pub use piece::{Fragments, SampleKey, Sent, Shape};
