@@ -3,7 +3,10 @@ pub mod Readings
 pub mod SetFields
 pub mod Skips
 pub mod Dataless
+pub mod Fragments
+pub mod FragmentFields
 pub mod Submessages
+pub mod Places
 pub mod Offered
 pub mod WrittenFields
 pub mod WrittenInfo

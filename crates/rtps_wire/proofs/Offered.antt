@@ -1,5 +1,7 @@
 -- Lemmas about the definitions of this crate, for the crates above it.
-use Rattle.std.proofs.Common.{◌≡◌, ◌<◌, ℕ, All, List, [], ◌∷◌, Option, None, Some, Ok, Err, true, false, drop, arith, refl, sym, ◌∙◌}
+use Rattle.std.proofs.Common.{◌≡◌, ◌<◌, ℕ, All, List, [], ◌∷◌, Option, None, Some, Ok, Err, true, false, drop, length, map, arith, refl, sym, ◌∙◌}
+use Rattle.std.specs.List.{concat, range_with_len}
+use Rattle.rtps_wire.specs.DataFrag.{DataFragValue, IsDataFrag, data_frag_at, fragment_length, parts_of}
 use Rattle.rtps_wire.specs.Dataless.{dataless_next, is_dataless}
 use Rattle.rtps_wire.specs.Held.{TellsOfNumbers}
 use Rattle.rtps_wire.specs.Message.{item_at}
@@ -10,7 +12,10 @@ use Rattle.rtps_wire.specs.Values.{BodyValue, ItemValue}
 use Rattle.rtps_wire.specs.Values.BodyValue.{Data, Heartbeat, AckNack, Gap, InfoTs, InfoDst, InfoSrc, Skipped}
 use Rattle.rtps_wire.specs.declared.fault.Refusal.{Refusal}
 use Rattle.rtps_wire.specs.declared.fault.WireFault.{WireFault}
+use Rattle.rtps_wire.specs.declared.layout.id.TheConstants.{DATA_FRAG}
+use Rattle.rtps_wire.proofs.Fragments.{concat-parts_of, length-parts_in, lengths-parts_of, read_is_data_frag}
 use Rattle.rtps_wire.proofs.Numbers.{numbers_fit}
+use Rattle.rtps_wire.proofs.Places.{items_placed}
 use Rattle.rtps_wire.proofs.Readings.{outcomes-done, outcomes-step}
 
 last_with : (more : List ℕ → ℕ → List Outcome) (fault : Option WireFault) (rest : List ℕ) (at : ℕ) (refusal : Refusal) (behind : List Outcome)
@@ -78,3 +83,24 @@ pub dataless_first : (left : List Outcome) → true ≡ dataless_next left → (
 dataless_first [] is = cc
 dataless_first (Err refusal ∷ later) is = cc
 dataless_first (Ok item ∷ later) is = (item, sym is, refl)
+
+-- fragments that are read are some that their sample has, with as many octets as these have
+pub fragments_of_sample : (rest : List ℕ) (value : DataFragValue) → data_frag_at rest ≡ Some value → IsDataFrag value
+fragments_of_sample = read_is_data_frag
+
+-- they have as many parts as fragments
+pub length-parts_of : (value : DataFragValue) → length (parts_of value) ≡ value.count
+length-parts_of value = length-parts_in value.shape.fragment value.count value.octets
+
+-- each part is as long as its fragment
+pub parts_of_fragments : (value : DataFragValue) → IsDataFrag value → map length (parts_of value) ≡ map (fragment_length value.shape) (range_with_len value.first value.count)
+parts_of_fragments = lengths-parts_of
+
+-- the parts together are all octets
+pub parts_together : (value : DataFragValue) → IsDataFrag value → concat (parts_of value) ≡ value.octets
+parts_together = concat-parts_of
+
+-- only an item that is skipped as a DATA_FRAG has fragments at its place in the datagram
+pub only_data_frags_have_fragments : (datagram : List ℕ)
+    → All (λ item. (value : DataFragValue) → data_frag_at (drop item.at datagram) ≡ Some value → item.body ≡ Skipped DATA_FRAG) (reading_of datagram).items
+only_data_frags_have_fragments = items_placed

@@ -6,6 +6,7 @@ use Rattle.rtps_wire.specs.declared.layout.submessage.TheConstants as submessage
 use Rattle.rtps_wire.specs.declared.layout.id.TheConstants as id
 use Rattle.rtps_wire.specs.declared.layout.ack_nack.TheConstants as ack_nack
 use Rattle.rtps_wire.specs.declared.layout.data.TheConstants as data_fields
+use Rattle.rtps_wire.specs.declared.layout.data_frag.TheConstants as data_frag
 use Rattle.rtps_wire.specs.declared.layout.gap.TheConstants as gap
 use Rattle.rtps_wire.specs.declared.layout.heartbeat.TheConstants as heartbeat
 use Rattle.rtps_wire.specs.declared.layout.info_ts.TheConstants as info_ts
@@ -31,6 +32,10 @@ ack_nack_is = (ack_nack.READER ≡ 0) × (ack_nack.WRITER ≡ 4) × (ack_nack.SE
 -- DATA (DDSI-RTPS 2.5, 9.4.5.4 "Data Submessage").
 abbrev pub data_is : Type 0
 data_is = (data_fields.OCTETS_TO_QOS ≡ 2) × (data_fields.QOS_FROM ≡ 4) × (data_fields.READER ≡ 4) × (data_fields.WRITER ≡ 8) × (data_fields.NUMBER ≡ 12) × (data_fields.SIZE ≡ 20) × (data_fields.Q ≡ 0x02) × (data_fields.D ≡ 0x04) × (data_fields.K ≡ 0x08) × (data_fields.N ≡ 0x10)
+
+-- DATA_FRAG (DDSI-RTPS 2.5, 9.4.5.5 "DataFrag Submessage"). octetsToInlineQos and flag Q are as in a DATA.
+abbrev pub data_frag_is : Type 0
+data_frag_is = (data_frag.READER ≡ 4) × (data_frag.WRITER ≡ 8) × (data_frag.NUMBER ≡ 12) × (data_frag.FIRST ≡ 20) × (data_frag.COUNT ≡ 24) × (data_frag.FRAGMENT ≡ 26) × (data_frag.SAMPLE ≡ 28) × (data_frag.SIZE ≡ 32) × (data_frag.K ≡ 0x04)
 
 -- GAP (DDSI-RTPS 2.5, 9.4.5.6 "Gap Submessage").
 abbrev pub gap_is : Type 0

@@ -1,5 +1,6 @@
 pub mod AckNack
 pub mod Data
+pub mod DataFrag
 pub mod Dataless
 pub mod Fault
 pub mod FaultText

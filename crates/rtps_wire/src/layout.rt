@@ -95,6 +95,27 @@ pub(crate) mod data {
     pub(crate) const N: u8 = 0x10;
 }
 
+/// DATA_FRAG (DDSI-RTPS 2.5, 9.4.5.5 "DataFrag Submessage"). octetsToInlineQos and flag Q are as in a DATA.
+pub(crate) mod data_frag {
+    pub(crate) const READER: usize = 4;
+
+    pub(crate) const WRITER: usize = 8;
+
+    pub(crate) const NUMBER: usize = 12;
+    /// The offset of the number of the first fragment.
+    pub(crate) const FIRST: usize = 20;
+    /// The offset of how many fragments there are.
+    pub(crate) const COUNT: usize = 24;
+    /// The offset of the size of a fragment.
+    pub(crate) const FRAGMENT: usize = 26;
+    /// The offset of the size of the sample.
+    pub(crate) const SAMPLE: usize = 28;
+    /// The size of the fields.
+    pub(crate) const SIZE: usize = 32;
+    /// Flag K: the sample is a key.
+    pub(crate) const K: u8 = 0x04;
+}
+
 /// GAP (DDSI-RTPS 2.5, 9.4.5.6 "Gap Submessage").
 pub(crate) mod gap {
     pub(crate) const READER: usize = 0;

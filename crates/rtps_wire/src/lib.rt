@@ -3,6 +3,7 @@
 
 mod body;
 mod counts;
+mod data_frag;
 mod datagram_tally;
 mod fault;
 mod flags;
@@ -16,6 +17,7 @@ mod write_fault;
 
 pub use body::{AckNackBody, Body, DataBody, GapBody, HeartbeatBody, Item, Payload};
 pub use counts::Tally;
+pub use data_frag::{DataFrag, Shape};
 pub use datagram_tally::tally;
 pub use fault::{Refusal, WireFault};
 pub use flags::DataFlags;

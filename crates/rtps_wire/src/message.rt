@@ -136,7 +136,7 @@ impl<'a> Iterator for Items<'a> {
 
 /// The octetsToNextHeader of the submessage at the front.
 #[inline(always)]
-fn declared_by(rest: &[u8]) -> usize
+pub(crate) fn declared_by(rest: &[u8]) -> usize
     requires { SIZE ≤ length rest.now }
     ensures { result ≡ octets_to_next_header rest.now }
 {
@@ -233,7 +233,7 @@ fn read_item(rest: &[u8], at: usize) -> Result<(Item<'_>, usize), WireFault>
 
 /// The size of the body of a submessage, if `left` octets come after its header.
 #[inline(always)]
-fn extent(id: u8, declared: usize, left: usize) -> usize
+pub(crate) fn extent(id: u8, declared: usize, left: usize) -> usize
     ensures { result ≡ extent_of id declared left }
 {
     match (declared, id) {
@@ -245,7 +245,7 @@ fn extent(id: u8, declared: usize, left: usize) -> usize
 
 /// The order that flag E gives.
 #[inline(always)]
-fn order_of(flags: u8) -> Order
+pub(crate) fn order_of(flags: u8) -> Order
     ensures { result ≡ order_of_lem flags }
 {
     if flags & submessage::E != 0 {

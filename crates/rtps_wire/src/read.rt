@@ -2,6 +2,7 @@
 
 mod ack_nack;
 mod data;
+mod data_frag;
 pub(crate) mod fields;
 mod gap;
 mod heartbeat;
@@ -9,6 +10,7 @@ mod info;
 
 pub(crate) use ack_nack::ack_nack;
 pub(crate) use data::data;
+pub(crate) use data_frag::data_frag;
 pub(crate) use gap::gap;
 pub(crate) use heartbeat::heartbeat;
 pub(crate) use info::{info_dst, info_src, info_ts};

@@ -50,7 +50,7 @@ pub(crate) fn data(order: Order, flags: u8, body: &[u8]) -> Result<DataBody<'_>,
 
 /// The inline QoS at the beginning of these octets, if the flags say that there is one, and the octets after it.
 #[inline(always)]
-fn inline_qos(
+pub(super) fn inline_qos(
     flags: DataFlags,
     order: Order,
     octets: &[u8],
