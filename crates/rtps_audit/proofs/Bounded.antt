@@ -16,7 +16,7 @@ use Rattle.rtps_wire.specs.declared.header.Header.{Header}
 use Rattle.rtps_receiver.specs.Acts.{act_at, act_body, acts_behind, acts_of, acts_of_item, acts_with, state_at_start, state_behind}
 use Rattle.rtps_receiver.specs.declared.state.State.{State}
 use Rattle.rtps_receiver.specs.Values.{ActBodyValue, ActValue}
-use Rattle.rtps_receiver.specs.Values.ActBodyValue.{Data as DataAct, Heartbeat as HeartbeatAct, AckNack as AckNackAct, Gap as GapAct}
+use Rattle.rtps_receiver.specs.Values.ActBodyValue.{Data as DataAct, Heartbeat as HeartbeatAct, AckNack as AckNackAct, Gap as GapAct, DataFrag as DataFragAct}
 use Rattle.rtps_audit.specs.Delivery.{Word, Datagram, greatest}
 use Rattle.rtps_audit.specs.FullRun.{IsBoundedBy}
 use Rattle.rtps_audit.specs.Speech.{is_in_gap, said_by, speech_of, word_for, word_of}
@@ -35,6 +35,10 @@ record SmallAct (body : ActBodyValue) : Type 0 where
 some_if : {X : Type 0} (b : Bool) (x y : X) → (if b then Some x else None) ≡ Some y → b ≡ true
 some_if true x y e = refl
 some_if false x y e = cc
+
+if_some : {X : Type 0} (b : Bool) (o : Option X) (y : X) → (if b then o else None) ≡ Some y → b ≡ true
+if_some true o y e = refl
+if_some false o y e = cc
 
 in_gap_small : (gap : GapBody) (n : ℕ) → gap.list.base + gap.list.count ≤ 2 ^ 63 → is_in_gap gap n ≡ true → n < 2 ^ 63
 in_gap_small gap n end in_gap = grind (arith, nat_tests)
@@ -109,12 +113,14 @@ end_of (DataAct value) = value.number + 1
 end_of (HeartbeatAct value) = value.first
 end_of (AckNackAct value) = 0
 end_of (GapAct value) = value.list.base + value.list.count
+end_of (DataFragAct value) = value.number + 1
 
 before_end : (body : ActBodyValue) (n : ℕ) (word : Word) → word_of body n ≡ Some word → n < end_of body
 before_end (DataAct value) n word e = let same = some_if _ _ word e in grind (arith, nat_tests)
 before_end (HeartbeatAct value) n word e = let same = some_if _ _ word e in grind (arith, nat_tests)
 before_end (AckNackAct value) n word e = cc
 before_end (GapAct value) n word e = let in_gap = some_if _ _ word e in grind (arith, nat_tests)
+before_end (DataFragAct value) n word e = let same = if_some _ _ word e in grind (arith, nat_tests)
 
 -- what a function gives of an element is at most the greatest of what it gives
 below_one : {X : Type 0} (f : X → ℕ) (xs : List X) (i n : ℕ) (x : X) → slice_get xs i ≡ Some x → n < f x → n < greatest (map f xs)

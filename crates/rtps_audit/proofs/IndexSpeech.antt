@@ -12,7 +12,7 @@ use Rattle.rtps_wire.specs.Reading.{reading_of}
 use Rattle.rtps_receiver.specs.Acts.{acts_of}
 use Rattle.rtps_receiver.specs.Speech.{entity_from, is_entity, is_prefix, is_spoken_by, names, writer_named}
 use Rattle.rtps_receiver.specs.Values.{ActBodyValue}
-use Rattle.rtps_receiver.specs.Values.ActBodyValue.{Data, Heartbeat, AckNack, Gap}
+use Rattle.rtps_receiver.specs.Values.ActBodyValue.{Data, Heartbeat, AckNack, Gap, DataFrag}
 use Rattle.rtps_discovery.specs.declared.matching.Pair.{Pair}
 use Rattle.rtps_audit.specs.Answered.{HearsTwo, IsGivenBy, IsHeard, IsToldAll, IsToldBy, IsUntoldAmong, base_among, last_among, verdict_by}
 use Rattle.rtps_audit.specs.Delivery.{Claims, Datagram, Gives, IsAsked, Speech, Word, greatest, last_announced_from}
@@ -80,6 +80,7 @@ by_body writer source (AckNack value) e = never (is_prefix source writer.prefix)
 by_body writer source (Data value) e = both (bytes_eq-sym writer.prefix.0 source.0) (bytes_eq-sym writer.entity.0 value.writer.0) ∙ e
 by_body writer source (Heartbeat value) e = both (bytes_eq-sym writer.prefix.0 source.0) (bytes_eq-sym writer.entity.0 value.writer.0) ∙ e
 by_body writer source (Gap value) e = both (bytes_eq-sym writer.prefix.0 source.0) (bytes_eq-sym writer.entity.0 value.writer.0) ∙ e
+by_body writer source (DataFrag value) e = both (bytes_eq-sym writer.prefix.0 source.0) (bytes_eq-sym writer.entity.0 value.writer.0) ∙ e
 
 pub spoken_is_from : (writer : Guid) (placed : PlacedValue) → is_spoken_by placed.act writer ≡ true → is_from writer placed ≡ true
 spoken_is_from writer placed e = by_body writer placed.act.source placed.act.body e

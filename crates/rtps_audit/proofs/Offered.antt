@@ -8,11 +8,10 @@ use Rattle.rtps_wire.specs.Reading.{reading_of}
 use Rattle.rtps_receiver.specs.Acts.{acts_of}
 use Rattle.rtps_receiver.specs.Speech.{entity_from, is_answer, is_entity, is_for, is_prefix, is_spoken_by, names_pair}
 use Rattle.rtps_receiver.specs.Values.{ActBodyValue}
-use Rattle.rtps_receiver.specs.Values.ActBodyValue.{Data, Heartbeat, AckNack, Gap}
+use Rattle.rtps_receiver.specs.Values.ActBodyValue.{Data, Heartbeat, AckNack, Gap, DataFrag}
 use Rattle.rtps_audit.specs.Delivery.{Claims, Datagram, DeliveryState, Ends, Gives, HasRun, Holds, IsAsked, Speech, Word, greatest, last_announced_from}
 use Rattle.rtps_audit.specs.PlainVerdict.{IsFounded, IsSpoken, IsUnclaimed}
 use Rattle.rtps_audit.specs.RunVerdict.{EndsWithout}
-use Rattle.rtps_audit.proofs.Greatest.{greatest_below}
 use Rattle.rtps_audit.proofs.Sound.{founded_from_run, held_from_claim, spoken_from_held}
 use Rattle.rtps_audit.proofs.Verdicts.{ends_without}
 use Rattle.rtps_audit.proofs.DeliveryRuns.{Ends-took, took}
@@ -20,13 +19,17 @@ use Rattle.std.proofs.lemmas.List.Elements.{Contains-append_left, Contains-push}
 use Rattle.rtps_audit.specs.Answered.{IsHeard, last_among}
 use Rattle.rtps_audit.specs.Placed.{PlacedValue, is_from, placed_in}
 use Rattle.rtps_audit.specs.Speech.{announced_for, announced_of_body, base_for, said_by, speech_of, word_for}
-use Rattle.rtps_audit.proofs.IndexSpeech.{all_have, gives_from, heard_from, if_some, its_have, last_from, spoken_is_from}
-use Rattle.rtps_audit.proofs.PlacedActs.{kept_if_passed, made_from, makes, stands_there, stands_where}
-use Rattle.rtps_audit.proofs.PlacedLemmas.{both, bytes_eq-sym}
+use Rattle.rtps_audit.proofs.IndexSpeech.{all_have, gives_from, heard_from, its_have, last_from, spoken_is_from}
+use Rattle.rtps_audit.proofs.PlacedActs.{stands_there, stands_where}
+use Rattle.rtps_audit.proofs.PlacedLemmas.{bytes_eq-sym}
 pub use Rattle.rtps_audit.proofs.DeliveryRuns.{Follows-append, place_within}
-pub use Rattle.rtps_audit.proofs.IndexSpeech.{get_mapped, mapped_get}
 pub use Rattle.rtps_audit.proofs.Sound.{reached-sound}
 pub use Rattle.rtps_audit.proofs.Verdicts.{runs_exist_where_founded}
+-- lists: what stands first or behind, what stands among what a function gives, what is below the greatest; tests of equal parts
+pub use Rattle.rtps_audit.proofs.PlacedActs.{contains_cases, contains_head, contains_none, contains_tail, kept_if_passed, kept_is_there, made_from, makes}
+pub use Rattle.rtps_audit.proofs.PlacedLemmas.{both}
+pub use Rattle.rtps_audit.proofs.Greatest.{below_greatest, greatest_below}
+pub use Rattle.rtps_audit.proofs.IndexSpeech.{if_some, contains_mapped, get_mapped, mapped_contains, mapped_get}
 
 -- ---- who an act is from
 
@@ -55,6 +58,7 @@ answerer_is_origin reader writer placed e = by_body placed.act.source placed.act
     by_body source dest (Data value) e = let no = never _ _ e in cc
     by_body source dest (Heartbeat value) e = let no = never _ _ e in cc
     by_body source dest (Gap value) e = let no = never _ _ e in cc
+    by_body source dest (DataFrag value) e = let no = never _ _ e in cc
 
 -- ---- what a speech has
 

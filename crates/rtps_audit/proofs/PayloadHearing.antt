@@ -11,7 +11,7 @@ use Rattle.rtps_ids.specs.declared.identity.Guid.{Guid}
 use Rattle.rtps_ids.specs.declared.identity.GuidPrefix.{GuidPrefix}
 use Rattle.rtps_receiver.specs.Speech.{entity_from, is_among, is_entity, is_heard_by, is_prefix, is_spoken_by, names, reader_named, writer_named}
 use Rattle.rtps_receiver.specs.Values.{ActBodyValue, ActValue}
-use Rattle.rtps_receiver.specs.Values.ActBodyValue.{Data, Heartbeat, AckNack, Gap}
+use Rattle.rtps_receiver.specs.Values.ActBodyValue.{Data, Heartbeat, AckNack, Gap, DataFrag}
 use Rattle.rtps_wire.specs.Values.{PayloadValue, payload_value}
 use Rattle.rtps_audit.specs.Delivery.{IsAsked, Word}
 use Rattle.rtps_audit.specs.Delivery.Word.{Told}
@@ -36,15 +36,15 @@ payload_or x (Some (Told y)) = y
 payload_or x _ = x
 
 -- a DATA tells its own number and payload, and nothing else
-pub told_itself : (act : ActValue) (e : AddressedPayload) (n : ℕ) (x : PayloadValue) → IsSentBy act e → word_of act.body n ≡ Some (Told x) → (number_in e ≡ n) × (payload_value e.data.now.payload ≡ x)
+pub told_itself : (act : ActValue) (e : AddressedPayload) (n : ℕ) (x : PayloadValue) → IsSentBy act e → word_of act.body n ≡ Some (Told x) → (number_in e ≡ n) × (payload_value e.payload.now ≡ x)
 told_itself act e n x sent says = by_test (n == e.number) refl (sym (sent.says n) ∙ says)
   where
-    by_test : (b : Bool) → (n == e.number) ≡ b → told_if b (payload_value e.data.now.payload) ≡ Some (Told x) → (number_in e ≡ n) × (payload_value e.data.now.payload ≡ x)
+    by_test : (b : Bool) → (n == e.number) ≡ b → told_if b (payload_value e.payload.now) ≡ Some (Told x) → (number_in e ≡ n) × (payload_value e.payload.now ≡ x)
     by_test true same is = (sym (eqb-true n e.number same), ap (payload_or x) is)
     by_test false same is = cc
 
-pub tells_itself : (act : ActValue) (e : AddressedPayload) → IsSentBy act e → word_of act.body e.number ≡ Some (Told (payload_value e.data.now.payload))
-tells_itself act e sent = sent.says e.number ∙ ap (λ b. told_if b (payload_value e.data.now.payload)) (eq-eqb e.number e.number refl)
+pub tells_itself : (act : ActValue) (e : AddressedPayload) → IsSentBy act e → word_of act.body e.number ≡ Some (Told (payload_value e.payload.now))
+tells_itself act e sent = sent.says e.number ∙ ap (λ b. told_if b (payload_value e.payload.now)) (eq-eqb e.number e.number refl)
 
 -- who an act is from speaks it, unless it is an ACKNACK
 speaks : (writer : Guid) (source : GuidPrefix) (body : ActBodyValue) (named : EntityId) → (is_prefix writer.prefix source && is_entity writer.entity (entity_from body)) ≡ true → reader_named body ≡ Some named
@@ -53,12 +53,13 @@ speaks writer source (AckNack value) named from reader = cc
 speaks writer source (Data value) named from reader = both (bytes_eq-sym source.0 writer.prefix.0) (bytes_eq-sym value.writer.0 writer.entity.0) ∙ from
 speaks writer source (Heartbeat value) named from reader = both (bytes_eq-sym source.0 writer.prefix.0) (bytes_eq-sym value.writer.0 writer.entity.0) ∙ from
 speaks writer source (Gap value) named from reader = both (bytes_eq-sym source.0 writer.prefix.0) (bytes_eq-sym value.writer.0 writer.entity.0) ∙ from
+speaks writer source (DataFrag value) named from reader = both (bytes_eq-sym source.0 writer.prefix.0) (bytes_eq-sym value.writer.0 writer.entity.0) ∙ from
 
 pub from_speaks : (writer : Guid) (at : PlacedValue) (named : EntityId) → is_from writer at ≡ true → reader_named at.act.body ≡ Some named → is_spoken_by at.act writer ≡ true
 from_speaks writer at named from reader = speaks writer at.act.source at.act.body named from reader
 
 -- a reader hears an act where its entry is for the reader
-heard_alike : (act : ActValue) (e : AddressedPayload) (reader : Guid) → IsSentBy act e → is_heard_by act reader ≡ is_among e.dest.now (Some e.data.now.reader) reader
+heard_alike : (act : ActValue) (e : AddressedPayload) (reader : Guid) → IsSentBy act e → is_heard_by act reader ≡ is_among e.dest.now (Some e.reader) reader
 heard_alike act e reader sent = ap (λ dest. is_among dest (reader_named act.body) reader) sent.dest ∙ ap (λ named. is_among e.dest.now named reader) sent.reader
 
 if_both : (a b : Bool) (word : Option Word) → a ≡ true → b ≡ true → (if a && b then word else None) ≡ word
@@ -119,10 +120,10 @@ placed_next acts k d within = ap (map placed_value) (take_more acts k d within) 
 
 -- it is among these entries, and the reader hears it
 abbrev pub IsHeardAmong : List AddressedPayload → Guid → AddressedPayload → Type 0
-IsHeardAmong entries reader entry = Contains entries entry × (is_among entry.dest.now (Some entry.data.now.reader) reader ≡ true)
+IsHeardAmong entries reader entry = Contains entries entry × (is_among entry.dest.now (Some entry.reader) reader ≡ true)
 
 kept_of_heard : (from : ℕ) (kept : List AddressedPayload) (writer reader : Guid) (placed : List PlacedValue) (n : ℕ) (x : PayloadValue) (known : AreConflictsOf from kept placed) → IsAsked from n → IsHeard writer reader placed n (Told x)
-    → (e : AddressedPayload) × IsHeardAmong known.entries reader e × (number_in e ≡ n) × (payload_value e.data.now.payload ≡ x)
+    → (e : AddressedPayload) × IsHeardAmong known.entries reader e × (number_in e ≡ n) × (payload_value e.payload.now ≡ x)
 kept_of_heard from kept writer reader placed n x known asked heard =
     let said = if_some (is_spoken_by heard.at.act writer && is_heard_by heard.at.act reader) (word_of heard.at.act.body n) (Told x) heard.says in
     let entry = known.sent.all heard.at n x heard.among asked said.1 in
@@ -133,7 +134,7 @@ pub two_kept : (from : ℕ) (kept : List AddressedPayload) (writer reader : Guid
 two_kept from kept writer reader placed n known (asked, (x, y, first, second, differ)) =
     let one = kept_of_heard from kept writer reader placed n x known asked first in
     let other = kept_of_heard from kept writer reader placed n y known asked second in
-    let unlike : payload_value (one.0).data.now.payload ≢ payload_value (other.0).data.now.payload = λ e. differ (sym one.3 ∙ e ∙ other.3) in
+    let unlike : payload_value one.0.payload.now ≢ payload_value other.0.payload.now = λ e. differ (sym one.3 ∙ e ∙ other.3) in
     let two : (m : ℕ) → n ≡ m → HasTwo (Contains known.entries) m = λ m is. record { one = one.0; other = other.0; one_among = one.1.0; other_among = other.1.0; one_number = one.2 ∙ is; other_number = other.2 ∙ is; differ = unlike } in
     record {
       one = one.0;
@@ -146,12 +147,12 @@ two_kept from kept writer reader placed n known (asked, (x, y, first, second, di
     }
 
 heard_of_kept : (from : ℕ) (kept : List AddressedPayload) (writer reader : Guid) (placed : List PlacedValue) (e : AddressedPayload) → AreConflictsOf from kept placed → All (λ at. is_from writer at ≡ true) placed
-    → IsHeardAmong kept reader e → IsAsked from (number_in e) × IsHeard writer reader placed (number_in e) (Told (payload_value e.data.now.payload))
+    → IsHeardAmong kept reader e → IsAsked from (number_in e) × IsHeard writer reader placed (number_in e) (Told (payload_value e.payload.now))
 heard_of_kept from kept writer reader placed e known writers heard =
     let sent = known.sent.sent e ((known.conflicts e).0 heard.0).0 in
     let at = sent.1.0 in
     let by = sent.1.2 in
-    let spoken = from_speaks writer at e.data.now.reader (All-contains (λ (at : PlacedValue). is_from writer at ≡ true) placed at writers sent.1.1) by.reader in
+    let spoken = from_speaks writer at e.reader (All-contains (λ (at : PlacedValue). is_from writer at ≡ true) placed at writers sent.1.1) by.reader in
     let hears = heard_alike at.act e reader by ∙ heard.1 in
     (sent.0, record { at = at; among = sent.1.1; says = if_both _ _ (word_of at.act.body e.number) spoken hears ∙ tells_itself at.act e by })
 
@@ -162,10 +163,10 @@ two_heard from kept writer reader placed n known writers two =
     let other = heard_of_kept from kept writer reader placed two.other known writers two.other_among in (
       subst (IsAsked from) two.one_number one.0,
       (
-        payload_value two.one.data.now.payload,
-        payload_value two.other.data.now.payload,
-        subst (λ m. IsHeard writer reader placed m (Told (payload_value two.one.data.now.payload))) two.one_number one.1,
-        subst (λ m. IsHeard writer reader placed m (Told (payload_value two.other.data.now.payload))) two.other_number other.1,
+        payload_value two.one.payload.now,
+        payload_value two.other.payload.now,
+        subst (λ m. IsHeard writer reader placed m (Told (payload_value two.one.payload.now))) two.one_number one.1,
+        subst (λ m. IsHeard writer reader placed m (Told (payload_value two.other.payload.now))) two.other_number other.1,
         two.differ,
       ),
     )
@@ -177,14 +178,14 @@ pub record IsHeardSoFar (past : List AddressedPayload) (reader : Guid) (before :
   pub agree : (n : ℕ) → ¬ HasTwo (IsHeardAmong past reader) n
   pub last : MatchOption before ((e : AddressedPayload) → ¬ IsHeardAmong past reader e) (λ b. IsHeardAmong past reader b × ((e : AddressedPayload) → IsHeardAmong past reader e → number_in e ≤ number_in b))
 
-heard_cases : (past : List AddressedPayload) (reader : Guid) (x e : AddressedPayload) → IsHeardAmong (past ++ x ∷ []) reader e → IsHeardAmong past reader e ⊎ ((x ≡ e) × (is_among x.dest.now (Some x.data.now.reader) reader ≡ true))
+heard_cases : (past : List AddressedPayload) (reader : Guid) (x e : AddressedPayload) → IsHeardAmong (past ++ x ∷ []) reader e → IsHeardAmong past reader e ⊎ ((x ≡ e) × (is_among x.dest.now (Some x.reader) reader ≡ true))
 heard_cases past reader x e heard = elim (Contains-push_cases past x e heard.0) [
   | inl there ↦ inl (there, heard.1)
-  | inr is ↦ inr (is, ap (λ (f : AddressedPayload). is_among f.dest.now (Some f.data.now.reader) reader) is ∙ heard.1)
+  | inr is ↦ inr (is, ap (λ (f : AddressedPayload). is_among f.dest.now (Some f.reader) reader) is ∙ heard.1)
 ]
 
 -- one more that the reader does not hear
-pub heard_skip : (past : List AddressedPayload) (reader : Guid) (before : Option AddressedPayload) (x : AddressedPayload) → is_among x.dest.now (Some x.data.now.reader) reader ≡ false → IsHeardSoFar past reader before → IsHeardSoFar (past ++ x ∷ []) reader before
+pub heard_skip : (past : List AddressedPayload) (reader : Guid) (before : Option AddressedPayload) (x : AddressedPayload) → is_among x.dest.now (Some x.reader) reader ≡ false → IsHeardSoFar past reader before → IsHeardSoFar (past ++ x ∷ []) reader before
 heard_skip past reader before x deaf known = record {
   agree = λ n two. known.agree n (record { one = two.one; other = two.other; one_among = old two.one two.one_among; other_among = old two.other two.other_among; one_number = two.one_number; other_number = two.other_number; differ = two.differ });
   last = last before known.last;
@@ -199,24 +200,24 @@ heard_skip past reader before x deaf known = record {
     last (Some b) was = ((Contains-append_left past (x ∷ []) b was.0.0, was.0.1), λ e heard. was.1 e (old e heard))
 
 -- one more that the reader hears, and that is no other payload than the one before
-pub heard_more : (past : List AddressedPayload) (reader : Guid) (before : Option AddressedPayload) (x : AddressedPayload) → is_among x.dest.now (Some x.data.now.reader) reader ≡ true → ((e : AddressedPayload) → Contains past e → number_in e ≤ number_in x) → ¬ IsAnother before x
+pub heard_more : (past : List AddressedPayload) (reader : Guid) (before : Option AddressedPayload) (x : AddressedPayload) → is_among x.dest.now (Some x.reader) reader ≡ true → ((e : AddressedPayload) → Contains past e → number_in e ≤ number_in x) → ¬ IsAnother before x
     → IsHeardSoFar past reader before → IsHeardSoFar (past ++ x ∷ []) reader (Some x)
 heard_more past reader before x hears below alike known = record {
   agree = λ n two. elim (heard_cases past reader x two.one two.one_among) [
     | inl one ↦ elim (heard_cases past reader x two.other two.other_among) [
       | inl other ↦ known.agree n (record { one = two.one; other = two.other; one_among = one; other_among = other; one_number = two.one_number; other_number = two.other_number; differ = two.differ })
-      | inr other ↦ mixed before known.last alike two.one one (two.one_number ∙ sym two.other_number ∙ sym (ap number_in other.0)) (λ e. two.differ (e ∙ ap (λ (f : AddressedPayload). payload_value f.data.now.payload) other.0))
+      | inr other ↦ mixed before known.last alike two.one one (two.one_number ∙ sym two.other_number ∙ sym (ap number_in other.0)) (λ e. two.differ (e ∙ ap (λ (f : AddressedPayload). payload_value f.payload.now) other.0))
     ]
     | inr one ↦ elim (heard_cases past reader x two.other two.other_among) [
-      | inl other ↦ mixed before known.last alike two.other other (two.other_number ∙ sym two.one_number ∙ sym (ap number_in one.0)) (λ e. two.differ (sym (ap (λ (f : AddressedPayload). payload_value f.data.now.payload) one.0) ∙ sym e))
-      | inr other ↦ two.differ (ap (λ (f : AddressedPayload). payload_value f.data.now.payload) (sym one.0 ∙ other.0))
+      | inl other ↦ mixed before known.last alike two.other other (two.other_number ∙ sym two.one_number ∙ sym (ap number_in one.0)) (λ e. two.differ (sym (ap (λ (f : AddressedPayload). payload_value f.payload.now) one.0) ∙ sym e))
+      | inr other ↦ two.differ (ap (λ (f : AddressedPayload). payload_value f.payload.now) (sym one.0 ∙ other.0))
     ]
   ];
   last = ((Contains-push past x, hears), λ e heard. elim (heard_cases past reader x e heard) [ inl there ↦ below e there.0 | inr here ↦ let is = ap number_in here.0 in omega arith ]);
 }
   where
     mixed : (before : Option AddressedPayload) → MatchOption before ((e : AddressedPayload) → ¬ IsHeardAmong past reader e) (λ b. IsHeardAmong past reader b × ((e : AddressedPayload) → IsHeardAmong past reader e → number_in e ≤ number_in b)) → ¬ IsAnother before x
-        → (e : AddressedPayload) → IsHeardAmong past reader e → number_in e ≡ number_in x → payload_value e.data.now.payload ≢ payload_value x.data.now.payload → ⊥
+        → (e : AddressedPayload) → IsHeardAmong past reader e → number_in e ≡ number_in x → payload_value e.payload.now ≢ payload_value x.payload.now → ⊥
     mixed None none alike e heard same differ = none e heard
     mixed (Some b) was alike e heard same differ =
         let up = was.1 e heard in
@@ -226,7 +227,7 @@ heard_more past reader before x hears below alike known = record {
 
 -- the first that is another payload than the one before is of the least number with two
 pub heard_least : (xs : List AddressedPayload) (place : ℕ) (reader : Guid) (before : Option AddressedPayload) (x : AddressedPayload) → IsNonDecreasingBy number_in xs → place < length xs → x ≡ get_or xs place x
-    → is_among x.dest.now (Some x.data.now.reader) reader ≡ true → IsAnother before x → IsHeardSoFar (take place xs) reader before → IsLeast (HasTwo (IsHeardAmong xs reader)) (number_in x)
+    → is_among x.dest.now (Some x.reader) reader ≡ true → IsAnother before x → IsHeardSoFar (take place xs) reader before → IsLeast (HasTwo (IsHeardAmong xs reader)) (number_in x)
 heard_least xs place reader before x sorted within at hears other known = record {
   holds = two before known.last other;
   least = λ m two. elim (cases_lt m (number_in x)) [

@@ -92,7 +92,7 @@ two_done done run n m are less two = record {
 }
 
 -- a run of one payload has no conflict
-pub run_same : (done run kept : List AddressedPayload) (n : ℕ) (p : PayloadValue) → All (λ e. number_in e < n) done → All (λ e. number_in e ≡ n) run → All (λ e. payload_value e.data.now.payload ≡ p) run
+pub run_same : (done run kept : List AddressedPayload) (n : ℕ) (p : PayloadValue) → All (λ e. number_in e < n) done → All (λ e. number_in e ≡ n) run → All (λ e. payload_value e.payload.now ≡ p) run
     → AreConflictsAmong done kept → AreConflictsAmong (done ++ run) kept
 run_same done run kept n p below are same known e = (
   λ among. let was = (known e).0 among in (Contains-append_left done run e was.0, two_more done run (number_in e) was.1),
@@ -101,14 +101,14 @@ run_same done run kept n p below are same known e = (
     | inr here ↦
         let is = All-contains (λ e. number_in e ≡ n) run e are here in
         let two = both.1 in
-        let one = All-contains (λ (e : AddressedPayload). payload_value e.data.now.payload ≡ p) run two.one same (in_run done run n two.one below (two.one_number ∙ is) two.one_among) in
-        let other = All-contains (λ (e : AddressedPayload). payload_value e.data.now.payload ≡ p) run two.other same (in_run done run n two.other below (two.other_number ∙ is) two.other_among) in
+        let one = All-contains (λ (e : AddressedPayload). payload_value e.payload.now ≡ p) run two.one same (in_run done run n two.one below (two.one_number ∙ is) two.one_among) in
+        let other = All-contains (λ (e : AddressedPayload). payload_value e.payload.now ≡ p) run two.other same (in_run done run n two.other below (two.other_number ∙ is) two.other_among) in
         absurd (two.differ (one ∙ sym other))
   ],
 )
 
 -- a run of two payloads is one
-pub run_differs : (done run kept : List AddressedPayload) (n : ℕ) (one other : AddressedPayload) → All (λ e. number_in e < n) done → All (λ e. number_in e ≡ n) run → Contains run one → Contains run other → payload_value one.data.now.payload ≢ payload_value other.data.now.payload
+pub run_differs : (done run kept : List AddressedPayload) (n : ℕ) (one other : AddressedPayload) → All (λ e. number_in e < n) done → All (λ e. number_in e ≡ n) run → Contains run one → Contains run other → payload_value one.payload.now ≢ payload_value other.payload.now
     → AreConflictsAmong done kept → AreConflictsAmong (done ++ run) (kept ++ run)
 run_differs done run kept n one other below are first second differ known e = (
   λ among. elim (Contains-append_cases kept run e among) [
@@ -205,17 +205,17 @@ first_among : (xs : List AddressedPayload) (start end : ℕ) (first : AddressedP
 first_among xs start end first run = (0, omega (arith, run.onward, run.end_within, length-take (end - start) (drop start xs), length-drop start xs), get_or-take (end - start) (drop start xs) 0 first (omega (arith, run.onward)) ∙ get_or-drop start xs 0 first ∙ ap (λ k. get_or xs k first) (omega arith) ∙ run.at first)
 
 -- a run of one payload is passed
-pub passed_same : (xs : List AddressedPayload) (start end : ℕ) (first : AddressedPayload) (kept : List AddressedPayload) → IsRun xs start end first → All (λ e. payload_value e.data.now.payload ≡ payload_value first.data.now.payload) (slice_range xs start end) → ArePassed xs start kept → ArePassed xs end kept
+pub passed_same : (xs : List AddressedPayload) (start end : ℕ) (first : AddressedPayload) (kept : List AddressedPayload) → IsRun xs start end first → All (λ e. payload_value e.payload.now ≡ payload_value first.payload.now) (slice_range xs start end) → ArePassed xs start kept → ArePassed xs end kept
 passed_same xs start end first kept run same known = record {
   within = run.end_within;
   below = run.below;
   conflicts = subst (λ l. AreConflictsAmong l kept) (joined xs start end run.onward)
-      (run_same (take start xs) (slice_range xs start end) kept (number_in first) (payload_value first.data.now.payload) (less_before xs start end first kept run known) run.numbers same known.conflicts);
+      (run_same (take start xs) (slice_range xs start end) kept (number_in first) (payload_value first.payload.now) (less_before xs start end first kept run known) run.numbers same known.conflicts);
   sorted = known.sorted;
 }
 
 -- a run of two payloads is passed and kept
-pub passed_differs : (xs : List AddressedPayload) (start end : ℕ) (first other : AddressedPayload) (kept : List AddressedPayload) → IsRun xs start end first → Contains (slice_range xs start end) other → payload_value other.data.now.payload ≢ payload_value first.data.now.payload
+pub passed_differs : (xs : List AddressedPayload) (start end : ℕ) (first other : AddressedPayload) (kept : List AddressedPayload) → IsRun xs start end first → Contains (slice_range xs start end) other → payload_value other.payload.now ≢ payload_value first.payload.now
     → ArePassed xs start kept → ArePassed xs end (kept ++ slice_range xs start end)
 passed_differs xs start end first other kept run among differ known =
     let less = less_before xs start end first kept run known in

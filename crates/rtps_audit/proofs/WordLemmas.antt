@@ -143,3 +143,18 @@ some_word (Some word) e = (word, refl)
 
 pub word_some : (o : Option Word) (word : Word) → o ≡ Some word → is_some o ≡ true
 word_some o word e = ap is_some e
+
+-- the same payloads by other words
+pub keeps_same : {from : ℕ} (xs ys : List KeptPayload) (more other : ℕ → Option Word) → ((n : ℕ) → other n ≡ more n) → KeepsMore from xs ys more → KeepsMore from xs ys other
+keeps_same xs ys more other same keeps n p asked = (to, back)
+  where
+    to : IsKept ys n p → IsKept xs n p ⊎ (other n ≡ Some (told p))
+    to kept = elim ((keeps n p asked).0 kept) [ inl before ↦ inl before | inr says ↦ inr (same n ∙ says) ]
+
+    back : IsKept xs n p ⊎ (other n ≡ Some (told p)) → IsKept ys n p
+    back (inl kept) = (keeps n p asked).1 (inl kept)
+    back (inr says) = (keeps n p asked).1 (inr (sym (same n) ∙ says))
+
+-- none more: the words are no payloads
+pub keeps_silent : {from : ℕ} (xs : List KeptPayload) (word : ℕ → Option Word) → ((n : ℕ) (x : PayloadValue) → word n ≡ Some (told x) → ⊥) → KeepsMore from xs xs word
+keeps_silent xs word silent n p asked = (λ kept. inl kept, λ either. elim either [ inl kept ↦ kept | inr says ↦ absurd (silent n p says) ])

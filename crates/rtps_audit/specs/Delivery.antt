@@ -1,6 +1,7 @@
 -- Delivery of one writer's numbers to one reader. DDSI-RTPS 2.5, 8.4 "Behavior Module", and 8.3.8.1 "AckNack",
--- 8.3.8.2 "Data", 8.3.8.4 "Gap" and 8.3.8.6 "Heartbeat", which say what each submessage tells. A definition with a number
--- `from` speaks of the writer's numbers from that one on, and of no smaller one; with 1 it speaks of all.
+-- 8.3.8.2 "Data", 8.3.8.3 "DataFrag", 8.3.8.4 "Gap" and 8.3.8.6 "Heartbeat", which say what each submessage tells. A
+-- definition with a number `from` speaks of the writer's numbers from that one on, and of no smaller one; with 1 it speaks of
+-- all.
 use Rattle.std.specs.Prelude.{ℕ, suc, ◌<◌, ◌≤◌, ◌≡◌, ◌-◌, List, [], ◌∷◌, ◌++◌, length, max, Option, Some, slice_get, Contains, Bool, ◌&&◌, nat_le}
 use Rattle.rtps_wire.specs.Values.{PayloadValue}
 
@@ -9,10 +10,9 @@ pub data Word : Type 0 where
   Told : (payload : PayloadValue) → Word
   Gone : Word
 
--- what one datagram says of the writer and the reader. For each act: the words that it has for numbers, none where it is
--- no DATA, GAP or HEARTBEAT that the reader hears from the writer. For each ACKNACK by which the reader answers the
--- writer: its base. For each DATA and HEARTBEAT of the writer, whoever hears it: the number, or the last number, that it
--- announces
+-- what one datagram says of the writer and the reader. For each act: the words that it has for numbers, none where the
+-- reader does not hear it from the writer. For each ACKNACK by which the reader answers the writer: its base. For each DATA,
+-- DATA_FRAG and HEARTBEAT of the writer, whoever hears it: the number, or the last number, that it announces
 pub record Datagram : Type 0 where
   pub acts : List (ℕ → Option Word)
   pub bases : List ℕ

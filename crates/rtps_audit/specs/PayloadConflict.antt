@@ -1,5 +1,6 @@
 -- Different payloads for one number, and who hears them. own: a number has one payload, so a reader that hears two of
--- them is in doubt. Who hears a DATA: DDSI-RTPS 2.5, 8.3.4 "The RTPS Message Receiver" and 8.3.8.2 "Data".
+-- them is in doubt. Who hears an act: DDSI-RTPS 2.5, 8.3.4 "The RTPS Message Receiver", 8.3.8.2 "Data" and 8.3.8.3
+-- "DataFrag".
 use Rattle.std.specs.Prelude.{ℕ, ◌==◌, ◌≡◌, ◌≢◌, ◌↔◌, ◌<◌, ◌≤◌, ◌^◌, if◌then◌else◌, Contains, List, Option, Some, None}
 use Rattle.rtps_receiver.specs.Speech.{reader_named}
 use Rattle.rtps_receiver.specs.Values.{ActValue}
@@ -14,17 +15,17 @@ use Rattle.rtps_audit.specs.declared.payload_conflict.AddressedPayload.{Addresse
 abbrev pub number_in : AddressedPayload → ℕ
 number_in entry = entry.number
 
--- the number is that of a DATA
+-- the number is a sequence number
 abbrev pub IsInRange : AddressedPayload → Type 0
 IsInRange entry = (1 ≤ entry.number) × (entry.number < 2 ^ 63)
 
--- the entry is what a DATA says, and whom it is for
+-- the entry is the payload that an act tells, and whom it is for
 pub record IsSentBy (act : ActValue) (entry : AddressedPayload) : Type 0 where
   pub dest : act.dest ≡ entry.dest.now
-  pub reader : reader_named act.body ≡ Some entry.data.now.reader
-  pub says : (n : ℕ) → word_of act.body n ≡ (if n == entry.number then Some (Told (payload_value entry.data.now.payload)) else None)
+  pub reader : reader_named act.body ≡ Some entry.reader
+  pub says : (n : ℕ) → word_of act.body n ≡ (if n == entry.number then Some (Told (payload_value entry.payload.now)) else None)
 
--- the entries are those of the DATA among these acts whose numbers are asked for
+-- the entries are the payloads that these acts tell for numbers that are asked for
 pub record AreSentIn (from : ℕ) (placed : List PlacedValue) (entries : List AddressedPayload) : Type 0 where
   pub sent : (entry : AddressedPayload) → Contains entries entry → IsAsked from entry.number × ((at : PlacedValue) × Contains placed at × IsSentBy at.act entry)
   pub all : (at : PlacedValue) (n : ℕ) (x : PayloadValue) → Contains placed at → IsAsked from n → word_of at.act.body n ≡ Some (Told x) → (entry : AddressedPayload) × Contains entries entry × IsSentBy at.act entry
@@ -37,13 +38,13 @@ pub record HasTwo (Among : AddressedPayload → Type 0) (n : ℕ) : Type 0 where
   pub other_among : Among other
   pub one_number : one.number ≡ n
   pub other_number : other.number ≡ n
-  pub differ : payload_value one.data.now.payload ≢ payload_value other.data.now.payload
+  pub differ : payload_value one.payload.now ≢ payload_value other.payload.now
 
 -- kept are those of the entries whose number has two different payloads
 abbrev pub AreConflictsAmong : List AddressedPayload → List AddressedPayload → Type 0
 AreConflictsAmong entries kept = (entry : AddressedPayload) → Contains kept entry ↔ (Contains entries entry × HasTwo (Contains entries) entry.number)
 
--- kept are those of the DATA among these acts whose number is asked for and has two different payloads
+-- kept are the payloads that these acts tell for the numbers that are asked for and have two different ones
 pub record AreConflictsOf (from : ℕ) (kept : List AddressedPayload) (placed : List PlacedValue) : Type 0 where
   pub entries : List AddressedPayload
   pub sent : AreSentIn from placed entries
@@ -52,4 +53,4 @@ pub record AreConflictsOf (from : ℕ) (kept : List AddressedPayload) (placed : 
 -- there is an entry before this one, with another payload for the same number
 abbrev pub IsAnother : Option AddressedPayload → AddressedPayload → Type 0
 IsAnother None here = ⊥
-IsAnother (Some before) here = (before.number ≡ here.number) × (payload_value before.data.now.payload ≢ payload_value here.data.now.payload)
+IsAnother (Some before) here = (before.number ≡ here.number) × (payload_value before.payload.now ≢ payload_value here.payload.now)

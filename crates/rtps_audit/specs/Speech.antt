@@ -1,7 +1,8 @@
--- What a recording says of one writer and one reader. DDSI-RTPS 2.5, 8.3.8.1 "AckNack", 8.3.8.2 "Data", 8.3.8.4 "Gap"
--- and 8.3.8.6 "Heartbeat", by the datagrams' acts (8.3.4 "The RTPS Message Receiver").
+-- What a recording says of one writer and one reader. DDSI-RTPS 2.5, 8.3.8.1 "AckNack", 8.3.8.2 "Data", 8.3.8.3
+-- "DataFrag", 8.3.8.4 "Gap" and 8.3.8.6 "Heartbeat", by the datagrams' acts (8.3.4 "The RTPS Message Receiver").
 use Rattle.std.specs.Prelude.{ℕ, ℤ, pos, negsuc, Bool, ◌==◌, ◌&&◌, ◌||◌, nat_le, nat_lt, if◌then◌else◌, List, map, Option, Some, None}
 use Rattle.std.specs.List.{filter_map}
+use Rattle.std.specs.Option.{option_map}
 use Rattle.rtps_ids.specs.NumberSet.{is_member}
 use Rattle.rtps_ids.specs.declared.identity.Guid.{Guid}
 use Rattle.rtps_wire.specs.Reading.{reading_of}
@@ -9,7 +10,7 @@ use Rattle.rtps_wire.specs.declared.body.GapBody.{GapBody}
 use Rattle.rtps_receiver.specs.Acts.{acts_of}
 use Rattle.rtps_receiver.specs.Speech.{is_answer, is_heard_by, is_spoken_by}
 use Rattle.rtps_receiver.specs.Values.{ActBodyValue, ActValue}
-use Rattle.rtps_receiver.specs.Values.ActBodyValue.{Data, Heartbeat, AckNack, Gap}
+use Rattle.rtps_receiver.specs.Values.ActBodyValue.{Data, Heartbeat, AckNack, Gap, DataFrag}
 use Rattle.rtps_audit.specs.Delivery.{Word, Datagram, Speech}
 use Rattle.rtps_audit.specs.Delivery.Word.{Told, Gone}
 
@@ -26,11 +27,12 @@ abbrev pub is_in_gap_below : GapBody → ℕ → ℕ → Bool
 is_in_gap_below gap at n = is_below_list gap n || (is_member gap.list n && nat_lt n at)
 
 -- what an act says of a number from 1 on. A HEARTBEAT says that the numbers below its first will not come; that of its
--- last says nothing, since it may still come
+-- last says nothing, since it may still come. A DATA_FRAG says what its sample is, where that was put together
 abbrev pub word_of : ActBodyValue → ℕ → Option Word
 word_of (Data value) n = if n == value.number then Some (Told value.payload) else None
 word_of (Heartbeat value) n = if nat_lt n value.first then Some Gone else None
 word_of (Gap value) n = if is_in_gap value n then Some Gone else None
+word_of (DataFrag value) n = if n == value.number then option_map Told value.told else None
 word_of (AckNack value) n = None
 
 -- for the reader, if it hears the act from the writer
@@ -43,6 +45,7 @@ base_of_body (AckNack value) = Some value.set.base
 base_of_body (Data value) = None
 base_of_body (Heartbeat value) = None
 base_of_body (Gap value) = None
+base_of_body (DataFrag value) = None
 
 -- the base of an answer of this reader to this writer
 abbrev pub base_for : Guid → Guid → ActValue → Option ℕ
@@ -59,6 +62,7 @@ announced_of_body (Data value) = Some value.number
 announced_of_body (Heartbeat value) = Some (natural value.last)
 announced_of_body (AckNack value) = None
 announced_of_body (Gap value) = None
+announced_of_body (DataFrag value) = Some value.number
 
 -- the number that an act announces, where this writer speaks it
 abbrev pub announced_for : Guid → ActValue → Option ℕ

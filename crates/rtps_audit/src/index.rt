@@ -135,7 +135,7 @@ fn is_undirected(act: &Act<'_>) -> bool
 {
     match &act.body {
         ActBody::AckNack(_) => act.dest.is_none(),
-        ActBody::Data(_) | ActBody::Heartbeat(_) | ActBody::Gap(_) => false,
+        ActBody::Data(_) | ActBody::Heartbeat(_) | ActBody::Gap(_) | ActBody::DataFrag(_) => false,
     }
 }
 

@@ -12,24 +12,25 @@ ghost use Rattle.rtps_audit.specs.Placed.{PlacedValue, is_from, placed_value};
 ghost use Rattle.rtps_audit.specs.RunVerdict.{IsLeast};
 ghost use Rattle.rtps_audit.specs.Speech.{word_of};
 
-use crate::payload::is_same_payload;
+use crate::payload::{is_same_payload, spoken_in};
 use crate::placed::Placed;
 use crate::word::announced_number;
-use rtps_ids::{Guid, GuidPrefix, Memory};
-use rtps_receiver::{Act, ActBody, Audience};
-use rtps_wire::{DataBody, Payload};
+use rtps_ids::{EntityId, Guid, GuidPrefix, Memory};
+use rtps_receiver::{Act, Audience};
+use rtps_wire::Payload;
 use std::alloc::Global;
 
-/// What a DATA says, and whom it is for. It borrows both, so that little is moved where these are put in order.
+/// A payload that an act tells, and whom it is for. It borrows both, so that little is moved where these are put in order.
 #[derive(Clone, Copy)]
 pub(crate) struct AddressedPayload<'x, 'a> {
     pub(crate) number: u64,
     pub(crate) dest: &'x Option<GuidPrefix>,
-    pub(crate) data: &'x DataBody<'a>,
+    pub(crate) reader: EntityId,
+    pub(crate) payload: &'x Payload<'a>,
 }
 
-/// Of a writer's DATA, those of each number that has two different payloads, whoever hears them, in the order of
-/// numbers. Mostly there are none.
+/// Of the payloads that a writer tells, those of each number that has two different ones, whoever hears them, in the order
+/// of numbers. Mostly there are none.
 #[derive(Drop)]
 pub(crate) struct PayloadConflicts<'x, 'a> {
     pub(crate) payloads: Vec<AddressedPayload<'x, 'a>>,
@@ -37,28 +38,28 @@ pub(crate) struct PayloadConflicts<'x, 'a> {
     ghost in_range: { All IsInRange payloads.items },
 }
 
-/// What an act says if it is a DATA whose number is `from` or a greater one; None of anything else.
+/// The payload that an act tells, where its number is `from` or a greater one; None of any other act.
 fn addressed<'x, 'a>(act: &'x Act<'a>, from: u64) -> Option<AddressedPayload<'x, 'a>>
     ensures { MatchOption result
         ((n : ℕ) (x : PayloadValue) → IsAsked from n → word_of (act_value act.now).body n ≢ Some (Word.Told x))
         (λ entry. IsSentBy (act_value act.now) entry × IsAsked from entry.number × IsInRange entry) }
 {
-    let ActBody::Data(data) = &act.body else {
+    let Some(spoken) = spoken_in(&act.body) else {
         return None;
     };
-    let number = data.number.get().cast_unsigned();
-    if number < from {
+    if spoken.number < from {
         return None;
     }
     Some(AddressedPayload {
-        number,
+        number: spoken.number,
         dest: &act.dest,
-        data,
+        reader: spoken.reader,
+        payload: spoken.payload,
     })
 }
 
-/// The DATA among these acts whose number is `from` or a greater one, in the order of sending, and the last number that
-/// the writer announces by the acts, whoever hears it, or 0.
+/// The payloads that these acts tell, whose number is `from` or a greater one, in the order of sending, and the last number
+/// that the writer announces by the acts, whoever hears it, or 0.
 fn collect<'x, 'a>(
     alloc: Global,
     acts: &'x [Placed<'a>],
@@ -100,13 +101,13 @@ fn run_end(entries: &[AddressedPayload<'_, '_>], start: usize, number: u64) -> u
 
 /// Whether one of these payloads is another one than this, which is the first of them. It is not compared with itself.
 fn has_other(entries: &[AddressedPayload<'_, '_>], payload: Payload<'_>) -> bool
-    requires first { All (λ entry. payload_value entry.data.now.payload ≡ payload_value payload) (take 1 entries.now) }
-    ensures other { result ≡ true → (entry : AddressedPayload) × Contains entries.now entry × (payload_value entry.data.now.payload ≢ payload_value payload.entry) }
-    ensures same { result ≡ false → All (λ entry. payload_value entry.data.now.payload ≡ payload_value payload.entry) entries.now }
+    requires first { All (λ entry. payload_value entry.payload.now ≡ payload_value payload) (take 1 entries.now) }
+    ensures other { result ≡ true → (entry : AddressedPayload) × Contains entries.now entry × (payload_value entry.payload.now ≢ payload_value payload.entry) }
+    ensures same { result ≡ false → All (λ entry. payload_value entry.payload.now ≡ payload_value payload.entry) entries.now }
 {
     for place in 1..entries.len() {
         let other = entries[place];
-        if !is_same_payload(other.data.payload, payload) {
+        if !is_same_payload(*other.payload, payload) {
             return true;
         }
     }
@@ -119,7 +120,7 @@ fn is_another(before: Option<AddressedPayload<'_, '_>>, here: AddressedPayload<'
 {
     match before {
         Some(before) => {
-            before.number == here.number && !is_same_payload(before.data.payload, here.data.payload)
+            before.number == here.number && !is_same_payload(*before.payload, *here.payload)
         }
         None => false,
     }
@@ -138,7 +139,7 @@ impl<'x, 'a> PayloadConflicts<'x, 'a> {
             let first = entries[start];
             let end = run_end(entries, start + 1, first.number);
             let run = &entries[start..end];
-            if has_other(run, first.data.payload) {
+            if has_other(run, *first.payload) {
                 payloads.extend_from_slice(run)?;
             }
             start = end;
@@ -146,9 +147,9 @@ impl<'x, 'a> PayloadConflicts<'x, 'a> {
         Ok(PayloadConflicts { payloads })
     }
 
-    /// Of the DATA among a writer's acts whose number is `from` or a greater one; and the last number that the writer
-    /// announces by the acts, whoever hears it, or 0. It takes the time of the acts where their numbers came in order, as
-    /// most do. `Memory` is answered where there is none for all these DATA.
+    /// Of the payloads that a writer's acts tell, whose number is `from` or a greater one; and the last number that the
+    /// writer announces by the acts, whoever hears it, or 0. It takes the time of the acts where their numbers came in
+    /// order, as most do. `Memory` is answered where there is none for all these payloads.
     pub(crate) fn of(
         alloc: Global,
         acts: &'x [Placed<'a>],
@@ -178,7 +179,7 @@ impl<'x, 'a> PayloadConflicts<'x, 'a> {
             let here = self.payloads[place];
             let audience = Audience {
                 dest: *here.dest,
-                reader: here.data.reader,
+                reader: here.reader,
             };
             if audience.has(reader) {
                 if is_another(before, here) {

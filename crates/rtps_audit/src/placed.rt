@@ -36,6 +36,7 @@ fn body_of<'a>(body: &ActBody<'a>) -> ActBody<'a>
         ActBody::Heartbeat(heartbeat) => ActBody::Heartbeat(*heartbeat),
         ActBody::AckNack(ack_nack) => ActBody::AckNack(*ack_nack),
         ActBody::Gap(gap) => ActBody::Gap(*gap),
+        ActBody::DataFrag(fragment) => ActBody::DataFrag(*fragment),
     }
 }
 

@@ -7,7 +7,7 @@ ghost use Rattle.rtps_audit.specs.RunVerdict.{IsLeast};
 ghost use Rattle.rtps_audit.specs.KeptPayloads.{IsNumbered, KeepsMore, KeepsTwo};
 ghost use Rattle.rtps_audit.specs.Speech.{announced_for, is_in_gap, word_for, word_of};
 
-use crate::payload::{KeptPayload, least_conflict, put_in_order};
+use crate::payload::{KeptPayload, least_conflict, put_in_order, spoken_in};
 use rtps_coverage::Coverage;
 use rtps_discovery::Pair;
 use rtps_ids::{Guid, Memory, SeqNum};
@@ -67,8 +67,8 @@ impl<'a, C: Coverage> Words<'a, C> {
         ensures payloads { OnOk result
             (KeepsMore self.old.from self.old.payloads.items self.new.payloads.items (word_of (act_body_value body.now))) }
     {
-        if let ActBody::Data(data) = body {
-            self.keep(data.number.get().cast_unsigned(), data.payload)?;
+        if let Some(spoken) = spoken_in(body) {
+            self.keep(spoken.number, *spoken.payload)?;
         }
         add_told(&mut self.told, body)
     }
@@ -112,6 +112,13 @@ pub(crate) fn add_told<C: Coverage>(told: &mut C, body: &ActBody<'_>) -> Result<
         }
         ActBody::Heartbeat(heartbeat) => add_row(told, 1, heartbeat.first.get().cast_unsigned()),
         ActBody::Gap(gap) => add_gap(told, gap),
+        ActBody::DataFrag(fragment) => match fragment.told {
+            Some(_) => {
+                let number = fragment.number.get().cast_unsigned();
+                add_row(told, number, number + 1)
+            }
+            None => Ok(()),
+        },
         ActBody::AckNack(_) => Ok(()),
     }
 }
@@ -153,6 +160,7 @@ pub fn announced_number(act: &Act<'_>, writer: Guid) -> u64
     }
     match &act.body {
         ActBody::Data(data) => data.number.get().cast_unsigned(),
+        ActBody::DataFrag(fragment) => fragment.number.get().cast_unsigned(),
         ActBody::Heartbeat(heartbeat) => heartbeat.last.max(0).cast_unsigned(),
         ActBody::AckNack(_) | ActBody::Gap(_) => 0,
     }

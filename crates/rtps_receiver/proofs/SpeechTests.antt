@@ -8,7 +8,7 @@ use Rattle.rtps_ids.specs.declared.identity.Guid.{Guid}
 use Rattle.rtps_ids.specs.declared.identity.GuidPrefix.{GuidPrefix}
 use Rattle.rtps_receiver.specs.Speech.{IsAnswer, IsHeardBy, IsSpokenBy, NamesPair, is_answer, is_entity, is_for, is_for_all, is_heard_by, is_prefix, is_spoken_by, names, names_pair, reader_named, unknown_entity, writer_named}
 use Rattle.rtps_receiver.specs.Values.{ActBodyValue, ActValue}
-use Rattle.rtps_receiver.specs.Values.ActBodyValue.{Data, Heartbeat, AckNack, Gap}
+use Rattle.rtps_receiver.specs.Values.ActBodyValue.{Data, Heartbeat, AckNack, Gap, DataFrag}
 
 prefix_decides : (one other : GuidPrefix) → Decides (is_prefix one other) (one ≡ other)
 prefix_decides one other = Decides-like _ (λ e. ap (λ (octets : _). let made : GuidPrefix = record { 0 = octets } in made) e) (λ e. ap (λ (p : GuidPrefix). p.0) e) (bytes_eq-Decides one.0 other.0)
@@ -37,6 +37,7 @@ pair_decides (AckNack value) reader writer = Decides-and _ _ (entity_decides val
 pair_decides (Data value) reader writer = (λ e. cc, λ e. absurd e)
 pair_decides (Heartbeat value) reader writer = (λ e. cc, λ e. absurd e)
 pair_decides (Gap value) reader writer = (λ e. cc, λ e. absurd e)
+pair_decides (DataFrag value) reader writer = (λ e. cc, λ e. absurd e)
 
 pub spoken_decides : (act : ActValue) (writer : Guid) → Decides (is_spoken_by act writer) (IsSpokenBy act writer)
 spoken_decides act writer =

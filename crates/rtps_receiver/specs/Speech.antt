@@ -1,19 +1,20 @@
 -- Which writer speaks an act (it sends it), which readers hear it (it is sent to them), and which writer an ACKNACK
--- answers. DDSI-RTPS 2.5, 8.3.4 "The RTPS Message Receiver", 8.3.8.1 "AckNack", 8.3.8.2 "Data", 8.3.8.4 "Gap" and
--- 8.3.8.6 "Heartbeat".
+-- answers. DDSI-RTPS 2.5, 8.3.4 "The RTPS Message Receiver", 8.3.8.1 "AckNack", 8.3.8.2 "Data", 8.3.8.3 "DataFrag",
+-- 8.3.8.4 "Gap" and 8.3.8.6 "Heartbeat".
 use Rattle.std.specs.Prelude.{◌≡◌, ◌⊎◌, ◌&&◌, ◌||◌, ◌∷◌, [], Bool, true, false, Option, Some, None}
 use Rattle.std.specs.Str.{bytes_eq}
 use Rattle.rtps_ids.specs.declared.identity.EntityId.{EntityId}
 use Rattle.rtps_ids.specs.declared.identity.Guid.{Guid}
 use Rattle.rtps_ids.specs.declared.identity.GuidPrefix.{GuidPrefix}
 use Rattle.rtps_receiver.specs.Values.{ActBodyValue, ActValue}
-use Rattle.rtps_receiver.specs.Values.ActBodyValue.{Data, Heartbeat, AckNack, Gap}
+use Rattle.rtps_receiver.specs.Values.ActBodyValue.{Data, Heartbeat, AckNack, Gap, DataFrag}
 
 -- the writer that an act of a writer names
 abbrev pub writer_named : ActBodyValue → Option EntityId
 writer_named (Data value) = Some value.writer
 writer_named (Heartbeat value) = Some value.writer
 writer_named (Gap value) = Some value.writer
+writer_named (DataFrag value) = Some value.writer
 writer_named (AckNack value) = None
 
 -- the reader that an act of a writer names; zeros name every reader
@@ -21,6 +22,7 @@ abbrev pub reader_named : ActBodyValue → Option EntityId
 reader_named (Data value) = Some value.reader
 reader_named (Heartbeat value) = Some value.reader
 reader_named (Gap value) = Some value.reader
+reader_named (DataFrag value) = Some value.reader
 reader_named (AckNack value) = None
 
 -- whether it is an ACKNACK, which a reader sends and no writer
@@ -29,6 +31,7 @@ is_ack_nack (AckNack value) = true
 is_ack_nack (Data value) = false
 is_ack_nack (Heartbeat value) = false
 is_ack_nack (Gap value) = false
+is_ack_nack (DataFrag value) = false
 
 -- the entity that an act is from: the reader of an ACKNACK, the writer of any other act
 abbrev pub entity_from : ActBodyValue → EntityId
@@ -36,6 +39,7 @@ entity_from (AckNack value) = value.reader
 entity_from (Data value) = value.writer
 entity_from (Heartbeat value) = value.writer
 entity_from (Gap value) = value.writer
+entity_from (DataFrag value) = value.writer
 
 -- the GUID that an act is from: this entity of its source
 abbrev pub origin_of : ActValue → Guid
@@ -45,13 +49,13 @@ origin_of act = record { prefix = act.source; entity = entity_from act.body }
 abbrev pub unknown_entity : EntityId
 unknown_entity = record { 0 = 0 ∷ 0 ∷ 0 ∷ 0 ∷ [] }
 
--- A writer speaks the DATA, HEARTBEAT and GAP from its participant that name it.
+-- A writer speaks the DATA, HEARTBEAT, GAP and DATA_FRAG from its participant that name it.
 pub record IsSpokenBy (act : ActValue) (writer : Guid) : Type 0 where
   pub source : act.source ≡ writer.prefix
   pub entity : writer_named act.body ≡ Some writer.entity
 
--- A reader hears the DATA, HEARTBEAT and GAP that are sent to everyone or to its participant, and that name it or every
--- reader. Whether it received them is not said.
+-- A reader hears the DATA, HEARTBEAT, GAP and DATA_FRAG that are sent to everyone or to its participant, and that name
+-- it or every reader. Whether it received them is not said.
 pub record IsHeardBy (act : ActValue) (reader : Guid) : Type 0 where
   pub dest : (act.dest ≡ None) ⊎ (act.dest ≡ Some reader.prefix)
   pub entity : (reader_named act.body ≡ Some unknown_entity) ⊎ (reader_named act.body ≡ Some reader.entity)
@@ -62,6 +66,7 @@ NamesPair (AckNack value) reader writer = (value.reader ≡ reader) × (value.wr
 NamesPair (Data value) reader writer = ⊥
 NamesPair (Heartbeat value) reader writer = ⊥
 NamesPair (Gap value) reader writer = ⊥
+NamesPair (DataFrag value) reader writer = ⊥
 
 -- An ACKNACK of the reader answers the writer if it names the writer and its destination is the writer's participant.
 -- An ACKNACK to everyone answers nobody.
@@ -121,6 +126,7 @@ names_pair (AckNack value) reader writer = is_entity value.reader reader && is_e
 names_pair (Data value) reader writer = false
 names_pair (Heartbeat value) reader writer = false
 names_pair (Gap value) reader writer = false
+names_pair (DataFrag value) reader writer = false
 
 -- whether an act of this reader answers this writer
 abbrev pub is_answer : ActValue → Guid → Guid → Bool

@@ -1,12 +1,14 @@
 -- Acts with lists of octets in place of borrowed slices. own: so that two are equal if they say the same, wherever
 -- their octets are.
 use Rattle.std.specs.Prelude.{ℕ, Option, Result, Ok, Err}
+use Rattle.std.specs.Option.{option_map}
+use Rattle.rtps_ids.specs.declared.identity.EntityId.{EntityId}
 use Rattle.rtps_ids.specs.declared.identity.GuidPrefix.{GuidPrefix}
 use Rattle.rtps_ids.specs.declared.identity.Stamp.{Stamp}
 use Rattle.rtps_ids.specs.declared.identity.Vendor.{Vendor}
 use Rattle.rtps_ids.specs.declared.identity.Version.{Version}
 use Rattle.rtps_ids.specs.declared.order.Order.{Order}
-use Rattle.rtps_wire.specs.Values.{DataValue, data_value}
+use Rattle.rtps_wire.specs.Values.{DataValue, PayloadValue, data_value, payload_value}
 use Rattle.rtps_wire.specs.declared.body.AckNackBody.{AckNackBody}
 use Rattle.rtps_wire.specs.declared.body.GapBody.{GapBody}
 use Rattle.rtps_wire.specs.declared.body.HeartbeatBody.{HeartbeatBody}
@@ -14,6 +16,14 @@ use Rattle.rtps_wire.specs.declared.fault.Refusal.{Refusal}
 use Rattle.rtps_receiver.specs.declared.act.Act.{Act}
 use Rattle.rtps_receiver.specs.declared.act.ActBody.{ActBody}
 use Rattle.rtps_receiver.specs.declared.act.ActBody.TheVariants as body
+use Rattle.rtps_receiver.specs.declared.act.FragmentBody.{FragmentBody}
+
+-- a DATA_FRAG: the number of its sample, and the sample where its fragments were put together
+pub record FragmentValue : Type 0 where
+  pub reader : EntityId
+  pub writer : EntityId
+  pub number : ℕ
+  pub told : Option PayloadValue
 
 -- what an act says
 pub data ActBodyValue : Type 0 where
@@ -21,6 +31,7 @@ pub data ActBodyValue : Type 0 where
   Heartbeat : (value : HeartbeatBody) → ActBodyValue
   AckNack : (value : AckNackBody) → ActBodyValue
   Gap : (value : GapBody) → ActBodyValue
+  DataFrag : (value : FragmentValue) → ActBodyValue
 
 -- an act with the receiver's state at its place
 pub record ActValue : Type 0 where
@@ -33,12 +44,17 @@ pub record ActValue : Type 0 where
   pub order : Order
   pub body : ActBodyValue
 
+-- a DATA_FRAG of the code, as a value
+abbrev pub fragment_value : FragmentBody → FragmentValue
+fragment_value value = record { reader = value.reader; writer = value.writer; number = value.number; told = option_map payload_value value.told }
+
 -- what an act of the code says, as a value
 abbrev pub act_body_value : ActBody → ActBodyValue
 act_body_value (body.Data value) = Data (data_value value)
 act_body_value (body.Heartbeat value) = Heartbeat value
 act_body_value (body.AckNack value) = AckNack value
 act_body_value (body.Gap value) = Gap value
+act_body_value (body.DataFrag value) = DataFrag (fragment_value value)
 
 -- what an act of the code stands for
 abbrev pub act_value : Act → ActValue

@@ -1,5 +1,17 @@
-use rtps_ids::{GuidPrefix, Order, Stamp, Vendor, Version};
-use rtps_wire::{AckNackBody, DataBody, GapBody, HeartbeatBody};
+use rtps_ids::{EntityId, GuidPrefix, Order, SeqNum, Stamp, Vendor, Version};
+use rtps_wire::{AckNackBody, DataBody, GapBody, HeartbeatBody, Payload};
+
+/// What a DATA_FRAG says: that a sample of this number exists, and, where its fragments were put together, the sample
+/// (DDSI-RTPS 2.5, 8.3.8.3 "DataFrag").
+#[derive(Clone, Copy, PartialEq, Eq, Debug)]
+pub struct FragmentBody<'a> {
+    pub reader: EntityId,
+    pub writer: EntityId,
+    /// The number of the sample.
+    pub number: SeqNum,
+    /// What the fragments up to this one were put together to; None where the act tells no sample.
+    pub told: Option<Payload<'a>>,
+}
 
 /// What an act says.
 #[derive(Clone, Copy, PartialEq, Eq, Debug)]
@@ -8,9 +20,10 @@ pub enum ActBody<'a> {
     Heartbeat(HeartbeatBody),
     AckNack(AckNackBody),
     Gap(GapBody),
+    DataFrag(FragmentBody<'a>),
 }
 
-/// A DATA, HEARTBEAT, ACKNACK or GAP with the receiver's state at its place (DDSI-RTPS 2.5, 8.3.4 "The RTPS Message
+/// A DATA, HEARTBEAT, ACKNACK, GAP or DATA_FRAG with the receiver's state at its place (DDSI-RTPS 2.5, 8.3.4 "The RTPS Message
 /// Receiver").
 #[derive(Clone, Copy, PartialEq, Eq, Debug)]
 pub struct Act<'a> {

@@ -9,7 +9,7 @@ mod speech;
 mod state;
 mod walk;
 
-pub use act::{Act, ActBody};
+pub use act::{Act, ActBody, FragmentBody};
 pub use receiver::Acts;
 pub use speech::Audience;
 pub use state::State;

@@ -49,6 +49,7 @@ impl<'a> Act<'a> {
             ActBody::Data(data) => data.writer,
             ActBody::Heartbeat(heartbeat) => heartbeat.writer,
             ActBody::Gap(gap) => gap.writer,
+            ActBody::DataFrag(fragment) => fragment.writer,
             ActBody::AckNack(ack_nack) => ack_nack.reader,
         };
         Guid {
@@ -57,7 +58,7 @@ impl<'a> Act<'a> {
         }
     }
 
-    /// Whether this writer sent the act: a DATA, HEARTBEAT or GAP from its participant that names it. False for an
+    /// Whether this writer sent the act: an act from its participant that names it as the writer. False for an
     /// ACKNACK.
     pub fn spoken_by(&self, writer: Guid) -> bool
         ensures relation { IsTrue result ↔ IsSpokenBy (act_value self.now) writer }
@@ -66,7 +67,7 @@ impl<'a> Act<'a> {
         self.source == writer.prefix && self.writer_named() == Some(writer.entity)
     }
 
-    /// Whether the act is sent to this reader: a DATA, HEARTBEAT or GAP to everyone or to its participant that names
+    /// Whether the act is sent to this reader: an act to everyone or to its participant that names
     /// this reader or every reader. False for an ACKNACK. It does not say whether the reader received it.
     pub fn heard_by(&self, reader: Guid) -> bool
         ensures relation { IsTrue result ↔ IsHeardBy (act_value self.now) reader }
@@ -78,7 +79,7 @@ impl<'a> Act<'a> {
         }
     }
 
-    /// The readers that a DATA, HEARTBEAT or GAP is sent to. None for an ACKNACK.
+    /// The readers that an act of a writer is sent to. None for an ACKNACK.
     pub fn audience(&self) -> Option<Audience>
         ensures { result ≡ audience_of (act_value self.now) }
     {
@@ -121,6 +122,7 @@ impl<'a> Act<'a> {
             ActBody::Data(data) => Some(data.writer),
             ActBody::Heartbeat(heartbeat) => Some(heartbeat.writer),
             ActBody::Gap(gap) => Some(gap.writer),
+            ActBody::DataFrag(fragment) => Some(fragment.writer),
             ActBody::AckNack(_) => None,
         }
     }
@@ -133,6 +135,7 @@ impl<'a> Act<'a> {
             ActBody::Data(data) => Some(data.reader),
             ActBody::Heartbeat(heartbeat) => Some(heartbeat.reader),
             ActBody::Gap(gap) => Some(gap.reader),
+            ActBody::DataFrag(fragment) => Some(fragment.reader),
             ActBody::AckNack(_) => None,
         }
     }

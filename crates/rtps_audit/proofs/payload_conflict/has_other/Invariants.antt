@@ -6,4 +6,4 @@ use Rattle.rtps_audit.proofs.payload_conflict.has_other.Given as goal
 
 -- the entries so far have the payload
 abbrev pub invariant-loop-place : goal.invariant-loop-place
-invariant-loop-place l = All (λ (entry : AddressedPayload). payload_value entry.data.now.payload ≡ payload_value l.payload) (take l.place l.entries)
+invariant-loop-place l = All (λ (entry : AddressedPayload). payload_value entry.payload.now ≡ payload_value l.payload) (take l.place l.entries)

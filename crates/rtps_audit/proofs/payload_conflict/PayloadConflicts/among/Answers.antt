@@ -49,6 +49,6 @@ returns c = subst (λ l. AreConflictsAmong l c.runs.payloads.items) (take_all c.
 
 pub has_other-requires : goal.has_other-requires
 has_other-requires c = record {
-  first = λ k d lt. ap (λ (e : AddressedPayload). payload_value e.data.now.payload)
+  first = λ k d lt. ap (λ (e : AddressedPayload). payload_value e.payload.now)
       (first_of_run c.args.entries.now c.runs.start c.run_end-end.result k c.index-entries-start.result d c.index-entries-start.is c.runs-test.true c.run_end-end.ensures.onward lt);
 }
