@@ -1,6 +1,6 @@
 -- Where a recording shows what a pair said: who announced a number, who told it, what was sent for it, and what was
--- answered. DDSI-RTPS 2.5, 8.3.8.1 "AckNack", 8.3.8.2 "Data", 8.3.8.4 "Gap" and 8.3.8.6 "Heartbeat". Acts are those of a
--- recording, by datagram and then by place.
+-- answered. DDSI-RTPS 2.5, 8.3.8.1 "AckNack", 8.3.8.2 "Data", 8.3.8.3 "DataFrag", 8.3.8.4 "Gap" and 8.3.8.6
+-- "Heartbeat". Acts are those of a recording, by datagram and then by place.
 use Rattle.std.specs.Prelude.{ℕ, pos, Bool, true, false, ◌==◌, ◌&&◌, ◌||◌, nat_lt, if◌then◌else◌, List, filter, map, Option, Some, None, is_some, not, unwrap_or}
 use Rattle.std.specs.List.{find, last_or}
 use Rattle.std.specs.Option.{option_map}
@@ -9,7 +9,7 @@ use Rattle.rtps_ids.specs.declared.identity.Guid.{Guid}
 use Rattle.rtps_wire.specs.Values.{PayloadValue}
 use Rattle.rtps_wire.specs.Values.PayloadValue.{Absent, Whole, Key}
 use Rattle.rtps_receiver.specs.Values.{ActBodyValue}
-use Rattle.rtps_receiver.specs.Values.ActBodyValue.{Data as DataAct, Heartbeat as HeartbeatAct, AckNack as AckNackAct, Gap as GapAct}
+use Rattle.rtps_receiver.specs.Values.ActBodyValue.{Data as DataAct, Heartbeat as HeartbeatAct, AckNack as AckNackAct, Gap as GapAct, DataFrag as DataFragAct}
 use Rattle.rtps_audit.specs.Delivery.{Word, greatest, is_asked}
 use Rattle.rtps_audit.specs.Delivery.Word.{Told, Gone}
 use Rattle.rtps_audit.specs.Placed.{PlacedValue}
@@ -17,7 +17,7 @@ use Rattle.rtps_audit.specs.Speech.{announced_for, base_for, natural, word_for}
 use Rattle.rtps_audit.specs.declared.answer.Answer.{Answer}
 use Rattle.rtps_evidence.specs.declared.location.Location.{Location}
 use Rattle.rtps_evidence.specs.declared.location.Kind.{Kind}
-use Rattle.rtps_evidence.specs.declared.location.Kind.TheVariants.{Data, Heartbeat, AckNack, Gap}
+use Rattle.rtps_evidence.specs.declared.location.Kind.TheVariants.{Data, Heartbeat, AckNack, Gap, DataFrag}
 use Rattle.rtps_evidence.specs.declared.last_announcement.Announcement.{Announcement}
 use Rattle.rtps_evidence.specs.declared.acknowledgement.Claim.{Claim}
 use Rattle.rtps_evidence.specs.declared.teller.Teller.{Teller}
@@ -43,6 +43,7 @@ kind_of (DataAct value) = Data
 kind_of (HeartbeatAct value) = Heartbeat
 kind_of (AckNackAct value) = AckNack
 kind_of (GapAct value) = Gap
+kind_of (DataFragAct value) = DataFrag
 
 -- the number that the writer announces by an act, whoever hears it, or 0
 abbrev pub number_said : Guid → PlacedValue → ℕ

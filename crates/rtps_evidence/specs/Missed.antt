@@ -7,7 +7,7 @@ use Rattle.rtps_ids.specs.NumberSet.{is_member}
 use Rattle.rtps_ids.specs.declared.identity.Guid.{Guid}
 use Rattle.rtps_receiver.specs.Speech.{is_answer}
 use Rattle.rtps_receiver.specs.Values.{ActBodyValue}
-use Rattle.rtps_receiver.specs.Values.ActBodyValue.{Data, Heartbeat, AckNack, Gap}
+use Rattle.rtps_receiver.specs.Values.ActBodyValue.{Data, Heartbeat, AckNack, Gap, DataFrag}
 use Rattle.rtps_discovery.specs.Endpoint.{EndpointValue}
 use Rattle.rtps_discovery.specs.Notice.{announcement_of as notice_of, endpoint_in}
 use Rattle.rtps_audit.specs.Placed.{PlacedValue, is_guid}
@@ -26,6 +26,7 @@ is_in_set (AckNack value) n = is_member value.set n
 is_in_set (Data value) n = false
 is_in_set (Heartbeat value) n = false
 is_in_set (Gap value) n = false
+is_in_set (DataFrag value) n = false
 
 -- the reader says to the writer that it lacks n
 abbrev pub asks_for : Guid → Guid → ℕ → PlacedValue → Bool

@@ -156,6 +156,13 @@ fn push_told(stretches: &mut Vec<Stretch>, placed: &Placed<'_>, pair: Pair) -> R
             push(stretches, Stretch { lo: 0, hi })
         }
         ActBody::Gap(gap) => push_gap(stretches, gap),
+        ActBody::DataFrag(fragment) => match fragment.told {
+            Some(_) => {
+                let lo = fragment.number.get().cast_unsigned();
+                push(stretches, Stretch { lo, hi: lo + 1 })
+            }
+            None => Ok(()),
+        },
         ActBody::AckNack(_) => Ok(()),
     }
 }
@@ -169,11 +176,20 @@ fn push_sent(stretches: &mut Vec<Stretch>, placed: &Placed<'_>, pair: Pair) -> R
     if !placed.act.spoken_by(pair.writer) || !placed.act.heard_by(pair.reader) {
         return Ok(());
     }
-    if let ActBody::Data(data) = &placed.act.body {
-        let lo = data.number.get().cast_unsigned();
-        push(stretches, Stretch { lo, hi: lo + 1 })?;
+    match &placed.act.body {
+        ActBody::Data(data) => {
+            let lo = data.number.get().cast_unsigned();
+            push(stretches, Stretch { lo, hi: lo + 1 })
+        }
+        ActBody::DataFrag(fragment) => match fragment.told {
+            Some(_) => {
+                let lo = fragment.number.get().cast_unsigned();
+                push(stretches, Stretch { lo, hi: lo + 1 })
+            }
+            None => Ok(()),
+        },
+        ActBody::Heartbeat(_) | ActBody::Gap(_) | ActBody::AckNack(_) => Ok(()),
     }
-    Ok(())
 }
 
 impl HeardNumbers {

@@ -118,6 +118,7 @@ fn push_gone(
         }
         ActBody::Gap(gap) => push_gap_from(stretches, gap, from),
         ActBody::Data(_) => Ok(()),
+        ActBody::DataFrag(_) => Ok(()),
         ActBody::AckNack(_) => Ok(()),
     }
 }

@@ -35,6 +35,7 @@ fn asks(placed: &Placed<'_>, pair: Pair, number: u64) -> bool
         ActBody::Data(_) => false,
         ActBody::Heartbeat(_) => false,
         ActBody::Gap(_) => false,
+        ActBody::DataFrag(_) => false,
     }
 }
 

@@ -22,6 +22,7 @@ pub enum Kind {
     Heartbeat,
     AckNack,
     Gap,
+    DataFrag,
 }
 
 /// Where an act stands.
@@ -55,5 +56,6 @@ pub(crate) fn kind_of(body: &ActBody<'_>) -> Kind
         ActBody::Heartbeat(_) => Kind::Heartbeat,
         ActBody::AckNack(_) => Kind::AckNack,
         ActBody::Gap(_) => Kind::Gap,
+        ActBody::DataFrag(_) => Kind::DataFrag,
     }
 }

@@ -81,6 +81,7 @@ fn push_asked(stretches: &mut Vec<Stretch>, placed: &Placed<'_>, pair: Pair) -> 
         ActBody::Data(_) => Ok(()),
         ActBody::Heartbeat(_) => Ok(()),
         ActBody::Gap(_) => Ok(()),
+        ActBody::DataFrag(_) => Ok(()),
     }
 }
 

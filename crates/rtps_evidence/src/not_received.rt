@@ -48,6 +48,7 @@ pub(crate) fn withdraws(placed: &Placed<'_>, pair: Pair, number: u64) -> bool
         ActBody::Heartbeat(heartbeat) => number < heartbeat.first.get().cast_unsigned(),
         ActBody::Gap(gap) => gap_has(gap, number),
         ActBody::Data(_) => false,
+        ActBody::DataFrag(_) => false,
         ActBody::AckNack(_) => false,
     }
 }

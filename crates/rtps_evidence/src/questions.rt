@@ -27,6 +27,7 @@ fn is_question(body: &ActBody<'_>) -> bool
         ActBody::Data(_) => false,
         ActBody::AckNack(_) => false,
         ActBody::Gap(_) => false,
+        ActBody::DataFrag(_) => false,
     }
 }
 

@@ -28,6 +28,10 @@ pub(crate) fn number_sent(placed: &Placed<'_>, pair: Pair) -> Option<u64>
     }
     match &placed.act.body {
         ActBody::Data(data) => Some(data.number.get().cast_unsigned()),
+        ActBody::DataFrag(fragment) => match fragment.told {
+            Some(_) => Some(fragment.number.get().cast_unsigned()),
+            None => None,
+        },
         _ => None,
     }
 }

@@ -27,6 +27,9 @@ fn payload_for<'a>(placed: &Placed<'a>, pair: Pair, number: u64) -> Option<Paylo
     }
     match &placed.act.body {
         ActBody::Data(data) if data.number.get().cast_unsigned() == number => Some(data.payload),
+        ActBody::DataFrag(fragment) if fragment.number.get().cast_unsigned() == number => {
+            fragment.told
+        }
         _ => None,
     }
 }

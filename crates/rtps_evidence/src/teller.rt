@@ -40,6 +40,9 @@ fn tells(placed: &Placed<'_>, pair: Pair, number: u64) -> bool
         ActBody::Data(data) => data.number.get().cast_unsigned() == number,
         ActBody::Heartbeat(heartbeat) => number < heartbeat.first.get().cast_unsigned(),
         ActBody::Gap(gap) => gap_has(gap, number),
+        ActBody::DataFrag(fragment) => {
+            fragment.told.is_some() && fragment.number.get().cast_unsigned() == number
+        }
         ActBody::AckNack(_) => false,
     }
 }

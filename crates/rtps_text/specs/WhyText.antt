@@ -16,7 +16,7 @@ use Rattle.rtps_evidence.specs.declared.explanation.Explained.{Explained}
 use Rattle.rtps_evidence.specs.declared.first_missed.FirstMissed.{FirstMissed}
 use Rattle.rtps_evidence.specs.declared.not_received.NotReceived.{NotReceived}
 use Rattle.rtps_evidence.specs.declared.location.Kind.{Kind}
-use Rattle.rtps_evidence.specs.declared.location.Kind.TheVariants.{Data, Heartbeat, AckNack, Gap}
+use Rattle.rtps_evidence.specs.declared.location.Kind.TheVariants.{Data, Heartbeat, AckNack, Gap, DataFrag}
 use Rattle.rtps_evidence.specs.declared.location.Location.{Location}
 use Rattle.rtps_evidence.specs.declared.teller.Teller.{Teller}
 use Rattle.rtps_wire.specs.Values.{PayloadValue}
@@ -37,6 +37,7 @@ kind_text Data = codes "data"
 kind_text Heartbeat = codes "heartbeat"
 kind_text AckNack = codes "acknack"
 kind_text Gap = codes "gap"
+kind_text DataFrag = codes "data_frag"
 
 -- where an act stands in the recording
 unfoldable pub place_text : Location → List ℕ

@@ -166,5 +166,6 @@ pub(crate) fn kind_name(kind: Kind) -> &'static str
         Kind::Heartbeat => "heartbeat",
         Kind::AckNack => "acknack",
         Kind::Gap => "gap",
+        Kind::DataFrag => "data_frag",
     }
 }
