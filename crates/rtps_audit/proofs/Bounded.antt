@@ -19,7 +19,7 @@ use Rattle.rtps_receiver.specs.Values.{ActBodyValue, ActValue}
 use Rattle.rtps_receiver.specs.Values.ActBodyValue.{Data as DataAct, Heartbeat as HeartbeatAct, AckNack as AckNackAct, Gap as GapAct, DataFrag as DataFragAct}
 use Rattle.rtps_audit.specs.Delivery.{Word, Datagram, greatest}
 use Rattle.rtps_audit.specs.FullRun.{IsBoundedBy}
-use Rattle.rtps_audit.specs.Speech.{is_in_gap, said_by, speech_of, word_for, word_of}
+use Rattle.rtps_audit.specs.Speech.{acts_by_datagram, is_in_gap, said_by, speech_by, word_for, word_of}
 use Rattle.rtps_audit.specs.Laws.{RecordingsAreBounded}
 use Rattle.rtps_audit.proofs.Greatest.{greatest_below}
 
@@ -101,8 +101,9 @@ said_small writer reader acts datagram k n act word is small speaks says =
 
 pub recordings_are_bounded : RecordingsAreBounded
 recordings_are_bounded from writer reader recording octets i k n word gives =
-    let (datagram, at, same) = from_map (λ datagram. said_by writer reader (acts_of (reading_of datagram))) recording i gives.datagram gives.stands in
-    said_small writer reader (acts_of (reading_of datagram)) gives.datagram k n gives.act word same
+    let (acts, there, same) = from_map (said_by writer reader) (acts_by_datagram recording) i gives.datagram gives.stands in
+    let (datagram, at, are) = from_map (λ datagram. acts_of (reading_of datagram)) recording i acts there in
+    said_small writer reader (acts_of (reading_of datagram)) gives.datagram k n gives.act word (ap (said_by writer reader) are ∙ same)
     (acts_said datagram (at_place IsOctets recording i datagram octets at)) gives.speaks gives.says
 
 -- ---- some bound of any recording
@@ -131,8 +132,8 @@ below_one f xs i n x at below =
 abbrev end_of_acts : List ActValue → ℕ
 end_of_acts acts = greatest (map (λ (act : ActValue). end_of act.body) acts)
 
-abbrev pub end_of_recording : List (List ℕ) → ℕ
-end_of_recording recording = greatest (map (λ datagram. end_of_acts (acts_of (reading_of datagram))) recording)
+abbrev pub end_of_recording : List (List ActValue) → ℕ
+end_of_recording recording = greatest (map end_of_acts recording)
 
 heard_before : (act : ActValue) (n : ℕ) (word : Word) (heard : Bool) → (if heard then word_of act.body n else None) ≡ Some word → n < end_of act.body
 heard_before act n word true e = before_end act.body n word e
@@ -144,8 +145,8 @@ said_before writer reader acts datagram k n act word is speaks says =
     let (value, at, same) = from_map (word_for writer reader) acts k act (ap (λ (d : Datagram). slice_get d.acts k) is ∙ speaks) in
     below_one (λ (act : ActValue). end_of act.body) acts k n value at (heard_before value n word _ (ap (λ (f : ℕ → Option Word). f n) same ∙ says))
 
-pub some_bound : (from : ℕ) (writer reader : Guid) (recording : List (List ℕ)) → IsBoundedBy from (speech_of writer reader recording) (end_of_recording recording)
+pub some_bound : (from : ℕ) (writer reader : Guid) (recording : List (List ActValue)) → IsBoundedBy from (speech_by writer reader recording) (end_of_recording recording)
 some_bound from writer reader recording i k n word gives =
-    let (datagram, at, same) = from_map (λ datagram. said_by writer reader (acts_of (reading_of datagram))) recording i gives.datagram gives.stands in
-    below_one (λ datagram. end_of_acts (acts_of (reading_of datagram))) recording i n datagram at
-    (said_before writer reader (acts_of (reading_of datagram)) gives.datagram k n gives.act word same gives.speaks gives.says)
+    let (acts, at, same) = from_map (said_by writer reader) recording i gives.datagram gives.stands in
+    below_one end_of_acts recording i n acts at
+    (said_before writer reader acts gives.datagram k n gives.act word same gives.speaks gives.says)

@@ -1,14 +1,16 @@
--- What is promised of a verdict on a recording, and of a report.
+-- What is promised of a verdict on the acts of a recording, and of a report.
 use Rattle.std.proofs.Common.{◌≡◌, ℕ, ℤ, pos, List, [], ◌∷◌, All, get_or, map, subst, sym, inl, inr}
 use Rattle.std.proofs.lemmas.List.Elements.{All-head}
 use Rattle.std.specs.Prelude.{◌↔◌}
 use Rattle.rtps_ids.specs.declared.identity.Guid.{Guid}
+use Rattle.rtps_receiver.specs.Values.{ActValue}
 use Rattle.rtps_discovery.specs.declared.matching.Pair.{Pair}
 use Rattle.rtps_audit.specs.Delivery.{Speech, last_announced_from}
 use Rattle.rtps_audit.specs.RunVerdict.{IsVerdictFrom}
-use Rattle.rtps_audit.specs.Delivered.{IsDeliveredFrom, IsPlainFrom, IsExactReportFrom, IsExactVerdictFrom}
-use Rattle.rtps_audit.specs.Report.{IsJudgedFrom, IsReportFrom}
-use Rattle.rtps_audit.specs.Speech.{speech_of}
+use Rattle.rtps_audit.specs.Delivered.{IsDeliveredFrom, IsPlainFrom, IsExactReportBy, IsExactVerdictFrom}
+use Rattle.rtps_audit.specs.Intake.{Intake}
+use Rattle.rtps_audit.specs.Report.{IsJudgedFrom, IsReportBy}
+use Rattle.rtps_audit.specs.Speech.{speech_by}
 use Rattle.rtps_audit.specs.declared.report.Report.{Report}
 use Rattle.rtps_audit.specs.declared.report.Row.{Row}
 use Rattle.rtps_audit.specs.declared.verdict.Verdict.{Verdict}
@@ -40,26 +42,26 @@ complete_if_plain : {from : ℕ} (speech : Speech) (verdict : Verdict) → IsVer
 complete_if_plain {from} speech verdict is p =
     has_no_two_verdicts from speech verdict (Complete (pos (last_announced_from from speech))) is (plain_means_complete from speech p.founded p.one_payload p.claimed)
 
-pub exact_verdict : (from : ℕ) (writer reader : Guid) (recording : List (List ℕ)) (verdict : Verdict) → IsVerdictFrom from (speech_of writer reader recording) verdict → IsExactVerdictFrom from (speech_of writer reader recording) verdict
+pub exact_verdict : (from : ℕ) (writer reader : Guid) (recording : List (List ActValue)) (verdict : Verdict) → IsVerdictFrom from (speech_by writer reader recording) verdict → IsExactVerdictFrom from (speech_by writer reader recording) verdict
 exact_verdict from writer reader recording verdict is = record {
   verdict = is;
-  complete = complete_where (speech_of writer reader recording) verdict is;
-  plain = complete_if_plain (speech_of writer reader recording) verdict is;
+  complete = complete_where (speech_by writer reader recording) verdict is;
+  plain = complete_if_plain (speech_by writer reader recording) verdict is;
   full_run = full_run_where from writer reader recording verdict is;
 }
 
-pub exact_report : (from : ℕ) (recording : List (List ℕ)) (report : Report) → IsReportFrom from recording report → IsExactReportFrom from recording report
-exact_report from recording report is = record {
+pub exact_report : (from : ℕ) (intake : Intake) (report : Report) → IsReportBy from intake report → IsExactReportBy from intake report
+exact_report from intake report is = record {
   report = is;
   complete = λ k d lt last. complete_where _ _ (is.judged k d lt) last;
   full_run = λ k d lt. full_run_where _ _ _ _ _ (is.judged k d lt);
 }
 
 -- the one row of one pair
-pub exact_row : (from : ℕ) (recording : List (List ℕ)) (pair : Pair) (rows : List Row) (at : Row) → at ≡ get_or rows 0 at → map (λ row. row.pair) rows ≡ pair ∷ [] → All (IsJudgedFrom from recording) rows
-    → IsExactVerdictFrom from (speech_of pair.writer pair.reader recording) at.verdict
+pub exact_row : (from : ℕ) (recording : List (List ActValue)) (pair : Pair) (rows : List Row) (at : Row) → at ≡ get_or rows 0 at → map (λ row. row.pair) rows ≡ pair ∷ [] → All (IsJudgedFrom from recording) rows
+    → IsExactVerdictFrom from (speech_by pair.writer pair.reader recording) at.verdict
 exact_row from recording pair [] at is pairs judged = cc
 exact_row from recording pair (row ∷ rows) at is pairs judged =
     let same : row.pair ≡ pair = (let h = pairs in cc) in
-    let verdict = subst (λ (p : Pair). IsVerdictFrom from (speech_of p.writer p.reader recording) row.verdict) same (All-head (IsJudgedFrom from recording) row rows judged) in
-    subst (λ (r : Row). IsExactVerdictFrom from (speech_of pair.writer pair.reader recording) r.verdict) (sym is) (exact_verdict from pair.writer pair.reader recording row.verdict verdict)
+    let verdict = subst (λ (p : Pair). IsVerdictFrom from (speech_by p.writer p.reader recording) row.verdict) same (All-head (IsJudgedFrom from recording) row rows judged) in
+    subst (λ (r : Row). IsExactVerdictFrom from (speech_by pair.writer pair.reader recording) r.verdict) (sym is) (exact_verdict from pair.writer pair.reader recording row.verdict verdict)

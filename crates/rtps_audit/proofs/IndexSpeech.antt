@@ -8,10 +8,8 @@ use Rattle.std.proofs.lemmas.Int.{ints}
 use Rattle.std.proofs.lemmas.List.Elements.{All-contains}
 use Rattle.rtps_ids.specs.declared.identity.Guid.{Guid}
 use Rattle.rtps_ids.specs.declared.identity.GuidPrefix.{GuidPrefix}
-use Rattle.rtps_wire.specs.Reading.{reading_of}
-use Rattle.rtps_receiver.specs.Acts.{acts_of}
 use Rattle.rtps_receiver.specs.Speech.{entity_from, is_entity, is_prefix, is_spoken_by, names, writer_named}
-use Rattle.rtps_receiver.specs.Values.{ActBodyValue}
+use Rattle.rtps_receiver.specs.Values.{ActBodyValue, ActValue}
 use Rattle.rtps_receiver.specs.Values.ActBodyValue.{Data, Heartbeat, AckNack, Gap, DataFrag}
 use Rattle.rtps_discovery.specs.declared.matching.Pair.{Pair}
 use Rattle.rtps_audit.specs.Answered.{HearsTwo, IsGivenBy, IsHeard, IsToldAll, IsToldBy, IsUntoldAmong, base_among, last_among, verdict_by}
@@ -20,7 +18,7 @@ use Rattle.rtps_audit.specs.Delivery.Word.{Told}
 use Rattle.rtps_audit.specs.Placed.{PlacedValue, answer_at, answer_of, answers_among, is_from, placed_in}
 use Rattle.rtps_audit.specs.PlainVerdict.{IsClaimed, IsFounded, IsPlainVerdictFrom, IsUnclaimed, SpeaksTwo}
 use Rattle.rtps_audit.specs.RunVerdict.{ClaimsUntold, IsLeast, IsTold, IsVerdictFrom}
-use Rattle.rtps_audit.specs.Speech.{announced_for, announced_of_body, base_for, natural, said_by, speech_of, word_for, word_of}
+use Rattle.rtps_audit.specs.Speech.{announced_for, announced_of_body, base_for, natural, said_by, speech_by, word_for, word_of}
 use Rattle.rtps_audit.specs.declared.answer.Answer.{Answer}
 use Rattle.rtps_audit.specs.declared.verdict.Untold.{Untold}
 use Rattle.rtps_audit.proofs.Greatest.{below_from_claims, below_greatest, claimed_from_below, greatest_base, greatest_below}
@@ -88,14 +86,14 @@ spoken_is_from writer placed e = by_body writer placed.act.source placed.act.bod
 -- ---- acts that have all that a writer says
 
 -- these are acts of the recording, and all that the writer speaks are among them
-pub record HasSpeech (writer : Guid) (recording : List (List ℕ)) (placed : List PlacedValue) : Type 0 where
+pub record HasSpeech (writer : Guid) (recording : List (List ActValue)) (placed : List PlacedValue) : Type 0 where
   pub there : (at : PlacedValue) → Contains placed at → Contains (placed_in recording) at
   pub kept : (at : PlacedValue) → Contains (placed_in recording) at → is_spoken_by at.act writer ≡ true → Contains placed at
 
-pub all_have : (writer : Guid) (recording : List (List ℕ)) → HasSpeech writer recording (placed_in recording)
+pub all_have : (writer : Guid) (recording : List (List ActValue)) → HasSpeech writer recording (placed_in recording)
 all_have writer recording = record { there = λ at among. among; kept = λ at among spoken. among }
 
-pub its_have : (writer : Guid) (recording : List (List ℕ)) → HasSpeech writer recording (filter (is_from writer) (placed_in recording))
+pub its_have : (writer : Guid) (recording : List (List ActValue)) → HasSpeech writer recording (filter (is_from writer) (placed_in recording))
 its_have writer recording = record {
   there = λ at among. kept_is_there (is_from writer) (placed_in recording) at among;
   kept = λ at among spoken. kept_if_passed (is_from writer) (placed_in recording) at among (spoken_is_from writer at spoken);
@@ -103,60 +101,60 @@ its_have writer recording = record {
 
 -- ---- words
 
-pub gives_from : {from : ℕ} (writer reader : Guid) (recording : List (List ℕ)) (placed : List PlacedValue) → HasSpeech writer recording placed → (n : ℕ) (word : Word) (heard : IsHeard writer reader placed n word) → IsAsked from n
-    → (i : ℕ) × (k : ℕ) × Gives from (speech_of writer reader recording) i k n word × (heard.at.datagram ≡ i + 1)
+pub gives_from : {from : ℕ} (writer reader : Guid) (recording : List (List ActValue)) (placed : List PlacedValue) → HasSpeech writer recording placed → (n : ℕ) (word : Word) (heard : IsHeard writer reader placed n word) → IsAsked from n
+    → (i : ℕ) × (k : ℕ) × Gives from (speech_by writer reader recording) i k n word × (heard.at.datagram ≡ i + 1)
 gives_from {from} writer reader recording placed has n word heard asked =
     let stands = stands_where 0 recording heard.at (has.there heard.at heard.among) in
-    let at = contained_at (acts_of (reading_of stands.octets)) heard.at.act stands.among in
-    let gives : Gives from (speech_of writer reader recording) stands.place at.0 n word = record {
-      datagram = said_by writer reader (acts_of (reading_of stands.octets));
+    let at = contained_at stands.datagram heard.at.act stands.among in
+    let gives : Gives from (speech_by writer reader recording) stands.place at.0 n word = record {
+      datagram = said_by writer reader stands.datagram;
       act = word_for writer reader heard.at.act;
-      stands = get_mapped (λ octets. said_by writer reader (acts_of (reading_of octets))) recording stands.place stands.octets stands.stands;
-      speaks = get_mapped (word_for writer reader) (acts_of (reading_of stands.octets)) at.0 heard.at.act at.1;
+      stands = get_mapped (said_by writer reader) recording stands.place stands.datagram stands.stands;
+      speaks = get_mapped (word_for writer reader) stands.datagram at.0 heard.at.act at.1;
       asked = asked;
       says = heard.says;
     } in
     (stands.place, at.0, gives, stands.at ∙ omega arith)
 
-pub heard_from : {from : ℕ} (writer reader : Guid) (recording : List (List ℕ)) (placed : List PlacedValue) → HasSpeech writer recording placed → (i k n : ℕ) (word : Word) → Gives from (speech_of writer reader recording) i k n word
+pub heard_from : {from : ℕ} (writer reader : Guid) (recording : List (List ActValue)) (placed : List PlacedValue) → HasSpeech writer recording placed → (i k n : ℕ) (word : Word) → Gives from (speech_by writer reader recording) i k n word
     → (heard : IsHeard writer reader placed n word) × (heard.at.datagram ≡ i + 1)
 heard_from writer reader recording placed has i k n word gives =
-    let octets = mapped_get (λ octets. said_by writer reader (acts_of (reading_of octets))) recording i gives.datagram gives.stands in
-    let acts = acts_of (reading_of octets.0) in
-    let speaks = ap (λ (d : Datagram). slice_get d.acts k) octets.2 ∙ gives.speaks in
+    let datagram = mapped_get (said_by writer reader) recording i gives.datagram gives.stands in
+    let acts = datagram.0 in
+    let speaks = ap (λ (d : Datagram). slice_get d.acts k) datagram.2 ∙ gives.speaks in
     let act = mapped_get (word_for writer reader) acts k gives.act speaks in
     let says : word_for writer reader act.0 n ≡ Some word = ap (λ (f : ℕ → Option Word). f n) act.2 ∙ gives.says in
     let here : PlacedValue = record { datagram = 0 + i + 1; act = act.0 } in
     let spoken = and_first _ _ (if_some _ (word_of act.0.body n) word says).0 in
-    let there = stands_there 0 i recording octets.0 act.0 octets.1 (at_contained acts k act.0 act.1) in
+    let there = stands_there 0 i recording datagram.0 act.0 datagram.1 (at_contained acts k act.0 act.1) in
     (record { at = here; among = has.kept here there spoken; says = says }, omega arith)
 
-told_from : {from : ℕ} (writer reader : Guid) (recording : List (List ℕ)) (placed : List PlacedValue) → HasSpeech writer recording placed → (j n : ℕ) → IsAsked from n → IsToldBy writer reader placed j n → IsTold from (speech_of writer reader recording) j n
+told_from : {from : ℕ} (writer reader : Guid) (recording : List (List ActValue)) (placed : List PlacedValue) → HasSpeech writer recording placed → (j n : ℕ) → IsAsked from n → IsToldBy writer reader placed j n → IsTold from (speech_by writer reader recording) j n
 told_from writer reader recording placed has j n asked (word, (heard, until)) =
     let gives = gives_from writer reader recording placed has n word heard asked in
     let at = gives.3 in
     record { place = gives.0; act = gives.1; word = word; earlier = omega arith; gives = gives.2 }
 
-told_to : {from : ℕ} (writer reader : Guid) (recording : List (List ℕ)) (placed : List PlacedValue) → HasSpeech writer recording placed → (j n : ℕ) → IsTold from (speech_of writer reader recording) j n → IsToldBy writer reader placed j n
+told_to : {from : ℕ} (writer reader : Guid) (recording : List (List ActValue)) (placed : List PlacedValue) → HasSpeech writer recording placed → (j n : ℕ) → IsTold from (speech_by writer reader recording) j n → IsToldBy writer reader placed j n
 told_to writer reader recording placed has j n told =
     let heard = heard_from writer reader recording placed has told.place told.act n told.word told.gives in
     let at = heard.1 in
     let earlier = told.earlier in
     (told.word, (heard.0, omega arith))
 
-two_from : {from : ℕ} (writer reader : Guid) (recording : List (List ℕ)) (placed : List PlacedValue) → HasSpeech writer recording placed → (n : ℕ) → HearsTwo from writer reader placed n → SpeaksTwo from (speech_of writer reader recording) n
+two_from : {from : ℕ} (writer reader : Guid) (recording : List (List ActValue)) (placed : List PlacedValue) → HasSpeech writer recording placed → (n : ℕ) → HearsTwo from writer reader placed n → SpeaksTwo from (speech_by writer reader recording) n
 two_from writer reader recording placed has n (asked, (x, y, one, two, differ)) =
     let a = gives_from writer reader recording placed has n (Told x) one asked in
     let b = gives_from writer reader recording placed has n (Told y) two asked in
     (x, y, record { place = a.0; act = a.1; gives = a.2 }, record { place = b.0; act = b.1; gives = b.2 }, differ)
 
-two_to : {from : ℕ} (writer reader : Guid) (recording : List (List ℕ)) (placed : List PlacedValue) → HasSpeech writer recording placed → (n : ℕ) → SpeaksTwo from (speech_of writer reader recording) n → HearsTwo from writer reader placed n
+two_to : {from : ℕ} (writer reader : Guid) (recording : List (List ActValue)) (placed : List PlacedValue) → HasSpeech writer recording placed → (n : ℕ) → SpeaksTwo from (speech_by writer reader recording) n → HearsTwo from writer reader placed n
 two_to writer reader recording placed has n (x, y, one, two, differ) =
     (one.gives.asked, (x, y, (heard_from writer reader recording placed has one.place one.act n (Told x) one.gives).0, (heard_from writer reader recording placed has two.place two.act n (Told y) two.gives).0, differ))
 
-pub conflict_from : (from : ℕ) (writer reader : Guid) (recording : List (List ℕ)) (placed : List PlacedValue) → HasSpeech writer recording placed → (conflict : Option ℕ)
+pub conflict_from : (from : ℕ) (writer reader : Guid) (recording : List (List ActValue)) (placed : List PlacedValue) → HasSpeech writer recording placed → (conflict : Option ℕ)
     → MatchOption conflict ((n : ℕ) → ¬ HearsTwo from writer reader placed n) (IsLeast (HearsTwo from writer reader placed))
-    → MatchOption conflict ((n : ℕ) → ¬ SpeaksTwo from (speech_of writer reader recording) n) (IsLeast (SpeaksTwo from (speech_of writer reader recording)))
+    → MatchOption conflict ((n : ℕ) → ¬ SpeaksTwo from (speech_by writer reader recording) n) (IsLeast (SpeaksTwo from (speech_by writer reader recording)))
 conflict_from from writer reader recording placed has None never = λ n two. never n (two_to writer reader recording placed has n two)
 conflict_from from writer reader recording placed has (Some n) least = record { holds = two_from writer reader recording placed has n least.holds; least = λ m two. least.least m (two_to writer reader recording placed has m two) }
 
@@ -170,15 +168,15 @@ answered pair placed answer e = by_value (base_for pair.writer pair.reader place
     by_value (Some base) is e = (base, is, (let h = e in cc))
 
 -- an answer stands in a datagram, with its base
-answer_stands : (pair : Pair) (recording : List (List ℕ)) (answer : Answer) → Contains (answers_among pair (placed_in recording)) answer
-    → (j : ℕ) × (octets : List ℕ) × (base : ℕ) × (slice_get recording j ≡ Some octets) × (answer.datagram ≡ j + 1) × (answer.base ≡ pos base) × Contains (said_by pair.writer pair.reader (acts_of (reading_of octets))).bases base
+answer_stands : (pair : Pair) (recording : List (List ActValue)) (answer : Answer) → Contains (answers_among pair (placed_in recording)) answer
+    → (j : ℕ) × (datagram : List ActValue) × (base : ℕ) × (slice_get recording j ≡ Some datagram) × (answer.datagram ≡ j + 1) × (answer.base ≡ pos base) × Contains (said_by pair.writer pair.reader datagram).bases base
 answer_stands pair recording answer among =
     let from = made_from (answer_of pair) (placed_in recording) answer among in
     let is = answered pair from.0 answer from.2 in
     let stands = stands_where 0 recording from.0 from.1 in
-    let acts = acts_of (reading_of stands.octets) in (
+    let acts = stands.datagram in (
       stands.place,
-      stands.octets,
+      stands.datagram,
       is.0,
       stands.stands,
       ap (λ (a : Answer). a.datagram) is.2 ∙ stands.at ∙ omega arith,
@@ -187,24 +185,24 @@ answer_stands pair recording answer among =
     )
 
 -- and back
-answer_there : (pair : Pair) (recording : List (List ℕ)) (j : ℕ) (octets : List ℕ) (base : ℕ) → slice_get recording j ≡ Some octets → Contains (said_by pair.writer pair.reader (acts_of (reading_of octets))).bases base
+answer_there : (pair : Pair) (recording : List (List ActValue)) (j : ℕ) (datagram : List ActValue) (base : ℕ) → slice_get recording j ≡ Some datagram → Contains (said_by pair.writer pair.reader datagram).bases base
     → (at : ℕ) × Contains (answers_among pair (placed_in recording)) (record { datagram = j + 1; at = at; base = pos base })
-answer_there pair recording j octets base stands among =
-    let from = made_from (base_for pair.writer pair.reader) (acts_of (reading_of octets)) base among in
-    let there = stands_there 0 j recording octets from.0 stands from.1 in
+answer_there pair recording j datagram base stands among =
+    let from = made_from (base_for pair.writer pair.reader) datagram base among in
+    let there = stands_there 0 j recording datagram from.0 stands from.1 in
     let makes_it = makes (answer_of pair) (placed_in recording) (record { datagram = 0 + j + 1; act = from.0 }) (record { datagram = j + 1; at = from.0.at; base = pos base }) there
     (ap (answer_at (0 + j + 1) from.0.at) from.2 ∙ ap (λ d. let made : Answer = record { datagram = d; at = from.0.at; base = pos base } in Some made) (omega arith)) in
     (from.0.at, makes_it)
 
-claim_of : {from : ℕ} (pair : Pair) (recording : List (List ℕ)) (j n : ℕ) → Claims from (speech_of pair.writer pair.reader recording) j n → (answer : Answer) × Contains (answers_among pair (placed_in recording)) answer × (answer.datagram ≡ j + 1) × (pos n <ℤ answer.base)
+claim_of : {from : ℕ} (pair : Pair) (recording : List (List ActValue)) (j n : ℕ) → Claims from (speech_by pair.writer pair.reader recording) j n → (answer : Answer) × Contains (answers_among pair (placed_in recording)) answer × (answer.datagram ≡ j + 1) × (pos n <ℤ answer.base)
 claim_of pair recording j n claims =
-    let octets = mapped_get (λ octets. said_by pair.writer pair.reader (acts_of (reading_of octets))) recording j claims.datagram claims.stands in
-    let among = subst (λ (d : Datagram). Contains d.bases claims.base) (sym octets.2) claims.answers in
+    let datagram = mapped_get (said_by pair.writer pair.reader) recording j claims.datagram claims.stands in
+    let among = subst (λ (d : Datagram). Contains d.bases claims.base) (sym datagram.2) claims.answers in
     let below = claims.below in
-    let there = answer_there pair recording j octets.0 claims.base octets.1 among in
+    let there = answer_there pair recording j datagram.0 claims.base datagram.1 among in
     (record { datagram = j + 1; at = there.0; base = pos claims.base }, there.1, refl, omega (arith, ints))
 
-pub answers_counted : (pair : Pair) (recording : List (List ℕ)) → (k : ℕ) (d : Answer) → k < Rattle.std.proofs.Common.length (answers_among pair (placed_in recording)) → 1 ≤ (Rattle.std.proofs.Common.get_or (answers_among pair (placed_in recording)) k d).datagram
+pub answers_counted : (pair : Pair) (recording : List (List ActValue)) → (k : ℕ) (d : Answer) → k < Rattle.std.proofs.Common.length (answers_among pair (placed_in recording)) → 1 ≤ (Rattle.std.proofs.Common.get_or (answers_among pair (placed_in recording)) k d).datagram
 answers_counted pair recording k d lt =
     let stands = answer_stands pair recording _ (Rattle.std.proofs.lemmas.List.Elements.Contains-get_or (answers_among pair (placed_in recording)) k d lt) in
     let at = stands.4 in
@@ -216,8 +214,8 @@ answers_counted pair recording k d lt =
 abbrev pub IsFirstUntold : ℕ → Speech → Option Untold → Type 0
 IsFirstUntold from speech found = MatchOption found (IsFounded from speech) (λ untold. IsPlainVerdictFrom from speech (Unfounded untold.datagram untold.number))
 
-pub first_from : (from : ℕ) (pair : Pair) (recording : List (List ℕ)) (placed : List PlacedValue) → HasSpeech pair.writer recording placed → (untold : Option Untold) → IsUntoldAmong from pair.writer pair.reader placed (answers_among pair (placed_in recording)) untold
-    → IsFirstUntold from (speech_of pair.writer pair.reader recording) untold
+pub first_from : (from : ℕ) (pair : Pair) (recording : List (List ActValue)) (placed : List PlacedValue) → HasSpeech pair.writer recording placed → (untold : Option Untold) → IsUntoldAmong from pair.writer pair.reader placed (answers_among pair (placed_in recording)) untold
+    → IsFirstUntold from (speech_by pair.writer pair.reader recording) untold
 first_from from pair recording placed has None all = λ j n claims.
     let answer = claim_of pair recording j n claims in
     let told = All-contains (IsToldAll from pair.writer pair.reader placed) (answers_among pair (placed_in recording)) answer.0 all answer.1 n claims.asked answer.3 in
@@ -225,7 +223,7 @@ first_from from pair recording placed has None all = λ j n claims.
     told_from pair.writer pair.reader recording placed has j n claims.asked (subst (λ i. IsToldBy pair.writer pair.reader placed i n) at told)
 first_from from pair recording placed has (Some untold) first = by_sign untold.number refl
   where
-    by_sign : (f : ℤ) → untold.number ≡ f → IsFirstUntold from (speech_of pair.writer pair.reader recording) (Some untold)
+    by_sign : (f : ℤ) → untold.number ≡ f → IsFirstUntold from (speech_by pair.writer pair.reader recording) (Some untold)
     by_sign (negsuc f) e = absurd (let low = first.front.positive in omega (arith, ints))
     by_sign (pos f) e =
         let stands = answer_stands pair recording first.answer first.among in
@@ -237,26 +235,26 @@ first_from from pair recording placed has (Some untold) first = by_sign untold.n
         let outside = first.front.outside f (sym e) (omega (arith, ints, e)) in
         let lt : f < stands.2 = omega (arith, ints, e, base) in
         let here : first.answer.datagram - 1 ≡ j = omega arith in
-        let claim : Claims from (speech_of pair.writer pair.reader recording) j f = record {
-          datagram = said_by pair.writer pair.reader (acts_of (reading_of stands.1));
+        let claim : Claims from (speech_by pair.writer pair.reader recording) j f = record {
+          datagram = said_by pair.writer pair.reader stands.1;
           base = stands.2;
-          stands = get_mapped (λ octets. said_by pair.writer pair.reader (acts_of (reading_of octets))) recording j stands.1 stands.3;
+          stands = get_mapped (said_by pair.writer pair.reader) recording j stands.1 stands.3;
           answers = stands.6;
           asked = outside.0;
           below = lt;
         } in
-        let untold_here : ClaimsUntold from (speech_of pair.writer pair.reader recording) j f = (
+        let untold_here : ClaimsUntold from (speech_by pair.writer pair.reader recording) j f = (
           claim,
           λ told. outside.1 (subst (λ i. IsToldBy pair.writer pair.reader placed i f) (sym here) (told_to pair.writer pair.reader recording placed has j f told)),
         ) in (
           j,
           first.datagram ∙ at,
           record { holds = (f, untold_here); least = λ m claims. least_place j m (first.datagram ∙ at) claims },
-          subst (λ z. Rattle.rtps_audit.specs.RunVerdict.OnNatural z (IsLeast (ClaimsUntold from (speech_of pair.writer pair.reader recording) j))) (sym e)
+          subst (λ z. Rattle.rtps_audit.specs.RunVerdict.OnNatural z (IsLeast (ClaimsUntold from (speech_by pair.writer pair.reader recording) j))) (sym e)
               (record { holds = untold_here; least = λ m claims. least_number j f e here small m claims }),
         )
       where
-        least_place : (j m : ℕ) → untold.datagram ≡ j + 1 → ((n : ℕ) × ClaimsUntold from (speech_of pair.writer pair.reader recording) m n) → j ≤ m
+        least_place : (j m : ℕ) → untold.datagram ≡ j + 1 → ((n : ℕ) × ClaimsUntold from (speech_by pair.writer pair.reader recording) m n) → j ≤ m
         least_place j m is (n, (claims, not)) = elim (cases_lt m j) [
           | inl lt ↦
               let answer = claim_of pair recording m n claims in
@@ -267,7 +265,7 @@ first_from from pair recording placed has (Some untold) first = by_sign untold.n
           | inr ge ↦ ge
         ]
 
-        least_number : (j f : ℕ) → untold.number ≡ pos f → first.answer.datagram - 1 ≡ j → untold.number <ℤ pos (2 ^ 63 - 1) → (m : ℕ) → ClaimsUntold from (speech_of pair.writer pair.reader recording) j m → f ≤ m
+        least_number : (j f : ℕ) → untold.number ≡ pos f → first.answer.datagram - 1 ≡ j → untold.number <ℤ pos (2 ^ 63 - 1) → (m : ℕ) → ClaimsUntold from (speech_by pair.writer pair.reader recording) j m → f ≤ m
         least_number j f e here small m (claims, not) = elim (cases_lt m f) [
           | inl lt ↦
               let told = first.front.below m claims.asked (omega (arith, ints, e)) (omega (arith, ints, e)) in
@@ -315,56 +313,53 @@ at_base n (first ∷ speech) lt = elim (cases_lt n (greatest first.bases)) [
   | inr past ↦ let rest = at_base n speech (omega arith) in (suc rest.0, rest.1, rest.2, rest.3)
 ]
 
-pub last_from : (from : ℕ) (writer reader : Guid) (recording : List (List ℕ)) (placed : List PlacedValue) → HasSpeech writer recording placed → max (from - 1) (last_among writer placed) ≡ last_announced_from from (speech_of writer reader recording)
-last_from from writer reader recording placed has = ap (max (from - 1)) (same_number _ _ to back) ∙ sym (last_announced_max from (speech_of writer reader recording))
+pub last_from : (from : ℕ) (writer reader : Guid) (recording : List (List ActValue)) (placed : List PlacedValue) → HasSpeech writer recording placed → max (from - 1) (last_among writer placed) ≡ last_announced_from from (speech_by writer reader recording)
+last_from from writer reader recording placed has = ap (max (from - 1)) (same_number _ _ to back) ∙ sym (last_announced_max from (speech_by writer reader recording))
   where
-    of : List ℕ → Datagram
-    of octets = said_by writer reader (acts_of (reading_of octets))
-
-    to : (n : ℕ) → n < last_among writer placed → n < last_announced_from 1 (speech_of writer reader recording)
+    to : (n : ℕ) → n < last_among writer placed → n < last_announced_from 1 (speech_by writer reader recording)
     to n lt =
         let number = below_greatest n (filter_map (λ (at : PlacedValue). announced_for writer at.act) placed) lt in
         let from = made_from (λ (at : PlacedValue). announced_for writer at.act) placed number.0 number.1 in
         let stands = stands_where 0 recording from.0 (has.there from.0 from.1) in
-        let there = makes (announced_for writer) (acts_of (reading_of stands.octets)) from.0.act number.0 stands.among from.2 in
-        let at = get_mapped (λ octets. said_by writer reader (acts_of (reading_of octets))) recording stands.place stands.octets stands.stands in
-        last_at n stands.place _ (speech_of writer reader recording) at (greatest_below n number.0 (filter_map (announced_for writer) (acts_of (reading_of stands.octets))) there number.2)
+        let there = makes (announced_for writer) stands.datagram from.0.act number.0 stands.among from.2 in
+        let at = get_mapped (said_by writer reader) recording stands.place stands.datagram stands.stands in
+        last_at n stands.place _ (speech_by writer reader recording) at (greatest_below n number.0 (filter_map (announced_for writer) stands.datagram) there number.2)
 
-    back : (n : ℕ) → n < last_announced_from 1 (speech_of writer reader recording) → n < last_among writer placed
+    back : (n : ℕ) → n < last_announced_from 1 (speech_by writer reader recording) → n < last_among writer placed
     back n lt =
-        let found = at_last n (speech_of writer reader recording) lt in
-        let octets = mapped_get (λ octets. said_by writer reader (acts_of (reading_of octets))) recording found.0 found.1 found.2 in
-        let acts = acts_of (reading_of octets.0) in
-        let same = ap (λ (d : Datagram). greatest d.announced) octets.2 in
+        let found = at_last n (speech_by writer reader recording) lt in
+        let datagram = mapped_get (said_by writer reader) recording found.0 found.1 found.2 in
+        let acts = datagram.0 in
+        let same = ap (λ (d : Datagram). greatest d.announced) datagram.2 in
         let here = found.3 in
         let number = below_greatest n (filter_map (announced_for writer) acts) (omega (arith, same)) in
         let act = made_from (announced_for writer) acts number.0 number.1 in
         let at : PlacedValue = record { datagram = 0 + found.0 + 1; act = act.0 } in
         let spoken = (if_some _ (announced_of_body act.0.body) number.0 act.2).0 in
-        let there = has.kept at (stands_there 0 found.0 recording octets.0 act.0 octets.1 act.1) spoken in
+        let there = has.kept at (stands_there 0 found.0 recording datagram.0 act.0 datagram.1 act.1) spoken in
         greatest_below n number.0 _ (makes (λ (at : PlacedValue). announced_for writer at.act) placed at number.0 there act.2) number.2
 
-pub base_from : (pair : Pair) (recording : List (List ℕ)) → base_among (answers_among pair (placed_in recording)) ≡ greatest_base (speech_of pair.writer pair.reader recording)
+pub base_from : (pair : Pair) (recording : List (List ActValue)) → base_among (answers_among pair (placed_in recording)) ≡ greatest_base (speech_by pair.writer pair.reader recording)
 base_from pair recording = same_number _ _ to back
   where
-    to : (n : ℕ) → n < base_among (answers_among pair (placed_in recording)) → n < greatest_base (speech_of pair.writer pair.reader recording)
+    to : (n : ℕ) → n < base_among (answers_among pair (placed_in recording)) → n < greatest_base (speech_by pair.writer pair.reader recording)
     to n lt =
         let number = below_greatest n (map (λ (answer : Answer). natural answer.base) (answers_among pair (placed_in recording))) lt in
         let answer = contains_mapped (λ (answer : Answer). natural answer.base) (answers_among pair (placed_in recording)) number.0 number.1 in
         let stands = answer_stands pair recording answer.0 answer.1 in
-        let at = get_mapped (λ octets. said_by pair.writer pair.reader (acts_of (reading_of octets))) recording stands.0 stands.1 stands.3 in
+        let at = get_mapped (said_by pair.writer pair.reader) recording stands.0 stands.1 stands.3 in
         let same : number.0 ≡ stands.2 = sym answer.2 ∙ ap natural stands.5 in
         let lt' = number.2 in
-        base_at n stands.0 _ (speech_of pair.writer pair.reader recording) at (greatest_below n stands.2 (said_by pair.writer pair.reader (acts_of (reading_of stands.1))).bases stands.6 (omega (arith, same)))
+        base_at n stands.0 _ (speech_by pair.writer pair.reader recording) at (greatest_below n stands.2 (said_by pair.writer pair.reader stands.1).bases stands.6 (omega (arith, same)))
 
-    back : (n : ℕ) → n < greatest_base (speech_of pair.writer pair.reader recording) → n < base_among (answers_among pair (placed_in recording))
+    back : (n : ℕ) → n < greatest_base (speech_by pair.writer pair.reader recording) → n < base_among (answers_among pair (placed_in recording))
     back n lt =
-        let found = at_base n (speech_of pair.writer pair.reader recording) lt in
-        let octets = mapped_get (λ octets. said_by pair.writer pair.reader (acts_of (reading_of octets))) recording found.0 found.1 found.2 in
-        let same = ap (λ (d : Datagram). greatest d.bases) octets.2 in
+        let found = at_base n (speech_by pair.writer pair.reader recording) lt in
+        let datagram = mapped_get (said_by pair.writer pair.reader) recording found.0 found.1 found.2 in
+        let same = ap (λ (d : Datagram). greatest d.bases) datagram.2 in
         let here = found.3 in
-        let number = below_greatest n (said_by pair.writer pair.reader (acts_of (reading_of octets.0))).bases (omega (arith, same)) in
-        let there = answer_there pair recording found.0 octets.0 number.0 octets.1 number.1 in
+        let number = below_greatest n (said_by pair.writer pair.reader datagram.0).bases (omega (arith, same)) in
+        let there = answer_there pair recording found.0 datagram.0 number.0 datagram.1 number.1 in
         greatest_below n number.0 _ (mapped_contains (λ (answer : Answer). natural answer.base) (answers_among pair (placed_in recording)) _ there.1) number.2
 
 -- ---- the verdict
@@ -401,16 +396,16 @@ verdict_known {from} speech None None base last positive founded never is_base i
         from_plain from speech (Complete (pos last)) (ap pos is_last, founded, never, all lt)
 
 -- by acts that have all that the writer says
-pub verdict_of : (from : ℕ) (pair : Pair) (recording : List (List ℕ)) (placed : List PlacedValue) → HasSpeech pair.writer recording placed → (answers : List Answer) (verdict : Verdict) → 1 ≤ from
-    → IsGivenBy from pair.writer pair.reader placed answers verdict → answers ≡ answers_among pair (placed_in recording) → IsVerdictFrom from (speech_of pair.writer pair.reader recording) verdict
+pub verdict_of : (from : ℕ) (pair : Pair) (recording : List (List ActValue)) (placed : List PlacedValue) → HasSpeech pair.writer recording placed → (answers : List Answer) (verdict : Verdict) → 1 ≤ from
+    → IsGivenBy from pair.writer pair.reader placed answers verdict → answers ≡ answers_among pair (placed_in recording) → IsVerdictFrom from (speech_by pair.writer pair.reader recording) verdict
 verdict_of from pair recording placed has answers verdict positive is are =
     let first = subst (λ l. IsUntoldAmong from pair.writer pair.reader placed l is.untold) are is.first in
-    subst (IsVerdictFrom from (speech_of pair.writer pair.reader recording)) (sym is.value)
-    (verdict_known (speech_of pair.writer pair.reader recording) is.untold is.conflict _ is.last positive (first_from from pair recording placed has is.untold first) (conflict_from from pair.writer pair.reader recording placed has is.conflict is.least)
+    subst (IsVerdictFrom from (speech_by pair.writer pair.reader recording)) (sym is.value)
+    (verdict_known (speech_by pair.writer pair.reader recording) is.untold is.conflict _ is.last positive (first_from from pair recording placed has is.untold first) (conflict_from from pair.writer pair.reader recording placed has is.conflict is.least)
     (ap (λ l. max from (base_among l)) are ∙ ap (max from) (base_from pair recording)) (is.announced ∙ last_from from pair.writer pair.reader recording placed has))
 
 -- by the acts from the writer
-pub verdict_given : (from : ℕ) (pair : Pair) (recording : List (List ℕ)) (answers : List Answer) (verdict : Verdict) → 1 ≤ from
+pub verdict_given : (from : ℕ) (pair : Pair) (recording : List (List ActValue)) (answers : List Answer) (verdict : Verdict) → 1 ≤ from
     → IsGivenBy from pair.writer pair.reader (filter (is_from pair.writer) (placed_in recording)) answers verdict → answers ≡ answers_among pair (placed_in recording)
-    → IsVerdictFrom from (speech_of pair.writer pair.reader recording) verdict
+    → IsVerdictFrom from (speech_by pair.writer pair.reader recording) verdict
 verdict_given from pair recording answers verdict positive is are = verdict_of from pair recording (filter (is_from pair.writer) (placed_in recording)) (its_have pair.writer recording) answers verdict positive is are

@@ -10,6 +10,7 @@ pub mod PlacedLemmas
 pub mod ToldLemmas
 pub mod AnswerLemmas
 pub mod PlacedActs
+pub mod IntakeLemmas
 pub mod IndexSpeech
 pub mod JudgeLemmas
 pub mod FullRunLemmas

@@ -4,10 +4,8 @@ use Rattle.std.proofs.Common.{◌≡◌, ℕ, ◌+◌, ◌-◌, ◌<◌, ◌∙�
 use Rattle.std.specs.Prelude.{Contains}
 use Rattle.rtps_ids.specs.declared.identity.Guid.{Guid}
 use Rattle.rtps_ids.specs.declared.identity.GuidPrefix.{GuidPrefix}
-use Rattle.rtps_wire.specs.Reading.{reading_of}
-use Rattle.rtps_receiver.specs.Acts.{acts_of}
 use Rattle.rtps_receiver.specs.Speech.{entity_from, is_answer, is_entity, is_for, is_prefix, is_spoken_by, names_pair}
-use Rattle.rtps_receiver.specs.Values.{ActBodyValue}
+use Rattle.rtps_receiver.specs.Values.{ActBodyValue, ActValue}
 use Rattle.rtps_receiver.specs.Values.ActBodyValue.{Data, Heartbeat, AckNack, Gap, DataFrag}
 use Rattle.rtps_audit.specs.Delivery.{Claims, Datagram, DeliveryState, Ends, Gives, HasRun, Holds, IsAsked, Speech, Word, greatest, last_announced_from}
 use Rattle.rtps_audit.specs.PlainVerdict.{IsFounded, IsSpoken, IsUnclaimed}
@@ -18,7 +16,7 @@ use Rattle.rtps_audit.proofs.DeliveryRuns.{Ends-took, took}
 use Rattle.std.proofs.lemmas.List.Elements.{Contains-append_left, Contains-push}
 use Rattle.rtps_audit.specs.Answered.{IsHeard, last_among}
 use Rattle.rtps_audit.specs.Placed.{PlacedValue, is_from, placed_in}
-use Rattle.rtps_audit.specs.Speech.{announced_for, announced_of_body, base_for, said_by, speech_of, word_for}
+use Rattle.rtps_audit.specs.Speech.{announced_for, announced_of_body, base_for, said_by, speech_by, word_for}
 use Rattle.rtps_audit.proofs.IndexSpeech.{all_have, gives_from, heard_from, its_have, last_from, spoken_is_from}
 use Rattle.rtps_audit.proofs.PlacedActs.{stands_there, stands_where}
 use Rattle.rtps_audit.proofs.PlacedLemmas.{bytes_eq-sym}
@@ -63,49 +61,49 @@ answerer_is_origin reader writer placed e = by_body placed.act.source placed.act
 -- ---- what a speech has
 
 -- the last announced number is that of the writer's acts
-pub last_is_last : (from : ℕ) (writer reader : Guid) (recording : List (List ℕ)) → max (from - 1) (last_among writer (filter (is_from writer) (placed_in recording))) ≡ last_announced_from from (speech_of writer reader recording)
+pub last_is_last : (from : ℕ) (writer reader : Guid) (recording : List (List ActValue)) → max (from - 1) (last_among writer (filter (is_from writer) (placed_in recording))) ≡ last_announced_from from (speech_by writer reader recording)
 last_is_last from writer reader recording = last_from from writer reader recording (filter (is_from writer) (placed_in recording)) (its_have writer recording)
 
 -- an act that has a word gives it, and the other way round
-pub word_is_given : (from : ℕ) (writer reader : Guid) (recording : List (List ℕ)) (n : ℕ) (word : Word) (placed : PlacedValue) → Contains (placed_in recording) placed → word_for writer reader placed.act n ≡ Some word → IsAsked from n
-    → (i : ℕ) × (k : ℕ) × Gives from (speech_of writer reader recording) i k n word × (placed.datagram ≡ i + 1)
+pub word_is_given : (from : ℕ) (writer reader : Guid) (recording : List (List ActValue)) (n : ℕ) (word : Word) (placed : PlacedValue) → Contains (placed_in recording) placed → word_for writer reader placed.act n ≡ Some word → IsAsked from n
+    → (i : ℕ) × (k : ℕ) × Gives from (speech_by writer reader recording) i k n word × (placed.datagram ≡ i + 1)
 word_is_given from writer reader recording n word placed among says asked =
     let heard : IsHeard writer reader (placed_in recording) n word = record { at = placed; among = among; says = says } in
     gives_from writer reader recording (placed_in recording) (all_have writer recording) n word heard asked
 
-pub given_is_word : (from : ℕ) (writer reader : Guid) (recording : List (List ℕ)) (i k n : ℕ) (word : Word) → Gives from (speech_of writer reader recording) i k n word
+pub given_is_word : (from : ℕ) (writer reader : Guid) (recording : List (List ActValue)) (i k n : ℕ) (word : Word) → Gives from (speech_by writer reader recording) i k n word
     → (placed : PlacedValue) × Contains (placed_in recording) placed × (word_for writer reader placed.act n ≡ Some word) × (placed.datagram ≡ i + 1)
 given_is_word from writer reader recording i k n word gives =
     let heard = heard_from writer reader recording (placed_in recording) (all_have writer recording) i k n word gives in
     (heard.0.at, heard.0.among, heard.0.says, heard.1)
 
 -- an answer claims each number below its base that is asked for, and the other way round
-pub base_is_claim : (from : ℕ) (writer reader : Guid) (recording : List (List ℕ)) (n base : ℕ) (placed : PlacedValue) → Contains (placed_in recording) placed → base_for writer reader placed.act ≡ Some base → n < base → IsAsked from n
-    → (j : ℕ) × Claims from (speech_of writer reader recording) j n × (placed.datagram ≡ j + 1)
+pub base_is_claim : (from : ℕ) (writer reader : Guid) (recording : List (List ActValue)) (n base : ℕ) (placed : PlacedValue) → Contains (placed_in recording) placed → base_for writer reader placed.act ≡ Some base → n < base → IsAsked from n
+    → (j : ℕ) × Claims from (speech_by writer reader recording) j n × (placed.datagram ≡ j + 1)
 base_is_claim from writer reader recording n base placed among answers below asked =
     let stands = stands_where 0 recording placed among in
-    let claims : Claims from (speech_of writer reader recording) stands.place n = record {
-      datagram = said_by writer reader (acts_of (reading_of stands.octets));
+    let claims : Claims from (speech_by writer reader recording) stands.place n = record {
+      datagram = said_by writer reader stands.datagram;
       base = base;
-      stands = get_mapped (λ octets. said_by writer reader (acts_of (reading_of octets))) recording stands.place stands.octets stands.stands;
-      answers = makes (base_for writer reader) (acts_of (reading_of stands.octets)) placed.act base stands.among answers;
+      stands = get_mapped (said_by writer reader) recording stands.place stands.datagram stands.stands;
+      answers = makes (base_for writer reader) stands.datagram placed.act base stands.among answers;
       asked = asked;
       below = below;
     } in
     (stands.place, claims, stands.at ∙ omega arith)
 
-pub claim_is_base : (from : ℕ) (writer reader : Guid) (recording : List (List ℕ)) (j n : ℕ) → Claims from (speech_of writer reader recording) j n
+pub claim_is_base : (from : ℕ) (writer reader : Guid) (recording : List (List ActValue)) (j n : ℕ) → Claims from (speech_by writer reader recording) j n
     → (placed : PlacedValue) × (base : ℕ) × Contains (placed_in recording) placed × (base_for writer reader placed.act ≡ Some base) × (n < base) × (placed.datagram ≡ j + 1)
 claim_is_base from writer reader recording j n claims =
-    let octets = mapped_get (λ octets. said_by writer reader (acts_of (reading_of octets))) recording j claims.datagram claims.stands in
-    let among = subst (λ (d : Datagram). Contains d.bases claims.base) (sym octets.2) claims.answers in
-    let act = made_from (base_for writer reader) (acts_of (reading_of octets.0)) claims.base among in
-    let there = stands_there 0 j recording octets.0 act.0 octets.1 act.1 in
+    let datagram = mapped_get (said_by writer reader) recording j claims.datagram claims.stands in
+    let among = subst (λ (d : Datagram). Contains d.bases claims.base) (sym datagram.2) claims.answers in
+    let act = made_from (base_for writer reader) datagram.0 claims.base among in
+    let there = stands_there 0 j recording datagram.0 act.0 datagram.1 act.1 in
     (record { datagram = 0 + j + 1; act = act.0 }, claims.base, there, act.2, claims.below, omega arith)
 
 -- a number that the writer announces is at most the last one
-pub announced_is_reached : (from : ℕ) (writer reader : Guid) (recording : List (List ℕ)) (n : ℕ) (placed : PlacedValue) → Contains (placed_in recording) placed → announced_for writer placed.act ≡ Some n
-    → n ≤ last_announced_from from (speech_of writer reader recording)
+pub announced_is_reached : (from : ℕ) (writer reader : Guid) (recording : List (List ActValue)) (n : ℕ) (placed : PlacedValue) → Contains (placed_in recording) placed → announced_for writer placed.act ≡ Some n
+    → n ≤ last_announced_from from (speech_by writer reader recording)
 announced_is_reached from writer reader recording n placed among announces =
     let spoken = spoken_is_from writer placed (if_some _ (announced_of_body placed.act.body) n announces).0 in
     let kept = kept_if_passed (is_from writer) (placed_in recording) placed among spoken in

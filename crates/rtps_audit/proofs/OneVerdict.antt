@@ -2,7 +2,6 @@
 use Rattle.std.proofs.Common.{◌≡◌, ℕ, ◌+◌, sym, ◌∙◌, ap, subst, arith, ℤ, pos, negsuc, List, [], ◌∷◌, length, map, refl}
 use Rattle.std.specs.Prelude.{All}
 use Rattle.std.proofs.lemmas.List.Elements.{All-head, All-tail}
-use Rattle.rtps_receiver.specs.Acts.{acts_in}
 use Rattle.rtps_receiver.specs.Values.{ActValue}
 use Rattle.rtps_discovery.specs.Directory.{DirectoryValue, IsMapOf, settled_in, unsettled_in}
 use Rattle.rtps_discovery.specs.Matching.{matches_among, reliable_pairs}
@@ -11,8 +10,9 @@ use Rattle.rtps_audit.specs.Delivery.{Speech}
 use Rattle.rtps_audit.specs.RunVerdict.{IsLeast, OnNatural, IsUnsendable, EndsInConflict, EndsWithout, ClaimsUntold, IsVerdictFrom}
 use Rattle.rtps_audit.specs.Laws.{HasNoTwoVerdicts, HasOneReport}
 use Rattle.rtps_audit.specs.declared.verdict.Verdict.TheVariants.{Unfounded, Conflict, Open, Complete}
+use Rattle.rtps_audit.specs.Intake.{acts_together}
 use Rattle.rtps_audit.specs.Report.{IsJudgedFrom, counts_of}
-use Rattle.rtps_audit.specs.Speech.{speech_of}
+use Rattle.rtps_audit.specs.Speech.{speech_by}
 use Rattle.rtps_audit.specs.declared.report.Row.{Row}
 use Rattle.rtps_audit.specs.declared.verdict.Verdict.{Verdict}
 
@@ -73,12 +73,12 @@ row_is one other pair verdict =
     let with_verdict : Verdict → Row = λ v. record { pair = other.pair; verdict = v } in
     ap with_pair pair ∙ ap with_verdict verdict
 
-one_row : (from : ℕ) (recording : List (List ℕ)) (one other : Row) → one.pair ≡ other.pair → IsJudgedFrom from recording one → IsJudgedFrom from recording other → one ≡ other
+one_row : (from : ℕ) (recording : List (List ActValue)) (one other : Row) → one.pair ≡ other.pair → IsJudgedFrom from recording one → IsJudgedFrom from recording other → one ≡ other
 one_row from recording one other pair judged also =
-    let moved = subst (λ (p : Pair). IsVerdictFrom from (speech_of p.writer p.reader recording) other.verdict) (sym pair) also in
-    row_is one other pair (has_no_two_verdicts from (speech_of one.pair.writer one.pair.reader recording) one.verdict other.verdict judged moved)
+    let moved = subst (λ (p : Pair). IsVerdictFrom from (speech_by p.writer p.reader recording) other.verdict) (sym pair) also in
+    row_is one other pair (has_no_two_verdicts from (speech_by one.pair.writer one.pair.reader recording) one.verdict other.verdict judged moved)
 
-one_list : (from : ℕ) (recording : List (List ℕ)) (rows others : List Row) → map (λ row. row.pair) rows ≡ map (λ row. row.pair) others
+one_list : (from : ℕ) (recording : List (List ActValue)) (rows others : List Row) → map (λ row. row.pair) rows ≡ map (λ row. row.pair) others
     → All (IsJudgedFrom from recording) rows → All (IsJudgedFrom from recording) others → rows ≡ others
 one_list from recording [] [] pairs judged also = refl
 one_list from recording [] (other ∷ others) pairs judged also = cc
@@ -90,8 +90,8 @@ one_list from recording (row ∷ rows) (other ∷ others) pairs judged also =
     ∙ ap (λ rest. other ∷ rest) (one_list from recording rows others tail (All-tail (IsJudgedFrom from recording) row rows judged) (All-tail (IsJudgedFrom from recording) other others also))
 
 pub one_report : ((acts : List ActValue) (map other : DirectoryValue) → IsMapOf acts map → IsMapOf acts other → map ≡ other) → HasOneReport
-one_report unique from recording one other is also =
-    let same : is.directory ≡ also.directory = unique (acts_in recording) is.directory also.directory is.is_map also.is_map in
+one_report unique from intake one other is also =
+    let same : is.directory ≡ also.directory = unique (acts_together intake.announcing) is.directory also.directory is.is_map also.is_map in
     let pairs = is.pairs ∙ ap (λ (d : DirectoryValue). reliable_pairs (matches_among (settled_in d.endpoints))) same ∙ sym also.pairs in
-    let counts = is.counts ∙ ap (λ (d : DirectoryValue). counts_of recording (length (unsettled_in d.endpoints))) same ∙ sym also.counts in
-    (one_list from recording one.rows.items other.rows.items pairs is.judged also.judged, counts)
+    let counts = is.counts ∙ ap (λ (d : DirectoryValue). counts_of intake (length (unsettled_in d.endpoints))) same ∙ sym also.counts in
+    (one_list from intake.acts one.rows.items other.rows.items pairs is.judged also.judged, counts)

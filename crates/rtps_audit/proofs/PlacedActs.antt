@@ -7,52 +7,58 @@ use Rattle.std.specs.List.{All, cons_option, filter_map}
 use Rattle.std.specs.List.Sorted.{IsNonDecreasingBy}
 use Rattle.std.proofs.lemmas.List.Elements.{All-append, All-contains, All-contains_itself, All-cons, All-filter, All-head, All-nil, All-tail, All-weaker, Contains-append_cases, Contains-append_left, Contains-append_right, Contains-push}
 use Rattle.rtps_wire.specs.Reading.{reading_of}
-use Rattle.rtps_receiver.specs.Acts.{acts_in, acts_of}
+use Rattle.rtps_receiver.specs.Acts.{acts_of}
 use Rattle.rtps_receiver.specs.Values.{ActValue}
+use Rattle.rtps_audit.specs.Intake.{acts_together}
 use Rattle.rtps_audit.specs.Placed.{PlacedValue, placed_at, placed_behind, placed_in, placed_value}
+use Rattle.rtps_audit.specs.Speech.{acts_by_datagram}
 use Rattle.rtps_audit.specs.declared.placed.Placed.{Placed}
-
--- the acts of one datagram more
-pub acts_in_more : (xs : List (Bor (List ℕ))) (i : ℕ) (d : Bor (List ℕ)) → i < length xs
-    → acts_in (map (λ datagram. datagram.now) (take (i + 1) xs)) ≡ acts_in (map (λ datagram. datagram.now) (take i xs)) ++ acts_of (reading_of (get_or xs i d).now)
-acts_in_more xs i d lt =
-    ap (λ l. acts_in (map (λ datagram. datagram.now) l)) (take_more xs i d lt)
-    ∙ ap acts_in (map-append (λ datagram. datagram.now) (take i xs) (get_or xs i d ∷ []))
-    ∙ flat_map-append (λ datagram. acts_of (reading_of datagram)) (map (λ datagram. datagram.now) (take i xs)) ((get_or xs i d).now ∷ [])
-    ∙ ap (λ l. acts_in (map (λ datagram. datagram.now) (take i xs)) ++ l) (append-nil (acts_of (reading_of (get_or xs i d).now)))
 
 -- ---- one datagram more
 
-behind_append : (before : ℕ) (xs : List (List ℕ)) (datagram : List ℕ) → placed_behind before (xs ++ datagram ∷ []) ≡ placed_behind before xs ++ placed_at (before + length xs + 1) (acts_of (reading_of datagram))
-behind_append before [] datagram = append-nil _ ∙ ap (λ n. placed_at n (acts_of (reading_of datagram))) at
+behind_append : (before : ℕ) (xs : List (List ActValue)) (acts : List ActValue) → placed_behind before (xs ++ acts ∷ []) ≡ placed_behind before xs ++ placed_at (before + length xs + 1) acts
+behind_append before [] acts = append-nil _ ∙ ap (λ n. placed_at n acts) at
   where
     at : before + 1 ≡ before + 0 + 1
     at = omega arith
-behind_append before (x ∷ xs) datagram =
-    ap (λ l. placed_at (before + 1) (acts_of (reading_of x)) ++ l) (behind_append (before + 1) xs datagram ∙ ap (λ n. placed_behind (before + 1) xs ++ placed_at n (acts_of (reading_of datagram))) at)
-    ∙ sym (append_assoc (placed_at (before + 1) (acts_of (reading_of x))) (placed_behind (before + 1) xs) _)
+behind_append before (x ∷ xs) acts =
+    ap (λ l. placed_at (before + 1) x ++ l) (behind_append (before + 1) xs acts ∙ ap (λ n. placed_behind (before + 1) xs ++ placed_at n acts) at)
+    ∙ sym (append_assoc (placed_at (before + 1) x) (placed_behind (before + 1) xs) _)
   where
     at : before + 1 + length xs + 1 ≡ before + length (x ∷ xs) + 1
     at = omega arith
 
-placed_in_more : (xs : List (Bor (List ℕ))) (i : ℕ) (d : Bor (List ℕ)) → i < length xs
-    → placed_in (map (λ datagram. datagram.now) (take (i + 1) xs)) ≡ placed_in (map (λ datagram. datagram.now) (take i xs)) ++ placed_at (i + 1) (acts_of (reading_of (get_or xs i d).now))
-placed_in_more xs i d lt =
-    ap (λ l. placed_in (map (λ datagram. datagram.now) l)) (take_more xs i d lt)
-    ∙ ap placed_in (map-append (λ datagram. datagram.now) (take i xs) (get_or xs i d ∷ []))
-    ∙ behind_append 0 (map (λ datagram. datagram.now) (take i xs)) (get_or xs i d).now
-    ∙ ap (λ n. placed_in (map (λ datagram. datagram.now) (take i xs)) ++ placed_at n (acts_of (reading_of (get_or xs i d).now))) at
-  where
-    at : 0 + length (map (λ (datagram : Bor (List ℕ)). datagram.now) (take i xs)) + 1 ≡ i + 1
-    at = omega (arith, length-map (take i xs) (λ (datagram : Bor (List ℕ)). datagram.now), length-take-le i xs)
-
 -- the acts of the next datagram stand behind those of the datagrams so far
+pub placed_push : (recording : List (List ActValue)) (acts : List ActValue) (place : ℕ) → place ≡ length recording → placed_in recording ++ placed_at (place + 1) acts ≡ placed_in (recording ++ acts ∷ [])
+placed_push recording acts place at = ap (λ n. placed_in recording ++ placed_at (n + 1) acts) at ∙ sym (behind_append 0 recording acts)
+
+-- and together with them
+pub together_push : (recording : List (List ActValue)) (acts : List ActValue) → acts_together (recording ++ acts ∷ []) ≡ acts_together recording ++ acts
+together_push recording acts = flat_map-append (λ acts. acts) recording (acts ∷ []) ∙ ap (λ l. acts_together recording ++ l) (append-nil acts)
+
+-- what a function makes of one element more
+pub map_next : {X Y : Type 0} (f : X → Y) (xs : List X) (i : ℕ) (d : X) → i < length xs → map f (take (i + 1) xs) ≡ map f (take i xs) ++ f (get_or xs i d) ∷ []
+map_next f xs i d lt = ap (map f) (take_more xs i d lt) ∙ map-append f (take i xs) (get_or xs i d ∷ [])
+
+-- the octets of datagrams
+abbrev pub octets_of : List (Bor (List ℕ)) → List (List ℕ)
+octets_of xs = map (λ datagram. datagram.now) xs
+
+-- what is read of them, one datagram more
+pub read_next : {Y : Type 0} (f : List ℕ → Y) (xs : List (Bor (List ℕ))) (i : ℕ) (d : Bor (List ℕ)) → i < length xs → map f (octets_of (take (i + 1) xs)) ≡ map f (octets_of (take i xs)) ++ f (get_or xs i d).now ∷ []
+read_next f xs i d lt = ap (map f) (map_next (λ datagram. datagram.now) xs i d lt) ∙ map-append f (octets_of (take i xs)) ((get_or xs i d).now ∷ [])
+
+-- so many are read
+pub read_count : {Y : Type 0} (f : List ℕ → Y) (xs : List (Bor (List ℕ))) (i : ℕ) → i ≤ length xs → length (map f (octets_of (take i xs))) ≡ i
+read_count f xs i le = omega (arith, length-map (octets_of (take i xs)) f, length-map (take i xs) (λ (datagram : Bor (List ℕ)). datagram.now), length-take-le i xs le)
+
+-- the acts of the next datagram of octets stand behind those of the datagrams so far
 pub placed_on : (xs : List (Bor (List ℕ))) (i : ℕ) (d : Bor (List ℕ)) (place : ℕ) (acts : List ActValue) → i < length xs → place ≡ i → acts ≡ acts_of (reading_of (get_or xs i d).now)
-    → placed_in (map (λ datagram. datagram.now) (take i xs)) ++ placed_at (place + 1) acts ≡ placed_in (map (λ datagram. datagram.now) (take (i + 1) xs))
+    → placed_in (acts_by_datagram (octets_of (take i xs))) ++ placed_at (place + 1) acts ≡ placed_in (acts_by_datagram (octets_of (take (i + 1) xs)))
 placed_on xs i d place acts lt at said =
-    ap (λ l. placed_in (map (λ datagram. datagram.now) (take i xs)) ++ placed_at (place + 1) l) said
-    ∙ ap (λ n. placed_in (map (λ datagram. datagram.now) (take i xs)) ++ placed_at (n + 1) (acts_of (reading_of (get_or xs i d).now))) at
-    ∙ sym (placed_in_more xs i d lt)
+    ap (λ l. placed_in (acts_by_datagram (octets_of (take i xs))) ++ placed_at (place + 1) l) said
+    ∙ placed_push (acts_by_datagram (octets_of (take i xs))) (acts_of (reading_of (get_or xs i d).now)) place (at ∙ sym (read_count (λ datagram. acts_of (reading_of datagram)) xs i (omega arith)))
+    ∙ ap placed_in (sym (read_next (λ datagram. acts_of (reading_of datagram)) xs i d lt))
 
 -- ---- their order
 
@@ -98,18 +104,18 @@ from_one : (datagram : ℕ) (acts : List ActValue) → All (λ (placed : PlacedV
 from_one datagram [] = All-nil _
 from_one datagram (act ∷ acts) = All-cons (λ (placed : PlacedValue). datagram ≤ placed.datagram) _ _ (omega arith) (from_one datagram acts)
 
-rising_behind : (before : ℕ) (recording : List (List ℕ)) → All (λ (placed : PlacedValue). before + 1 ≤ placed.datagram) (placed_behind before recording) × Rising (λ (placed : PlacedValue). placed.datagram) (placed_behind before recording)
+rising_behind : (before : ℕ) (recording : List (List ActValue)) → All (λ (placed : PlacedValue). before + 1 ≤ placed.datagram) (placed_behind before recording) × Rising (λ (placed : PlacedValue). placed.datagram) (placed_behind before recording)
 unfolding Rising
 rising_behind before [] = (All-nil _, tt)
 rising_behind before (datagram ∷ recording) =
-    let acts = acts_of (reading_of datagram) in
+    let acts = datagram in
     let here = at_one (before + 1) acts in
     let rest = rising_behind (before + 1) recording in
     let later = All-weaker (λ (placed : PlacedValue). before + 1 + 1 ≤ placed.datagram) (λ (placed : PlacedValue). before + 1 ≤ placed.datagram) (λ placed h. omega arith) (placed_behind (before + 1) recording) rest.0 in
     (All-append (λ (placed : PlacedValue). before + 1 ≤ placed.datagram) (placed_at (before + 1) acts) _ (from_one (before + 1) acts) later, rising_append (λ (placed : PlacedValue). placed.datagram) (placed_at (before + 1) acts) (placed_behind (before + 1) recording) (before + 1) here.0 later here.1 rest.1)
 
 -- what is kept of the acts of a recording is in order
-pub kept_in_order : (recording : List (List ℕ)) (test : PlacedValue → Bool) (kept : List Placed) → map placed_value kept ≡ filter test (placed_in recording) → IsNonDecreasingBy (λ (placed : Placed). placed.datagram) kept
+pub kept_in_order : (recording : List (List ActValue)) (test : PlacedValue → Bool) (kept : List Placed) → map placed_value kept ≡ filter test (placed_in recording) → IsNonDecreasingBy (λ (placed : Placed). placed.datagram) kept
 kept_in_order recording test kept same i j d le lt =
     let rises = falls_nowhere (λ (placed : PlacedValue). placed.datagram) (filter test (placed_in recording)) (rising_filter _ test (placed_in recording) (rising_behind 0 recording).1) in
     let also = subst (IsNonDecreasingBy (λ (placed : PlacedValue). placed.datagram)) (sym same) rises in
@@ -120,12 +126,12 @@ kept_in_order recording test kept same i j d le lt =
 
 -- ---- where they stand
 
-pub record Stands (before : ℕ) (recording : List (List ℕ)) (placed : PlacedValue) : Type 0 where
+pub record Stands (before : ℕ) (recording : List (List ActValue)) (placed : PlacedValue) : Type 0 where
   pub place : ℕ
-  pub octets : List ℕ
-  pub stands : slice_get recording place ≡ Some octets
+  pub datagram : List ActValue
+  pub stands : slice_get recording place ≡ Some datagram
   pub at : placed.datagram ≡ before + place + 1
-  pub among : Contains (acts_of (reading_of octets)) placed.act
+  pub among : Contains datagram placed.act
 
 pub contains_head : {X : Type 0} (x : X) (xs : List X) → Contains (x ∷ xs) x
 contains_head x xs = Contains-append_left (x ∷ []) xs x (Contains-push [] x)
@@ -154,31 +160,31 @@ at_contains datagram (first ∷ acts) act among = elim (contains_cases first act
   | inr there ↦ contains_tail _ _ _ (at_contains datagram acts act there)
 ]
 
-pub stands_where : (before : ℕ) (recording : List (List ℕ)) (placed : PlacedValue) → Contains (placed_behind before recording) placed → Stands before recording placed
+pub stands_where : (before : ℕ) (recording : List (List ActValue)) (placed : PlacedValue) → Contains (placed_behind before recording) placed → Stands before recording placed
 stands_where before [] placed among = absurd (contains_none placed among)
-stands_where before (octets ∷ recording) placed among = elim (Contains-append_cases (placed_at (before + 1) (acts_of (reading_of octets))) (placed_behind (before + 1) recording) placed among) [
+stands_where before (datagram ∷ recording) placed among = elim (Contains-append_cases (placed_at (before + 1) datagram) (placed_behind (before + 1) recording) placed among) [
   | inl here ↦
-      let is = contains_at (before + 1) (acts_of (reading_of octets)) placed here in
+      let is = contains_at (before + 1) datagram placed here in
       let at = is.0 in
-      record { place = 0; octets = octets; stands = refl; at = omega arith; among = is.1 }
+      record { place = 0; datagram = datagram; stands = refl; at = omega arith; among = is.1 }
   | inr there ↦
       let rest = stands_where (before + 1) recording placed there in
       let at = rest.at in
-      record { place = suc rest.place; octets = rest.octets; stands = rest.stands; at = omega arith; among = rest.among }
+      record { place = suc rest.place; datagram = rest.datagram; stands = rest.stands; at = omega arith; among = rest.among }
 ]
 
-pub stands_there : (before place : ℕ) (recording : List (List ℕ)) (octets : List ℕ) (act : ActValue) → slice_get recording place ≡ Some octets → Contains (acts_of (reading_of octets)) act
+pub stands_there : (before place : ℕ) (recording : List (List ActValue)) (datagram : List ActValue) (act : ActValue) → slice_get recording place ≡ Some datagram → Contains datagram act
     → Contains (placed_behind before recording) (record { datagram = before + place + 1; act = act })
-stands_there before place [] octets act stands among = cc
-stands_there before zero (first ∷ recording) octets act stands among =
-    let same : octets ≡ first = (let h = stands in cc) in
-    let here = at_contains (before + 1) (acts_of (reading_of first)) act (subst (λ o. Contains (acts_of (reading_of o)) act) same among) in
+stands_there before place [] datagram act stands among = cc
+stands_there before zero (first ∷ recording) datagram act stands among =
+    let same : datagram ≡ first = (let h = stands in cc) in
+    let here = at_contains (before + 1) (first) act (subst (λ o. Contains (o) act) same among) in
     let at : before + 1 ≡ before + 0 + 1 = omega arith in
-    subst (λ n. Contains (placed_behind before (first ∷ recording)) (record { datagram = n; act = act })) at (Contains-append_left (placed_at (before + 1) (acts_of (reading_of first))) (placed_behind (before + 1) recording) _ here)
-stands_there before (suc place) (first ∷ recording) octets act stands among =
-    let rest = stands_there (before + 1) place recording octets act stands among in
+    subst (λ n. Contains (placed_behind before (first ∷ recording)) (record { datagram = n; act = act })) at (Contains-append_left (placed_at (before + 1) (first)) (placed_behind (before + 1) recording) _ here)
+stands_there before (suc place) (first ∷ recording) datagram act stands among =
+    let rest = stands_there (before + 1) place recording datagram act stands among in
     let at : before + 1 + place + 1 ≡ before + suc place + 1 = omega arith in
-    subst (λ n. Contains (placed_behind before (first ∷ recording)) (record { datagram = n; act = act })) at (Contains-append_right (placed_at (before + 1) (acts_of (reading_of first))) (placed_behind (before + 1) recording) _ rest)
+    subst (λ n. Contains (placed_behind before (first ∷ recording)) (record { datagram = n; act = act })) at (Contains-append_right (placed_at (before + 1) (first)) (placed_behind (before + 1) recording) _ rest)
 
 -- ---- what a filter keeps
 

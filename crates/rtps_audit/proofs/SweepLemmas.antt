@@ -13,6 +13,7 @@ use Rattle.rtps_ids.specs.declared.identity.EntityId.{EntityId}
 use Rattle.rtps_ids.specs.declared.identity.Guid.{Guid}
 use Rattle.rtps_coverage.specs.Coverage.{IsLeastFrom, TellsMore}
 use Rattle.rtps_receiver.specs.Speech.{is_among, is_for, is_for_all, is_heard_by, is_spoken_by, reader_named}
+use Rattle.rtps_receiver.specs.Values.{ActValue}
 use Rattle.rtps_discovery.specs.declared.matching.Pair.{Pair}
 use Rattle.rtps_audit.specs.Answered.{IsFrontBy, IsHeard, IsToldAll, IsUntoldAmong, base_among, last_among}
 use Rattle.rtps_audit.specs.Delivery.{Word}
@@ -198,16 +199,16 @@ later_place : (k place : ℕ) → place < k → (place == k) ≡ false
 later_place k place lt = grind (arith, nat_tests)
 
 -- the asks of the first pairs
-pub record AreFirstAsks (recording : List (List ℕ)) (pairs : List Pair) (asks : List Ask) (count : ℕ) : Type 0 where
+pub record AreFirstAsks (recording : List (List ActValue)) (pairs : List Pair) (asks : List Ask) (count : ℕ) : Type 0 where
   pub counted : All (λ ask. 1 ≤ ask.answer.datagram) asks
   pub done : (k : ℕ) (d : Pair) → k < count → answers_at k asks ≡ answers_among (get_or pairs k d) (placed_in recording)
   pub none : (k : ℕ) → count ≤ k → answers_at k asks ≡ []
 
-pub no_asks : (recording : List (List ℕ)) (pairs : List Pair) (asks : List Ask) → asks ≡ [] → AreFirstAsks recording pairs asks 0
+pub no_asks : (recording : List (List ActValue)) (pairs : List Pair) (asks : List Ask) → asks ≡ [] → AreFirstAsks recording pairs asks 0
 no_asks recording pairs asks empty =
     subst (λ l. AreFirstAsks recording pairs l 0) (sym empty) (record { counted = All-nil _; done = λ k d lt. absurd (omega arith); none = λ k le. refl })
 
-pub asks_more : (recording : List (List ℕ)) (pairs : List Pair) (old new : List Ask) (place : ℕ) (answers : List Answer) → new ≡ old ++ map (ask_at place) answers
+pub asks_more : (recording : List (List ActValue)) (pairs : List Pair) (old new : List Ask) (place : ℕ) (answers : List Answer) → new ≡ old ++ map (ask_at place) answers
     → ((d : Pair) → answers ≡ answers_among (get_or pairs place d) (placed_in recording)) → All (λ (answer : Answer). 1 ≤ answer.datagram) answers → AreFirstAsks recording pairs old place → AreFirstAsks recording pairs new (place + 1)
 asks_more recording pairs old new place answers is are counted known = record {
   counted = subst (All (λ (ask : Ask). 1 ≤ ask.answer.datagram)) (sym is) (All-append (λ (ask : Ask). 1 ≤ ask.answer.datagram) old _ known.counted (All-map (λ (ask : Ask). 1 ≤ ask.answer.datagram) (ask_at place) answers counted));
@@ -227,7 +228,7 @@ asks_more recording pairs old new place answers is are counted known = record {
 asks_into : (xs ys : List Ask) (k : ℕ) → IsPermutation xs ys → (answer : Answer) → Contains (answers_at k xs) answer → Contains (answers_at k ys) answer
 asks_into xs ys k moved answer among = let from = made_from (answer_if_at k) xs answer among in makes (answer_if_at k) ys from.0 answer (Contains-permutation xs ys from.0 moved from.1) from.2
 
-pub asks_sorted : (recording : List (List ℕ)) (pairs : List Pair) (xs ys : List Ask) → IsPermutation xs ys → AreFirstAsks recording pairs xs (length pairs) → AreAsksOf recording pairs ys
+pub asks_sorted : (recording : List (List ActValue)) (pairs : List Pair) (xs ys : List Ask) → IsPermutation xs ys → AreFirstAsks recording pairs xs (length pairs) → AreAsksOf recording pairs ys
 asks_sorted recording pairs xs ys moved known = record {
   counted = All-permutation (λ (ask : Ask). 1 ≤ ask.answer.datagram) xs ys moved known.counted;
   same = λ k d lt answer. (
@@ -315,7 +316,7 @@ acts_passed test acts placed same k d lt =
     (subst (All (λ (at : PlacedValue). test at ≡ true)) (sym same) (all_passed test placed) k (placed_value d) (let long = length-map acts placed_value in omega arith))
 
 -- where all asks of a writer's readers are answered, all that the verdicts are by is known
-pub all_known : (from : ℕ) (recording : List (List ℕ)) (writer : Guid) (pairs : List Pair) (acts : List Placed) (sweep : Sweep) (asks : List Ask) (datagram : ℕ) (conflicts : PayloadConflicts) (last : ℕ) → All (λ (pair : Pair). pair.writer ≡ writer) pairs
+pub all_known : (from : ℕ) (recording : List (List ActValue)) (writer : Guid) (pairs : List Pair) (acts : List Placed) (sweep : Sweep) (asks : List Ask) (datagram : ℕ) (conflicts : PayloadConflicts) (last : ℕ) → All (λ (pair : Pair). pair.writer ≡ writer) pairs
     → map (λ (asked : AskedReader). asked.pair) sweep.readers.items ≡ pairs → map placed_value acts ≡ filter (is_from writer) (placed_in recording) → AreAsksOf recording pairs asks
     → AreConflictsOf from conflicts.payloads.items (map placed_value acts) → last ≡ last_among writer (map placed_value acts) → IsSweptTo from sweep writer acts asks datagram → All (IsAllKnown from recording conflicts last) sweep.readers.items
 all_known from recording writer pairs acts sweep asks datagram conflicts last of_writer are_pairs are_acts are_asks are_conflicts is_last swept k d lt = record {

@@ -6,9 +6,10 @@ use Rattle.rtps_audit.specs.Delivery.{Speech, DeliveryState, IsAsked, Ends, HasR
 use Rattle.rtps_audit.specs.Delivery.Word.{Told}
 use Rattle.rtps_audit.specs.PlainVerdict.{IsFounded, IsClaimed, SpeaksTwo}
 use Rattle.rtps_audit.specs.FullRun.{HasFullRunFrom}
-use Rattle.rtps_audit.specs.Report.{IsReportFrom}
+use Rattle.rtps_audit.specs.Intake.{Intake, intake_of}
+use Rattle.rtps_audit.specs.Report.{IsReportBy}
 use Rattle.rtps_audit.specs.RunVerdict.{IsVerdictFrom}
-use Rattle.rtps_audit.specs.Speech.{speech_of}
+use Rattle.rtps_audit.specs.Speech.{speech_by}
 use Rattle.rtps_audit.specs.declared.report.Report.{Report}
 use Rattle.rtps_audit.specs.declared.verdict.Verdict.{Verdict}
 use Rattle.rtps_audit.specs.declared.verdict.Verdict.TheVariants.{Complete}
@@ -44,10 +45,14 @@ IsExactVerdict speech given = IsExactVerdictFrom 1 speech given
 -- What is promised of a report on the numbers from `from` on. Its rows are of the matched reliable pairs in order, each
 -- with its verdict, and the six counts are exact. A row is complete exactly where every run delivers. Where any run of a
 -- row's pair exists, the one that takes all it can after each send is a run.
-pub record IsExactReportFrom (from : ℕ) (recording : List (List ℕ)) (given : Report) : Type 0 where
-  pub report : IsReportFrom from recording given
-  pub complete : All (λ row. (last : ℤ) → (row.verdict ≡ Complete last) ↔ IsDeliveredFrom from (speech_of row.pair.writer row.pair.reader recording) last) given.rows.items
-  pub full_run : All (λ row. HasFullRunFrom from (speech_of row.pair.writer row.pair.reader recording) row.verdict) given.rows.items
+pub record IsExactReportBy (from : ℕ) (intake : Intake) (given : Report) : Type 0 where
+  pub report : IsReportBy from intake given
+  pub complete : All (λ row. (last : ℤ) → (row.verdict ≡ Complete last) ↔ IsDeliveredFrom from (speech_by row.pair.writer row.pair.reader intake.acts) last) given.rows.items
+  pub full_run : All (λ row. HasFullRunFrom from (speech_by row.pair.writer row.pair.reader intake.acts) row.verdict) given.rows.items
+
+-- of a report on a recording, which is the octets of its datagrams in the order of sending
+abbrev pub IsExactReportFrom : ℕ → List (List ℕ) → Report → Type 0
+IsExactReportFrom from recording given = IsExactReportBy from (intake_of recording) given
 
 -- of a report on all numbers
 abbrev pub IsExactReport : List (List ℕ) → Report → Type 0

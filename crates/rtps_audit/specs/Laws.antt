@@ -6,7 +6,8 @@ use Rattle.rtps_audit.specs.Delivery.{Word, Speech, DeliveryState, start, IsAske
 use Rattle.rtps_audit.specs.RunVerdict.{OnNatural, EndsInConflict, IsVerdictFrom}
 use Rattle.rtps_audit.specs.PlainVerdict.{IsFounded, SpeaksTwo, IsClaimed, IsPlainVerdictFrom}
 use Rattle.rtps_audit.specs.FullRun.{IsBoundedBy, IsFullRunAllowed, IsFullRun, full_run}
-use Rattle.rtps_audit.specs.Report.{IsReportFrom}
+use Rattle.rtps_audit.specs.Intake.{Intake}
+use Rattle.rtps_audit.specs.Report.{IsReportBy}
 use Rattle.rtps_audit.specs.Speech.{speech_of}
 use Rattle.rtps_audit.specs.declared.report.Report.{Report}
 use Rattle.rtps_audit.specs.declared.verdict.Verdict.{Verdict}
@@ -121,8 +122,8 @@ pub record IsFirstConflict (from : ℕ) (speech : Speech) (n : ℕ) : Type 0 whe
 abbrev pub ConflictIsFirst : Type 0
 ConflictIsFirst = (from : ℕ) (speech : Speech) (number : ℤ) → IsVerdictFrom from speech (Conflict number) → OnNatural number (IsFirstConflict from speech)
 
--- a recording has one report: the same rows, and the same counts
+-- what is taken in has one report: the same rows, and the same counts. So has a recording
 abbrev pub HasOneReport : Type 0
 HasOneReport =
-    (from : ℕ) (recording : List (List ℕ)) (one other : Report) → IsReportFrom from recording one → IsReportFrom from recording other
+    (from : ℕ) (intake : Intake) (one other : Report) → IsReportBy from intake one → IsReportBy from intake other
     → (one.rows.items ≡ other.rows.items) × (one.counts ≡ other.counts)

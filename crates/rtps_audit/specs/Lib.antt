@@ -11,6 +11,7 @@ pub mod Placed
 pub mod AnnouncedPlaces
 pub mod Answered
 pub mod PayloadConflict
+pub mod Intake
 pub mod Index
 pub mod Told
 pub mod Sweep

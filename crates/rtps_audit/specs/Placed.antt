@@ -5,8 +5,6 @@ use Rattle.std.specs.BTreeMap.{BTreeMap, get}
 use Rattle.std.specs.Global.{Vec}
 use Rattle.std.specs.List.{filter_map}
 use Rattle.rtps_ids.specs.declared.identity.Guid.{Guid}
-use Rattle.rtps_wire.specs.Reading.{reading_of}
-use Rattle.rtps_receiver.specs.Acts.{acts_of}
 use Rattle.rtps_receiver.specs.Speech.{is_entity, is_prefix, origin_of}
 use Rattle.rtps_receiver.specs.Values.{ActValue, act_value}
 use Rattle.rtps_discovery.specs.GuidOrder.{guid_cmp}
@@ -31,12 +29,12 @@ abbrev pub placed_at : ℕ → List ActValue → List PlacedValue
 placed_at datagram acts = map (λ act. record { datagram = datagram; act = act }) acts
 
 -- the acts of datagrams that stand behind so many others, by datagram and then by place
-abbrev pub placed_behind : ℕ → List (List ℕ) → List PlacedValue
+abbrev pub placed_behind : ℕ → List (List ActValue) → List PlacedValue
 placed_behind before [] = []
-placed_behind before (datagram ∷ datagrams) = placed_at (before + 1) (acts_of (reading_of datagram)) ++ placed_behind (before + 1) datagrams
+placed_behind before (acts ∷ datagrams) = placed_at (before + 1) acts ++ placed_behind (before + 1) datagrams
 
--- the acts of a recording, which is the octets of its datagrams in the order of sending
-abbrev pub placed_in : List (List ℕ) → List PlacedValue
+-- the acts of a recording, which is those of each datagram in the order of sending
+abbrev pub placed_in : List (List ActValue) → List PlacedValue
 placed_in recording = placed_behind 0 recording
 
 -- whether two GUIDs are the same

@@ -77,6 +77,14 @@ said_by writer reader acts =
       announced = filter_map (announced_for writer) acts;
     }
 
--- and of a recording, which is the octets of its datagrams in the order of sending
+-- what a recording says of them by its acts: those of each datagram, in the order of sending
+abbrev pub speech_by : Guid → Guid → List (List ActValue) → Speech
+speech_by writer reader recording = map (said_by writer reader) recording
+
+-- the acts of datagrams of these octets
+abbrev pub acts_by_datagram : List (List ℕ) → List (List ActValue)
+acts_by_datagram datagrams = map (λ datagram. acts_of (reading_of datagram)) datagrams
+
+-- what a recording says of them, which is the octets of its datagrams in the order of sending
 abbrev pub speech_of : Guid → Guid → List (List ℕ) → Speech
-speech_of writer reader recording = map (λ datagram. said_by writer reader (acts_of (reading_of datagram))) recording
+speech_of writer reader recording = speech_by writer reader (acts_by_datagram recording)

@@ -3,6 +3,7 @@
 use Rattle.std.specs.Prelude.{ℕ, true, ◌==◌, ◌≡◌, ◌≤◌, ◌<◌, ◌-◌, ◌^◌, ◌↔◌, if◌then◌else◌, max, List, filter, length, map, slice_index_or, take, Contains, Option, Some, None}
 use Rattle.std.specs.List.{All, AllWithin, filter_map}
 use Rattle.rtps_ids.specs.declared.identity.Guid.{Guid}
+use Rattle.rtps_receiver.specs.Values.{ActValue}
 use Rattle.rtps_discovery.specs.declared.matching.Pair.{Pair}
 use Rattle.rtps_audit.specs.Answered.{IsHeard, IsUntoldAmong, base_among, last_among}
 use Rattle.rtps_audit.specs.Delivery.{Word, IsAsked}
@@ -31,7 +32,7 @@ abbrev pub HaveSame : List Answer → List Answer → Type 0
 HaveSame one other = (answer : Answer) → Contains one answer ↔ Contains other answer
 
 -- the asks are the answers in the recording of each of these pairs
-pub record AreAsksOf (recording : List (List ℕ)) (pairs : List Pair) (asks : List Ask) : Type 0 where
+pub record AreAsksOf (recording : List (List ActValue)) (pairs : List Pair) (asks : List Ask) : Type 0 where
   pub counted : All (λ ask. 1 ≤ ask.answer.datagram) asks
   pub same : (place : ℕ) (d : Pair) → place < length pairs → HaveSame (answers_at place asks) (answers_among (slice_index_or pairs place d) (placed_in recording))
 
@@ -68,7 +69,7 @@ pub record IsSweptTo (from : ℕ) (sweep : Sweep) (writer : Guid) (acts : List P
 
 -- All that the verdict on a reader is by is known: the conflicts among its writer's payloads, the last number announced, and
 -- the claims of all its answers.
-pub record IsAllKnown (from : ℕ) (recording : List (List ℕ)) (conflicts : PayloadConflicts) (last : ℕ) (asked : AskedReader) : Type 0 where
+pub record IsAllKnown (from : ℕ) (recording : List (List ActValue)) (conflicts : PayloadConflicts) (last : ℕ) (asked : AskedReader) : Type 0 where
   pub payloads : AreConflictsOf from conflicts.payloads.items (filter (is_from asked.pair.writer) (placed_in recording))
   pub announced : last ≡ last_among asked.pair.writer (filter (is_from asked.pair.writer) (placed_in recording))
   pub claims : AreClaimsOf from asked.pair.writer asked.pair.reader (filter (is_from asked.pair.writer) (placed_in recording)) (answers_among asked.pair (placed_in recording)) asked.claims

@@ -1,24 +1,25 @@
-ghost use Rattle.std.specs.Prelude.{ℕ, ◌≡◌, ◌+◌, ◌<◌, count_by, filter, if◌then◌else◌, map, IfOk, List};
-ghost use Rattle.rtps_receiver.specs.Acts.{acts_in};
+ghost use Rattle.std.specs.Prelude.{◌≡◌, ◌+◌, ◌<◌, ◌^◌, count_by, filter, map, IfOk, OnOk};
 ghost use Rattle.rtps_receiver.specs.Values.{act_value};
 ghost use Rattle.rtps_discovery.specs.Directory.{IsMapOf};
 ghost use Rattle.rtps_audit.specs.Delivered.{IsExactVerdict, IsExactVerdictFrom};
-ghost use Rattle.rtps_audit.specs.Index.{IsIndexOf};
+ghost use Rattle.rtps_audit.specs.Index.{IsIndexBy, IsIndexOf};
+ghost use Rattle.rtps_audit.specs.Intake.{Intake, acts_together, intake_more, no_intake};
 ghost use Rattle.rtps_audit.specs.AnnouncedPlaces.{announced_among};
 ghost use Rattle.rtps_audit.specs.Placed.{answers_among, is_from, placed_in, placed_value};
 ghost use Rattle.rtps_audit.specs.Report.{is_undirected as is_undirected_lem};
-ghost use Rattle.rtps_audit.specs.Speech.{speech_of};
+ghost use Rattle.rtps_audit.specs.Speech.{speech_by};
 
 use crate::announced_places::{AnnouncedPlace, note_places};
 use crate::answer::{Answer, Answers, note_answers};
 use crate::groups::Groups;
 use crate::placed::{Placed, note_acts};
-use crate::report::Counts;
 use crate::sweep::rows_of_writer;
+use crate::tallies::Tallies;
 use crate::verdict::Verdict;
 use rtps_discovery::{Directory, Pair};
 use rtps_ids::{Guid, Memory, SeqNum};
 use rtps_receiver::{Act, ActBody, Walk};
+use rtps_wire::Tally;
 use std::alloc::Global;
 
 /// What one walk over a recording finds: the acts of each GUID, the answers of each pair, what is announced, and the
@@ -29,66 +30,74 @@ pub struct Index<'a> {
     pub(crate) answers: Answers,
     pub(crate) announced: Groups<Guid, AnnouncedPlace>,
     pub(crate) directory: Directory<'a>,
-    pub(crate) counts: Counts,
+    pub(crate) tallies: Tallies,
     pub(crate) alloc: Global,
 }
 
 impl<'a> Index<'a> {
+    /// The index of no datagrams. It takes no memory.
+    pub fn new(alloc: Global) -> Self
+        ensures { IsIndexBy no_intake result }
+    {
+        Index {
+            acts: Groups::new(alloc),
+            answers: Answers::new(alloc),
+            announced: Groups::new(alloc),
+            directory: Directory::new(alloc),
+            tallies: Tallies::new(),
+            alloc,
+        }
+    }
+
+    /// Takes in one datagram more, the next in the order of sending: its tally, the acts that verdicts are by, and the acts
+    /// of which the directory notes what they announce. Of a datagram as it is, both are all its acts. There are fewer than
+    /// 2^64 datagrams. After `Memory` the index is of no use.
+    pub fn note(
+        &mut self,
+        tally: Tally,
+        acts: &[Act<'a>],
+        announcing: &[Act<'a>],
+    ) -> Result<(), Memory>
+        requires { self.old.tallies.datagrams + 1 < 2 ^ 64 }
+        ensures { OnOk result ((intake : Intake) → IsIndexBy intake self.old
+            → IsIndexBy (intake_more intake tally (map act_value acts.now) (map act_value announcing.now)) self.new) }
+    {
+        let place = self.tallies.datagrams as usize + 1;
+        note_acts(&mut self.acts, place, acts)?;
+        note_answers(&mut self.answers, place, acts)?;
+        note_places(&mut self.announced, place, announcing)?;
+        let _ = self.directory.note_all(announcing)?;
+        self.tallies.note(tally, undirected_among(acts));
+        Ok(())
+    }
+
     /// The index of a recording, any datagrams in the order of sending. The octets of each are read once. `Memory` is
     /// answered where there is none for it.
     pub fn build(alloc: Global, recording: &[&'a [u8]]) -> Result<Index<'a>, Memory>
         ensures { IfOk result (IsIndexOf (map (λ datagram. datagram.now) recording.now)) }
     {
-        let mut acts = Groups::new(alloc);
-        let mut answers = Answers::new(alloc);
-        let mut announced = Groups::new(alloc);
-        let mut directory = Directory::new(alloc);
+        let mut index = Index::new(alloc);
         let mut walk = Walk::new(alloc);
-        let mut place = 0usize;
-        let mut counts = Counts {
-            datagrams: recording.len() as u64,
-            refused: 0,
-            skipped: 0,
-            fragments: 0,
-            undirected: 0,
-            unsettled: 0,
-        };
         for datagram in recording {
-            place += 1;
             let tally = walk.read(datagram)?;
-            note_acts(&mut acts, place, walk.acts())?;
-            note_answers(&mut answers, place, walk.acts())?;
-            note_places(&mut announced, place, walk.acts())?;
-            let _ = directory.note_all(walk.acts())?;
-            counts.refused += one_if(tally.refused);
-            counts.skipped += u128::from(tally.skipped);
-            counts.fragments += u128::from(tally.fragments);
-            counts.undirected += u128::from(undirected_among(walk.acts()));
+            index.note(tally, walk.acts(), walk.acts())?;
         }
-        counts.unsettled = directory.unsettled() as u64;
-        Ok(Index {
-            acts,
-            answers,
-            announced,
-            directory,
-            counts,
-            alloc,
-        })
+        Ok(index)
     }
 
     /// The acts from this GUID, by datagram and then by place: of a writer its DATA, HEARTBEAT and GAP, of a reader its
     /// ACKNACK. It takes no memory.
     pub fn acts_of(&self, origin: Guid) -> &[Placed<'a>]
-        ensures { (recording : List (List ℕ)) → IsIndexOf recording self.now
-            → map placed_value result.now ≡ filter (is_from origin) (placed_in recording) }
+        ensures { (intake : Intake) → IsIndexBy intake self.now
+            → map placed_value result.now ≡ filter (is_from origin) (placed_in intake.acts) }
     {
         self.acts.of(origin)
     }
 
     /// The answers of a pair's reader to its writer, in the order of sending. It takes no memory.
     pub fn answers_of(&self, pair: Pair) -> &[Answer]
-        ensures { (recording : List (List ℕ)) → IsIndexOf recording self.now
-            → result.now ≡ answers_among pair (placed_in recording) }
+        ensures { (intake : Intake) → IsIndexBy intake self.now
+            → result.now ≡ answers_among pair (placed_in intake.acts) }
     {
         self.answers.of(pair)
     }
@@ -96,15 +105,15 @@ impl<'a> Index<'a> {
     /// Where the recording announces the endpoint of this GUID, as a writer or a reader, in the order of sending. It takes no
     /// memory.
     pub fn announced_at(&self, guid: Guid) -> &[AnnouncedPlace]
-        ensures { (recording : List (List ℕ)) → IsIndexOf recording self.now
-            → result.now ≡ announced_among guid (placed_in recording) }
+        ensures { (intake : Intake) → IsIndexBy intake self.now
+            → result.now ≡ announced_among guid (placed_in intake.announcing) }
     {
         self.announced.of(guid)
     }
 
     /// What the recording announces. It takes no memory.
     pub fn directory(&self) -> &Directory<'a>
-        ensures { (recording : List (List ℕ)) → IsIndexOf recording self.now → IsMapOf (acts_in recording) result.now }
+        ensures { (intake : Intake) → IsIndexBy intake self.now → IsMapOf (acts_together intake.announcing) result.now }
     {
         &self.directory
     }
@@ -113,8 +122,8 @@ impl<'a> Index<'a> {
     /// what the two said. Smaller numbers are not asked for, as of [`crate::judge_from`]. `Memory` is answered where what
     /// is kept of that cannot grow.
     pub fn judge_from(&self, pair: Pair, from: SeqNum) -> Result<Verdict, Memory>
-        ensures { (recording : List (List ℕ)) → IsIndexOf recording self.now
-            → IfOk result (IsExactVerdictFrom from (speech_of pair.writer pair.reader recording)) }
+        ensures { (intake : Intake) → IsIndexBy intake self.now
+            → IfOk result (IsExactVerdictFrom from (speech_by pair.writer pair.reader intake.acts)) }
     {
         let rows = rows_of_writer(self, pair.writer, &[pair], from)?;
         Ok(rows[0].verdict)
@@ -122,8 +131,8 @@ impl<'a> Index<'a> {
 
     /// Judges by all of the writer's numbers, as [`Index::judge_from`] does.
     pub fn judge(&self, pair: Pair) -> Result<Verdict, Memory>
-        ensures { (recording : List (List ℕ)) → IsIndexOf recording self.now
-            → IfOk result (IsExactVerdict (speech_of pair.writer pair.reader recording)) }
+        ensures { (intake : Intake) → IsIndexBy intake self.now
+            → IfOk result (IsExactVerdict (speech_by pair.writer pair.reader intake.acts)) }
     {
         self.judge_from(pair, SeqNum::first())
     }
@@ -150,11 +159,4 @@ fn undirected_among(acts: &[Act<'_>]) -> u64
         }
     }
     undirected
-}
-
-/// 1 where the test holds, and else 0.
-fn one_if(test: bool) -> u64
-    ensures { result ≡ (if test then 1 else 0) }
-{
-    if test { 1 } else { 0 }
 }

@@ -87,7 +87,7 @@ pub fn conflict_is_first()
     ensures { ConflictIsFirst }
 {}
 
-/// A recording has one report.
+/// What an index takes in has one report, and so has a recording.
 pub fn one_report()
     ensures { HasOneReport }
 {

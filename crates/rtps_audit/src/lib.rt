@@ -13,6 +13,7 @@ mod placed;
 mod plain_judge;
 mod report;
 mod sweep;
+mod tallies;
 mod told;
 mod verdict;
 mod word;

@@ -1,10 +1,10 @@
 ghost use Rattle.std.specs.Prelude.{ℕ, ◌≡◌, ◌≤◌, ◌+◌, ◌<◌, ◌^◌, ◌∷◌, ◌++◌, [], map, unwrap_or, IfOk, List, OnOk};
-ghost use Rattle.rtps_receiver.specs.Values.{act_value};
+ghost use Rattle.rtps_receiver.specs.Values.{ActValue, act_value};
 ghost use Rattle.rtps_discovery.specs.declared.matching.Pair.{Pair as PairValue};
 ghost use Rattle.rtps_audit.specs.Delivered.{IsExactVerdict, IsExactVerdictFrom};
 ghost use Rattle.rtps_audit.specs.Placed.{PlacedValue, placed_at, placed_in};
 ghost use Rattle.rtps_audit.specs.RunVerdict.{IsVerdictFrom};
-ghost use Rattle.rtps_audit.specs.Speech.{base_for, speech_of};
+ghost use Rattle.rtps_audit.specs.Speech.{base_for, speech_by, speech_of};
 
 use crate::verdict::{Claims, Verdict};
 use crate::word::{Words, announced_number};
@@ -85,8 +85,8 @@ impl<'a, C: Coverage> PlainJudge<'a, C> {
 
     /// The verdict on the datagrams that were told. `Memory` is answered where there is none to put the payloads in order.
     pub(crate) fn verdict(mut self) -> Result<Verdict, Memory>
-        ensures { IfOk result (λ verdict. (from : ℕ) (pair : PairValue) (recording : List (List ℕ))
-            → Knows C.covered from self.entry pair (placed_in recording) → IsVerdictFrom from (speech_of pair.writer pair.reader recording) verdict) }
+        ensures { IfOk result (λ verdict. (from : ℕ) (pair : PairValue) (recording : List (List ActValue))
+            → Knows C.covered from self.entry pair (placed_in recording) → IsVerdictFrom from (speech_by pair.writer pair.reader recording) verdict) }
     {
         let conflict = self.words.least_conflict()?;
         Ok(self.claims.verdict(conflict))

@@ -1,11 +1,13 @@
-ghost use Rattle.std.specs.Prelude.{ℕ, ◌≡◌, ◌<◌, ◌≤◌, length, map, All, IfOk, List};
+ghost use Rattle.std.specs.Prelude.{◌≡◌, ◌<◌, ◌≤◌, length, map, All, IfOk};
 ghost use Rattle.std.specs.List.{AllWithin};
 ghost use Rattle.rtps_audit.specs.Delivered.{IsExactReport, IsExactReportFrom};
-ghost use Rattle.rtps_audit.specs.Index.{IsIndexOf};
+ghost use Rattle.rtps_audit.specs.Index.{IsIndexBy, counts_with as counts_with_lem};
+ghost use Rattle.rtps_audit.specs.Intake.{Intake};
 ghost use Rattle.rtps_audit.specs.Report.{IsJudgedFrom};
 
 use crate::index::Index;
 use crate::sweep::rows_of_writer;
+use crate::tallies::Tallies;
 use crate::verdict::Verdict;
 use rtps_discovery::Pair;
 use rtps_ids::{Guid, Memory, SeqNum};
@@ -81,8 +83,8 @@ fn rows_of<P: Watch>(
     watch: &mut P,
 ) -> Result<Vec<Row>, Memory>
     ensures pairs { IfOk result (λ rows. map (λ row. row.pair) rows.items ≡ pairs.now) }
-    ensures judged { (recording : List (List ℕ)) → IsIndexOf recording index.now
-        → IfOk result (λ rows. All (IsJudgedFrom from recording) rows.items) }
+    ensures judged { (intake : Intake) → IsIndexBy intake index.now
+        → IfOk result (λ rows. All (IsJudgedFrom from intake.acts) rows.items) }
 {
     let mut rows = Vec::new(index.alloc);
     let mut start = 0;
@@ -98,20 +100,35 @@ fn rows_of<P: Watch>(
 }
 
 impl<'a> Index<'a> {
-    ghost use Rattle.std.specs.Prelude.{ℕ, List, IfOk};
-    ghost use Rattle.rtps_audit.specs.Delivered.{IsExactReportFrom};
-    ghost use Rattle.rtps_audit.specs.Index.{IsIndexOf};
+    ghost use Rattle.std.specs.Prelude.{IfOk};
+    ghost use Rattle.rtps_audit.specs.Delivered.{IsExactReportBy};
+    ghost use Rattle.rtps_audit.specs.Index.{IsIndexBy};
+    ghost use Rattle.rtps_audit.specs.Intake.{Intake};
 
-    /// The report on the recording by the numbers from `from` on, as [`audit_from`] answers it. It tells how far it is.
+    /// The report on what was taken in by the numbers from `from` on, as [`audit_from`] answers it. It tells how far it is.
     pub fn report_from<P: Watch>(&self, from: SeqNum, watch: &mut P) -> Result<Report, Memory>
-        ensures { (recording : List (List ℕ)) → IsIndexOf recording self.now → IfOk result (IsExactReportFrom from recording) }
+        ensures { (intake : Intake) → IsIndexBy intake self.now → IfOk result (IsExactReportBy from intake) }
     {
         let pairs = self.directory.pairs()?;
         let rows = rows_of(self, &pairs, from, watch)?;
         Ok(Report {
             rows,
-            counts: self.counts,
+            counts: counts_with(&self.tallies, self.directory.unsettled()),
         })
+    }
+}
+
+/// The counts by these sums, where so many GUIDs are unsettled.
+fn counts_with(tallies: &Tallies, unsettled: usize) -> Counts
+    ensures { result ≡ counts_with_lem tallies.now unsettled }
+{
+    Counts {
+        datagrams: tallies.datagrams,
+        refused: tallies.refused,
+        skipped: tallies.skipped,
+        fragments: tallies.fragments,
+        undirected: tallies.undirected,
+        unsettled: unsettled as u64,
     }
 }
 

@@ -1,5 +1,6 @@
-ghost use Rattle.std.specs.Prelude.{ℕ, ◌≡◌, ◌<◌, ◌≤◌, ◌^◌, map, All, IfOk, List};
-ghost use Rattle.rtps_audit.specs.Index.{IsIndexOf};
+ghost use Rattle.std.specs.Prelude.{◌≡◌, ◌<◌, ◌≤◌, ◌^◌, map, All, IfOk};
+ghost use Rattle.rtps_audit.specs.Index.{IsIndexBy};
+ghost use Rattle.rtps_audit.specs.Intake.{Intake};
 ghost use Rattle.rtps_audit.specs.Report.{IsJudgedFrom};
 
 use crate::answer::Answer;
@@ -43,7 +44,8 @@ struct Sweep {
 impl Ask {
     ghost use Rattle.std.specs.Prelude.{ℕ, ◌≡◌, ◌<◌, ◌++◌, length, map, All, IfOk, List, OnOk};
     ghost use Rattle.std.specs.List.Sorted.{IsNonDecreasingBy};
-    ghost use Rattle.rtps_audit.specs.Index.{IsIndexOf};
+    ghost use Rattle.rtps_audit.specs.Index.{IsIndexBy};
+    ghost use Rattle.rtps_audit.specs.Intake.{Intake};
     ghost use Rattle.rtps_audit.specs.Sweep.{AreAsksOf};
 
     /// Adds the answers of the pair at a place.
@@ -61,7 +63,7 @@ impl Ask {
 
     /// The answers of these pairs in the order of their datagrams.
     fn all_of(index: &Index<'_>, pairs: &[Pair]) -> Result<Vec<Ask>, Memory>
-        ensures asks { (recording : List (List ℕ)) → IsIndexOf recording index.now → IfOk result (λ asks. AreAsksOf recording pairs.now asks.items) }
+        ensures asks { (intake : Intake) → IsIndexBy intake index.now → IfOk result (λ asks. AreAsksOf intake.acts pairs.now asks.items) }
         ensures within { IfOk result (λ asks. All (λ ask. ask.place < length pairs.now) asks.items) }
         ensures sorted { IfOk result (λ asks. IsNonDecreasingBy (λ ask. ask.answer.datagram) asks.items) }
     {
@@ -77,9 +79,10 @@ impl Ask {
 impl AskedReader {
     ghost use Rattle.std.specs.Prelude.{ℕ, ◌≡◌, ◌≤◌, ◌<◌, ◌^◌, ◌++◌, ◌∷◌, [], map, List};
     ghost use Rattle.rtps_ids.specs.declared.identity.Guid.{Guid as GuidValue};
+    ghost use Rattle.rtps_receiver.specs.Values.{ActValue};
     ghost use Rattle.rtps_audit.specs.Placed.{placed_value};
     ghost use Rattle.rtps_audit.specs.RunVerdict.{IsVerdictFrom};
-    ghost use Rattle.rtps_audit.specs.Speech.{speech_of};
+    ghost use Rattle.rtps_audit.specs.Speech.{speech_by};
     ghost use Rattle.rtps_audit.specs.Sweep.{AreBehind, AreClaimsOf, IsAllKnown, IsToldBelow, IsToldUpTo};
     ghost use Rattle.rtps_audit.specs.declared.answer.Answer.{Answer as AnswerValue};
     ghost use Rattle.rtps_audit.specs.declared.placed.Placed.{Placed as PlacedAct};
@@ -107,8 +110,8 @@ impl AskedReader {
     /// conflicts among the writer's payloads.
     fn verdict(&self, conflicts: &PayloadConflicts<'_, '_>, last: u64) -> Verdict
         requires { last < 2 ^ 63 }
-        ensures { (from : ℕ) (recording : List (List ℕ)) → 1 ≤ from → IsAllKnown from recording conflicts.now last self.now
-            → IsVerdictFrom from (speech_of self.now.pair.writer self.now.pair.reader recording) result }
+        ensures { (from : ℕ) (recording : List (List ActValue)) → 1 ≤ from → IsAllKnown from recording conflicts.now last self.now
+            → IsVerdictFrom from (speech_by self.now.pair.writer self.now.pair.reader recording) result }
     {
         let mut claims = self.claims;
         claims.note_number(last);
@@ -120,6 +123,7 @@ impl Sweep {
     ghost use Rattle.std.specs.Prelude.{ℕ, ◌≡◌, ◌≤◌, ◌<◌, ◌-◌, ◌^◌, ◌++◌, ◌∷◌, [], true, length, map, All, IfOk, List, OnOk};
     ghost use Rattle.std.specs.List.Sorted.{IsNonDecreasingBy};
     ghost use Rattle.rtps_ids.specs.declared.identity.Guid.{Guid as GuidValue};
+    ghost use Rattle.rtps_receiver.specs.Values.{ActValue};
     ghost use Rattle.rtps_audit.specs.Placed.{is_from, placed_value};
     ghost use Rattle.rtps_audit.specs.Report.{IsJudgedFrom};
     ghost use Rattle.rtps_audit.specs.Sweep.{AreBehind, IsAllKnown, IsSweptTo, IsToldUpTo};
@@ -189,7 +193,7 @@ impl Sweep {
     ) -> Result<Vec<Row>, Memory>
         requires { last < 2 ^ 63 }
         ensures pairs { IfOk result (λ rows. map (λ row. row.pair) rows.items ≡ map (λ asked. asked.pair) self.now.readers.items) }
-        ensures judged { (from : ℕ) (recording : List (List ℕ)) → 1 ≤ from
+        ensures judged { (from : ℕ) (recording : List (List ActValue)) → 1 ≤ from
             → All (IsAllKnown from recording conflicts.now last) self.now.readers.items
             → IfOk result (λ rows. All (IsJudgedFrom from recording) rows.items) }
     {
@@ -214,8 +218,8 @@ pub(crate) fn rows_of_writer(
 ) -> Result<Vec<Row>, Memory>
     requires { All (λ pair. pair.writer ≡ writer) pairs.now }
     ensures pairs { IfOk result (λ rows. map (λ row. row.pair) rows.items ≡ pairs.now) }
-    ensures judged { (recording : List (List ℕ)) → IsIndexOf recording index.now
-        → IfOk result (λ rows. All (IsJudgedFrom from recording) rows.items) }
+    ensures judged { (intake : Intake) → IsIndexBy intake index.now
+        → IfOk result (λ rows. All (IsJudgedFrom from intake.acts) rows.items) }
 {
     let acts = index.acts_of(writer);
     let asks = Ask::all_of(index, pairs)?;

@@ -2,6 +2,7 @@ use Rattle.std.proofs.Common.{◌≡◌, ◌∙◌, ◌+◌, ap, arith, map, sub
 use Rattle.std.proofs.lemmas.List.{take_all}
 use Rattle.rtps_audit.specs.Judge.{Knows}
 use Rattle.rtps_audit.specs.Placed.{placed_in}
+use Rattle.rtps_audit.specs.Speech.{acts_by_datagram}
 use Rattle.rtps_audit.proofs.ExactVerdicts.{exact_verdict}
 use Rattle.rtps_audit.proofs.PlacedActs.{placed_on}
 use Rattle.rtps_audit.proofs.plain_judge.judge_from.Goals as goal
@@ -22,6 +23,6 @@ pub returns : goal.returns
 returns g c =
     let recording = c.args.recording.now in
     let all : take c.loop-datagram.datagram-index recording ≡ recording = take_all c.loop-datagram.datagram-index recording (omega (arith, c.loop-datagram-test.false)) in
-    let octets = map (λ datagram. datagram.now) recording in
-    let known = subst (λ l. Knows g.C.Coverage.covered c.args.from c.loop-datagram.judge c.args.pair (placed_in (map (λ datagram. datagram.now) l))) all c.loop-datagram.invariant.knows in
-    exact_verdict c.args.from c.args.pair.writer c.args.pair.reader octets _ (c.in_ok-verdict.ensures c.args.from c.args.pair octets known)
+    let acts = acts_by_datagram (map (λ datagram. datagram.now) recording) in
+    let known = subst (λ l. Knows g.C.Coverage.covered c.args.from c.loop-datagram.judge c.args.pair (placed_in (acts_by_datagram (map (λ datagram. datagram.now) l)))) all c.loop-datagram.invariant.knows in
+    exact_verdict c.args.from c.args.pair.writer c.args.pair.reader acts _ (c.in_ok-verdict.ensures c.args.from c.args.pair acts known)

@@ -12,7 +12,7 @@ use Rattle.rtps_audit.proofs.report.rows_of.Goals as goal
 pub writers-init : goal.writers-init
 writers-init g c = record {
   pairs = ap (map (λ row. row.pair)) c.new-rows.ensures.items;
-  judged = λ recording is. subst (All (IsJudgedFrom c.args.from recording)) (sym c.new-rows.ensures.items) (All-nil (IsJudgedFrom c.args.from recording));
+  judged = λ intake is. subst (All (IsJudgedFrom c.args.from intake.acts)) (sym c.new-rows.ensures.items) (All-nil (IsJudgedFrom c.args.from intake.acts));
 }
 
 pub rows_of_writer-requires : goal.rows_of_writer-requires
@@ -36,8 +36,8 @@ writers-preserved g c =
     let joined : take start pairs ++ slice_range pairs start end ≡ take end pairs = sym (take-add start (end - start) pairs) ∙ ap (λ n. take n pairs) whole in
     record {
       pairs = ap (map pair_of) (c.in_ok-extend_from_slice.ensures.items ∙ shown) ∙ map-append pair_of rows _ ∙ ap (λ l. l ++ map pair_of c.in_ok-more.more.items) c.writers.invariant.pairs ∙ ap (λ l. take start pairs ++ l) c.in_ok-more.ensures.pairs ∙ joined;
-      judged = λ recording is.
-          subst (All (IsJudgedFrom c.args.from recording)) (sym (c.in_ok-extend_from_slice.ensures.items ∙ shown)) (All-append (IsJudgedFrom c.args.from recording) rows _ (c.writers.invariant.judged recording is) (c.in_ok-more.ensures.judged recording is));
+      judged = λ intake is.
+          subst (All (IsJudgedFrom c.args.from intake.acts)) (sym (c.in_ok-extend_from_slice.ensures.items ∙ shown)) (All-append (IsJudgedFrom c.args.from intake.acts) rows _ (c.writers.invariant.judged intake is) (c.in_ok-more.ensures.judged intake is));
     }
 
 pub returns-clause-pairs : goal.returns-clause-pairs

@@ -1,5 +1,6 @@
-use Rattle.std.proofs.Common.{◌≡◌, ◌-◌, ℕ, All, List, length, map, take}
-use Rattle.rtps_audit.specs.Index.{IsIndexOf}
+use Rattle.std.proofs.Common.{◌≡◌, ◌-◌, All, length, map, take}
+use Rattle.rtps_audit.specs.Index.{IsIndexBy}
+use Rattle.rtps_audit.specs.Intake.{Intake}
 use Rattle.rtps_audit.specs.Report.{IsJudgedFrom}
 use Rattle.rtps_audit.proofs.report.rows_of.Given as goal
 
@@ -7,7 +8,7 @@ use Rattle.rtps_audit.proofs.report.rows_of.Given as goal
 abbrev pub invariant-writers : goal.invariant-writers
 invariant-writers g l = record {
   pairs : map (λ row. row.pair) l.rows.items ≡ take l.start l.pairs;
-  judged : (recording : List (List ℕ)) → IsIndexOf recording l.index → All (IsJudgedFrom l.fn.from recording) l.rows.items;
+  judged : (intake : Intake) → IsIndexBy intake l.index → All (IsJudgedFrom l.fn.from intake.acts) l.rows.items;
 }
 
 abbrev pub decreases-writers : goal.decreases-writers

@@ -12,7 +12,7 @@ use Rattle.rtps_audit.proofs.SweepLemmas.{acts_passed, all_known}
 use Rattle.rtps_audit.proofs.sweep.rows_of_writer.Goals as goal
 
 pub loop-ask-init : goal.loop-ask-init
-loop-ask-init c = record { pairs = c.in_ok-sweep.ensures.pairs; swept = λ recording is. (0, λ k d from lt. omega arith, c.in_ok-sweep.ensures.swept c.args.writer c.acts_of-acts.result.now) }
+loop-ask-init c = record { pairs = c.in_ok-sweep.ensures.pairs; swept = λ intake is. (0, λ k d from lt. omega arith, c.in_ok-sweep.ensures.swept c.args.writer c.acts_of-acts.result.now) }
 
 pub loop-ask-preserved : goal.loop-ask-preserved
 loop-ask-preserved c =
@@ -26,13 +26,13 @@ loop-ask-preserved c =
     let sorted = subst (IsNonDecreasingBy (λ (a : Ask). a.answer.datagram)) (sym same) c.in_ok-asks.ensures.sorted in
     record {
       pairs = c.ask.ensures.pairs ∙ c.loop-ask.invariant.pairs;
-      swept = λ recording is.
+      swept = λ intake is.
           let acts = c.acts_of-acts.result.now in
-          let are = c.acts_of-acts.ensures recording is in
-          let old = c.loop-ask.invariant.swept recording is in
-          let asks = c.in_ok-asks.ensures.asks recording is in
+          let are = c.acts_of-acts.ensures intake is in
+          let old = c.loop-ask.invariant.swept intake is in
+          let asks = c.in_ok-asks.ensures.asks intake is in
           let counted = subst (All (λ (a : Ask). 1 ≤ a.answer.datagram)) (sym same) asks.counted k none lt in
-          let on = c.in_ok-ask.ensures.swept c.args.from writer (take k items) old.0 (acts_passed (is_from writer) acts (placed_in recording) are) (kept_in_order recording (is_from writer) acts are) (old.1 k none (omega arith) lt) counted old.2 in (
+          let on = c.in_ok-ask.ensures.swept c.args.from writer (take k items) old.0 (acts_passed (is_from writer) acts (placed_in intake.acts) are) (kept_in_order intake.acts (is_from writer) acts are) (old.1 k none (omega arith) lt) counted old.2 in (
             ask.answer.datagram,
             λ later d from within. subst (λ (a : Ask). a.answer.datagram ≤ (get_or items later d).answer.datagram) (get_or_default items k d none lt) (sorted k later d (omega arith) within),
             subst (λ l. IsSweptTo c.args.from c.ask.new.self writer acts l ask.answer.datagram) (sym (take_more items k none lt)) on,
@@ -40,17 +40,17 @@ loop-ask-preserved c =
     }
 
 pub returns-clause-judged : goal.returns-clause-judged
-returns-clause-judged c = λ recording is.
+returns-clause-judged c = λ intake is.
     let from = c.args.from in
     let writer = c.args.writer in
     let acts = c.acts_of-acts.result.now in
     let items = c.deref-ask-items.result.now in
-    let old = c.loop-ask.invariant.swept recording is in
+    let old = c.loop-ask.invariant.swept intake is in
     let all = take_all c.loop-ask.ask-index items (omega (arith, c.loop-ask-test.false)) in
     let swept = subst (λ l. IsSweptTo from c.loop-ask.sweep writer acts l old.0) (all ∙ c.deref-ask-items.ensures.value) old.2 in
     let first : c.cast_unsigned-first.result ≡ from = omega (arith, ints) in
     let conflicts = subst (λ m. AreConflictsOf m c.in_ok-conflicts.conflicts.payloads.items (map placed_value acts)) first c.in_ok-conflicts.ensures.conflicts in
-    let known = all_known from recording writer c.args.pairs.now acts c.loop-ask.sweep c.in_ok-asks.asks.items old.0 c.in_ok-conflicts.conflicts c.in_ok-conflicts.last c.requires c.loop-ask.invariant.pairs (c.acts_of-acts.ensures recording is)
-    (c.in_ok-asks.ensures.asks recording is) conflicts c.in_ok-conflicts.ensures.last swept in
+    let known = all_known from intake.acts writer c.args.pairs.now acts c.loop-ask.sweep c.in_ok-asks.asks.items old.0 c.in_ok-conflicts.conflicts c.in_ok-conflicts.last c.requires c.loop-ask.invariant.pairs (c.acts_of-acts.ensures intake is)
+    (c.in_ok-asks.ensures.asks intake is) conflicts c.in_ok-conflicts.ensures.last swept in
     let positive : 1 ≤ from = let some = c.get.ensures.positive in omega (arith, ints) in
-    c.rows.ensures.judged from recording positive known
+    c.rows.ensures.judged from intake.acts positive known

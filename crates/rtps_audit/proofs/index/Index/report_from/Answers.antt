@@ -1,14 +1,15 @@
-use Rattle.std.proofs.Common.{◌∙◌}
+use Rattle.std.proofs.Common.{◌∙◌, ap}
+use Rattle.rtps_audit.specs.Report.{counts_of}
 use Rattle.rtps_audit.proofs.ExactVerdicts.{exact_report}
 use Rattle.rtps_audit.proofs.index.Index.report_from.Goals as goal
 
 pub returns : goal.returns
-returns g c = λ recording is.
-    exact_report c.args.from recording _
+returns g c = λ intake is.
+    exact_report c.args.from intake _
     (record {
       directory = _;
       is_map = is.directory;
       pairs = c.in_ok-rows.ensures.pairs ∙ c.deref.ensures.value ∙ c.in_ok-pairs.ensures;
-      judged = c.in_ok-rows.ensures.judged recording is;
-      counts = is.counts;
+      judged = c.in_ok-rows.ensures.judged intake is;
+      counts = c.counts_with.ensures ∙ is.counts _ ∙ ap (counts_of intake) c.unsettled.ensures;
     })

@@ -12,7 +12,7 @@ use Rattle.rtps_audit.proofs.SweepLemmas.{AreFirstAsks, ask_at, asks_more, asks_
 use Rattle.rtps_audit.proofs.sweep.Ask.all_of.Goals as goal
 
 pub loop-place-init : goal.loop-place-init
-loop-place-init c = record { asks = λ recording is. no_asks recording c.args.pairs.now c.new-asks.result.items c.new-asks.ensures.items; within = search rules }
+loop-place-init c = record { asks = λ intake is. no_asks intake.acts c.args.pairs.now c.new-asks.result.items c.new-asks.ensures.items; within = search rules }
 
 pub loop-place-preserved : goal.loop-place-preserved
 loop-place-preserved c =
@@ -22,19 +22,19 @@ loop-place-preserved c =
     let answers = c.answers_of.result.now in
     let within = λ (ask : Ask). ask.place < place + 1 in
     record {
-      asks = λ recording is.
-          let are = c.answers_of.ensures recording is in
-          asks_more recording pairs old c.push.new.asks.items place answers c.in_ok-push.ensures
-          (λ d. are ∙ ap (λ (p : Pair). answers_among p (placed_in recording)) (get_or_default pairs place _ d c.loop-place-test.true))
-          (subst (All (λ (answer : Answer). 1 ≤ answer.datagram)) (sym are) (answers_counted _ recording)) (c.loop-place.invariant.asks recording is);
+      asks = λ intake is.
+          let are = c.answers_of.ensures intake is in
+          asks_more intake.acts pairs old c.push.new.asks.items place answers c.in_ok-push.ensures
+          (λ d. are ∙ ap (λ (p : Pair). answers_among p (placed_in intake.acts)) (get_or_default pairs place _ d c.loop-place-test.true))
+          (subst (All (λ (answer : Answer). 1 ≤ answer.datagram)) (sym are) (answers_counted _ intake.acts)) (c.loop-place.invariant.asks intake is);
       within = subst (All within) (sym c.in_ok-push.ensures)
           (All-append within old _ (All-weaker (λ (ask : Ask). ask.place < place) within (λ ask lt. omega arith) old c.loop-place.invariant.within) (All-map within (ask_at place) answers (λ k d lt. omega arith)));
     }
 
 pub returns-clause-asks : goal.returns-clause-asks
-returns-clause-asks c = λ recording is.
+returns-clause-asks c = λ intake is.
     let all : c.loop-place.place ≡ length c.args.pairs.now = omega (arith, c.loop-place-test.false, c.loop-place.auto.place-end) in
-    asks_sorted recording c.args.pairs.now _ _ c.in_ok-sort_by_key.ensures.permutation (subst (AreFirstAsks recording c.args.pairs.now c.loop-place.asks.items) all (c.loop-place.invariant.asks recording is))
+    asks_sorted intake.acts c.args.pairs.now _ _ c.in_ok-sort_by_key.ensures.permutation (subst (AreFirstAsks intake.acts c.args.pairs.now c.loop-place.asks.items) all (c.loop-place.invariant.asks intake is))
 
 pub returns-clause-within : goal.returns-clause-within
 returns-clause-within c =

@@ -1,6 +1,7 @@
-use Rattle.std.proofs.Common.{ℕ, ◌<◌, List}
+use Rattle.std.proofs.Common.{◌<◌}
 use Rattle.std.specs.List.{All}
-use Rattle.rtps_audit.specs.Index.{IsIndexOf}
+use Rattle.rtps_audit.specs.Index.{IsIndexBy}
+use Rattle.rtps_audit.specs.Intake.{Intake}
 use Rattle.rtps_audit.specs.declared.sweep.Ask.{Ask}
 use Rattle.rtps_audit.proofs.SweepLemmas.{AreFirstAsks}
 use Rattle.rtps_audit.proofs.sweep.Ask.all_of.Given as goal
@@ -8,6 +9,6 @@ use Rattle.rtps_audit.proofs.sweep.Ask.all_of.Given as goal
 -- the asks of the pairs so far
 abbrev pub invariant-loop-place : goal.invariant-loop-place
 invariant-loop-place l = record {
-  asks : (recording : List (List ℕ)) → IsIndexOf recording l.index → AreFirstAsks recording l.pairs l.asks.items l.place;
+  asks : (intake : Intake) → IsIndexBy intake l.index → AreFirstAsks intake.acts l.pairs l.asks.items l.place;
   within : All (λ (ask : Ask). ask.place < l.place) l.asks.items;
 }
