@@ -9,6 +9,7 @@ use Rattle.std.proofs.lemmas.List.Folds.{list_any-append, list_any-from_Any}
 use Rattle.rtps_ids.specs.declared.identity.Guid.{Guid}
 use Rattle.rtps_discovery.specs.declared.matching.Pair.{Pair}
 use Rattle.rtps_receiver.specs.Speech.{is_heard_by, is_spoken_by}
+use Rattle.rtps_receiver.specs.Values.{ActValue}
 use Rattle.rtps_audit.specs.Delivery.{Word, greatest}
 use Rattle.rtps_audit.specs.Placed.{PlacedValue, answer_at, answers_among, is_from, placed_in}
 use Rattle.rtps_audit.specs.Speech.{base_for, natural, word_of}
@@ -148,7 +149,7 @@ before_first pair placed answers certainty datagram n claim same is among claimi
 ]
 
 -- and the other way round
-no_claim_before : (pair : Pair) (recording : List (List ℕ)) (answers : List Answer) (certainty : Certainty) (datagram n : ℕ) (claim : PlacedValue) → answers ≡ answers_among pair (placed_in recording)
+no_claim_before : (pair : Pair) (recording : List (List ActValue)) (answers : List Answer) (certainty : Certainty) (datagram n : ℕ) (claim : PlacedValue) → answers ≡ answers_among pair (placed_in recording)
     → ((d m : ℕ) → some_reaches certainty.claims.items d m ≡ list_any (claims_up_to d m) answers)
     → first_claiming pair.writer pair.reader n (placed_in recording) ≡ Some claim → datagram < claim.datagram → some_reaches certainty.claims.items datagram n ≡ false
 no_claim_before pair recording answers certainty datagram n claim same is found before =
@@ -161,7 +162,7 @@ no_claim_before pair recording answers certainty datagram n claim same is found 
     omega arith)
 
 -- what is found to be received is
-pub received_same : (pair : Pair) (recording : List (List ℕ)) (acts : List PlacedValue) (answers : List Answer) (certainty : Certainty) (n : ℕ) → acts ≡ filter (is_from pair.writer) (placed_in recording) → answers ≡ answers_among pair (placed_in recording)
+pub received_same : (pair : Pair) (recording : List (List ActValue)) (acts : List PlacedValue) (answers : List Answer) (certainty : Certainty) (n : ℕ) → acts ≡ filter (is_from pair.writer) (placed_in recording) → answers ≡ answers_among pair (placed_in recording)
     → IsCertaintyOf pair acts answers certainty
     → list_any (λ at. certain_at certainty at.datagram n && sends pair.writer pair.reader n at) acts ≡ is_received pair.writer pair.reader (placed_in recording) n
 received_same pair recording acts answers certainty n of_writer of_reader is =

@@ -151,46 +151,45 @@ turned false s false = refl
 
 -- what is sent behind the announcement and not received, and asked for, is missed
 pub missed_same : (pair : Pair) (placed writer_acts reader_acts : List PlacedValue) (announced : Option Location) (n : ℕ) (received asked sent : Bool)
-    → writer_acts ≡ filter (is_from pair.writer) placed → reader_acts ≡ filter (is_from pair.reader) placed → announced ≡ place_announced pair.reader placed
+    → writer_acts ≡ filter (is_from pair.writer) placed → reader_acts ≡ filter (is_from pair.reader) placed
     → received ≡ is_received pair.writer pair.reader placed n
     → asked ≡ list_any (asks_for pair.writer pair.reader n) reader_acts
     → sent ≡ list_any (λ at. sends_behind announced pair.writer pair.reader n at && not received) writer_acts
-    → (asked && sent) ≡ is_missed pair.writer pair.reader placed n
-missed_same pair placed writer_acts reader_acts announced n received asked sent of_writer of_reader place known asks sends_it =
+    → (asked && sent) ≡ is_missed announced pair.writer pair.reader placed n
+missed_same pair placed writer_acts reader_acts announced n received asked sent of_writer of_reader known asks sends_it =
     ap (λ b. b && sent) (asks ∙ ap (list_any (asks_for pair.writer pair.reader n)) of_reader ∙ any_filter (asks_for pair.writer pair.reader n) (is_from pair.reader)
     (λ at passes. answerer_is_origin pair.reader pair.writer at (parts (is_answer at.act pair.reader pair.writer) (is_in_set at.act.body n) passes).0) placed)
     ∙ ap (λ b. list_any (asks_for pair.writer pair.reader n) placed && b)
     (sends_it ∙ any_and (sends_behind announced pair.writer pair.reader n) (not received) writer_acts
     ∙ ap (λ b. b && not received) (ap (list_any (sends_behind announced pair.writer pair.reader n)) of_writer
-    ∙ any_filter (sends_behind announced pair.writer pair.reader n) (is_from pair.writer) (λ at passes. sender pair.writer pair.reader n at (parts (is_behind announced at) (sends pair.writer pair.reader n at) passes).1) placed
-    ∙ ap (λ p. list_any (sends_behind p pair.writer pair.reader n) placed) place))
-    ∙ turned (list_any (asks_for pair.writer pair.reader n) placed) (list_any (sends_behind (place_announced pair.reader placed) pair.writer pair.reader n) placed) (not received)
-    ∙ ap (λ b. not b && (list_any (asks_for pair.writer pair.reader n) placed && list_any (sends_behind (place_announced pair.reader placed) pair.writer pair.reader n) placed)) known
+    ∙ any_filter (sends_behind announced pair.writer pair.reader n) (is_from pair.writer) (λ at passes. sender pair.writer pair.reader n at (parts (is_behind announced at) (sends pair.writer pair.reader n at) passes).1) placed))
+    ∙ turned (list_any (asks_for pair.writer pair.reader n) placed) (list_any (sends_behind announced pair.writer pair.reader n) placed) (not received)
+    ∙ ap (λ b. not b && (list_any (asks_for pair.writer pair.reader n) placed && list_any (sends_behind announced pair.writer pair.reader n) placed)) known
 
 -- ---- counted, and the least of them
 
-pub some_missed : (from last least count : ℕ) (pair : Pair) (placed : List PlacedValue) (items lent : List Stretch) (first : Option FirstMissed) → lent ≡ items
-    → ((n : ℕ) → stretches_have items n ≡ is_missed pair.writer pair.reader placed n) → from ≤ least → stretches_have lent least ≡ true → ((n : ℕ) → from ≤ n → n < least → stretches_have lent n ≡ false)
+pub some_missed : (from last least count : ℕ) (place : Option Location) (pair : Pair) (placed : List PlacedValue) (items lent : List Stretch) (first : Option FirstMissed) → lent ≡ items
+    → ((n : ℕ) → stretches_have items n ≡ is_missed place pair.writer pair.reader placed n) → from ≤ least → stretches_have lent least ≡ true → ((n : ℕ) → from ≤ n → n < least → stretches_have lent n ≡ false)
     → count ≡ count_in (stretches_have items) from (last + 1) → least < last + 1 → first ≡ missed_by pair.writer pair.reader placed (Some least)
-    → AreMissed from last pair.writer pair.reader placed (record { count = count; first = first })
-some_missed from last least count pair placed items lent first same is low inside below counted high found = record {
-  count = counted ∙ count_same (stretches_have items) (is_missed pair.writer pair.reader placed) from (last + 1) (λ n a b. is n);
+    → AreMissed from last place pair.writer pair.reader placed (record { count = count; first = first })
+some_missed from last least count place pair placed items lent first same is low inside below counted high found = record {
+  count = counted ∙ count_same (stretches_have items) (is_missed place pair.writer pair.reader placed) from (last + 1) (λ n a b. is n);
   first =
       found
       ∙ sym (ap (missed_by pair.writer pair.reader placed)
-      (least_found (is_missed pair.writer pair.reader placed) from (last + 1) least low high
+      (least_found (is_missed place pair.writer pair.reader placed) from (last + 1) least low high
       (sym (is least) ∙ sym (ap (λ l. stretches_have l least) same) ∙ inside)
       (λ m begun before. sym (is m) ∙ sym (ap (λ l. stretches_have l m) same) ∙ below m begun before)));
 }
 
-pub none_missed : (from last least count : ℕ) (pair : Pair) (placed : List PlacedValue) (items lent : List Stretch) → lent ≡ items
-    → ((n : ℕ) → stretches_have items n ≡ is_missed pair.writer pair.reader placed n) → ((n : ℕ) → from ≤ n → n < least → stretches_have lent n ≡ false)
-    → count ≡ count_in (stretches_have items) from (last + 1) → last + 1 ≤ least → AreMissed from last pair.writer pair.reader placed (record { count = count; first = None })
-none_missed from last least count pair placed items lent same is below counted high = record {
-  count = counted ∙ count_same (stretches_have items) (is_missed pair.writer pair.reader placed) from (last + 1) (λ n a b. is n);
+pub none_missed : (from last least count : ℕ) (place : Option Location) (pair : Pair) (placed : List PlacedValue) (items lent : List Stretch) → lent ≡ items
+    → ((n : ℕ) → stretches_have items n ≡ is_missed place pair.writer pair.reader placed n) → ((n : ℕ) → from ≤ n → n < least → stretches_have lent n ≡ false)
+    → count ≡ count_in (stretches_have items) from (last + 1) → last + 1 ≤ least → AreMissed from last place pair.writer pair.reader placed (record { count = count; first = None })
+none_missed from last least count place pair placed items lent same is below counted high = record {
+  count = counted ∙ count_same (stretches_have items) (is_missed place pair.writer pair.reader placed) from (last + 1) (λ n a b. is n);
   first =
       sym (ap (missed_by pair.writer pair.reader placed)
-      (least_none (is_missed pair.writer pair.reader placed) from (last + 1)
+      (least_none (is_missed place pair.writer pair.reader placed) from (last + 1)
       (λ m begun before. sym (is m) ∙ sym (ap (λ l. stretches_have l m) same) ∙ below m begun (omega arith))));
 }
 

@@ -7,10 +7,11 @@ use Rattle.std.proofs.lemmas.Bool.Decides.{nat_tests}
 use Rattle.rtps_ids.specs.declared.identity.Guid.{Guid}
 use Rattle.rtps_wire.specs.Values.{PayloadValue}
 use Rattle.rtps_receiver.specs.Speech.{is_heard_by, is_spoken_by}
+use Rattle.rtps_receiver.specs.Values.{ActValue}
 use Rattle.rtps_audit.specs.Delivery.{Word, greatest, is_asked, last_announced_from}
 use Rattle.rtps_audit.specs.Answered.{last_among}
 use Rattle.rtps_audit.specs.Placed.{PlacedValue, is_from, placed_in}
-use Rattle.rtps_audit.specs.Speech.{announced_for, announced_of_body, speech_of, word_for, word_of}
+use Rattle.rtps_audit.specs.Speech.{announced_for, announced_of_body, speech_by, word_for, word_of}
 use Rattle.rtps_audit.specs.declared.verdict.Verdict.{Verdict}
 use Rattle.rtps_audit.specs.declared.verdict.Verdict.TheVariants.{Unfounded, Conflict, Open, Complete}
 use Rattle.rtps_audit.proofs.Offered.{last_is_last, speaker_is_origin}
@@ -105,10 +106,10 @@ greatest_made h (x ∷ xs) = by (h x) (greatest_made h xs)
     by None e = omega arith
     by (Some n) e = ap (max n) e
 
-pub last_same : (from : ℕ) (writer reader : Guid) (recording : List (List ℕ)) (greatest_one last : ℕ) → greatest_one ≡ greatest (map (number_said writer) (filter (is_from writer) (placed_in recording))) → last ≡ max greatest_one (from - 1) → last ≡ last_announced_from from (speech_of writer reader recording)
+pub last_same : (from : ℕ) (writer reader : Guid) (recording : List (List ActValue)) (greatest_one last : ℕ) → greatest_one ≡ greatest (map (number_said writer) (filter (is_from writer) (placed_in recording))) → last ≡ max greatest_one (from - 1) → last ≡ last_announced_from from (speech_by writer reader recording)
 last_same from writer reader recording greatest_one last a b =
     let made = greatest_made (λ (placed : PlacedValue). announced_for writer placed.act) (filter (is_from writer) (placed_in recording)) in
-    let is : max (from - 1) (last_among writer (filter (is_from writer) (placed_in recording))) ≡ last_announced_from from (speech_of writer reader recording) = last_is_last from writer reader recording in
+    let is : max (from - 1) (last_among writer (filter (is_from writer) (placed_in recording))) ≡ last_announced_from from (speech_by writer reader recording) = last_is_last from writer reader recording in
     let same : greatest_one ≡ last_among writer (filter (is_from writer) (placed_in recording)) = a ∙ made in
     omega arith
 

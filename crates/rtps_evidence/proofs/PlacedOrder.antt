@@ -3,8 +3,6 @@ use Rattle.std.proofs.Common.{◌≡◌, ℕ, zero, suc, ◌+◌, ◌≤◌, Boo
 use Rattle.std.specs.Prelude.{Contains}
 use Rattle.std.specs.List.{find, list_any}
 use Rattle.std.proofs.lemmas.List.Elements.{Contains-append_cases, Contains-append_left, Contains-append_right, Contains-push}
-use Rattle.rtps_wire.specs.Reading.{reading_of}
-use Rattle.rtps_receiver.specs.Acts.{acts_of}
 use Rattle.rtps_receiver.specs.Values.{ActValue}
 use Rattle.rtps_audit.specs.Placed.{PlacedValue, placed_at, placed_behind}
 
@@ -21,10 +19,10 @@ at_once : (datagram : ℕ) (acts : List ActValue) (xs : List PlacedValue) → Ar
 at_once datagram [] xs ordered = ordered
 at_once datagram (act ∷ acts) xs ordered = (omega arith, at_once datagram acts xs ordered)
 
-pub placed_ordered : (before : ℕ) (recording : List (List ℕ)) → AreOrdered (before + 1) (placed_behind before recording)
+pub placed_ordered : (before : ℕ) (recording : List (List ActValue)) → AreOrdered (before + 1) (placed_behind before recording)
 placed_ordered before [] = tt
 placed_ordered before (datagram ∷ datagrams) =
-    at_once (before + 1) (acts_of (reading_of datagram)) (placed_behind (before + 1) datagrams)
+    at_once (before + 1) datagram (placed_behind (before + 1) datagrams)
     (later (before + 1) (before + 1 + 1) (placed_behind (before + 1) datagrams) (omega arith) (placed_ordered (before + 1) datagrams))
 
 only_one : {X : Type 0} (b x : X) → Contains (b ∷ []) x → b ≡ x

@@ -8,11 +8,12 @@ use Rattle.std.proofs.lemmas.List.Elements.{Contains-append_left}
 use Rattle.rtps_ids.specs.declared.identity.Guid.{Guid}
 use Rattle.rtps_discovery.specs.declared.matching.Pair.{Pair}
 use Rattle.rtps_wire.specs.Values.{PayloadValue}
+use Rattle.rtps_receiver.specs.Values.{ActValue}
 use Rattle.rtps_audit.specs.Delivery.{Word, Speech, DeliveryState, start, IsAsked, Event, Gives, Claims, Step, Follows, IsReached, Ends, HasRun}
 use Rattle.rtps_audit.specs.Delivery.Word.{Told, Gone}
 use Rattle.rtps_audit.specs.Delivery.Event.{Send, Take}
 use Rattle.rtps_audit.specs.Placed.{PlacedValue, placed_in}
-use Rattle.rtps_audit.specs.Speech.{base_for, speech_of, word_for}
+use Rattle.rtps_audit.specs.Speech.{base_for, speech_by, word_for}
 use Rattle.rtps_audit.proofs.Offered.{Follows-append, base_is_claim, claim_is_base, given_is_word, place_within, reached-sound, run_is_founded, word_is_given}
 use Rattle.rtps_evidence.specs.Locations.{base_said, payload_in}
 use Rattle.rtps_evidence.specs.Received.{HoldsPayload, ReceivedIsExact, claims, first_claiming, is_certain_by, is_gone, sends_before, withdraws, withdraws_before}
@@ -101,8 +102,8 @@ passes_sent writer reader n datagram at payload lt word =
     ap (λ b. b && is_some (payload_in (word_for writer reader at.act n))) early ∙ ap (λ o. is_some (payload_in o)) word
 
 -- an act that passes the test of a claim is an answer
-claim_there : (from : ℕ) (pair : Pair) (recording : List (List ℕ)) (n : ℕ) (at : PlacedValue) → IsAsked from n → Contains (placed_in recording) at → claims pair.writer pair.reader n at ≡ true
-    → (j : ℕ) × Claims from (speech_of pair.writer pair.reader recording) j n × (at.datagram ≡ j + 1)
+claim_there : (from : ℕ) (pair : Pair) (recording : List (List ActValue)) (n : ℕ) (at : PlacedValue) → IsAsked from n → Contains (placed_in recording) at → claims pair.writer pair.reader n at ≡ true
+    → (j : ℕ) × Claims from (speech_by pair.writer pair.reader recording) j n × (at.datagram ≡ j + 1)
 claim_there from pair recording n at asked among is =
     let above : n < base_said pair.writer pair.reader at = grind (arith, nat_tests, is) in
     let base = some_above (base_for pair.writer pair.reader at.act) n above in
@@ -113,7 +114,7 @@ claim_there from pair recording n at asked among is =
     some_above (Some m) n lt = (m, refl, lt)
 
 -- and the other way round
-claim_passes : (from : ℕ) (pair : Pair) (recording : List (List ℕ)) (j n : ℕ) → Claims from (speech_of pair.writer pair.reader recording) j n
+claim_passes : (from : ℕ) (pair : Pair) (recording : List (List ActValue)) (j n : ℕ) → Claims from (speech_by pair.writer pair.reader recording) j n
     → (at : PlacedValue) × Contains (placed_in recording) at × (claims pair.writer pair.reader n at ≡ true) × (at.datagram ≡ j + 1)
 claim_passes from pair recording j n is =
     let there = claim_is_base from pair.writer pair.reader recording j n is in
@@ -123,24 +124,24 @@ claim_passes from pair recording j n is =
 
 -- ---- received is certain
 
-certain : (from : ℕ) (pair : Pair) (recording : List (List ℕ)) (n : ℕ) (claim : Option PlacedValue) → IsAsked from n → first_claiming pair.writer pair.reader n (placed_in recording) ≡ claim
+certain : (from : ℕ) (pair : Pair) (recording : List (List ActValue)) (n : ℕ) (claim : Option PlacedValue) → IsAsked from n → first_claiming pair.writer pair.reader n (placed_in recording) ≡ claim
     → is_certain_by pair.writer pair.reader n (placed_in recording) claim ≡ true
-    → (end : DeliveryState) → Ends from (speech_of pair.writer pair.reader recording) end → HoldsPayload end n
+    → (end : DeliveryState) → Ends from (speech_by pair.writer pair.reader recording) end → HoldsPayload end n
 certain from pair recording n None asked found is end ends = absurd (let no : false ≡ true = is in cc)
 certain from pair recording n (Some claim) asked found is end ends =
     let there = found_is_there (claims pair.writer pair.reader n) (placed_in recording) claim found in
     let here = claim_there from pair recording n claim asked there.0 there.1 in
-    let held = held_from_before (speech_of pair.writer pair.reader recording) end here.0 n ends here.1 in
+    let held = held_from_before (speech_by pair.writer pair.reader recording) end here.0 n ends here.1 in
     by held here.2 held.word refl
   where
     never : list_any (withdraws_before pair.writer pair.reader n claim.datagram) (placed_in recording) ≡ false
     never = not_true (list_any (withdraws_before pair.writer pair.reader n claim.datagram) (placed_in recording))
         (parts (list_any (sends_before pair.writer pair.reader n claim.datagram) (placed_in recording)) _ is).1
 
-    by : {j : ℕ} (held : HoldsFrom from (speech_of pair.writer pair.reader recording) end j n) → claim.datagram ≡ j + 1 → (word : Word) → held.word ≡ word → HoldsPayload end n
+    by : {j : ℕ} (held : HoldsFrom from (speech_by pair.writer pair.reader recording) end j n) → claim.datagram ≡ j + 1 → (word : Word) → held.word ≡ word → HoldsPayload end n
     by held at (Told payload) same = (payload, subst (λ (w : Word). Contains end.held (n, w)) same held.held)
     by {j} held at Gone same =
-        let gives : Gives from (speech_of pair.writer pair.reader recording) held.place held.act n Gone = subst (λ (w : Word). Gives from (speech_of pair.writer pair.reader recording) held.place held.act n w) same held.gives in
+        let gives : Gives from (speech_by pair.writer pair.reader recording) held.place held.act n Gone = subst (λ (w : Word). Gives from (speech_by pair.writer pair.reader recording) held.place held.act n w) same held.gives in
         let teller = given_is_word from pair.writer pair.reader recording held.place held.act n Gone gives in
         let place = teller.3 in
         let earlier = held.earlier in
@@ -150,8 +151,8 @@ certain from pair recording n (Some claim) asked found is end ends =
 -- ---- and what is not, is not
 
 -- a datagram before the claim tells n gone
-gone_there : (from : ℕ) (pair : Pair) (recording : List (List ℕ)) (n datagram j : ℕ) → IsAsked from n → datagram ≤ j + 1
-    → list_any (withdraws_before pair.writer pair.reader n datagram) (placed_in recording) ≡ true → IsGoneBefore from (speech_of pair.writer pair.reader recording) j n
+gone_there : (from : ℕ) (pair : Pair) (recording : List (List ActValue)) (n datagram j : ℕ) → IsAsked from n → datagram ≤ j + 1
+    → list_any (withdraws_before pair.writer pair.reader n datagram) (placed_in recording) ≡ true → IsGoneBefore from (speech_by pair.writer pair.reader recording) j n
 gone_there from pair recording n datagram j asked le some =
     let teller = some_passes (withdraws_before pair.writer pair.reader n datagram) (placed_in recording) some in
     let tests = parts (nat_lt teller.0.datagram datagram) (withdraws pair.writer pair.reader n teller.0) teller.2 in
@@ -161,9 +162,9 @@ gone_there from pair recording n datagram j asked le some =
     record { place = given.0; act = given.1; earlier = omega arith; gives = given.2 }
 
 -- a claim of n stands behind a datagram that tells it gone
-gone_before_claim : (from : ℕ) (pair : Pair) (recording : List (List ℕ)) (n : ℕ) (claim : Option PlacedValue) → IsAsked from n → HasRun from (speech_of pair.writer pair.reader recording)
+gone_before_claim : (from : ℕ) (pair : Pair) (recording : List (List ActValue)) (n : ℕ) (claim : Option PlacedValue) → IsAsked from n → HasRun from (speech_by pair.writer pair.reader recording)
     → first_claiming pair.writer pair.reader n (placed_in recording) ≡ claim → is_certain_by pair.writer pair.reader n (placed_in recording) claim ≡ false
-    → (j : ℕ) → Claims from (speech_of pair.writer pair.reader recording) j n → IsGoneBefore from (speech_of pair.writer pair.reader recording) j n
+    → (j : ℕ) → Claims from (speech_by pair.writer pair.reader recording) j n → IsGoneBefore from (speech_by pair.writer pair.reader recording) j n
 gone_before_claim from pair recording n None asked run found is j claim =
     let there = claim_passes from pair recording j n claim in
     absurd (none_found (claims pair.writer pair.reader n) (placed_in recording) there.0 found there.1 there.2)
@@ -182,8 +183,8 @@ gone_before_claim from pair recording n (Some first) asked run found is j claim 
     unsent false none same e = refl
     unsent true none same e = absurd (let no : not false ≡ false = ap not (sym none) ∙ e in let yes : not false ≡ true = refl in cc)
 
-    told : (i : ℕ) (k : ℕ) (word : Word) → i + 1 < first.datagram → Gives from (speech_of pair.writer pair.reader recording) i k n word → list_any (withdraws_before pair.writer pair.reader n first.datagram) (placed_in recording) ≡ false
-        → IsGoneBefore from (speech_of pair.writer pair.reader recording) j n
+    told : (i : ℕ) (k : ℕ) (word : Word) → i + 1 < first.datagram → Gives from (speech_by pair.writer pair.reader recording) i k n word → list_any (withdraws_before pair.writer pair.reader n first.datagram) (placed_in recording) ≡ false
+        → IsGoneBefore from (speech_by pair.writer pair.reader recording) j n
     told i k Gone lt gives none = let le = no_later in record { place = i; act = k; earlier = omega arith; gives = gives }
     told i k (Told payload) lt gives none =
         let teller = given_is_word from pair.writer pair.reader recording i k n (Told payload) gives in
@@ -192,12 +193,12 @@ gone_before_claim from pair recording n (Some first) asked run found is j claim 
         (unsent (list_any (sends_before pair.writer pair.reader n first.datagram) (placed_in recording)) none refl is) teller.1
         (passes_sent pair.writer pair.reader n first.datagram teller.0 payload (omega arith) teller.2))
 
-    by : (b : Bool) → list_any (withdraws_before pair.writer pair.reader n first.datagram) (placed_in recording) ≡ b → IsGoneBefore from (speech_of pair.writer pair.reader recording) j n
+    by : (b : Bool) → list_any (withdraws_before pair.writer pair.reader n first.datagram) (placed_in recording) ≡ b → IsGoneBefore from (speech_by pair.writer pair.reader recording) j n
     by true some = gone_there from pair recording n first.datagram j asked no_later some
     by false none =
         let there = found_is_there (claims pair.writer pair.reader n) (placed_in recording) first found in
         let here = claim_there from pair recording n first asked there.0 there.1 in
-        let word = run_is_founded from (speech_of pair.writer pair.reader recording) run here.0 n here.1 in
+        let word = run_is_founded from (speech_by pair.writer pair.reader recording) run here.0 n here.1 in
         let place = here.2 in
         let earlier = word.earlier in
         told word.place word.act word.word (omega arith) word.gives none
@@ -205,6 +206,6 @@ gone_before_claim from pair recording n (Some first) asked run found is j claim 
 pub received_is_exact : ReceivedIsExact
 received_is_exact from pair recording n asked run = record {
   certain = certain from pair recording n (first_claiming pair.writer pair.reader n (placed_in recording)) asked refl;
-  uncertain = λ is. run_without_payload n (speech_of pair.writer pair.reader recording) (run_is_founded from (speech_of pair.writer pair.reader recording) run)
+  uncertain = λ is. run_without_payload n (speech_by pair.writer pair.reader recording) (run_is_founded from (speech_by pair.writer pair.reader recording) run)
       (gone_before_claim from pair recording n (first_claiming pair.writer pair.reader n (placed_in recording)) asked run refl is);
 }

@@ -2,6 +2,7 @@
 use Rattle.std.proofs.Common.{◌≡◌, ℕ, ◌+◌, ◌<◌, List, [], ◌∷◌, ◌++◌, length, map, take, get_or, subst, sym, ◌∙◌, ap}
 use Rattle.std.proofs.lemmas.List.{map-append, take_more}
 use Rattle.rtps_discovery.specs.declared.matching.Pair.{Pair}
+use Rattle.rtps_audit.specs.Intake.{Intake}
 use Rattle.rtps_audit.specs.Report.{IsJudgedFrom}
 use Rattle.rtps_audit.specs.declared.report.Row.{Row}
 use Rattle.rtps_audit.specs.declared.verdict.Verdict.{Verdict}
@@ -18,7 +19,7 @@ rows_more old new x rows i d lt is pair verdict so_far =
     ap (map row_of) is ∙ map-append row_of old (x ∷ []) ∙ ap (λ l. l ++ row_of x ∷ []) so_far ∙ ap (λ row. take i rows ++ row ∷ []) at ∙ sym (take_more rows i d lt)
 
 -- evidence by the numbers from a number on that is `from`
-pub shown_row : (from asked : ℕ) (recording : List (List ℕ)) (row : Row) (evidence : Evidence) → asked ≡ from
-    → (IsJudgedFrom asked recording row → IsEvidenceFrom asked row.pair recording evidence) → IsJudgedFrom from recording row → IsEvidenceFrom from row.pair recording evidence
-shown_row from asked recording row evidence same shown judged =
-    subst (λ n. IsEvidenceFrom n row.pair recording evidence) same (shown (subst (λ n. IsJudgedFrom n recording row) (sym same) judged))
+pub shown_row : (from asked : ℕ) (intake : Intake) (row : Row) (evidence : Evidence) → asked ≡ from
+    → (IsJudgedFrom asked intake.acts row → IsEvidenceFrom asked row.pair intake evidence) → IsJudgedFrom from intake.acts row → IsEvidenceFrom from row.pair intake evidence
+shown_row from asked intake row evidence same shown judged =
+    subst (λ n. IsEvidenceFrom n row.pair intake evidence) same (shown (subst (λ n. IsJudgedFrom n intake.acts row) (sym same) judged))

@@ -3,11 +3,12 @@ use Rattle.std.proofs.Common.{◌≡◌, ◌+◌, ◌<◌, ◌≤◌, ℕ, List,
 use Rattle.std.specs.Prelude.{Contains, unwrap_or}
 use Rattle.rtps_discovery.specs.declared.matching.Pair.{Pair}
 use Rattle.rtps_wire.specs.Values.{PayloadValue}
+use Rattle.rtps_receiver.specs.Values.{ActValue}
 use Rattle.rtps_audit.specs.Delivery.{Claims, IsAsked, Word}
 use Rattle.rtps_audit.specs.Delivery.Word.{Told, Gone}
 use Rattle.rtps_audit.specs.Placed.{PlacedValue}
 use Rattle.rtps_audit.specs.PlainVerdict.{IsSpoken}
-use Rattle.rtps_audit.specs.Speech.{announced_for, base_for, speech_of, word_for}
+use Rattle.rtps_audit.specs.Speech.{announced_for, base_for, speech_by, word_for}
 use Rattle.rtps_audit.proofs.Offered.{announced_is_reached, base_is_claim, claim_is_base, claimed_is_held, given_is_word, held_is_spoken, run_is_founded, two_are_held, unclaimed_is_missed, word_is_given}
 use Rattle.rtps_evidence.specs.Locations.{base_said, payload_in}
 use Rattle.rtps_evidence.specs.Certificates.{ClaimsAt, CompleteIsShown, ConflictIsShown, OpenIsShown, SendsAt, UnfoundedIsShown}
@@ -25,14 +26,14 @@ told_word None payload e = cc
 told_word (Some Gone) payload e = cc
 told_word (Some (Told other)) payload e = let same : other ≡ payload = (let h = e in cc) in ap (λ p. Some (Told p)) same
 
-claims_there : (from : ℕ) (pair : Pair) (recording : List (List ℕ)) (n : ℕ) (at : PlacedValue) → IsAsked from n → ClaimsAt pair recording n at
-    → (j : ℕ) × Claims from (speech_of pair.writer pair.reader recording) j n × (at.datagram ≡ j + 1)
+claims_there : (from : ℕ) (pair : Pair) (recording : List (List ActValue)) (n : ℕ) (at : PlacedValue) → IsAsked from n → ClaimsAt pair recording n at
+    → (j : ℕ) × Claims from (speech_by pair.writer pair.reader recording) j n × (at.datagram ≡ j + 1)
 claims_there from pair recording n at asked claim =
     let base = some_above (base_for pair.writer pair.reader at.act) n claim.above in
     base_is_claim from pair.writer pair.reader recording n base.0 at claim.among base.1 base.2 asked
 
-spoken_there : (from : ℕ) (pair : Pair) (recording : List (List ℕ)) (n : ℕ) (payload : PayloadValue) (at : PlacedValue) → IsAsked from n → SendsAt pair recording n payload at
-    → IsSpoken from (speech_of pair.writer pair.reader recording) n (Told payload)
+spoken_there : (from : ℕ) (pair : Pair) (recording : List (List ActValue)) (n : ℕ) (payload : PayloadValue) (at : PlacedValue) → IsAsked from n → SendsAt pair recording n payload at
+    → IsSpoken from (speech_by pair.writer pair.reader recording) n (Told payload)
 spoken_there from pair recording n payload at asked sends =
     let gives = word_is_given from pair.writer pair.reader recording n (Told payload) at sends.among (told_word (word_for pair.writer pair.reader at.act n) payload sends.carried) asked in
     record { place = gives.0; act = gives.1; gives = gives.2 }
@@ -40,7 +41,7 @@ spoken_there from pair recording n payload at asked sends =
 pub unfounded_is_shown : UnfoundedIsShown
 unfounded_is_shown from pair recording n at asked claim untold run =
     let there = claims_there from pair recording n at asked claim in
-    let told = run_is_founded from (speech_of pair.writer pair.reader recording) run there.0 n there.1 in
+    let told = run_is_founded from (speech_by pair.writer pair.reader recording) run there.0 n there.1 in
     let teller = given_is_word from pair.writer pair.reader recording told.place told.act n told.word told.gives in
     let earlier = told.earlier in
     let one = there.2 in
@@ -54,7 +55,7 @@ open_is_shown from pair recording n at asked announces unclaimed run =
     let number = some_at (announced_for pair.writer at.act) n asked.0 announces.reached in
     let reached = announced_is_reached from pair.writer pair.reader recording number.0 at announces.among number.1 in
     let le = number.2 in
-    unclaimed_is_missed from (speech_of pair.writer pair.reader recording) n run (
+    unclaimed_is_missed from (speech_by pair.writer pair.reader recording) n run (
       asked,
       omega arith,
       λ claimed.
@@ -67,14 +68,14 @@ open_is_shown from pair recording n at asked announces unclaimed run =
 
 pub conflict_is_shown : ConflictIsShown
 conflict_is_shown from pair recording n one other x y asked first second run =
-    two_are_held from (speech_of pair.writer pair.reader recording) n (Told x) (Told y) run (spoken_there from pair recording n x one asked first) (spoken_there from pair recording n y other asked second)
+    two_are_held from (speech_by pair.writer pair.reader recording) n (Told x) (Told y) run (spoken_there from pair recording n x one asked first) (spoken_there from pair recording n y other asked second)
 
 pub complete_is_shown : CompleteIsShown
 complete_is_shown from pair recording claimed one_payload end ends n asked reached =
     let at = claimed n asked reached in
     let there = claims_there from pair recording n at.0 asked at.1 in
     record {
-      held = claimed_is_held from (speech_of pair.writer pair.reader recording) end there.0 n ends there.1;
+      held = claimed_is_held from (speech_by pair.writer pair.reader recording) end there.0 n ends there.1;
       one_payload = λ x y first second.
           let one = sent_there x first in
           let other = sent_there y second in
@@ -83,6 +84,6 @@ complete_is_shown from pair recording claimed one_payload end ends n asked reach
   where
     sent_there : (x : PayloadValue) → Contains end.held (n, Told x) → (at : PlacedValue) × SendsAt pair recording n x at
     sent_there x held =
-        let spoken = held_is_spoken from (speech_of pair.writer pair.reader recording) end n (Told x) ends held in
+        let spoken = held_is_spoken from (speech_by pair.writer pair.reader recording) end n (Told x) ends held in
         let heard = given_is_word from pair.writer pair.reader recording spoken.place spoken.act n (Told x) spoken.gives in
         (heard.0, record { among = heard.1; carried = ap payload_in heard.2 })

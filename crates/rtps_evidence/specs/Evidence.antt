@@ -4,14 +4,15 @@ use Rattle.std.specs.Option.{option_map}
 use Rattle.rtps_ids.specs.declared.identity.Guid.{Guid}
 use Rattle.rtps_discovery.specs.declared.matching.Pair.{Pair}
 use Rattle.rtps_audit.specs.Delivery.{last_announced_from}
+use Rattle.rtps_audit.specs.Intake.{Intake}
 use Rattle.rtps_audit.specs.Placed.{PlacedValue, placed_in}
 use Rattle.rtps_audit.specs.RunVerdict.{IsVerdictFrom}
-use Rattle.rtps_audit.specs.Speech.{natural, speech_of}
+use Rattle.rtps_audit.specs.Speech.{natural, speech_by}
 use Rattle.rtps_audit.specs.declared.verdict.Verdict.{Verdict}
 use Rattle.rtps_audit.specs.declared.verdict.Verdict.TheVariants.{Unfounded, Conflict, Open, Complete}
 use Rattle.rtps_evidence.specs.Locations.{SentValue, acknowledgement_of, announcement_of, claim_of, first_sent, other_sent, sent_value, teller_of}
 use Rattle.rtps_evidence.specs.Amount.{AreAmounts}
-use Rattle.rtps_evidence.specs.Missed.{AreMissed}
+use Rattle.rtps_evidence.specs.Missed.{AreMissed, place_announced}
 use Rattle.rtps_evidence.specs.Questions.{AreQuestions}
 use Rattle.rtps_evidence.specs.Received.{AreReceived}
 use Rattle.rtps_evidence.specs.declared.acknowledgement.Claim.{Claim}
@@ -46,21 +47,21 @@ other_by (Conflict number) writer reader acts = other_sent writer reader (natura
 other_by (Open number) writer reader acts = None
 other_by (Complete last) writer reader acts = None
 
--- It is the evidence of this recording for a writer and a reader, by the numbers from `from` on: the verdict, and what it
+-- It is the evidence of what is taken in for a writer and a reader, by the numbers from `from` on: the verdict, and what it
 -- rests on.
-pub record IsEvidenceFrom (from : ℕ) (pair : Pair) (recording : List (List ℕ)) (evidence : Evidence) : Type 0 where
-  pub verdict : IsVerdictFrom from (speech_of pair.writer pair.reader recording) evidence.verdict
-  pub announcement : evidence.announcement ≡ announcement_of from pair.writer (last_announced_from from (speech_of pair.writer pair.reader recording)) (placed_in recording)
-  pub acknowledgement : evidence.acknowledgement ≡ acknowledgement_of from pair.writer pair.reader (placed_in recording)
-  pub amounts : AreAmounts from (last_announced_from from (speech_of pair.writer pair.reader recording)) pair.writer pair.reader (placed_in recording) (record { payloads = evidence.payloads; gone = evidence.gone; untold = evidence.untold })
-  pub received : AreReceived from (last_announced_from from (speech_of pair.writer pair.reader recording)) pair.writer pair.reader (placed_in recording) (record { count = evidence.received; not_received = evidence.not_received })
-  pub missed : AreMissed from (last_announced_from from (speech_of pair.writer pair.reader recording)) pair.writer pair.reader (placed_in recording) (record { count = evidence.missed; first = evidence.first_missed })
-  pub questions : AreQuestions pair.writer pair.reader (placed_in recording) (record { count = evidence.asked_since; last = evidence.last_asked })
-  pub teller : evidence.teller ≡ teller_by evidence.verdict pair.writer pair.reader (placed_in recording)
-  pub claim : evidence.claim ≡ claim_by evidence.verdict pair.writer pair.reader (placed_in recording)
-  pub first : option_map sent_value evidence.first_sent ≡ first_by evidence.verdict pair.writer pair.reader (placed_in recording)
-  pub other : option_map sent_value evidence.other_sent ≡ other_by evidence.verdict pair.writer pair.reader (placed_in recording)
+pub record IsEvidenceFrom (from : ℕ) (pair : Pair) (intake : Intake) (evidence : Evidence) : Type 0 where
+  pub verdict : IsVerdictFrom from (speech_by pair.writer pair.reader intake.acts) evidence.verdict
+  pub announcement : evidence.announcement ≡ announcement_of from pair.writer (last_announced_from from (speech_by pair.writer pair.reader intake.acts)) (placed_in intake.acts)
+  pub acknowledgement : evidence.acknowledgement ≡ acknowledgement_of from pair.writer pair.reader (placed_in intake.acts)
+  pub amounts : AreAmounts from (last_announced_from from (speech_by pair.writer pair.reader intake.acts)) pair.writer pair.reader (placed_in intake.acts) (record { payloads = evidence.payloads; gone = evidence.gone; untold = evidence.untold })
+  pub received : AreReceived from (last_announced_from from (speech_by pair.writer pair.reader intake.acts)) pair.writer pair.reader (placed_in intake.acts) (record { count = evidence.received; not_received = evidence.not_received })
+  pub missed : AreMissed from (last_announced_from from (speech_by pair.writer pair.reader intake.acts)) (place_announced pair.reader (placed_in intake.announcing)) pair.writer pair.reader (placed_in intake.acts) (record { count = evidence.missed; first = evidence.first_missed })
+  pub questions : AreQuestions pair.writer pair.reader (placed_in intake.acts) (record { count = evidence.asked_since; last = evidence.last_asked })
+  pub teller : evidence.teller ≡ teller_by evidence.verdict pair.writer pair.reader (placed_in intake.acts)
+  pub claim : evidence.claim ≡ claim_by evidence.verdict pair.writer pair.reader (placed_in intake.acts)
+  pub first : option_map sent_value evidence.first_sent ≡ first_by evidence.verdict pair.writer pair.reader (placed_in intake.acts)
+  pub other : option_map sent_value evidence.other_sent ≡ other_by evidence.verdict pair.writer pair.reader (placed_in intake.acts)
 
 -- by all numbers
-abbrev pub IsEvidence : Pair → List (List ℕ) → Evidence → Type 0
-IsEvidence pair recording evidence = IsEvidenceFrom 1 pair recording evidence
+abbrev pub IsEvidence : Pair → Intake → Evidence → Type 0
+IsEvidence pair intake evidence = IsEvidenceFrom 1 pair intake evidence

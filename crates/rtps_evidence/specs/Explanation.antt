@@ -2,11 +2,11 @@
 -- topic and the type of its two, and its evidence.
 use Rattle.std.specs.Prelude.{ℕ, ◌≡◌, List, [], All, map, Option, Some, None}
 use Rattle.std.specs.Option.{option_map}
-use Rattle.rtps_receiver.specs.Acts.{acts_in}
 use Rattle.rtps_discovery.specs.Directory.{DirectoryValue, Entries, IsMapOf, settled_at}
 use Rattle.rtps_discovery.specs.Endpoint.{EndpointValue}
 use Rattle.rtps_discovery.specs.declared.matching.Pair.{Pair}
-use Rattle.rtps_audit.specs.Report.{IsReportFrom}
+use Rattle.rtps_audit.specs.Intake.{Intake, acts_together, intake_of}
+use Rattle.rtps_audit.specs.Report.{IsReportBy}
 use Rattle.rtps_audit.specs.declared.report.Report.{Report}
 use Rattle.rtps_audit.specs.declared.report.Row.{Row}
 use Rattle.rtps_audit.specs.declared.verdict.Verdict.{Verdict}
@@ -101,18 +101,22 @@ row_of explanation = record { pair = explanation.pair; verdict = explanation.evi
 
 -- The rows are those of the report by the numbers from `from` on, each with its names and its evidence, and the counts are
 -- the report's.
-pub record IsExplainedFrom (from : ℕ) (recording : List (List ℕ)) (explained : Explained) : Type 0 where
+pub record IsExplainedBy (from : ℕ) (intake : Intake) (explained : Explained) : Type 0 where
   pub report : Report
-  pub reports : IsReportFrom from recording report
+  pub reports : IsReportBy from intake report
   pub rows : map row_of explained.rows.items ≡ report.rows.items
   pub counts : explained.counts ≡ report.counts
   pub directory : DirectoryValue
-  pub is_map : IsMapOf (acts_in recording) directory
+  pub is_map : IsMapOf (acts_together intake.announcing) directory
   pub named : All (IsNamed directory.endpoints) explained.rows.items
-  pub shown : All (λ row. IsEvidenceFrom from row.pair recording row.evidence) explained.rows.items
+  pub shown : All (λ row. IsEvidenceFrom from row.pair intake row.evidence) explained.rows.items
 
--- a recording is explained in one way: the same rows, and the same counts
+-- that of a recording, which is the octets of its datagrams in the order of sending
+abbrev pub IsExplainedFrom : ℕ → List (List ℕ) → Explained → Type 0
+IsExplainedFrom from recording explained = IsExplainedBy from (intake_of recording) explained
+
+-- what is taken in is explained in one way: the same rows, and the same counts. So is a recording
 abbrev pub HasOneExplanation : Type 0
 HasOneExplanation =
-    (from : ℕ) (recording : List (List ℕ)) (one other : Explained) → IsExplainedFrom from recording one → IsExplainedFrom from recording other
+    (from : ℕ) (intake : Intake) (one other : Explained) → IsExplainedBy from intake one → IsExplainedBy from intake other
     → (map explanation_value one.rows.items ≡ map explanation_value other.rows.items) × (one.counts ≡ other.counts)

@@ -54,11 +54,11 @@ first_place (place ∷ places) = Some (record { datagram = place.datagram; at = 
 abbrev pub sends_behind : Option Location → Guid → Guid → ℕ → PlacedValue → Bool
 sends_behind place writer reader n placed = is_behind place placed && sends writer reader n placed
 
--- n is missed: it is not received, the reader says that it lacks n, and of n a payload that the reader hears stands behind the
--- first announcement of the reader
-abbrev pub is_missed : Guid → Guid → List PlacedValue → ℕ → Bool
-is_missed writer reader acts n =
-    not (is_received writer reader acts n) && (list_any (asks_for writer reader n) acts && list_any (sends_behind (place_announced reader acts) writer reader n) acts)
+-- n is missed: it is not received, the reader says that it lacks n, and of n a payload that the reader hears stands behind this
+-- place, the first announcement of the reader
+abbrev pub is_missed : Option Location → Guid → Guid → List PlacedValue → ℕ → Bool
+is_missed place writer reader acts n =
+    not (is_received writer reader acts n) && (list_any (asks_for writer reader n) acts && list_any (sends_behind place writer reader n) acts)
 
 -- these numbers have n
 abbrev pub numbers_have : List ℕ → ℕ → Bool
@@ -82,10 +82,11 @@ missed_by writer reader acts None = None
 missed_by writer reader acts (Some n) = option_map (missed_at writer reader n acts) (find_last (asks_for writer reader n) acts)
 
 -- the least number from `from` on, up to the last one, that is missed
-abbrev pub first_missed_of : ℕ → ℕ → Guid → Guid → List PlacedValue → Option FirstMissed
-first_missed_of from last writer reader acts = missed_by writer reader acts (least_in (is_missed writer reader acts) from (last + 1))
+abbrev pub first_missed_of : ℕ → ℕ → Option Location → Guid → Guid → List PlacedValue → Option FirstMissed
+first_missed_of from last place writer reader acts = missed_by writer reader acts (least_in (is_missed place writer reader acts) from (last + 1))
 
--- Of the numbers from `from` on, up to the last one: how many are missed, and the least of them.
-pub record AreMissed (from last : ℕ) (writer reader : Guid) (acts : List PlacedValue) (missed : Missed) : Type 0 where
-  pub count : missed.count ≡ count_in (is_missed writer reader acts) from (last + 1)
-  pub first : missed.first ≡ first_missed_of from last writer reader acts
+-- Of the numbers from `from` on, up to the last one: how many are missed, where the reader is announced first at this place, and
+-- the least of them.
+pub record AreMissed (from last : ℕ) (place : Option Location) (writer reader : Guid) (acts : List PlacedValue) (missed : Missed) : Type 0 where
+  pub count : missed.count ≡ count_in (is_missed place writer reader acts) from (last + 1)
+  pub first : missed.first ≡ first_missed_of from last place writer reader acts

@@ -7,10 +7,11 @@ use Rattle.std.specs.Option.{option_map}
 use Rattle.rtps_ids.specs.declared.identity.Guid.{Guid}
 use Rattle.rtps_discovery.specs.declared.matching.Pair.{Pair}
 use Rattle.rtps_wire.specs.Values.{PayloadValue}
+use Rattle.rtps_receiver.specs.Values.{ActValue}
 use Rattle.rtps_audit.specs.Delivery.{DeliveryState, Ends, HasRun, IsAsked, Word}
 use Rattle.rtps_audit.specs.Delivery.Word.{Told, Gone}
 use Rattle.rtps_audit.specs.Placed.{PlacedValue, placed_in}
-use Rattle.rtps_audit.specs.Speech.{speech_of, word_for}
+use Rattle.rtps_audit.specs.Speech.{speech_by, word_for}
 use Rattle.rtps_evidence.specs.Amount.{count_in}
 use Rattle.rtps_evidence.specs.Locations.{base_said, location_of, sends, teller_at}
 use Rattle.rtps_evidence.specs.declared.teller.Teller.{Teller}
@@ -86,21 +87,21 @@ abbrev pub HoldsPayload : DeliveryState → ℕ → Type 0
 HoldsPayload state n = (payload : PayloadValue) × Contains state.held (n, Told payload)
 
 -- every run ends with a payload for n
-abbrev pub EndsWithPayload : ℕ → Pair → List (List ℕ) → ℕ → Type 0
-EndsWithPayload from pair recording n = (end : DeliveryState) → Ends from (speech_of pair.writer pair.reader recording) end → HoldsPayload end n
+abbrev pub EndsWithPayload : ℕ → Pair → List (List ActValue) → ℕ → Type 0
+EndsWithPayload from pair recording n = (end : DeliveryState) → Ends from (speech_by pair.writer pair.reader recording) end → HoldsPayload end n
 
 -- some run ends without one
-abbrev pub EndsWithoutPayload : ℕ → Pair → List (List ℕ) → ℕ → Type 0
-EndsWithoutPayload from pair recording n = (end : DeliveryState) × Ends from (speech_of pair.writer pair.reader recording) end × ¬ HoldsPayload end n
+abbrev pub EndsWithoutPayload : ℕ → Pair → List (List ActValue) → ℕ → Type 0
+EndsWithoutPayload from pair recording n = (end : DeliveryState) × Ends from (speech_by pair.writer pair.reader recording) end × ¬ HoldsPayload end n
 
 -- received is exact: where a run exists, every run ends with a payload for each number that is received, and for every other
 -- number that is asked for some run ends without one
-pub record IsExactlyReceived (from : ℕ) (pair : Pair) (recording : List (List ℕ)) (n : ℕ) : Type 0 where
+pub record IsExactlyReceived (from : ℕ) (pair : Pair) (recording : List (List ActValue)) (n : ℕ) : Type 0 where
   pub certain : is_received pair.writer pair.reader (placed_in recording) n ≡ true → EndsWithPayload from pair recording n
   pub uncertain : is_received pair.writer pair.reader (placed_in recording) n ≡ false → EndsWithoutPayload from pair recording n
 
 -- it is so of each number that is asked for
 abbrev pub ReceivedIsExact : Type 0
 ReceivedIsExact =
-    (from : ℕ) (pair : Pair) (recording : List (List ℕ)) (n : ℕ) → IsAsked from n → HasRun from (speech_of pair.writer pair.reader recording)
+    (from : ℕ) (pair : Pair) (recording : List (List ActValue)) (n : ℕ) → IsAsked from n → HasRun from (speech_by pair.writer pair.reader recording)
     → IsExactlyReceived from pair recording n

@@ -7,7 +7,7 @@ use Rattle.rtps_receiver.specs.Speech.{is_for_all, names, reader_named, unknown_
 use Rattle.rtps_receiver.specs.Values.{ActValue}
 use Rattle.rtps_audit.specs.Delivery.{last_announced_from}
 use Rattle.rtps_audit.specs.Placed.{PlacedValue, is_from, placed_in}
-use Rattle.rtps_audit.specs.Speech.{speech_of}
+use Rattle.rtps_audit.specs.Speech.{speech_by}
 use Rattle.rtps_evidence.specs.Amount.{is_sent, is_told, stretches_have}
 use Rattle.rtps_evidence.specs.Locations.{announcement_of, sends, tells}
 use Rattle.rtps_evidence.specs.declared.amount.HeardNumbers.{HeardNumbers}
@@ -32,7 +32,7 @@ pub record IsSplit (writer : Guid) (acts : List PlacedValue) (alike : HeardNumbe
   pub sent : (reader : Guid) (n : ℕ) → is_sent writer reader acts n ≡ (stretches_have alike.sent.items n || any_at (sends writer reader n) acts others)
 
 -- its last number, who announced it, and what its readers hear
-pub record IsSummary (recording : List (List ℕ)) (summary : WriterSummary) : Type 0 where
-  pub last : (reader : Guid) → summary.asked.last ≡ last_announced_from summary.asked.from (speech_of summary.writer reader recording)
+pub record IsSummary (recording : List (List ActValue)) (summary : WriterSummary) : Type 0 where
+  pub last : (reader : Guid) → summary.asked.last ≡ last_announced_from summary.asked.from (speech_by summary.writer reader recording)
   pub announcement : summary.announcement ≡ announcement_of summary.asked.from summary.writer summary.asked.last (placed_in recording)
   pub heard : IsSplit summary.writer (filter (is_from summary.writer) (placed_in recording)) summary.alike summary.others.items

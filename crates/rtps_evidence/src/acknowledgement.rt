@@ -1,7 +1,8 @@
 ghost use Rattle.std.specs.Prelude.{ℕ, ◌≡◌, ◌<◌, ◌==◌, ◌&&◌, ◌^◌, map, nat_lt, List};
 ghost use Rattle.std.specs.List.{find};
 ghost use Rattle.rtps_audit.specs.Delivery.{greatest};
-ghost use Rattle.rtps_audit.specs.Index.{IsIndexOf};
+ghost use Rattle.rtps_audit.specs.Index.{IsIndexBy};
+ghost use Rattle.rtps_audit.specs.Intake.{Intake};
 ghost use Rattle.rtps_audit.specs.Placed.{placed_in};
 ghost use Rattle.rtps_audit.specs.Speech.{natural};
 ghost use Rattle.rtps_evidence.specs.Locations.{acknowledgement_of, claim_in as claim_in_lem, claim_of};
@@ -70,8 +71,8 @@ fn first_above(answers: &[Answer], datagram: u64, number: u64) -> Option<Claim>
 
 /// The first answer of a pair's reader to its writer that has the greatest base of all, where that is above `from`.
 pub(crate) fn find_acknowledgement(index: &Index<'_>, pair: Pair, from: SeqNum) -> Option<Claim>
-    ensures { (recording : List (List ℕ)) → IsIndexOf recording index.now
-        → result ≡ acknowledgement_of from pair.writer pair.reader (placed_in recording) }
+    ensures { (intake : Intake) → IsIndexBy intake index.now
+        → result ≡ acknowledgement_of from pair.writer pair.reader (placed_in intake.acts) }
 {
     let answers = index.answers_of(pair);
     let base = greatest_base(answers);
@@ -83,8 +84,8 @@ pub(crate) fn find_acknowledgement(index: &Index<'_>, pair: Pair, from: SeqNum) 
 
 /// The first answer of a pair's reader to its writer, in a datagram counted from 1, that has a base above the number.
 pub(crate) fn find_claim(index: &Index<'_>, pair: Pair, datagram: u64, number: u64) -> Option<Claim>
-    ensures { (recording : List (List ℕ)) → IsIndexOf recording index.now
-        → result ≡ claim_of pair.writer pair.reader datagram number (placed_in recording) }
+    ensures { (intake : Intake) → IsIndexBy intake index.now
+        → result ≡ claim_of pair.writer pair.reader datagram number (placed_in intake.acts) }
 {
     first_above(index.answers_of(pair), datagram, number)
 }

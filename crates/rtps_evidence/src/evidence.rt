@@ -1,6 +1,7 @@
 ghost use Rattle.std.specs.Prelude.{ℕ, ◌≡◌, ◌<◌, ◌^◌, map, IfOk, List};
 ghost use Rattle.std.specs.Option.{option_map};
-ghost use Rattle.rtps_audit.specs.Index.{IsIndexOf};
+ghost use Rattle.rtps_audit.specs.Index.{IsIndexBy};
+ghost use Rattle.rtps_audit.specs.Intake.{Intake};
 ghost use Rattle.rtps_audit.specs.Placed.{placed_in, placed_value};
 ghost use Rattle.rtps_audit.specs.Speech.{natural as natural_lem};
 ghost use Rattle.rtps_evidence.specs.Locations.{sent_value};
@@ -77,7 +78,7 @@ impl<'a> Evidence<'a> {
         pair: Pair,
         from: SeqNum,
     ) -> Result<Evidence<'a>, Memory>
-        ensures { (recording : List (List ℕ)) → IsIndexOf recording index.now → IfOk result (IsEvidenceFrom from pair recording) }
+        ensures { (intake : Intake) → IsIndexBy intake index.now → IfOk result (IsEvidenceFrom from pair intake) }
     {
         let verdict = index.judge_from(pair, from)?;
         let summary = WriterSummary::of(alloc, index, pair.writer, from)?;
@@ -93,9 +94,9 @@ impl<'a> Evidence<'a> {
     ) -> Result<Evidence<'a>, Memory>
         requires { summary.now.writer ≡ row.pair.writer }
         ensures judged { IfOk result (λ evidence. evidence.verdict ≡ row.verdict) }
-        ensures evidence { (recording : List (List ℕ)) → IsIndexOf recording index.now → IsSummary recording summary.now
-            → IsJudgedFrom summary.now.asked.from recording row
-            → IfOk result (IsEvidenceFrom summary.now.asked.from row.pair recording) }
+        ensures evidence { (intake : Intake) → IsIndexBy intake index.now → IsSummary intake.acts summary.now
+            → IsJudgedFrom summary.now.asked.from intake.acts row
+            → IfOk result (IsEvidenceFrom summary.now.asked.from row.pair intake) }
     {
         let acts = index.acts_of(row.pair.writer);
         let answers = index.answers_of(row.pair);
@@ -129,7 +130,7 @@ impl<'a> Evidence<'a> {
     /// The evidence of an index's recording for a writer and a reader, any two GUIDs, by all numbers. `Memory` as of
     /// [`Evidence::of_from`].
     pub fn of(alloc: Global, index: &Index<'a>, pair: Pair) -> Result<Evidence<'a>, Memory>
-        ensures { (recording : List (List ℕ)) → IsIndexOf recording index.now → IfOk result (IsEvidence pair recording) }
+        ensures { (intake : Intake) → IsIndexBy intake index.now → IfOk result (IsEvidence pair intake) }
     {
         Evidence::of_from(alloc, index, pair, SeqNum::first())
     }
@@ -157,8 +158,8 @@ fn teller_of(acts: &[Placed<'_>], row: Row) -> Option<Teller>
 
 /// The first answer of a pair that claims the number of the verdict in its datagram, where it is unfounded.
 fn claim_of(index: &Index<'_>, row: Row) -> Option<Claim>
-    ensures { (recording : List (List ℕ)) → IsIndexOf recording index.now
-        → result ≡ claim_by_lem row.verdict row.pair.writer row.pair.reader (placed_in recording) }
+    ensures { (intake : Intake) → IsIndexBy intake index.now
+        → result ≡ claim_by_lem row.verdict row.pair.writer row.pair.reader (placed_in intake.acts) }
 {
     match row.verdict {
         Verdict::Unfounded { datagram, number } => {

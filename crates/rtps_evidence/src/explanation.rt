@@ -1,6 +1,7 @@
 ghost use Rattle.std.specs.Prelude.{ℕ, ◌≡◌, map, All, IfOk, List};
 ghost use Rattle.rtps_discovery.specs.Directory.{settled_at};
-ghost use Rattle.rtps_audit.specs.Index.{IsIndexOf};
+ghost use Rattle.rtps_audit.specs.Index.{IsIndexBy};
+ghost use Rattle.rtps_audit.specs.Intake.{Intake};
 ghost use Rattle.rtps_audit.specs.Report.{IsJudgedFrom};
 ghost use Rattle.rtps_evidence.specs.Evidence.{IsEvidenceFrom};
 ghost use Rattle.rtps_evidence.specs.Explanation.{IsExplainedFrom, IsNamed, row_of, topic_of, type_of};
@@ -52,9 +53,9 @@ fn explain_rows<'a>(
 ) -> Result<Vec<Explanation<'a>>, Memory>
     ensures rows { IfOk result (λ explained. map row_of explained.items ≡ rows.now) }
     ensures named { IfOk result (λ explained. All (IsNamed directory.now.endpoints) explained.items) }
-    ensures shown { (recording : List (List ℕ)) → IsIndexOf recording index.now
-        → All (IsJudgedFrom from recording) rows.now
-        → IfOk result (λ explained. All (λ row. IsEvidenceFrom from row.pair recording row.evidence) explained.items) }
+    ensures shown { (intake : Intake) → IsIndexBy intake index.now
+        → All (IsJudgedFrom from intake.acts) rows.now
+        → IfOk result (λ explained. All (λ row. IsEvidenceFrom from row.pair intake row.evidence) explained.items) }
 {
     let mut explained = Vec::with_capacity(alloc, rows.len())?;
     let mut before = None;

@@ -1,6 +1,7 @@
 ghost use Rattle.std.specs.Prelude.{ℕ, ◌≡◌, ◌<◌, ◌^◌, map, List, Some};
 ghost use Rattle.std.specs.Option.{option_map};
-ghost use Rattle.rtps_audit.specs.Index.{IsIndexOf};
+ghost use Rattle.rtps_audit.specs.Index.{IsIndexBy};
+ghost use Rattle.rtps_audit.specs.Intake.{Intake};
 ghost use Rattle.rtps_audit.specs.Placed.{placed_in, placed_value};
 ghost use Rattle.rtps_evidence.specs.Locations.{find_last, location_of as location_of_lem};
 ghost use Rattle.rtps_evidence.specs.Missed.{asks_for, gone_behind, missed_by, withdraws_behind as withdraws_behind_lem};
@@ -82,8 +83,8 @@ fn first_gone_behind(
 /// The number as one that is missed; None where the pair's reader never asks its writer for it.
 pub(crate) fn first_missed_at(index: &Index<'_>, pair: Pair, number: u64) -> Option<FirstMissed>
     requires { number < 2 ^ 63 }
-    ensures { (recording : List (List ℕ)) → IsIndexOf recording index.now
-        → result ≡ missed_by pair.writer pair.reader (placed_in recording) (Some number) }
+    ensures { (intake : Intake) → IsIndexBy intake index.now
+        → result ≡ missed_by pair.writer pair.reader (placed_in intake.acts) (Some number) }
 {
     let Some(asked) = last_asking(index.acts_of(pair.reader), pair, number) else {
         return None;

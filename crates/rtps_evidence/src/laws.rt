@@ -37,7 +37,7 @@ pub fn received_is_exact()
     ensures { ReceivedIsExact }
 {}
 
-/// A recording is explained in one way.
+/// What an index takes in is explained in one way, and so is a recording.
 pub fn one_explanation()
     ensures { HasOneExplanation }
 {

@@ -1,8 +1,10 @@
-ghost use Rattle.std.specs.Prelude.{ℕ, ◌≡◌, ◌≤◌, ◌<◌, true, false, IfOk, List};
-ghost use Rattle.rtps_audit.specs.Index.{IsIndexOf};
+ghost use Rattle.std.specs.Prelude.{ℕ, ◌≡◌, ◌≤◌, ◌<◌, true, false, IfOk, Option};
+ghost use Rattle.rtps_audit.specs.Index.{IsIndexBy};
+ghost use Rattle.rtps_audit.specs.Intake.{Intake};
 ghost use Rattle.rtps_audit.specs.Placed.{placed_in};
 ghost use Rattle.rtps_evidence.specs.Amount.{stretches_have};
 ghost use Rattle.rtps_evidence.specs.Missed.{AreMissed, is_missed};
+ghost use Rattle.rtps_evidence.specs.declared.location.Location.{Location as LocationValue};
 
 use crate::amount::{AskedNumbers, Stretch, count_of};
 use crate::first_missed::{FirstMissed, first_missed_at};
@@ -43,9 +45,9 @@ pub(crate) fn count_missed(
     pair: Pair,
     asked: &AskedNumbers,
 ) -> Result<Missed, Memory>
-    ensures { (recording : List (List ℕ)) → IsIndexOf recording index.now
-        → ((n : ℕ) → stretches_have missed.old.items n ≡ is_missed pair.writer pair.reader (placed_in recording) n)
-        → IfOk result (AreMissed asked.now.from asked.now.last pair.writer pair.reader (placed_in recording)) }
+    ensures { (intake : Intake) (place : Option LocationValue) → IsIndexBy intake index.now
+        → ((n : ℕ) → stretches_have missed.old.items n ≡ is_missed place pair.writer pair.reader (placed_in intake.acts) n)
+        → IfOk result (AreMissed asked.now.from asked.now.last place pair.writer pair.reader (placed_in intake.acts)) }
 {
     let from = asked.from.get().cast_unsigned();
     let end = asked.last + 1;

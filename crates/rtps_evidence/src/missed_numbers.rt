@@ -1,7 +1,8 @@
 ghost use Rattle.std.specs.Prelude.{ℕ, ◌≡◌, ◌==◌, ◌&&◌, ◌||◌, not, map, IfOk, OnOk, List};
 ghost use Rattle.std.specs.List.{list_any};
 ghost use Rattle.rtps_ids.specs.NumberSet.{is_member};
-ghost use Rattle.rtps_audit.specs.Index.{IsIndexOf};
+ghost use Rattle.rtps_audit.specs.Index.{IsIndexBy};
+ghost use Rattle.rtps_audit.specs.Intake.{Intake};
 ghost use Rattle.rtps_audit.specs.Placed.{placed_in, placed_value};
 ghost use Rattle.rtps_evidence.specs.Amount.{stretches_have};
 ghost use Rattle.rtps_evidence.specs.Claimed.{is_at};
@@ -44,7 +45,7 @@ impl Listener {
     /// A writer and a reader of a recording.
     pub(crate) fn of(index: &Index<'_>, pair: Pair) -> Listener
         ensures pair { result.pair ≡ pair }
-        ensures announced { (recording : List (List ℕ)) → IsIndexOf recording index.now → result.announced ≡ place_announced pair.reader (placed_in recording) }
+        ensures announced { (intake : Intake) → IsIndexBy intake index.now → result.announced ≡ place_announced pair.reader (placed_in intake.announcing) }
     {
         Listener {
             pair,
@@ -180,10 +181,9 @@ pub(crate) fn find_missed(
     received: &[Stretch],
 ) -> Result<Vec<Stretch>, Memory>
     requires { AreRising received.now }
-    ensures { (recording : List (List ℕ)) → IsIndexOf recording index.now
-        → listener.now.announced ≡ place_announced listener.now.pair.reader (placed_in recording)
-        → ((n : ℕ) → stretches_have received.now n ≡ is_received listener.now.pair.writer listener.now.pair.reader (placed_in recording) n)
-        → IfOk result (λ missed. (n : ℕ) → stretches_have missed.items n ≡ is_missed listener.now.pair.writer listener.now.pair.reader (placed_in recording) n) }
+    ensures { (intake : Intake) → IsIndexBy intake index.now
+        → ((n : ℕ) → stretches_have received.now n ≡ is_received listener.now.pair.writer listener.now.pair.reader (placed_in intake.acts) n)
+        → IfOk result (λ missed. (n : ℕ) → stretches_have missed.items n ≡ is_missed listener.now.announced listener.now.pair.writer listener.now.pair.reader (placed_in intake.acts) n) }
 {
     let pair = listener.pair;
     let numbers = sent_unreceived(alloc, index.acts_of(pair.writer), listener, received)?;

@@ -1,6 +1,7 @@
 ghost use Rattle.std.specs.Prelude.{ℕ, ◌≡◌, ◌<◌, ◌^◌, map, nat_lt, List};
 ghost use Rattle.std.specs.List.{find};
-ghost use Rattle.rtps_audit.specs.Index.{IsIndexOf};
+ghost use Rattle.rtps_audit.specs.Index.{IsIndexBy};
+ghost use Rattle.rtps_audit.specs.Intake.{Intake};
 ghost use Rattle.rtps_audit.specs.Placed.{placed_in, placed_value};
 ghost use Rattle.rtps_audit.specs.Speech.{natural};
 ghost use Rattle.rtps_evidence.specs.Locations.{claim_in as claim_in_lem};
@@ -77,8 +78,8 @@ fn first_gone(acts: &[Placed<'_>], pair: Pair, number: u64, datagram: u64) -> Op
 /// The number as one that is not received, and what keeps it from being so.
 pub(crate) fn not_received_at(index: &Index<'_>, pair: Pair, number: u64) -> NotReceived
     requires { number < 2 ^ 63 }
-    ensures { (recording : List (List ℕ)) → IsIndexOf recording index.now
-        → result ≡ kept_by pair.writer pair.reader number (placed_in recording) (first_claiming pair.writer pair.reader number (placed_in recording)) }
+    ensures { (intake : Intake) → IsIndexBy intake index.now
+        → result ≡ kept_by pair.writer pair.reader number (placed_in intake.acts) (first_claiming pair.writer pair.reader number (placed_in intake.acts)) }
 {
     let Some(claim) = first_claim(index.answers_of(pair), number) else {
         return NotReceived {

@@ -1,7 +1,7 @@
 ghost use Rattle.std.specs.Prelude.{ℕ, ◌≡◌, filter, map, List, None};
 ghost use Rattle.std.specs.List.{last_or};
 ghost use Rattle.std.specs.Option.{option_map};
-ghost use Rattle.rtps_receiver.specs.Values.{act_body_value};
+ghost use Rattle.rtps_receiver.specs.Values.{ActValue, act_body_value};
 ghost use Rattle.rtps_audit.specs.Placed.{answers_among, is_from, placed_in, placed_value};
 ghost use Rattle.rtps_evidence.specs.Questions.{AreAsked, AreQuestions, is_question as is_question_lem, place_of as place_of_lem, questions_behind};
 
@@ -79,7 +79,7 @@ fn last_place(answers: &[Answer]) -> Option<Location>
 
 /// How often a pair's writer asked its reader since the reader's last answer, by what the writer says and the answers.
 pub(crate) fn questions_since(acts: &[Placed<'_>], answers: &[Answer], pair: Pair) -> Questions
-    ensures { (recording : List (List ℕ)) → map placed_value acts.now ≡ filter (is_from pair.writer) (placed_in recording)
+    ensures { (recording : List (List ActValue)) → map placed_value acts.now ≡ filter (is_from pair.writer) (placed_in recording)
         → answers.now ≡ answers_among pair (placed_in recording) → AreQuestions pair.writer pair.reader (placed_in recording) result }
 {
     questions_among(acts, pair, last_place(answers))

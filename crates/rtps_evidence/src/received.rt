@@ -1,6 +1,8 @@
 ghost use Rattle.std.specs.Prelude.{ℕ, ◌≡◌, ◌≤◌, ◌<◌, true, false, ◌^◌, ◌&&◌, ◌||◌, filter, map, IfOk, IfSome, OnOk, List};
 ghost use Rattle.std.specs.List.{list_any};
-ghost use Rattle.rtps_audit.specs.Index.{IsIndexOf};
+ghost use Rattle.rtps_receiver.specs.Values.{ActValue};
+ghost use Rattle.rtps_audit.specs.Index.{IsIndexBy};
+ghost use Rattle.rtps_audit.specs.Intake.{Intake};
 ghost use Rattle.rtps_audit.specs.Placed.{answers_among, is_from, placed_in, placed_value};
 ghost use Rattle.rtps_evidence.specs.Amount.{stretches_have};
 ghost use Rattle.rtps_evidence.specs.Claimed.{certain_at, is_at};
@@ -89,7 +91,7 @@ fn find_received(
     answers: &[Answer],
     pair: Pair,
 ) -> Result<Vec<Stretch>, Memory>
-    ensures { (recording : List (List ℕ)) → map placed_value acts.now ≡ filter (is_from pair.writer) (placed_in recording)
+    ensures { (recording : List (List ActValue)) → map placed_value acts.now ≡ filter (is_from pair.writer) (placed_in recording)
         → answers.now ≡ answers_among pair (placed_in recording) → IfOk result (λ received. (n : ℕ)
         → stretches_have received.items n ≡ is_received pair.writer pair.reader (placed_in recording) n) }
 {
@@ -132,7 +134,7 @@ pub(crate) fn received_numbers(
     pair: Pair,
 ) -> Result<Vec<Stretch>, Memory>
     ensures rising { IfOk result (λ received. AreRising received.items) }
-    ensures received { (recording : List (List ℕ)) → map placed_value acts.now ≡ filter (is_from pair.writer) (placed_in recording)
+    ensures received { (recording : List (List ActValue)) → map placed_value acts.now ≡ filter (is_from pair.writer) (placed_in recording)
         → answers.now ≡ answers_among pair (placed_in recording) → IfOk result (λ received. (n : ℕ)
         → stretches_have received.items n ≡ is_received pair.writer pair.reader (placed_in recording) n) }
 {
@@ -150,9 +152,9 @@ pub(crate) fn count_received(
     asked: &AskedNumbers,
 ) -> Result<Received, Memory>
     requires { AreRising received.old.items }
-    ensures { (recording : List (List ℕ)) → IsIndexOf recording index.now
-        → ((n : ℕ) → stretches_have received.old.items n ≡ is_received pair.writer pair.reader (placed_in recording) n)
-        → IfOk result (AreReceived asked.now.from asked.now.last pair.writer pair.reader (placed_in recording)) }
+    ensures { (intake : Intake) → IsIndexBy intake index.now
+        → ((n : ℕ) → stretches_have received.old.items n ≡ is_received pair.writer pair.reader (placed_in intake.acts) n)
+        → IfOk result (AreReceived asked.now.from asked.now.last pair.writer pair.reader (placed_in intake.acts)) }
 {
     let first = asked.from.get().cast_unsigned();
     let end = asked.last + 1;

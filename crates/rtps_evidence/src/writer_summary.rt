@@ -1,6 +1,7 @@
 ghost use Rattle.std.specs.Prelude.{ℕ, ◌≡◌, map, IfOk, IfSome, List};
 ghost use Rattle.rtps_receiver.specs.Values.{act_value};
-ghost use Rattle.rtps_audit.specs.Index.{IsIndexOf};
+ghost use Rattle.rtps_audit.specs.Index.{IsIndexBy};
+ghost use Rattle.rtps_audit.specs.Intake.{Intake};
 ghost use Rattle.rtps_audit.specs.Placed.{placed_in, placed_value};
 ghost use Rattle.rtps_evidence.specs.Amount.{AreAmounts, AreNumbers, is_sent, is_told};
 ghost use Rattle.rtps_evidence.specs.WriterSummary.{IsSplit, IsSummary, is_for_everyone as is_for_everyone_lem};
@@ -74,7 +75,7 @@ impl WriterSummary {
     ) -> Result<WriterSummary, Memory>
         ensures writer { IfOk result (λ summary. summary.writer ≡ writer) }
         ensures from { IfOk result (λ summary. summary.asked.from ≡ from) }
-        ensures summary { (recording : List (List ℕ)) → IsIndexOf recording index.now → IfOk result (IsSummary recording) }
+        ensures summary { (intake : Intake) → IsIndexBy intake index.now → IfOk result (IsSummary intake.acts) }
     {
         let acts = index.acts_of(writer);
         let before = from.get().cast_unsigned() - 1;
@@ -100,8 +101,8 @@ impl WriterSummary {
     ) -> Result<WriterSummary, Memory>
         ensures writer { IfOk result (λ summary. summary.writer ≡ writer) }
         ensures from { IfOk result (λ summary. summary.asked.from ≡ from) }
-        ensures summary { (recording : List (List ℕ)) → IsIndexOf recording index.now
-            → IfSome before (IsSummary recording) → IfOk result (IsSummary recording) }
+        ensures summary { (intake : Intake) → IsIndexBy intake index.now
+            → IfSome before (IsSummary intake.acts) → IfOk result (IsSummary intake.acts) }
     {
         if let Some(summary) = before {
             if summary.writer == writer && summary.asked.from == from {
@@ -119,8 +120,8 @@ impl WriterSummary {
         index: &Index<'_>,
         reader: Guid,
     ) -> Result<Amounts, Memory>
-        ensures { (recording : List (List ℕ)) → IsIndexOf recording index.now → IsSummary recording self.now
-            → IfOk result (AreAmounts self.now.asked.from self.now.asked.last self.now.writer reader (placed_in recording)) }
+        ensures { (intake : Intake) → IsIndexBy intake index.now → IsSummary intake.acts self.now
+            → IfOk result (AreAmounts self.now.asked.from self.now.asked.last self.now.writer reader (placed_in intake.acts)) }
     {
         let mut heard = self.heard_by(alloc, index.acts_of(self.writer), reader)?;
         let amounts = heard.amounts(&self.asked)?;

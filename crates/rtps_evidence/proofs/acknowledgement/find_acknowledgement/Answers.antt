@@ -11,14 +11,14 @@ use Rattle.rtps_evidence.proofs.AnswerLemmas.{acknowledged, unacknowledged}
 use Rattle.rtps_evidence.proofs.acknowledgement.find_acknowledgement.Goals as goal
 
 pub returns-then-base-cast_unsigned : goal.returns-then-base-cast_unsigned
-returns-then-base-cast_unsigned c = λ recording is.
-    unacknowledged c.args.from c.greatest_base-base.result c.args.pair (placed_in recording)
-    (c.greatest_base-base.ensures.value ∙ ap (λ (answers : List Answer). greatest (map (λ answer. natural answer.base) answers)) (c.answers_of-answers.ensures recording is)) (omega (arith, ints))
+returns-then-base-cast_unsigned c = λ intake is.
+    unacknowledged c.args.from c.greatest_base-base.result c.args.pair (placed_in intake.acts)
+    (c.greatest_base-base.ensures.value ∙ ap (λ (answers : List Answer). greatest (map (λ answer. natural answer.base) answers)) (c.answers_of-answers.ensures intake is)) (omega (arith, ints))
 
 pub returns : goal.returns
-returns c = λ recording is.
-    let answers = c.answers_of-answers.ensures recording is in
+returns c = λ intake is.
+    let answers = c.answers_of-answers.ensures intake is in
     c.first_with.ensures
     ∙ ap (λ (all : List Answer). find (λ (claim : Claim). natural claim.below == c.greatest_base-base.result) (map claim_in all)) answers
-    ∙ acknowledged c.args.from c.greatest_base-base.result c.args.pair (placed_in recording)
+    ∙ acknowledged c.args.from c.greatest_base-base.result c.args.pair (placed_in intake.acts)
     (c.greatest_base-base.ensures.value ∙ ap (λ (all : List Answer). greatest (map (λ answer. natural answer.base) all)) answers) (omega (arith, ints))

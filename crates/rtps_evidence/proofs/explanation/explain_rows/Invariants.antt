@@ -1,6 +1,7 @@
-use Rattle.std.proofs.Common.{◌≡◌, ℕ, All, List, map, take}
+use Rattle.std.proofs.Common.{◌≡◌, All, map, take}
 use Rattle.std.specs.Prelude.{IfSome}
-use Rattle.rtps_audit.specs.Index.{IsIndexOf}
+use Rattle.rtps_audit.specs.Index.{IsIndexBy}
+use Rattle.rtps_audit.specs.Intake.{Intake}
 use Rattle.rtps_audit.specs.Report.{IsJudgedFrom}
 use Rattle.rtps_evidence.specs.Evidence.{IsEvidenceFrom}
 use Rattle.rtps_evidence.specs.Explanation.{IsNamed, row_of}
@@ -12,7 +13,7 @@ abbrev pub invariant-loop-row : goal.invariant-loop-row
 invariant-loop-row l = record {
   rows : map row_of l.explained.items ≡ take l.row-index l.rows;
   named : All (IsNamed l.directory.endpoints) l.explained.items;
-  shown : (recording : List (List ℕ)) → IsIndexOf recording l.index → All (IsJudgedFrom l.fn.from recording) l.rows
-      → All (λ row. IsEvidenceFrom l.fn.from row.pair recording row.evidence) l.explained.items;
-  known : (recording : List (List ℕ)) → IsIndexOf recording l.index → IfSome l.before (IsSummary recording);
+  shown : (intake : Intake) → IsIndexBy intake l.index → All (IsJudgedFrom l.fn.from intake.acts) l.rows
+      → All (λ row. IsEvidenceFrom l.fn.from row.pair intake row.evidence) l.explained.items;
+  known : (intake : Intake) → IsIndexBy intake l.index → IfSome l.before (IsSummary intake.acts);
 }

@@ -7,18 +7,18 @@ use Rattle.rtps_evidence.proofs.MissedLemmas.{asked_last, asking_same, gone_same
 use Rattle.rtps_evidence.proofs.first_missed.first_missed_at.Goals as goal
 
 pub returns-in_default : goal.returns-in_default
-returns-in_default c = λ recording is.
-    never_asked c.args.pair.writer c.args.pair.reader c.args.number (placed_in recording) (find_last (asks_for c.args.pair.writer c.args.pair.reader c.args.number) (placed_in recording))
+returns-in_default c = λ intake is.
+    never_asked c.args.pair.writer c.args.pair.reader c.args.number (placed_in intake.acts) (find_last (asks_for c.args.pair.writer c.args.pair.reader c.args.number) (placed_in intake.acts))
     (c.in_default.ensures
-    ∙ ap (λ (l : List PlacedValue). option_map location_of (find_last (asks_for c.args.pair.writer c.args.pair.reader c.args.number) l)) (c.acts_of.ensures recording is)
-    ∙ asking_same c.args.pair.writer c.args.pair.reader c.args.number (placed_in recording))
+    ∙ ap (λ (l : List PlacedValue). option_map location_of (find_last (asks_for c.args.pair.writer c.args.pair.reader c.args.number) l)) (c.acts_of.ensures intake is)
+    ∙ asking_same c.args.pair.writer c.args.pair.reader c.args.number (placed_in intake.acts))
 
 pub returns : goal.returns
-returns c = λ recording is.
-    asked_last c.args.pair.writer c.args.pair.reader c.args.number (placed_in recording) (find_last (asks_for c.args.pair.writer c.args.pair.reader c.args.number) (placed_in recording)) c.in-Some.asked c.first_gone_behind-gone.result
+returns c = λ intake is.
+    asked_last c.args.pair.writer c.args.pair.reader c.args.number (placed_in intake.acts) (find_last (asks_for c.args.pair.writer c.args.pair.reader c.args.number) (placed_in intake.acts)) c.in-Some.asked c.first_gone_behind-gone.result
     (c.in-Some.ensures
-    ∙ ap (λ (l : List PlacedValue). option_map location_of (find_last (asks_for c.args.pair.writer c.args.pair.reader c.args.number) l)) (c.acts_of.ensures recording is)
-    ∙ asking_same c.args.pair.writer c.args.pair.reader c.args.number (placed_in recording))
+    ∙ ap (λ (l : List PlacedValue). option_map location_of (find_last (asks_for c.args.pair.writer c.args.pair.reader c.args.number) l)) (c.acts_of.ensures intake is)
+    ∙ asking_same c.args.pair.writer c.args.pair.reader c.args.number (placed_in intake.acts))
     (c.first_gone_behind-gone.ensures
-    ∙ ap (gone_behind c.in-Some.asked c.args.pair.writer c.args.pair.reader c.args.number) (c.acts_of-2.ensures recording is)
-    ∙ gone_same_behind c.in-Some.asked c.args.pair.writer c.args.pair.reader c.args.number (placed_in recording))
+    ∙ ap (gone_behind c.in-Some.asked c.args.pair.writer c.args.pair.reader c.args.number) (c.acts_of-2.ensures intake is)
+    ∙ gone_same_behind c.in-Some.asked c.args.pair.writer c.args.pair.reader c.args.number (placed_in intake.acts))

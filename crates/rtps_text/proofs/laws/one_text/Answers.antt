@@ -2,6 +2,7 @@ use Rattle.std.proofs.Common.{◌≡◌, List, map, sym, ◌∙◌, ap}
 use Rattle.rtps_receiver.specs.Acts.{acts_in}
 use Rattle.rtps_discovery.specs.Directory.{DirectoryValue}
 use Rattle.rtps_discovery.specs.Notice.{faults_in}
+use Rattle.rtps_audit.specs.Intake.{intake_of}
 use Rattle.rtps_audit.specs.declared.report.Counts.{Counts}
 use Rattle.rtps_audit.specs.declared.report.Row.{Row}
 use Rattle.rtps_evidence.specs.Explanation.{ExplanationValue, explanation_value}
@@ -21,14 +22,14 @@ returns-clause-listed c = λ recording one other ending last ((directory, map, i
 
 pub returns-clause-audited : goal.returns-clause-audited
 returns-clause-audited c = λ from recording one other ending last is also.
-    let same = c.one_report.ensures from recording.datagrams is.report also.report is.reports also.reports in (
+    let same = c.one_report.ensures from (intake_of recording.datagrams) is.report also.report is.reports also.reports in (
       is.is_text ∙ ap (λ (rows : List Row). report_text rows is.report.counts recording.ignored) same.0 ∙ ap (λ (counts : Counts). report_text also.report.rows.items counts recording.ignored) same.1 ∙ sym also.is_text,
       is.ends ∙ ap ending_of same.0 ∙ sym also.ends,
     )
 
 pub returns-clause-explained : goal.returns-clause-explained
 returns-clause-explained c = λ from recording one other ending last is also.
-    let same = c.one_explanation.ensures from recording.datagrams is.explained also.explained is.explains also.explains in (
+    let same = c.one_explanation.ensures from (intake_of recording.datagrams) is.explained also.explained is.explains also.explains in (
       is.is_text ∙ ap (λ (rows : List ExplanationValue). explained_text rows is.explained.counts recording.ignored) same.0
           ∙ ap (λ (counts : Counts). explained_text (map explanation_value also.explained.rows.items) counts recording.ignored) same.1 ∙ sym also.is_text,
       is.ends ∙ ap ending_of_rows same.0 ∙ sym also.ends,
@@ -36,7 +37,7 @@ returns-clause-explained c = λ from recording one other ending last is also.
 
 pub returns-clause-json : goal.returns-clause-json
 returns-clause-json c = λ from recording one other ending last is also.
-    let same = c.one_explanation.ensures from recording.datagrams is.explained also.explained is.explains also.explains in (
+    let same = c.one_explanation.ensures from (intake_of recording.datagrams) is.explained also.explained is.explains also.explains in (
       is.is_line.is_text ∙ ap (λ (rows : List ExplanationValue). json_line (report_json rows is.explained.counts recording)) same.0
           ∙ ap (λ (counts : Counts). json_line (report_json (map explanation_value also.explained.rows.items) counts recording)) same.1 ∙ sym also.is_line.is_text,
       is.ends ∙ ap ending_of_rows same.0 ∙ sym also.ends,

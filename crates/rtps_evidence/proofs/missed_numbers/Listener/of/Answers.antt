@@ -5,4 +5,4 @@ use Rattle.rtps_evidence.proofs.MissedLemmas.{place_same}
 use Rattle.rtps_evidence.proofs.missed_numbers.Listener.of.Goals as goal
 
 pub returns-clause-announced : goal.returns-clause-announced
-returns-clause-announced c = λ recording is. c.first_place.ensures ∙ ap first_place (c.announced_at.ensures recording is) ∙ place_same c.args.pair.reader (placed_in recording)
+returns-clause-announced c = λ intake is. c.first_place.ensures ∙ ap first_place (c.announced_at.ensures intake is) ∙ place_same c.args.pair.reader (placed_in intake.announcing)
