@@ -4,7 +4,7 @@ ghost use Rattle.rtps_audit.specs.Index.{IsIndexBy};
 ghost use Rattle.rtps_audit.specs.Intake.{Intake};
 ghost use Rattle.rtps_audit.specs.Report.{IsJudgedFrom};
 ghost use Rattle.rtps_evidence.specs.Evidence.{IsEvidenceFrom};
-ghost use Rattle.rtps_evidence.specs.Explanation.{IsExplainedFrom, IsNamed, row_of, topic_of, type_of};
+ghost use Rattle.rtps_evidence.specs.Explanation.{IsExplainedBy, IsExplainedFrom, IsNamed, row_of, topic_of, type_of};
 
 use crate::evidence::Evidence;
 use crate::writer_summary::WriterSummary;
@@ -74,6 +74,24 @@ fn explain_rows<'a>(
     Ok(explained)
 }
 
+/// Reports on what an index took in by the numbers from `from` on, and says of each row why it has its verdict. It tells how far
+/// it is. `Memory` is answered where what is kept cannot grow.
+pub fn explain_index<'a, P: Watch>(
+    alloc: Global,
+    index: &Index<'a>,
+    from: SeqNum,
+    watch: &mut P,
+) -> Result<Explained<'a>, Memory>
+    ensures { (intake : Intake) → IsIndexBy intake index.now → IfOk result (IsExplainedBy from intake) }
+{
+    let report = index.report_from(from, watch)?;
+    let rows = explain_rows(alloc, index, index.directory(), &report.rows, from)?;
+    Ok(Explained {
+        rows,
+        counts: report.counts,
+    })
+}
+
 /// Audits a recording, any datagrams in the order of sending, by the numbers from `from` on, and says of each row of the
 /// report why it has its verdict. It tells how far it is. `Memory` is answered where what is kept cannot grow.
 pub fn explain_from<'a, P: Watch>(
@@ -85,10 +103,6 @@ pub fn explain_from<'a, P: Watch>(
     ensures { IfOk result (IsExplainedFrom from (map (λ datagram. datagram.now) recording.now)) }
 {
     let index = Index::build(alloc, recording)?;
-    let report = index.report_from(from, watch)?;
-    let rows = explain_rows(alloc, &index, index.directory(), &report.rows, from)?;
-    Ok(Explained {
-        rows,
-        counts: report.counts,
-    })
+    let explained = explain_index(alloc, &index, from, watch)?;
+    Ok(explained)
 }

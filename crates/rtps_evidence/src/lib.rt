@@ -23,7 +23,7 @@ mod writer_summary;
 
 pub use acknowledgement::Claim;
 pub use evidence::Evidence;
-pub use explanation::{Explained, Explanation, explain_from};
+pub use explanation::{Explained, Explanation, explain_from, explain_index};
 pub use first_missed::FirstMissed;
 pub use last_announcement::Announcement;
 pub use location::{Kind, Location};
