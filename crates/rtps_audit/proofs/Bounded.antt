@@ -1,6 +1,6 @@
 -- What a recording says is of numbers that are bounded, and if it is of octets, of numbers that fit.
 use Rattle.std.proofs.Common.{◌≡◌, ◌<◌, ◌≤◌, ◌+◌, ◌^◌, ℕ, Bool, true, false, List, [], ◌∷◌, ◌++◌, map, Option, Some, None, slice_get, refl, sym, ◌∙◌, ap, subst, arith}
-use Rattle.std.specs.Prelude.{if◌then◌else◌, All}
+use Rattle.std.specs.Prelude.{◌==◌, if◌then◌else◌, All}
 use Rattle.std.specs.Option.{option_map}
 use Rattle.std.proofs.lemmas.Bool.Decides.{nat_tests}
 use Rattle.std.proofs.lemmas.List.Elements.{All-append, All-cons, All-head, All-nil, All-tail}
@@ -18,6 +18,7 @@ use Rattle.rtps_receiver.specs.declared.state.State.{State}
 use Rattle.rtps_receiver.specs.Values.{ActBodyValue, ActValue}
 use Rattle.rtps_receiver.specs.Values.ActBodyValue.{Data as DataAct, Heartbeat as HeartbeatAct, AckNack as AckNackAct, Gap as GapAct, DataFrag as DataFragAct}
 use Rattle.rtps_audit.specs.Delivery.{Word, Datagram, greatest}
+use Rattle.rtps_audit.specs.Delivery.Word.{Told}
 use Rattle.rtps_audit.specs.FullRun.{IsBoundedBy}
 use Rattle.rtps_audit.specs.Speech.{acts_by_datagram, is_in_gap, said_by, speech_by, word_for, word_of}
 use Rattle.rtps_audit.specs.Laws.{RecordingsAreBounded}
@@ -121,7 +122,7 @@ before_end (DataAct value) n word e = let same = some_if _ _ word e in grind (ar
 before_end (HeartbeatAct value) n word e = let same = some_if _ _ word e in grind (arith, nat_tests)
 before_end (AckNackAct value) n word e = cc
 before_end (GapAct value) n word e = let in_gap = some_if _ _ word e in grind (arith, nat_tests)
-before_end (DataFragAct value) n word e = let same = if_some _ _ word e in grind (arith, nat_tests)
+before_end (DataFragAct value) n word e = let same = if_some (n == value.number) (option_map Told value.told) word e in grind (arith, nat_tests)
 
 -- what a function gives of an element is at most the greatest of what it gives
 below_one : {X : Type 0} (f : X → ℕ) (xs : List X) (i n : ℕ) (x : X) → slice_get xs i ≡ Some x → n < f x → n < greatest (map f xs)

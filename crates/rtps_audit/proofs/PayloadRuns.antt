@@ -1,5 +1,5 @@
 -- Runs of one number among a writer's payloads, which are in the order of numbers.
-use Rattle.std.proofs.Common.{ℕ, ◌≡◌, ◌≤◌, ◌<◌, ◌+◌, ◌-◌, List, [], ◌∷◌, ◌++◌, length, take, drop, get_or, append-nil, append_assoc, refl, sym, ◌∙◌, ap, subst, inl, inr, arith}
+use Rattle.std.proofs.Common.{ℕ, None, ◌≡◌, ◌≤◌, ◌<◌, ◌+◌, ◌-◌, List, [], ◌∷◌, ◌++◌, length, take, drop, get_or, append-nil, append_assoc, refl, sym, ◌∙◌, ap, subst, inl, inr, arith}
 use Rattle.std.specs.Prelude.{◌≢◌, Contains}
 use Rattle.std.specs.List.{All, AllWithin, HoldsAt, slice_range}
 use Rattle.std.specs.List.Sorted.{IsNonDecreasingBy}
@@ -9,9 +9,14 @@ use Rattle.std.proofs.lemmas.List.{get_or_default, get_or-drop, get_or-take, len
 use Rattle.std.proofs.lemmas.List.Elements.{All-contains, All-get_or, All-head, All-nil, All-push, All-tail, All-weaker, Contains-append_cases, Contains-append_left, Contains-append_right, Contains-get_or}
 use Rattle.std.proofs.lemmas.List.Sorted.{IsNonDecreasingBy-push, IsNonDecreasingBy-short}
 use Rattle.rtps_wire.specs.Values.{PayloadValue, payload_value}
+use Rattle.rtps_wire.specs.declared.body.Payload.TheVariants.{Absent}
 use Rattle.rtps_audit.specs.PayloadConflict.{AreConflictsAmong, HasTwo, number_in}
 use Rattle.rtps_audit.specs.declared.payload_conflict.AddressedPayload.{AddressedPayload}
 use Rattle.rtps_audit.proofs.PlacedLemmas.{all_between, all_with_first}
+
+-- what a list of entries has at a place past its end
+abbrev pub no_entry : AddressedPayload
+no_entry = record { number = 0; dest = record { ref_ptr = (0, 0); now = None }; reader = record { 0 = [] }; payload = record { ref_ptr = (0, 0); now = Absent } }
 
 -- the place of an entry among the first ones
 below_taken : (xs : List AddressedPayload) (place k : ℕ) → k < length (take place xs) → k < place

@@ -30,7 +30,10 @@ behind_append before (x ∷ xs) acts =
 
 -- the acts of the next datagram stand behind those of the datagrams so far
 pub placed_push : (recording : List (List ActValue)) (acts : List ActValue) (place : ℕ) → place ≡ length recording → placed_in recording ++ placed_at (place + 1) acts ≡ placed_in (recording ++ acts ∷ [])
-placed_push recording acts place at = ap (λ n. placed_in recording ++ placed_at (n + 1) acts) at ∙ sym (behind_append 0 recording acts)
+placed_push recording acts place at = ap (λ n. placed_in recording ++ placed_at n acts) number ∙ sym (behind_append 0 recording acts)
+  where
+    number : place + 1 ≡ 0 + length recording + 1
+    number = omega arith
 
 -- and together with them
 pub together_push : (recording : List (List ActValue)) (acts : List ActValue) → acts_together (recording ++ acts ∷ []) ≡ acts_together recording ++ acts

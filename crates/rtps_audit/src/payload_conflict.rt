@@ -100,14 +100,14 @@ fn run_end(entries: &[AddressedPayload<'_, '_>], start: usize, number: u64) -> u
 }
 
 /// Whether one of these payloads is another one than this, which is the first of them. It is not compared with itself.
-fn has_other(entries: &[AddressedPayload<'_, '_>], payload: Payload<'_>) -> bool
-    requires first { All (λ entry. payload_value entry.payload.now ≡ payload_value payload) (take 1 entries.now) }
-    ensures other { result ≡ true → (entry : AddressedPayload) × Contains entries.now entry × (payload_value entry.payload.now ≢ payload_value payload.entry) }
-    ensures same { result ≡ false → All (λ entry. payload_value entry.payload.now ≡ payload_value payload.entry) entries.now }
+fn has_other(entries: &[AddressedPayload<'_, '_>], payload: &Payload<'_>) -> bool
+    requires first { All (λ entry. payload_value entry.payload.now ≡ payload_value payload.now) (take 1 entries.now) }
+    ensures other { result ≡ true → (entry : AddressedPayload) × Contains entries.now entry × (payload_value entry.payload.now ≢ payload_value payload.now) }
+    ensures same { result ≡ false → All (λ entry. payload_value entry.payload.now ≡ payload_value payload.now) entries.now }
 {
     for place in 1..entries.len() {
         let other = entries[place];
-        if !is_same_payload(*other.payload, payload) {
+        if !is_same_payload(*other.payload, *payload) {
             return true;
         }
     }
@@ -139,7 +139,7 @@ impl<'x, 'a> PayloadConflicts<'x, 'a> {
             let first = entries[start];
             let end = run_end(entries, start + 1, first.number);
             let run = &entries[start..end];
-            if has_other(run, *first.payload) {
+            if has_other(run, first.payload) {
                 payloads.extend_from_slice(run)?;
             }
             start = end;

@@ -10,7 +10,7 @@ ghost use Rattle.rtps_audit.specs.Placed.{AddsActs, placed_at, placed_value};
 
 use crate::groups::Groups;
 use rtps_ids::{Guid, Memory};
-use rtps_receiver::{Act, ActBody};
+use rtps_receiver::{Act, ActBody, FragmentBody};
 use rtps_wire::DataBody;
 use std::slice;
 
@@ -36,7 +36,12 @@ fn body_of<'a>(body: &ActBody<'a>) -> ActBody<'a>
         ActBody::Heartbeat(heartbeat) => ActBody::Heartbeat(*heartbeat),
         ActBody::AckNack(ack_nack) => ActBody::AckNack(*ack_nack),
         ActBody::Gap(gap) => ActBody::Gap(*gap),
-        ActBody::DataFrag(fragment) => ActBody::DataFrag(*fragment),
+        ActBody::DataFrag(fragment) => ActBody::DataFrag(FragmentBody {
+            reader: fragment.reader,
+            writer: fragment.writer,
+            number: fragment.number,
+            told: fragment.told,
+        }),
     }
 }
 

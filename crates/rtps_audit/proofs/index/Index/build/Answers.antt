@@ -24,7 +24,7 @@ loop-datagram-preserved c =
     let recording = c.args.recording.now in
     let i = c.loop-datagram.datagram-index in
     subst (λ intake. IsIndexBy intake c.note.new.self)
-    (intake_on recording i _ _ _ _ c.loop-datagram-test.true c.in_ok-tally.ensures.tally (c.acts.ensures ∙ c.in_ok-tally.ensures.acts) (c.acts-2.ensures ∙ c.in_ok-tally.ensures.acts))
+    (intake_on recording i _ _ _ _ c.loop-datagram-test.true c.in_ok-tally.ensures.tally (c.acts.ensures ∙ c.in_ok-tally.ensures.acts) (c.acts-in-loop-datagram.ensures ∙ c.in_ok-tally.ensures.acts))
     (c.in_ok-note.ensures (intake_of (octets_of (take i recording))) c.loop-datagram.invariant)
 
 pub returns : goal.returns
