@@ -1,4 +1,4 @@
-use Rattle.std.proofs.Common.{◌≡◌, ◌≤◌, ◌∙◌, ap, arith, length, map, subst, take}
+use Rattle.std.proofs.Common.{◌∙◌, ap, arith, map, subst, take}
 use Rattle.std.proofs.lemmas.List.{take_all}
 use Rattle.rtps_wire.specs.Reading.{reading_of}
 use Rattle.rtps_receiver.specs.Acts.{acts_of}

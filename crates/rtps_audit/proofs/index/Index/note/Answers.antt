@@ -1,4 +1,4 @@
-use Rattle.std.proofs.Common.{◌≡◌, ◌+◌, ◌∙◌, [], ap, arith, filter, length, map, subst, sym, ◌∷◌, ◌++◌}
+use Rattle.std.proofs.Common.{◌+◌, ◌∙◌, [], ap, arith, filter, map, subst, sym, ◌∷◌}
 use Rattle.std.proofs.lemmas.List.{length-append}
 use Rattle.rtps_receiver.specs.Values.{act_value}
 use Rattle.rtps_discovery.specs.Directory.{IsMapOf}
