@@ -84,13 +84,9 @@ def without_sample(recording):
 
 
 def placed_samples(recording):
-    """each sample that anybody is told in pieces: its place, its writer and its payload. Whoever hears some piece of a writer
-    is in one of these audiences, and hears what is for all of it"""
-    for (source, writer), pieces in by_writer(recording).items():
-        places = {id(act): (i, act['at']) for i, acts in enumerate(recording, 1) for act in acts}
-        for dest in {None, *(piece['dest'] for piece in pieces)}:
-            for reader in {bytes(4), *(piece['reader'] for piece in pieces)}:
-                hears = [piece for piece in pieces if piece['dest'] in (None, dest) and piece['reader'] in (bytes(4), reader)]
-                for piece, told in zip(hears, payloads_told(hears)):
-                    for payload in told:
-                        yield places[id(piece)], writer, payload
+    """each sample that a reader which hears everything is told in pieces: its place, its writer and its payload"""
+    places = {id(act): (i, act['at']) for i, acts in enumerate(recording, 1) for act in acts}
+    for (_, writer), pieces in by_writer(recording).items():
+        for piece, told in zip(pieces, payloads_told(pieces)):
+            for payload in told:
+                yield places[id(piece)], writer, payload

@@ -661,7 +661,8 @@ def announces(writer, payload, guid):
 
 
 def first_announced(recording, guid):
-    """the place of the first act by which anybody is told a payload that announces the endpoint of this GUID"""
+    """the place of the first act by which a reader that hears everything is told a payload that announces the endpoint of this
+    GUID"""
     whole = [((i, act['at']), act['writer'], act['payload']) for i, acts in enumerate(recording, 1) for act in acts if act['kind'] == 'data']
     return min((place for place, writer, payload in whole + list(placed_samples(recording)) if announces(writer, payload, guid)), default=(0, 0))
 
