@@ -9,16 +9,16 @@ use Rattle.rtps_ids.specs.declared.identity.Guid.{Guid}
 use Rattle.rtps_wire.specs.Values.{PayloadValue}
 use Rattle.rtps_receiver.specs.Speech.{entity_from, writer_named}
 use Rattle.rtps_receiver.specs.Values.{ActBodyValue, ActValue}
-use Rattle.rtps_receiver.specs.Values.ActBodyValue.{Data, Heartbeat, AckNack, Gap}
+use Rattle.rtps_receiver.specs.Values.ActBodyValue.{Data, Heartbeat, AckNack, Gap, DataFrag}
 use Rattle.rtps_audit.specs.Delivery.{Claims, Datagram, Gives, IsAsked, Word, greatest, last_announced_from}
 use Rattle.rtps_audit.specs.Delivery.Word.{Told}
-use Rattle.rtps_audit.specs.Speech.{announced_for, announced_of_body, base_for, said_by, word_for}
+use Rattle.rtps_audit.specs.Speech.{announced_for, announced_of_body, base_for, said_by, word_for, speech_by}
 use Rattle.rtps_audit.proofs.Offered.{below_greatest, contains_cases, contains_head, contains_mapped, contains_none, contains_tail, get_mapped, greatest_below, if_some, made_from, makes, mapped_contains, mapped_get}
 use Rattle.rtps_fragments.specs.FragmentDelivery.{Fragment, FragmentDatagram, IsPutTogether, Piece, Shape, fragments_from, fragments_of, last_fragment, said_in}
 use Rattle.rtps_fragments.specs.FragmentVerdict.{IsSaidBefore, IsSentBefore}
 use Rattle.rtps_fragments.specs.Laws.{ActsStayWithoutPieces, ActsTellAlike, ArePieceActs, HasFragmentsWithin, HasNoPieces, IsPieceAct}
 use Rattle.rtps_fragments.specs.Samples.{payloads_of}
-use Rattle.rtps_fragments.specs.SampleActs.{PieceAct, acts_and_samples, acts_with_samples, datagrams_and_samples, fragment_speech_of, fragments_in, piece_acts_in, piece_for, samples_told, speech_by}
+use Rattle.rtps_fragments.specs.SampleActs.{PieceAct, acts_and_samples, acts_with_samples, datagrams_and_samples, fragment_speech_of, fragments_in, piece_acts_in, piece_for, samples_told}
 use Rattle.rtps_fragments.proofs.AlikeBySamples.{IsGivenBefore, IsHadBefore, put_together, samples_alike}
 use Rattle.rtps_fragments.proofs.Audiences.{flat_from, flat_has}
 use Rattle.rtps_fragments.proofs.FragmentsBefore.{fragments_before, place_of, sent_by, there_at}
@@ -121,6 +121,7 @@ put_at writer reader all named n shape payload before (first ∷ recording) (suc
 
 pub announcer_named : (body : ActBodyValue) (n : ℕ) → announced_of_body body ≡ Some n → writer_named body ≡ Some (entity_from body)
 announcer_named (Data value) n e = refl
+announcer_named (DataFrag value) n e = refl
 announcer_named (Heartbeat value) n e = refl
 announcer_named (Gap value) n e = refl
 announcer_named (AckNack value) n e = cc

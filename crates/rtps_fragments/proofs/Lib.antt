@@ -21,3 +21,5 @@ pub mod CameLemmas
 pub mod TellingLemmas
 pub mod ToldSoFar
 pub mod AddressedLemmas
+pub mod MergingLemmas
+pub mod MergedSteps

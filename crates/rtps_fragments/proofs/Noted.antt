@@ -7,13 +7,13 @@ use Rattle.rtps_ids.specs.declared.identity.Guid.{Guid}
 use Rattle.rtps_wire.specs.Values.{PayloadValue}
 use Rattle.rtps_receiver.specs.Speech.{is_spoken_by, origin_of}
 use Rattle.rtps_receiver.specs.Values.{ActBodyValue, ActValue}
-use Rattle.rtps_receiver.specs.Values.ActBodyValue.{Data, Heartbeat, AckNack, Gap}
+use Rattle.rtps_receiver.specs.Values.ActBodyValue.{Data, Heartbeat, AckNack, Gap, DataFrag}
 use Rattle.rtps_audit.proofs.Offered.{contains_mapped, contains_none, mapped_contains}
 use Rattle.rtps_fragments.specs.FragmentDelivery.{Fragment, IsPutTogether, Piece, last_fragment, payload_by}
 use Rattle.rtps_fragments.specs.Laws.{IsNoted, IsPieceAct, NotedSamplesAreSent}
 use Rattle.rtps_fragments.specs.Samples.{came_of, payloads_of, samples_of}
-use Rattle.rtps_fragments.specs.SampleActs.{PieceAct, piece_acts_in, sample_act}
-use Rattle.rtps_fragments.specs.SamplesSent.{everyone, samples_sent, sent_by}
+use Rattle.rtps_fragments.specs.SampleActs.{PieceAct, piece_acts_in}
+use Rattle.rtps_fragments.specs.SamplesSent.{noted_act, samples_sent, sent_by}
 use Rattle.rtps_fragments.proofs.ActsTell.{announcer_named}
 use Rattle.rtps_fragments.proofs.Audiences.{flat_from}
 use Rattle.rtps_fragments.proofs.HeardLemmas.{heard_from}
@@ -28,6 +28,7 @@ data_of (Data value) = Some (value.number, value.payload)
 data_of (Heartbeat value) = None
 data_of (AckNack value) = None
 data_of (Gap value) = None
+data_of (DataFrag value) = None
 
 module _ (all : List PieceAct) (writer : Guid) (n : ℕ) (parts : (part : PieceAct) (piece : Piece) → Contains all part → part.piece ≡ Some piece → IsPieceAct part piece) where
   origin : (part : PieceAct) (piece : Piece) → Contains all part → part.piece ≡ Some piece → is_spoken_by part.act writer ≡ true → origin_of part.act ≡ writer
@@ -36,11 +37,11 @@ module _ (all : List PieceAct) (writer : Guid) (n : ℕ) (parts : (part : PieceA
   noted_is_put : (payload : PayloadValue) → IsNoted all writer n payload → IsPutTogether (Contains (sent_by writer all)) n payload
   noted_is_put payload (part, among, spoken, there) = by part.piece refl there
     where
-      by : (o : Option Piece) → part.piece ≡ o → Contains (samples_sent all part.act o) (sample_act part.act n everyone payload) → IsPutTogether (Contains (sent_by writer all)) n payload
-      by None is sent = absurd (contains_none (sample_act part.act n everyone payload) sent)
+      by : (o : Option Piece) → part.piece ≡ o → Contains (samples_sent all part.act o) (noted_act part.act n payload) → IsPutTogether (Contains (sent_by writer all)) n payload
+      by None is sent = absurd (contains_none (noted_act part.act n payload) sent)
       by (Some piece) is sent =
           let from = origin part piece among is spoken in
-          let (other, told, same) = contains_mapped (sample_act part.act piece.number everyone) (payloads_of piece.number piece.shape (sent_by (origin_of part.act) all)) (sample_act part.act n everyone payload) sent in
+          let (other, told, same) = contains_mapped (noted_act part.act piece.number) (payloads_of piece.number piece.shape (sent_by (origin_of part.act) all)) (noted_act part.act n payload) sent in
           let pair : Some (piece.number, other) ≡ Some (n, payload) = ap (λ (a : ActValue). data_of a.body) same in
           let (number, equal) = some_pair_parts piece.number n other payload pair in
           let moved : Contains (payloads_of n piece.shape (sent_by writer all)) payload =
@@ -68,10 +69,10 @@ module _ (all : List PieceAct) (writer : Guid) (n : ℕ) (parts : (part : PieceA
       let moved : Contains (payloads_of piece.number piece.shape (sent_by (origin_of part.act) all)) other =
       subst (λ g. Contains (payloads_of piece.number piece.shape (sent_by g all)) other) (sym from)
       (subst (λ m. Contains (payloads_of m piece.shape (sent_by writer all)) other) (sym number) (subst (λ s. Contains (payloads_of n s (sent_by writer all)) other) (sym shape) told)) in
-      let sent = mapped_contains (sample_act part.act piece.number everyone) (payloads_of piece.number piece.shape (sent_by (origin_of part.act) all)) other moved in
-      let noted : Contains (samples_sent all part.act (Some piece)) (sample_act part.act n everyone other) =
-      subst (λ m. Contains (samples_sent all part.act (Some piece)) (sample_act part.act m everyone other)) number sent in
-      (part, there, spoken, subst (λ o. Contains (samples_sent all part.act o) (sample_act part.act n everyone other)) (sym is) noted)
+      let sent = mapped_contains (noted_act part.act piece.number) (payloads_of piece.number piece.shape (sent_by (origin_of part.act) all)) other moved in
+      let noted : Contains (samples_sent all part.act (Some piece)) (noted_act part.act n other) =
+      subst (λ m. Contains (samples_sent all part.act (Some piece)) (noted_act part.act m other)) number sent in
+      (part, there, spoken, subst (λ o. Contains (samples_sent all part.act o) (noted_act part.act n other)) (sym is) noted)
 
   put_is_noted : (payload : PayloadValue) → IsPutTogether (Contains (sent_by writer all)) n payload
       → IsNoted all writer n payload ⊎ ((x : PayloadValue) × (y : PayloadValue) × IsNoted all writer n x × IsNoted all writer n y × (x ≡ y → ⊥))

@@ -15,7 +15,8 @@ use Rattle.rtps_fragments.specs.FragmentDelivery.{Fragment, IsPutTogether, Piece
 use Rattle.rtps_fragments.specs.FragmentVerdict.{IsFragmentVerdictFrom}
 use Rattle.rtps_fragments.specs.Laws.{ActsStayWithoutPieces, ArePieceActs, FragmentVerdictOfActs, HasNoPieces, IsPieceAct, PiecesLeftAreOfNoSample, VerdictStaysWithoutPieces}
 use Rattle.rtps_fragments.specs.Samples.{payloads_of}
-use Rattle.rtps_fragments.specs.SampleActs.{PieceAct, fragment_speech_of, fragments_in, piece_acts_in, speech_by}
+use Rattle.rtps_audit.specs.Speech.{speech_by}
+use Rattle.rtps_fragments.specs.SampleActs.{PieceAct, fragment_speech_of, fragments_in, piece_acts_in}
 use Rattle.rtps_fragments.specs.SamplesSent.{is_left, is_some_payload, is_whole, sent_by}
 use Rattle.rtps_fragments.proofs.ActsTell.{fragment_bounds}
 use Rattle.rtps_fragments.proofs.Audiences.{and_parts, flat_from}

@@ -55,7 +55,7 @@ own_shape n shape =
     let fragment = (Decides-eqb shape.fragment shape.fragment).1 refl in
     and_true (n == n) _ ((Decides-eqb n n).1 refl) (and_true (shape.sample == shape.sample) _ sample (and_true (shape.fragment == shape.fragment) _ fragment (own_flag shape.is_key)))
 
-same_sample : (n : ℕ) (shape : Shape) (number : ℕ) (other : Shape) → is_of n shape number other ≡ true → (number ≡ n) × (other ≡ shape)
+pub same_sample : (n : ℕ) (shape : Shape) (number : ℕ) (other : Shape) → is_of n shape number other ≡ true → (number ≡ n) × (other ≡ shape)
 same_sample n shape number other e =
     let (is, also) = both_true (number == n) _ e in
     ((Decides-eqb number n).0 is, same_shape other shape also)

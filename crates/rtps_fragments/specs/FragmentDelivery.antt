@@ -7,11 +7,8 @@ use Rattle.rtps_wire.specs.Values.{PayloadValue}
 use Rattle.rtps_wire.specs.Values.PayloadValue.{Whole, Key}
 use Rattle.rtps_audit.specs.Delivery.{Word, Datagram, Speech, IsAsked, Gives, Claims}
 use Rattle.rtps_audit.specs.Delivery.Word.{Told, Gone}
-pub use Rattle.rtps_fragments.specs.declared.piece.Shape.{Shape}
-
--- the number of its last fragment. Fragments count from 1
-abbrev pub last_fragment : Shape → ℕ
-last_fragment shape = (shape.sample + shape.fragment - 1) / shape.fragment
+pub use Rattle.rtps_wire.specs.DataFrag.{last_fragment}
+pub use Rattle.rtps_wire.specs.declared.data_frag.Shape.{Shape}
 
 -- the payload of a sample of these octets
 abbrev pub payload_by : Shape → List ℕ → PayloadValue

@@ -8,13 +8,13 @@ use Rattle.rtps_receiver.specs.Values.{ActValue}
 use Rattle.rtps_audit.specs.Delivery.{Speech, Claims, last_announced_from}
 use Rattle.rtps_audit.specs.RunVerdict.{IsTold, IsVerdictFrom}
 use Rattle.rtps_audit.specs.PlainVerdict.{SpeaksTwo}
-use Rattle.rtps_audit.specs.Speech.{announced_of_body}
+use Rattle.rtps_audit.specs.Speech.{announced_of_body, speech_by}
 use Rattle.rtps_audit.specs.declared.verdict.Verdict.{Verdict}
 use Rattle.rtps_fragments.specs.FragmentDelivery.{Fragment, FragmentSpeech, GivesFragment, IsPutTogether, Piece, Shape, last_fragment, said_in}
 use Rattle.rtps_fragments.specs.FragmentVerdict.{IsPayloadBefore, IsWordBefore, IsFragmentVerdictFrom}
 use Rattle.rtps_fragments.specs.Samples.{payloads_of, told_in}
-use Rattle.rtps_fragments.specs.SampleActs.{PieceAct, acts_with_samples, fragment_speech_of, piece_acts_in, acts_of_sample, sample_act, samples_told, speech_by}
-use Rattle.rtps_fragments.specs.SamplesSent.{everyone, is_left, samples_sent, sent_by}
+use Rattle.rtps_fragments.specs.SampleActs.{PieceAct, acts_with_samples, fragment_speech_of, piece_acts_in, acts_of_sample, samples_told}
+use Rattle.rtps_fragments.specs.SamplesSent.{is_left, noted_act, samples_sent, sent_by}
 
 -- of all that is given, two different payloads are told or can be put together for n
 abbrev pub GivesTwoPayloads : ℕ → FragmentSpeech → ℕ → Type 0
@@ -95,7 +95,7 @@ PiecesLeftAreOfNoSample =
 -- among these acts, the payload of n is to be noted as a sample of the writer
 abbrev pub IsNoted : List PieceAct → Guid → ℕ → PayloadValue → Type 0
 IsNoted all writer n payload =
-    (one : PieceAct) × Contains all one × (is_spoken_by one.act writer ≡ true) × Contains (samples_sent all one.act one.piece) (sample_act one.act n everyone payload)
+    (one : PieceAct) × Contains all one × (is_spoken_by one.act writer ≡ true) × Contains (samples_sent all one.act one.piece) (noted_act one.act n payload)
 
 -- what is noted as a sample is put together of all fragments that the writer sends. What can be put together of them is noted, or two
 -- payloads are that differ

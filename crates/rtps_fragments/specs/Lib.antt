@@ -7,3 +7,5 @@ pub mod Laws
 pub mod Pieces
 pub mod Came
 pub mod Telling
+pub mod Merging
+pub mod Sending

@@ -8,9 +8,8 @@ use Rattle.rtps_ids.specs.declared.identity.GuidPrefix.{GuidPrefix}
 use Rattle.rtps_wire.specs.Values.{PayloadValue}
 use Rattle.rtps_receiver.specs.Speech.{entity_from, is_entity, is_for_all, is_heard_by, is_prefix, is_spoken_by, names, origin_of, reader_named, unknown_entity}
 use Rattle.rtps_receiver.specs.Values.{ActValue}
-use Rattle.rtps_receiver.specs.Values.ActBodyValue.{Data}
+use Rattle.rtps_receiver.specs.Values.ActBodyValue.{DataFrag}
 use Rattle.rtps_receiver.specs.declared.speech.Audience.{Audience}
-use Rattle.rtps_audit.specs.Delivery.{Speech}
 use Rattle.rtps_audit.specs.Speech.{said_by}
 use Rattle.rtps_fragments.specs.FragmentDelivery.{Fragment, FragmentSpeech, Piece, Shape, fragments_of}
 use Rattle.rtps_fragments.specs.Samples.{is_of, told_by}
@@ -34,10 +33,6 @@ piece_for writer reader one = if is_spoken_by one.act writer && is_heard_by one.
 abbrev pub fragment_speech_of : Guid → Guid → List (List PieceAct) → FragmentSpeech
 fragment_speech_of writer reader recording =
     map (λ datagram. record { said = said_by writer reader (map (λ one. one.act) datagram); pieces = filter_map (piece_for writer reader) datagram }) recording
-
--- acts alone, as what they say
-abbrev pub speech_by : Guid → Guid → List (List ActValue) → Speech
-speech_by writer reader recording = map (said_by writer reader) recording
 
 -- ---- audiences
 
@@ -86,10 +81,10 @@ fragments_in None = []
 abbrev pub sent_to : Guid → Audience → List PieceAct → List Fragment
 sent_to writer audience acts = flat_map (λ one. fragments_in one.piece) (filter (λ one. is_spoken_by one.act writer && reaches one.act audience) acts)
 
--- a sample as a DATA for an audience, from where this act is from
+-- a sample as a DATA_FRAG that tells it to an audience, from where this act is from
 abbrev pub sample_act : ActValue → ℕ → Audience → PayloadValue → ActValue
 sample_act act n audience payload =
-    record act { dest = audience.dest; body = Data (record { reader = audience.reader; writer = entity_from act.body; number = n; qos = None; payload = payload }) }
+    record act { dest = audience.dest; body = DataFrag (record { reader = audience.reader; writer = entity_from act.body; number = n; told = Some payload }) }
 
 -- the samples that an act with this piece tells an audience, behind these
 abbrev pub told_to : List PieceAct → ActValue → Piece → Audience → List ActValue

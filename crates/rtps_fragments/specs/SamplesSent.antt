@@ -4,13 +4,13 @@
 use Rattle.std.specs.Prelude.{ℕ, Bool, false, true, not, ◌==◌, ◌&&◌, List, [], ◌∷◌, ◌++◌, filter, map, count_by, Option, Some, None}
 use Rattle.std.specs.List.{flat_map, list_any}
 use Rattle.rtps_ids.specs.declared.identity.Guid.{Guid}
-use Rattle.rtps_receiver.specs.Speech.{is_spoken_by, origin_of, unknown_entity}
+use Rattle.rtps_receiver.specs.Speech.{entity_from, is_spoken_by, origin_of, unknown_entity}
 use Rattle.rtps_receiver.specs.Values.{ActValue}
-use Rattle.rtps_receiver.specs.declared.speech.Audience.{Audience}
+use Rattle.rtps_receiver.specs.Values.ActBodyValue.{Data}
 use Rattle.rtps_wire.specs.Values.{PayloadValue}
 use Rattle.rtps_fragments.specs.FragmentDelivery.{Fragment, Piece}
 use Rattle.rtps_fragments.specs.Samples.{payloads_of}
-use Rattle.rtps_fragments.specs.SampleActs.{PieceAct, fragments_in, sample_act}
+use Rattle.rtps_fragments.specs.SampleActs.{PieceAct, fragments_in}
 
 -- all fragments that a writer sends
 abbrev pub sent_by : Guid → List PieceAct → List Fragment
@@ -18,13 +18,14 @@ sent_by writer acts = flat_map (λ one. fragments_in one.piece) (filter (λ one.
 
 -- ---- what samples of built-in writers announce
 
--- everyone, and every reader
-abbrev pub everyone : Audience
-everyone = record { dest = None; reader = unknown_entity }
+-- a sample as a DATA for everyone, from where this act is from
+abbrev pub noted_act : ActValue → ℕ → PayloadValue → ActValue
+noted_act act n payload =
+    record act { dest = None; body = Data (record { reader = unknown_entity; writer = entity_from act.body; number = n; qos = None; payload = payload }) }
 
--- the samples of the number and the shape of this piece that a reader which hears everything is told, for everyone
+-- the samples of the number and the shape of this piece that a reader which hears everything is told
 abbrev pub samples_sent : List PieceAct → ActValue → Option Piece → List ActValue
-samples_sent all act (Some piece) = map (sample_act act piece.number everyone) (payloads_of piece.number piece.shape (sent_by (origin_of act) all))
+samples_sent all act (Some piece) = map (noted_act act piece.number) (payloads_of piece.number piece.shape (sent_by (origin_of act) all))
 samples_sent all act None = []
 
 -- the acts of a recording, and behind them its samples: what a directory notes of them

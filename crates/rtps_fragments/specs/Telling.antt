@@ -10,7 +10,9 @@ use Rattle.rtps_ids.specs.declared.identity.GuidPrefix.{GuidPrefix}
 use Rattle.rtps_discovery.specs.GuidOrder.{guid_cmp}
 use Rattle.rtps_receiver.specs.Speech.{is_entity, is_for_all, unknown_entity}
 use Rattle.rtps_receiver.specs.declared.speech.Audience.{Audience}
-use Rattle.rtps_fragments.specs.FragmentDelivery.{Shape, last_fragment}
+use Rattle.rtps_wire.specs.Values.{PayloadValue}
+use Rattle.rtps_wire.specs.Values.PayloadValue.{Whole, Key}
+use Rattle.rtps_fragments.specs.FragmentDelivery.{Shape, last_fragment, payload_by}
 use Rattle.rtps_fragments.specs.Came.{IsCame, came_from}
 use Rattle.rtps_fragments.specs.Pieces.{parts_in}
 use Rattle.rtps_fragments.specs.Samples.{samples_of}
@@ -107,19 +109,19 @@ pub record AreAddressed (all : List SentValue) (kept : BTreeMap SampleKey Addres
 
 -- ---- what is told
 
--- a sample that the act at this place tells an audience, with its octets
+-- a sample that the act at this place tells an audience
 pub record ToldValue : Type 0 where
   pub act : ℕ
   pub audience : Audience
-  pub octets : List ℕ
+  pub payload : PayloadValue
 
 -- a sample that is told, as a value
 abbrev pub told_value : Told → ToldValue
-told_value told = record { act = told.act; audience = told.audience; octets = told.octets.items }
+told_value told = record { act = told.act; audience = told.audience; payload = if told.is_key then Key told.octets.items else Whole told.octets.items }
 
--- samples with these octets that the act at this place tells an audience
-abbrev pub told_as : ℕ → Audience → List (List ℕ) → List ToldValue
-told_as act audience samples = map (λ octets. record { act = act; audience = audience; octets = octets }) samples
+-- samples of this shape with these octets that the act at this place tells an audience
+abbrev pub told_as : ℕ → Audience → Shape → List (List ℕ) → List ToldValue
+told_as act audience shape samples = map (λ octets. record { act = act; audience = audience; payload = payload_by shape octets }) samples
 
 -- the samples of so many fragments that more of them tell: those that could not be put together before
 abbrev pub samples_more : ℕ → List (ℕ × List ℕ) → List (ℕ × List ℕ) → List (List ℕ)
@@ -127,7 +129,7 @@ samples_more last before more = drop (length (samples_of last before)) (samples_
 
 -- to an audience, by these fragments, behind what came to it before
 abbrev pub told_by_sent : SentValue → Audience → List (ℕ × List ℕ) → List ToldValue
-told_by_sent sent audience before = told_as sent.act audience (samples_more (last_fragment (shape_of sent.key)) before sent.came)
+told_by_sent sent audience before = told_as sent.act audience (shape_of sent.key) (samples_more (last_fragment (shape_of sent.key)) before sent.came)
 
 -- where all of it hear them
 abbrev pub told_to_audience : List SentValue → SentValue → Audience → List ToldValue

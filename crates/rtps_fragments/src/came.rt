@@ -8,10 +8,11 @@ ghost use Rattle.rtps_fragments.specs.Pieces.{parts_in};
 ghost use Rattle.rtps_fragments.specs.Samples.{firsts_of, samples_of};
 ghost use Rattle.rtps_fragments.specs.Telling.{IsSent, sent_value, shape_of, told_by_sent, told_value};
 
-use crate::piece::{Fragments, Sent, Shape};
+use crate::piece::{Fragments, Sent};
 use crate::told::Told;
 use rtps_ids::Memory;
 use rtps_receiver::Audience;
+use rtps_wire::Shape;
 use std::alloc::Global;
 use std::collections::BTreeMap;
 
@@ -160,6 +161,7 @@ impl<'a> Came<'a> {
             told.push(Told {
                 act: sent.act,
                 audience,
+                is_key: sent.key.is_key,
                 octets,
             })?;
         }

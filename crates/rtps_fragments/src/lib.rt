@@ -5,9 +5,10 @@ mod addressed;
 mod came;
 mod hearing;
 pub mod laws;
+mod merging;
 mod piece;
 mod telling;
 mod told;
 
-pub use piece::{Fragments, SampleKey, Sent, Shape};
+pub use piece::{Fragments, SampleKey, Sent};
 pub use told::Told;

@@ -1,31 +1,9 @@
-ghost use Rattle.std.specs.Prelude.{◌≡◌, ◌<◌};
-ghost use Rattle.rtps_fragments.specs.FragmentDelivery.{last_fragment};
+ghost use Rattle.std.specs.Prelude.{◌≡◌};
 ghost use Rattle.rtps_fragments.specs.Telling.{shape_of};
 
-use rtps_ids::Guid;
+use rtps_ids::{Guid, SeqNum};
 use rtps_receiver::Audience;
-
-/// How a sample is sent in fragments (DDSI-RTPS 2.5, 8.3.8.3 "DataFrag").
-#[derive(Clone, Copy, PartialEq, Eq, Debug)]
-pub struct Shape {
-    /// The size of the sample, in octets.
-    pub sample: u32,
-    /// The size of a fragment, in octets. The last fragment may be shorter.
-    pub fragment: u16,
-    /// Whether the sample is a key.
-    pub is_key: bool,
-}
-
-impl Shape {
-    /// The number of the last fragment. Fragments count from 1.
-    pub fn last_fragment(self) -> u64
-        requires { 0 < self.fragment }
-        ensures { result ≡ last_fragment self }
-    {
-        let fragment = u64::from(self.fragment);
-        (u64::from(self.sample) + fragment - 1) / fragment
-    }
-}
+use rtps_wire::Shape;
 
 /// Consecutive fragments of one sample.
 #[derive(Clone, Copy, Debug)]
@@ -43,7 +21,7 @@ pub struct Fragments<'a> {
 pub struct SampleKey {
     pub writer: Guid,
     /// The number of the sample.
-    pub number: u64,
+    pub number: SeqNum,
     /// The size of the sample, in octets.
     pub sample: u32,
     /// The size of a fragment, in octets.

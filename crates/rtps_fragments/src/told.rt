@@ -7,6 +7,8 @@ pub struct Told {
     pub act: usize,
     /// To whom the sample is told.
     pub audience: Audience,
+    /// Whether the sample is a key.
+    pub is_key: bool,
     /// The octets of the sample.
     pub octets: Vec<u8>,
 }

@@ -1,4 +1,5 @@
-use Rattle.rtps_fragments.specs.SampleActs.{acts_with_samples, fragment_speech_of, speech_by}
+use Rattle.rtps_audit.specs.Speech.{speech_by}
+use Rattle.rtps_fragments.specs.SampleActs.{acts_with_samples, fragment_speech_of}
 use Rattle.rtps_fragments.proofs.laws.fragment_verdict_of_acts.Goals as goal
 
 pub returns : goal.returns

@@ -12,7 +12,7 @@ use Rattle.rtps_fragments.proofs.came.Came.tell.Goals as goal
 pub loop-place-init : goal.loop-place-init
 loop-place-init c = λ came is.
     let same = c.last_fragment-last.ensures ∙ ap last_fragment c.shape-shape.ensures in
-    ap (λ ts. map told_value c.args.told.now.items ++ ts) (told_from c.args.sent.now.act c.args.audience c.last_fragment-last.result _ c.count-before.result came (sent_value c.args.sent.now).came same (c.count-before.ensures came is))
+    ap (λ ts. map told_value c.args.told.now.items ++ ts) (told_from c.args.sent.now.act c.args.audience (shape_of c.args.sent.now.key) c.last_fragment-last.result _ c.count-before.result came (sent_value c.args.sent.now).came same (c.count-before.ensures came is))
 
 -- what is kept after the fragments were taken
 pub returns-clause-came : goal.returns-clause-came
@@ -27,7 +27,7 @@ loop-place-preserved c = λ came is.
     let sent = c.args.sent.now in
     let last = c.last_fragment-last.result in
     let more = (sent_value sent).came in
-    let one : Told = record { act = sent.act; audience = c.args.audience; octets = c.in_ok-octets.octets } in
+    let one : Told = record { act = sent.act; audience = c.args.audience; is_key = sent.key.is_key; octets = c.in_ok-octets.octets } in
     let same = c.last_fragment-last.ensures ∙ ap last_fragment c.shape-shape.ensures in
     let Kept : Shape → Type 0 = λ s. (came : List (ℕ × List ℕ)) → IsCame (last_fragment s) came c.args.self.now
     → IsCame (last_fragment s) (came ++ came_from sent.fragments.first (parts_in s.fragment sent.fragments.count sent.fragments.octets.now)) c.take_all.new.self in
@@ -36,7 +36,7 @@ loop-place-preserved c = λ came is.
     let samples = samples_of last (came ++ more) in
     let within : c.loop-place.place < length samples = omega (arith, c.count-after.ensures (came ++ more) taken, c.loop-place-test.true) in
     let pushed = ap (map told_value) c.in_ok-push.ensures.items ∙ map-append told_value c.loop-place.told.items (one ∷ []) in
-    told_step sent.act c.args.audience (map told_value c.loop-place.told.items) (map told_value c.push.new.self.items) samples c.loop-place.place c.in_ok-octets.octets.items pushed (c.in_ok-octets.ensures (came ++ more) taken within)
+    told_step sent.act c.args.audience (shape_of sent.key) (map told_value c.loop-place.told.items) (map told_value c.push.new.self.items) samples c.loop-place.place c.in_ok-octets.octets.items pushed (c.in_ok-octets.ensures (came ++ more) taken within)
     ∙ c.loop-place.invariant came is
 
 pub returns-clause-told : goal.returns-clause-told
@@ -50,4 +50,4 @@ returns-clause-told c = λ came is.
     let kept : Kept (shape_of sent.key) = subst Kept c.shape-shape.ensures c.in_ok-take_all.ensures in
     let taken : IsCame last (came ++ more) c.take_all.new.self = subst (λ n. IsCame n (came ++ more) c.take_all.new.self) (sym same) (kept came is) in
     let past : length (samples_of last (came ++ more)) ≤ c.loop-place.place = omega (arith, c.count-after.ensures (came ++ more) taken, c.loop-place-test.false) in
-    sym (told_all sent.act c.args.audience (map told_value c.loop-place.told.items) (samples_of last (came ++ more)) c.loop-place.place past) ∙ c.loop-place.invariant came (subst (λ n. IsCame n came c.args.self.now) (sym same) is)
+    sym (told_all sent.act c.args.audience (shape_of sent.key) (map told_value c.loop-place.told.items) (samples_of last (came ++ more)) c.loop-place.place past) ∙ c.loop-place.invariant came (subst (λ n. IsCame n came c.args.self.now) (sym same) is)

@@ -1,0 +1,65 @@
+-- The samples that acts tell, by what is sent of them, and these samples as acts among the acts of a datagram. DDSI-RTPS 2.5, 8.3.8.3
+-- "DataFrag". own: a sample stands behind the act that completes it.
+use Rattle.std.specs.Prelude.{ℕ, suc, ◌==◌, ◌≡◌, if◌then◌else◌, List, [], ◌∷◌, ◌++◌, map, Option, Some, None, unwrap_or}
+use Rattle.std.specs.List.{flat_map}
+use Rattle.rtps_receiver.specs.Speech.{entity_from, origin_of, reader_named, unknown_entity}
+use Rattle.rtps_receiver.specs.Values.{ActBodyValue, ActValue, FragmentValue}
+use Rattle.rtps_receiver.specs.Values.ActBodyValue.{Data, Heartbeat, AckNack, Gap, DataFrag}
+use Rattle.rtps_receiver.specs.declared.speech.Audience.{Audience}
+use Rattle.rtps_fragments.specs.Came.{came_from}
+use Rattle.rtps_fragments.specs.FragmentDelivery.{Piece}
+use Rattle.rtps_fragments.specs.SampleActs.{PieceAct, sample_act}
+use Rattle.rtps_fragments.specs.Telling.{SentValue, ToldValue}
+use Rattle.rtps_fragments.specs.declared.piece.SampleKey.{SampleKey}
+
+-- the sample of which an act has a piece
+abbrev pub key_of : ActValue → Piece → SampleKey
+key_of act piece =
+    record { writer = origin_of act; number = piece.number; sample = piece.shape.sample; fragment = piece.shape.fragment; is_key = piece.shape.is_key }
+
+-- to whom an act is sent
+abbrev pub sent_to_whom : ActValue → Audience
+sent_to_whom act = record { dest = act.dest; reader = unwrap_or (reader_named act.body) unknown_entity }
+
+-- what an act at this place sends, where it has a piece
+abbrev pub sent_in : ℕ → ActValue → Option Piece → List SentValue
+sent_in i act (Some piece) = record { act = i; key = key_of act piece; audience = sent_to_whom act; came = came_from piece.first piece.parts } ∷ []
+sent_in i act None = []
+
+-- what acts send, the first of which is at this place
+abbrev pub sents_from : ℕ → List PieceAct → List SentValue
+sents_from i [] = []
+sents_from i (one ∷ acts) = sent_in i one.act one.piece ++ sents_from (suc i) acts
+
+-- what the acts of all datagrams send
+abbrev pub sents_in : List (List PieceAct) → List SentValue
+sents_in recording = flat_map (sents_from 0) recording
+
+-- the samples that an act with this body tells, as acts
+abbrev pub acts_told : ActValue → ActBodyValue → List ToldValue → List ActValue
+acts_told act (DataFrag value) told = map (λ one. sample_act act value.number one.audience one.payload) told
+acts_told act (Data value) told = []
+acts_told act (Heartbeat value) told = []
+acts_told act (AckNack value) told = []
+acts_told act (Gap value) told = []
+
+-- the first of these that the act at this place tells
+abbrev pub run_of : ℕ → List ToldValue → List ToldValue
+run_of i [] = []
+run_of i (one ∷ told) = if one.act == i then one ∷ run_of i told else []
+
+-- those behind them
+abbrev pub run_past : ℕ → List ToldValue → List ToldValue
+run_past i [] = []
+run_past i (one ∷ told) = if one.act == i then run_past i told else one ∷ told
+
+-- acts, the first of which is at this place, and behind each the samples that it tells
+abbrev pub merged_from : ℕ → List ActValue → List ToldValue → List ActValue
+merged_from i [] told = []
+merged_from i (act ∷ acts) told = act ∷ (acts_told act act.body (run_of i told) ++ merged_from (suc i) acts (run_past i told))
+
+-- An act with a piece is a DATA_FRAG of the piece's number.
+pub record IsFragmentAct (one : PieceAct) (piece : Piece) : Type 0 where
+  pub value : FragmentValue
+  pub body : one.act.body ≡ DataFrag value
+  pub number : value.number ≡ piece.number

@@ -1,0 +1,49 @@
+-- The acts of a datagram, each with the fragments that it sends. DDSI-RTPS 2.5, 8.3.4 "The RTPS Message Receiver" and 8.3.8.3 "DataFrag".
+-- own: a DATA_FRAG that has no fragments that can be used is no act.
+use Rattle.std.specs.Prelude.{ℕ, List, [], ◌∷◌, ◌++◌, drop, map, Option, Some, None}
+use Rattle.rtps_wire.specs.DataFrag.{DataFragValue, data_frag_at, parts_of}
+use Rattle.rtps_wire.specs.Message.{Reading}
+use Rattle.rtps_wire.specs.Reading.{reading_of}
+use Rattle.rtps_wire.specs.Values.{ItemValue}
+use Rattle.rtps_wire.specs.declared.header.Header.{Header}
+use Rattle.rtps_receiver.specs.Acts.{act_at, act_body, gathered, state_at_start}
+use Rattle.rtps_receiver.specs.Values.{ActBodyValue}
+use Rattle.rtps_receiver.specs.Values.ActBodyValue.{DataFrag}
+use Rattle.rtps_receiver.specs.declared.state.State.{State}
+use Rattle.rtps_fragments.specs.FragmentDelivery.{Piece}
+use Rattle.rtps_fragments.specs.SampleActs.{PieceAct}
+
+-- the fragments of a DATA_FRAG, as a piece of their sample
+abbrev pub piece_of : DataFragValue → Piece
+piece_of value = record { number = value.number; shape = value.shape; first = value.first; parts = parts_of value }
+
+-- the act that a DATA_FRAG is, if it has fragments
+abbrev pub fragment_acts : State → ItemValue → Option DataFragValue → List PieceAct
+fragment_acts state item (Some value) =
+    record {
+      act = act_at state item.at item.order (DataFrag (record { reader = value.reader; writer = value.writer; number = value.number; told = None }));
+      piece = Some (piece_of value);
+    } ∷ []
+fragment_acts state item None = []
+
+-- the act that an item of these octets is, if it is one
+abbrev pub piece_acts_of_item : List ℕ → State → ItemValue → Option ActBodyValue → List PieceAct
+piece_acts_of_item octets state item (Some body) = record { act = act_at state item.at item.order body; piece = None } ∷ []
+piece_acts_of_item octets state item None = fragment_acts state item (data_frag_at (drop item.at octets))
+
+-- the acts among items of these octets, each in the state after all items before it
+abbrev pub piece_acts_behind : List ℕ → State → List ItemValue → List PieceAct
+piece_acts_behind octets start items = gathered (λ state item. piece_acts_of_item octets state item (act_body item.body)) start [] items
+
+-- the acts of a reading of these octets; one without a header has none
+abbrev pub piece_acts_with : List ℕ → Option Header → List ItemValue → List PieceAct
+piece_acts_with octets None items = []
+piece_acts_with octets (Some header) items = piece_acts_behind octets (state_at_start header) items
+
+-- the acts of a datagram of these octets
+unfoldable pub piece_acts_of : List ℕ → List PieceAct
+piece_acts_of octets = piece_acts_with octets (reading_of octets).header (reading_of octets).items
+
+-- the acts of each datagram of a recording, which is the octets of its datagrams in the order of sending
+abbrev pub sending_of : List (List ℕ) → List (List PieceAct)
+sending_of recording = map piece_acts_of recording
