@@ -1,17 +1,20 @@
 -- The acts of a datagram, each with the fragments that it sends. DDSI-RTPS 2.5, 8.3.4 "The RTPS Message Receiver" and 8.3.8.3 "DataFrag".
 -- own: a DATA_FRAG that has no fragments that can be used is no act.
-use Rattle.std.specs.Prelude.{ℕ, List, [], ◌∷◌, ◌++◌, drop, map, Option, Some, None}
+use Rattle.std.specs.Prelude.{ℕ, ◌≡◌, All, List, [], ◌∷◌, ◌++◌, drop, length, map, Option, Some, None}
 use Rattle.rtps_wire.specs.DataFrag.{DataFragValue, data_frag_at, parts_of}
 use Rattle.rtps_wire.specs.Message.{Reading}
 use Rattle.rtps_wire.specs.Reading.{reading_of}
 use Rattle.rtps_wire.specs.Values.{ItemValue}
 use Rattle.rtps_wire.specs.declared.header.Header.{Header}
 use Rattle.rtps_receiver.specs.Acts.{act_at, act_body, gathered, state_at_start}
-use Rattle.rtps_receiver.specs.Values.{ActBodyValue}
+use Rattle.rtps_receiver.specs.Values.{ActBodyValue, act_value}
 use Rattle.rtps_receiver.specs.Values.ActBodyValue.{DataFrag}
 use Rattle.rtps_receiver.specs.declared.state.State.{State}
 use Rattle.rtps_fragments.specs.FragmentDelivery.{Piece}
+use Rattle.rtps_fragments.specs.Merging.{sents_from}
 use Rattle.rtps_fragments.specs.SampleActs.{PieceAct}
+use Rattle.rtps_fragments.specs.Telling.{IsSent, sent_value}
+use Rattle.rtps_fragments.specs.declared.sending.Sending.{Sending}
 
 -- the fragments of a DATA_FRAG, as a piece of their sample
 abbrev pub piece_of : DataFragValue → Piece
@@ -47,3 +50,15 @@ piece_acts_of octets = piece_acts_with octets (reading_of octets).header (readin
 -- the acts of each datagram of a recording, which is the octets of its datagrams in the order of sending
 abbrev pub sending_of : List (List ℕ) → List (List PieceAct)
 sending_of recording = map piece_acts_of recording
+
+-- these acts are kept, with what they send
+pub record IsSending (ones : List PieceAct) (sending : Sending) : Type 0 where
+  pub acts : map act_value sending.acts.items ≡ map (λ one. one.act) ones
+  pub sents : map sent_value sending.sents.items ≡ sents_from 0 ones
+  pub well : All IsSent sending.sents.items
+
+-- what is kept grew by these acts, with what they send
+pub record AddsActs (old new : Sending) (ones : List PieceAct) : Type 0 where
+  pub acts : map act_value new.acts.items ≡ map act_value old.acts.items ++ map (λ one. one.act) ones
+  pub sents : map sent_value new.sents.items ≡ map sent_value old.sents.items ++ sents_from (length old.acts.items) ones
+  pub well : All IsSent old.sents.items → All IsSent new.sents.items

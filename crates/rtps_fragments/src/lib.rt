@@ -7,6 +7,7 @@ mod hearing;
 pub mod laws;
 mod merging;
 mod piece;
+mod sending;
 mod telling;
 mod told;
 

@@ -1,0 +1,143 @@
+ghost use Rattle.std.specs.Prelude.{◌≡◌, ◌∷◌, [], drop, None, OnOk, Some};
+ghost use Rattle.rtps_receiver.specs.Acts.{act_at, act_body, state_behind};
+ghost use Rattle.rtps_receiver.specs.Values.{act_value};
+ghost use Rattle.rtps_receiver.specs.Values.ActBodyValue.{DataFrag as DataFragAct};
+ghost use Rattle.rtps_wire.specs.DataFrag.{IsDataFrag, data_frag_value, parts_of};
+ghost use Rattle.rtps_wire.specs.Values.{item_value};
+ghost use Rattle.rtps_fragments.specs.Came.{came_from};
+ghost use Rattle.rtps_fragments.specs.Sending.{AddsActs, IsSending, fragment_acts, piece_acts_of_item};
+ghost use Rattle.rtps_fragments.specs.Telling.{IsSent, sent_value};
+
+use crate::piece::{Fragments, SampleKey, Sent};
+use rtps_ids::{Guid, Memory};
+use rtps_receiver::{Act, ActBody, Audience, FragmentBody, State};
+use rtps_wire::{DataFrag, Item};
+use std::alloc::Global;
+use std::slice;
+
+/// The acts of a datagram, and the fragments that its DATA_FRAG send.
+#[derive(Drop)]
+pub(crate) struct Sending<'a> {
+    pub(crate) acts: Vec<Act<'a>>,
+    pub(crate) sents: Vec<Sent<'a>>,
+}
+
+/// The octets from this place on; none where it is past the end.
+fn octets_from(octets: &[u8], at: usize) -> &[u8]
+    ensures { result.now ≡ drop at octets.now }
+{
+    if at <= octets.len() { &octets[at..] } else { &[] }
+}
+
+/// The fragments of a DATA_FRAG, which is the act at this place, in this state.
+fn sent_of<'a>(act: usize, state: &State, fragments: &DataFrag<'a>) -> Sent<'a>
+    requires { IsDataFrag (data_frag_value fragments.now) }
+    ensures well { IsSent result }
+    ensures value { sent_value result ≡ record {
+        act = act;
+        key = record {
+            writer = record { prefix = state.now.source.prefix; entity = fragments.now.writer };
+            number = fragments.now.number;
+            sample = fragments.now.shape.sample;
+            fragment = fragments.now.shape.fragment;
+            is_key = fragments.now.shape.is_key;
+        };
+        audience = record { dest = state.now.dest; reader = fragments.now.reader };
+        came = came_from fragments.now.first (parts_of (data_frag_value fragments.now));
+    } }
+{
+    Sent {
+        act,
+        key: SampleKey {
+            writer: Guid {
+                prefix: state.source.prefix,
+                entity: fragments.writer,
+            },
+            number: fragments.number,
+            sample: fragments.shape.sample,
+            fragment: fragments.shape.fragment,
+            is_key: fragments.shape.is_key,
+        },
+        audience: Audience {
+            dest: state.dest,
+            reader: fragments.reader,
+        },
+        fragments: Fragments {
+            first: fragments.first,
+            count: fragments.count,
+            octets: fragments.octets,
+        },
+    }
+}
+
+/// The act that a DATA_FRAG is, which stands there, in this state.
+fn act_of<'a>(state: &State, item: &Item<'_>, fragments: &DataFrag<'a>) -> Act<'a>
+    ensures { act_value result ≡ act_at state.now (item_value item.now).at (item_value item.now).order
+        (DataFragAct (record { reader = fragments.now.reader; writer = fragments.now.writer; number = fragments.now.number; told = None })) }
+{
+    Act {
+        at: item.at,
+        source: state.source.prefix,
+        version: state.source.version,
+        vendor: state.source.vendor,
+        dest: state.dest,
+        stamp: state.stamp,
+        order: item.order,
+        body: ActBody::DataFrag(FragmentBody {
+            reader: fragments.reader,
+            writer: fragments.writer,
+            number: fragments.number,
+            told: None,
+        }),
+    }
+}
+
+impl<'a> Sending<'a> {
+    /// No acts.
+    pub(crate) fn new(alloc: Global) -> Sending<'a>
+        ensures { IsSending [] result }
+    {
+        Sending {
+            acts: Vec::new(alloc),
+            sents: Vec::new(alloc),
+        }
+    }
+
+    /// Adds a DATA_FRAG that stands there, in this state. After `Memory` it is of no use.
+    fn add_fragments(
+        &mut self,
+        state: &State,
+        item: &Item<'_>,
+        fragments: &DataFrag<'a>,
+    ) -> Result<(), Memory>
+        requires { IsDataFrag (data_frag_value fragments.now) }
+        ensures { OnOk result (AddsActs self.old self.new (fragment_acts state.now (item_value item.now) (Some (data_frag_value fragments.now)))) }
+    {
+        let place = self.acts.len();
+        let act = act_of(state, item, fragments);
+        self.acts.extend_from_slice(slice::from_ref(&act))?;
+        let sent = sent_of(place, state, fragments);
+        self.sents.extend_from_slice(slice::from_ref(&sent))?;
+        Ok(())
+    }
+
+    /// Adds the act that an item of a datagram is, if it is one, and changes the state as the item says. After `Memory` it is
+    /// of no use.
+    fn add(
+        &mut self,
+        state: &mut State,
+        item: &Item<'a>,
+        datagram: &'a [u8],
+    ) -> Result<(), Memory>
+        ensures acts { OnOk result (AddsActs self.old self.new (piece_acts_of_item datagram.now state.old (item_value item.now) (act_body (item_value item.now).body))) }
+        ensures state { OnOk result (state.new ≡ state_behind state.old (item_value item.now ∷ [])) }
+    {
+        if let Some(act) = state.act(item) {
+            self.acts.extend_from_slice(slice::from_ref(&act))?;
+        } else if let Some(fragments) = DataFrag::read(octets_from(datagram, item.at)) {
+            self.add_fragments(state, item, &fragments)?;
+        }
+        state.interpret(item);
+        Ok(())
+    }
+}
