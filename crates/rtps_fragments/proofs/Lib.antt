@@ -23,3 +23,4 @@ pub mod ToldSoFar
 pub mod AddressedLemmas
 pub mod MergingLemmas
 pub mod MergedSteps
+pub mod SendingLemmas

@@ -9,3 +9,4 @@ pub mod Came
 pub mod Telling
 pub mod Merging
 pub mod Sending
+pub mod RecordedSamples

@@ -7,9 +7,11 @@ mod hearing;
 pub mod laws;
 mod merging;
 mod piece;
+mod samples;
 mod sending;
 mod telling;
 mod told;
 
 pub use piece::{Fragments, SampleKey, Sent};
+pub use samples::Samples;
 pub use told::Told;

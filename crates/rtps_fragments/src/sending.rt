@@ -1,17 +1,18 @@
-ghost use Rattle.std.specs.Prelude.{◌≡◌, ◌∷◌, [], drop, None, OnOk, Some};
+ghost use Rattle.std.specs.Prelude.{◌≡◌, ◌∷◌, [], drop, IfOk, None, OnOk, Some};
 ghost use Rattle.rtps_receiver.specs.Acts.{act_at, act_body, state_behind};
 ghost use Rattle.rtps_receiver.specs.Values.{act_value};
 ghost use Rattle.rtps_receiver.specs.Values.ActBodyValue.{DataFrag as DataFragAct};
 ghost use Rattle.rtps_wire.specs.DataFrag.{IsDataFrag, data_frag_value, parts_of};
+ghost use Rattle.rtps_wire.specs.Reading.{items_among, outcomes_left};
 ghost use Rattle.rtps_wire.specs.Values.{item_value};
 ghost use Rattle.rtps_fragments.specs.Came.{came_from};
-ghost use Rattle.rtps_fragments.specs.Sending.{AddsActs, IsSending, fragment_acts, piece_acts_of_item};
+ghost use Rattle.rtps_fragments.specs.Sending.{AddsActs, IsSending, fragment_acts, piece_acts_behind, piece_acts_of, piece_acts_of_item};
 ghost use Rattle.rtps_fragments.specs.Telling.{IsSent, sent_value};
 
 use crate::piece::{Fragments, SampleKey, Sent};
 use rtps_ids::{Guid, Memory};
 use rtps_receiver::{Act, ActBody, Audience, FragmentBody, State};
-use rtps_wire::{DataFrag, Item};
+use rtps_wire::{DataFrag, Item, Items};
 use std::alloc::Global;
 use std::slice;
 
@@ -139,5 +140,39 @@ impl<'a> Sending<'a> {
         }
         state.interpret(item);
         Ok(())
+    }
+
+    /// Adds the acts of the unread part of a datagram, from this state on. After `Memory` it is of no use.
+    fn add_items(
+        &mut self,
+        start: State,
+        items: Items<'a>,
+        datagram: &'a [u8],
+    ) -> Result<(), Memory>
+        ensures { OnOk result (IsSending [] self.old → IsSending (piece_acts_behind datagram.now start (items_among (outcomes_left items.entry))) self.new) }
+    {
+        let mut state = start;
+        let mut items = items;
+        'items: loop {
+            match items.next() {
+                Some(Ok(item)) => self.add(&mut state, &item, datagram)?,
+                Some(Err(_)) => {}
+                None => return Ok(()),
+            }
+        }
+    }
+
+    /// The acts of a datagram of any length, and the fragments that its DATA_FRAG send, up to its refusal, if it has one.
+    pub(crate) fn read(alloc: Global, datagram: &'a [u8]) -> Result<Sending<'a>, Memory>
+        ensures { IfOk result (IsSending (piece_acts_of datagram.now)) }
+    {
+        let mut sending = Sending::new(alloc);
+        match Items::open(datagram) {
+            Ok((header, items)) => {
+                sending.add_items(State::at_start(header), items, datagram)?;
+                Ok(sending)
+            }
+            Err(_) => Ok(sending),
+        }
     }
 }

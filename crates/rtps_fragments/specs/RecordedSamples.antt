@@ -1,0 +1,18 @@
+-- The samples that a recording tells in fragments, datagram by datagram. DDSI-RTPS 2.5, 8.3.8.3 "DataFrag". own: a sample is told by the act
+-- that completes it.
+use Rattle.std.specs.Prelude.{ℕ, ◌≡◌, List, [], ◌∷◌, ◌++◌, map}
+use Rattle.rtps_fragments.specs.Merging.{sents_from, sents_in}
+use Rattle.rtps_fragments.specs.SampleActs.{PieceAct}
+use Rattle.rtps_fragments.specs.Sending.{sending_of}
+use Rattle.rtps_fragments.specs.Telling.{SentValue, ToldValue, told_in_turn, told_value}
+use Rattle.rtps_fragments.specs.declared.samples.Samples.{Samples}
+
+-- what the acts of each datagram tell, behind what was sent before
+abbrev pub told_by_datagram : List SentValue → List SentValue → List (List PieceAct) → List (List ToldValue)
+told_by_datagram all before [] = []
+told_by_datagram all before (acts ∷ recording) = told_in_turn all before (sents_from 0 acts) ∷ told_by_datagram all (before ++ sents_from 0 acts) recording
+
+-- these are the samples of a recording, which is the octets of its datagrams in the order of sending
+abbrev pub AreSamplesOf : List (List ℕ) → Samples → Type 0
+AreSamplesOf recording samples =
+    map (λ told. map told_value told.items) samples.told.items ≡ told_by_datagram (sents_in (sending_of recording)) [] (sending_of recording)

@@ -1,0 +1,72 @@
+ghost use Rattle.std.specs.Prelude.{◌≡◌, ◌++◌, [], map, All, Contains, IfOk, List, OnOk};
+ghost use Rattle.rtps_fragments.specs.Merging.{sents_from, sents_in};
+ghost use Rattle.rtps_fragments.specs.RecordedSamples.{AreSamplesOf};
+ghost use Rattle.rtps_fragments.specs.Sending.{piece_acts_of, sending_of};
+ghost use Rattle.rtps_fragments.specs.Telling.{AreAddressed, AreHeard, SentValue, told_in_turn, told_value};
+
+use crate::sending::Sending;
+use crate::telling::{Addresses, Telling};
+use crate::told::Told;
+use rtps_ids::Memory;
+use std::alloc::Global;
+
+/// The samples that the DATA_FRAG of a recording tell, put together, for each datagram those that its acts tell.
+#[derive(Drop)]
+pub struct Samples {
+    pub(crate) told: Vec<Vec<Told>>,
+}
+
+/// Notes to whom the fragments of a datagram are sent. After `Memory` the addresses are of no use.
+fn note_datagram(addresses: &mut Addresses, alloc: Global, datagram: &[u8]) -> Result<(), Memory>
+    ensures { OnOk result ((all : List SentValue) → AreAddressed all addresses.old.kept → AreAddressed (all ++ sents_from 0 (piece_acts_of datagram.now)) addresses.new.kept) }
+{
+    let sending = Sending::read(alloc, datagram)?;
+    for sent in &sending.sents {
+        addresses.note(sent)?;
+    }
+    Ok(())
+}
+
+/// To whom the fragments of each sample of a recording are sent.
+fn addresses_of(alloc: Global, recording: &[&[u8]]) -> Result<Addresses, Memory>
+    ensures { IfOk result (λ addresses. AreAddressed (sents_in (sending_of (map (λ datagram. datagram.now) recording.now))) addresses.kept) }
+{
+    let mut addresses = Addresses::new(alloc);
+    for datagram in recording {
+        note_datagram(&mut addresses, alloc, datagram)?;
+    }
+    Ok(addresses)
+}
+
+/// What the fragments of one datagram more tell. After `Memory` it is of no use.
+fn tell_datagram<'a>(
+    telling: &mut Telling<'a>,
+    alloc: Global,
+    datagram: &'a [u8],
+) -> Result<Vec<Told>, Memory>
+    ensures addresses { OnOk result (telling.new.addresses ≡ telling.old.addresses) }
+    ensures none { OnOk result (telling.new.hearings.told.items ≡ []) }
+    ensures told { IfOk result (λ told. (all before : List SentValue) → AreAddressed all telling.old.addresses.kept → All (Contains all) (sents_from 0 (piece_acts_of datagram.now))
+        → AreHeard all before telling.old.hearings.came → telling.old.hearings.told.items ≡ []
+        → AreHeard all (before ++ sents_from 0 (piece_acts_of datagram.now)) telling.new.hearings.came
+        × (map told_value told.items ≡ told_in_turn all before (sents_from 0 (piece_acts_of datagram.now)))) }
+{
+    let sending = Sending::read(alloc, datagram)?;
+    telling.tell(&sending.sents)
+}
+
+impl Samples {
+    /// Puts the samples of a recording together, any datagrams in the order of sending. The octets of each are read twice.
+    /// `Memory` is answered where there is none for them.
+    pub fn of(alloc: Global, recording: &[&[u8]]) -> Result<Samples, Memory>
+        ensures { IfOk result (AreSamplesOf (map (λ datagram. datagram.now) recording.now)) }
+    {
+        let addresses = addresses_of(alloc, recording)?;
+        let mut telling = Telling::new(alloc, addresses);
+        let mut told = Vec::new(alloc);
+        for datagram in recording {
+            told.push(tell_datagram(&mut telling, alloc, datagram)?)?;
+        }
+        Ok(Samples { told })
+    }
+}
