@@ -24,3 +24,4 @@ pub mod AddressedLemmas
 pub mod MergingLemmas
 pub mod MergedSteps
 pub mod SendingLemmas
+pub mod SampleSteps

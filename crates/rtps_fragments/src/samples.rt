@@ -2,8 +2,9 @@ ghost use Rattle.std.specs.Prelude.{◌≡◌, ◌++◌, [], map, All, Contains,
 ghost use Rattle.rtps_fragments.specs.Merging.{sents_from, sents_in};
 ghost use Rattle.rtps_fragments.specs.RecordedSamples.{AreSamplesOf};
 ghost use Rattle.rtps_fragments.specs.Sending.{piece_acts_of, sending_of};
-ghost use Rattle.rtps_fragments.specs.Telling.{AreAddressed, AreHeard, SentValue, told_in_turn, told_value};
+ghost use Rattle.rtps_fragments.specs.Telling.{AreAddressed, AreHeard, SentValue, sent_value, told_in_turn, told_value};
 
+use crate::piece::Sent;
 use crate::sending::Sending;
 use crate::telling::{Addresses, Telling};
 use crate::told::Told;
@@ -16,14 +17,22 @@ pub struct Samples {
     pub(crate) told: Vec<Vec<Told>>,
 }
 
+/// Notes to whom these fragments are sent. After `Memory` the addresses are of no use.
+fn note_sents(addresses: &mut Addresses, sents: &[Sent<'_>]) -> Result<(), Memory>
+    ensures { OnOk result ((all : List SentValue) → AreAddressed all addresses.old.kept → AreAddressed (all ++ map sent_value sents.now) addresses.new.kept) }
+{
+    for sent in sents {
+        addresses.note(sent)?;
+    }
+    Ok(())
+}
+
 /// Notes to whom the fragments of a datagram are sent. After `Memory` the addresses are of no use.
 fn note_datagram(addresses: &mut Addresses, alloc: Global, datagram: &[u8]) -> Result<(), Memory>
     ensures { OnOk result ((all : List SentValue) → AreAddressed all addresses.old.kept → AreAddressed (all ++ sents_from 0 (piece_acts_of datagram.now)) addresses.new.kept) }
 {
     let sending = Sending::read(alloc, datagram)?;
-    for sent in &sending.sents {
-        addresses.note(sent)?;
-    }
+    note_sents(addresses, &sending.sents)?;
     Ok(())
 }
 
@@ -52,7 +61,8 @@ fn tell_datagram<'a>(
         × (map told_value told.items ≡ told_in_turn all before (sents_from 0 (piece_acts_of datagram.now)))) }
 {
     let sending = Sending::read(alloc, datagram)?;
-    telling.tell(&sending.sents)
+    let told = telling.tell(&sending.sents)?;
+    Ok(told)
 }
 
 impl Samples {

@@ -1,0 +1,37 @@
+use Rattle.std.proofs.Common.{◌≡◌, ◌+◌, [], ◌∷◌, ◌++◌, ◌∙◌, ap, arith, get_or, List, map, refl, subst, sym, take}
+use Rattle.std.specs.Global.{Vec}
+use Rattle.std.proofs.lemmas.List.{map-append, take_all}
+use Rattle.rtps_fragments.specs.Merging.{sents_from, sents_in}
+use Rattle.rtps_fragments.specs.RecordedSamples.{told_by_datagram}
+use Rattle.rtps_fragments.specs.Sending.{piece_acts_of, sending_of}
+use Rattle.rtps_fragments.specs.Telling.{AreAddressed, AreHeard, SentValue, told_in_turn, told_value}
+use Rattle.rtps_fragments.specs.declared.telling.Addresses.{Addresses}
+use Rattle.rtps_fragments.specs.declared.told.Told.{Told}
+use Rattle.rtps_fragments.proofs.SampleSteps.{all_sent, octets_of, sending_next, sents_next, told_next_datagram}
+use Rattle.rtps_fragments.proofs.samples.Samples.of.Goals as goal
+
+pub loop-datagram-preserved : goal.loop-datagram-preserved
+loop-datagram-preserved c =
+    let recording = c.args.recording.now in
+    let i = c.loop-datagram.datagram-index in
+    let lt = c.loop-datagram-test.true in
+    let old = c.loop-datagram.invariant in
+    let all = sents_in (sending_of (octets_of recording)) in
+    let so_far = sending_of (octets_of (take i recording)) in
+    let next = sending_next recording i _ lt in
+    let both = c.in_ok-tell_datagram.ensures.told all (sents_in so_far) old.addressed (all_sent recording i _ lt) old.heard old.none in
+    record {
+      addressed = subst (λ (a : Addresses). AreAddressed all a.kept) (sym c.in_ok-tell_datagram.ensures.addresses) old.addressed;
+      heard = subst (λ (ss : List SentValue). AreHeard all ss c.tell_datagram.new.telling.hearings.came) (sym (ap sents_in next ∙ sents_next so_far _)) both.0;
+      none = c.in_ok-tell_datagram.ensures.none;
+      told =
+          ap (map (λ (told : Vec Told). map told_value told.items)) c.in_ok-push.ensures.items ∙ map-append (λ (told : Vec Told). map told_value told.items) c.loop-datagram.told.items (c.in_ok-tell_datagram.field-0 ∷ [])
+          ∙ ap (λ ts. ts ++ map told_value c.in_ok-tell_datagram.field-0.items ∷ []) old.told ∙ ap (λ ts. told_by_datagram all [] so_far ++ ts ∷ []) both.1
+          ∙ sym (ap (told_by_datagram all []) next ∙ told_next_datagram all [] so_far _);
+    }
+
+pub returns : goal.returns
+returns c =
+    let recording = c.args.recording.now in
+    let whole = take_all c.loop-datagram.datagram-index recording (omega (arith, c.loop-datagram-test.false)) in
+    c.loop-datagram.invariant.told ∙ ap (λ l. told_by_datagram (sents_in (sending_of (octets_of recording))) [] (sending_of (octets_of l))) whole
