@@ -25,3 +25,4 @@ pub mod MergingLemmas
 pub mod MergedSteps
 pub mod SendingLemmas
 pub mod SampleSteps
+pub mod IndexSteps

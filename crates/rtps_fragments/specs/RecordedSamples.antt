@@ -1,8 +1,11 @@
 -- The samples that a recording tells in fragments, datagram by datagram. DDSI-RTPS 2.5, 8.3.8.3 "DataFrag". own: a sample is told by the act
 -- that completes it.
 use Rattle.std.specs.Prelude.{ℕ, ◌≡◌, List, [], ◌∷◌, ◌++◌, map}
+use Rattle.rtps_wire.specs.Reading.{reading_of}
+use Rattle.rtps_wire.specs.Tally.{tally_of}
+use Rattle.rtps_audit.specs.Intake.{Intake}
 use Rattle.rtps_fragments.specs.Merging.{sents_from, sents_in}
-use Rattle.rtps_fragments.specs.SampleActs.{PieceAct}
+use Rattle.rtps_fragments.specs.SampleActs.{PieceAct, acts_with_samples}
 use Rattle.rtps_fragments.specs.Sending.{sending_of}
 use Rattle.rtps_fragments.specs.Telling.{SentValue, ToldValue, told_in_turn, told_value}
 use Rattle.rtps_fragments.specs.declared.samples.Samples.{Samples}
@@ -16,3 +19,12 @@ told_by_datagram all before (acts ∷ recording) = told_in_turn all before (sent
 abbrev pub AreSamplesOf : List (List ℕ) → Samples → Type 0
 AreSamplesOf recording samples =
     map (λ told. map told_value told.items) samples.told.items ≡ told_by_datagram (sents_in (sending_of recording)) [] (sending_of recording)
+
+-- what an index takes in of a recording with its samples: the acts with the samples among them
+abbrev pub intake_with : List (List ℕ) → Intake
+intake_with recording =
+    record {
+      tallies = map (λ datagram. tally_of (reading_of datagram)) recording;
+      acts = acts_with_samples (sending_of recording);
+      announcing = map (map (λ one. one.act)) (sending_of recording);
+    }

@@ -4,6 +4,7 @@
 mod addressed;
 mod came;
 mod hearing;
+mod index;
 pub mod laws;
 mod merging;
 mod piece;
@@ -12,6 +13,7 @@ mod sending;
 mod telling;
 mod told;
 
+pub use index::index_with;
 pub use piece::{Fragments, SampleKey, Sent};
 pub use samples::Samples;
 pub use told::Told;

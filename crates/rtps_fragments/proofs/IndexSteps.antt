@@ -1,0 +1,152 @@
+-- What an index takes in of a recording with its samples, with one datagram more.
+use Rattle.std.proofs.Common.{◌≡◌, ℕ, zero, suc, ◌+◌, ◌<◌, ◌≤◌, List, [], ◌∷◌, ◌++◌, length, map, take, get_or, Bor, Option, Some, None, slice_get, refl, sym, ◌∙◌, ap, subst, arith, inl, inr, append_assoc, append-nil}
+use Rattle.std.specs.Prelude.{Contains}
+use Rattle.std.specs.List.{flat_map}
+use Rattle.std.proofs.lemmas.Grind.{flat_map-append}
+use Rattle.std.proofs.lemmas.List.{length-map, map-append, take-map, take_more}
+use Rattle.std.proofs.lemmas.List.Elements.{Contains-append_cases}
+use Rattle.std.proofs.lemmas.Option.{slice_get-get_or}
+use Rattle.rtps_wire.specs.DataFrag.{DataFragValue, data_frag_at}
+use Rattle.rtps_wire.specs.Message.{Reading}
+use Rattle.rtps_wire.specs.Reading.{reading_of}
+use Rattle.rtps_wire.specs.Tally.{tally_of}
+use Rattle.rtps_wire.specs.Values.{ItemValue}
+use Rattle.rtps_wire.specs.declared.counts.Tally.{Tally}
+use Rattle.rtps_wire.specs.declared.header.Header.{Header}
+use Rattle.rtps_receiver.specs.Acts.{act_body, gathered, state_at_start, state_behind}
+use Rattle.rtps_receiver.specs.Values.{ActBodyValue, ActValue}
+use Rattle.rtps_receiver.specs.declared.state.State.{State}
+use Rattle.rtps_audit.specs.Intake.{Intake, intake_more}
+use Rattle.rtps_audit.proofs.Offered.{contains_cases, contains_mapped, contains_none, get_mapped}
+use Rattle.rtps_fragments.specs.FragmentDelivery.{Piece}
+use Rattle.rtps_fragments.specs.Merging.{IsFragmentAct, merged_from, sents_from, sents_in}
+use Rattle.rtps_fragments.specs.RecordedSamples.{told_by_datagram}
+use Rattle.rtps_fragments.specs.SampleActs.{PieceAct, acts_and_samples, acts_with_samples, datagrams_and_samples, piece_acts_in}
+use Rattle.rtps_fragments.specs.Sending.{fragment_acts, piece_acts_behind, piece_acts_of, piece_acts_of_item, piece_acts_with, piece_of, sending_of}
+use Rattle.rtps_fragments.specs.Telling.{SentValue, ToldValue, told_in_turn}
+use Rattle.rtps_fragments.proofs.Audiences.{flat_from}
+use Rattle.rtps_fragments.proofs.MergingLemmas.{AreFragmentActs, matches_all, merged_is}
+use Rattle.rtps_fragments.proofs.SampleSteps.{octets_of, sending_next}
+
+-- ---- the pieces of a recording are of DATA_FRAG
+
+gathered_from : {X : Type 0} (gives : State → ItemValue → List X) (start : State) (before items : List ItemValue) (x : X) → Contains (gathered gives start before items) x → (state : State) × (item : ItemValue) × Contains (gives state item) x
+gathered_from gives start before [] x among = absurd (contains_none x among)
+gathered_from gives start before (item ∷ items) x among = elim (Contains-append_cases (gives (state_behind start before) item) (gathered gives start (before ++ item ∷ []) items) x among) [
+  | inl here ↦ (state_behind start before, item, here)
+  | inr there ↦ gathered_from gives start (before ++ item ∷ []) items x there
+]
+
+fragment_of_item : (octets : List ℕ) (state : State) (item : ItemValue) (body : Option ActBodyValue) (one : PieceAct) (piece : Piece) → Contains (piece_acts_of_item octets state item body) one → one.piece ≡ Some piece → IsFragmentAct one piece
+fragment_of_item octets state item (Some body) one piece among is = elim (contains_cases _ [] one among) [
+  | inl same ↦ absurd (let clash : None ≡ Some piece = ap (λ (p : PieceAct). p.piece) same ∙ is in cc)
+  | inr none ↦ absurd (contains_none one none)
+]
+fragment_of_item octets state item None one piece among is = by (data_frag_at _) among
+  where
+    by : (o : Option DataFragValue) → Contains (fragment_acts state item o) one → IsFragmentAct one piece
+    by None among = absurd (contains_none one among)
+    by (Some value) among = elim (contains_cases _ [] one among) [
+      | inl same ↦
+          let piece_is : piece_of value ≡ piece = (let h : Some (piece_of value) ≡ Some piece = ap (λ (p : PieceAct). p.piece) same ∙ is in cc) in
+          record {
+            value = record { reader = value.reader; writer = value.writer; number = value.number; told = None };
+            body = ap (λ (p : PieceAct). p.act.body) (sym same);
+            number = ap (λ (p : Piece). p.number) piece_is;
+          }
+      | inr none ↦ absurd (contains_none one none)
+    ]
+
+pub fragments_of_datagram : (octets : List ℕ) (one : PieceAct) (piece : Piece) → Contains (piece_acts_of octets) one → one.piece ≡ Some piece → IsFragmentAct one piece
+unfolding piece_acts_of
+fragments_of_datagram octets one piece among is = by (reading_of octets).header among
+  where
+    by : (header : Option Header) → Contains (piece_acts_with octets header (reading_of octets).items) one → IsFragmentAct one piece
+    by None among = absurd (contains_none one among)
+    by (Some header) among =
+        let (state, item, there) = gathered_from (λ s i. piece_acts_of_item octets s i (act_body i.body)) (state_at_start header) [] (reading_of octets).items one among in
+        fragment_of_item octets state item (act_body item.body) one piece there is
+
+pub fragments_of_recording : (recording : List (List ℕ)) → AreFragmentActs (piece_acts_in (sending_of recording))
+fragments_of_recording recording one piece among is =
+    let (acts, there, here) = flat_from (λ (datagram : List PieceAct). datagram) (sending_of recording) one among in
+    let (octets, sent, same) = contains_mapped piece_acts_of recording acts there in
+    fragments_of_datagram octets one piece (subst (λ (ones : List PieceAct). Contains ones one) (sym same) here) is
+
+-- ---- one datagram more
+
+pub samples_next : (all before : List PieceAct) (recording : List (List PieceAct)) (acts : List PieceAct)
+    → datagrams_and_samples all before (recording ++ acts ∷ []) ≡ datagrams_and_samples all before recording ++ acts_and_samples all (before ++ piece_acts_in recording) acts ∷ []
+samples_next all before [] acts = ap (λ bs. acts_and_samples all bs acts ∷ []) (sym (append-nil before))
+samples_next all before (first ∷ recording) acts =
+    ap (λ ds. acts_and_samples all before first ∷ ds) (samples_next all (before ++ first) recording acts)
+    ∙ ap (λ bs. datagrams_and_samples all before (first ∷ recording) ++ acts_and_samples all bs acts ∷ []) (append_assoc before first (piece_acts_in recording))
+
+-- what one datagram of a recording tells
+pub told_there : (all before : List SentValue) (recording : List (List PieceAct)) (i : ℕ) (acts : List PieceAct) → slice_get recording i ≡ Some acts
+    → slice_get (told_by_datagram all before recording) i ≡ Some (told_in_turn all (before ++ sents_in (take i recording)) (sents_from 0 acts))
+told_there all before [] i acts e = cc
+told_there all before (first ∷ recording) zero acts e =
+    let is : first ≡ acts = (let h = e in cc) in
+    ap Some (ap (λ ss. told_in_turn all ss (sents_from 0 first)) (sym (append-nil before)) ∙ ap (λ a. told_in_turn all (before ++ []) (sents_from 0 a)) is)
+told_there all before (first ∷ recording) (suc i) acts e =
+    told_there all (before ++ sents_from 0 first) recording i acts e ∙ ap (λ ss. Some (told_in_turn all ss (sents_from 0 acts))) (append_assoc before (sents_from 0 first) (sents_in (take i recording)))
+
+pub length-told : (all before : List SentValue) (recording : List (List PieceAct)) → length (told_by_datagram all before recording) ≡ length recording
+length-told all before [] = refl
+length-told all before (acts ∷ recording) = ap suc (length-told all (before ++ sents_from 0 acts) recording)
+
+pub length-samples : (all before : List PieceAct) (recording : List (List PieceAct)) → length (datagrams_and_samples all before recording) ≡ length recording
+length-samples all before [] = refl
+length-samples all before (acts ∷ recording) = ap suc (length-samples all (before ++ acts) recording)
+
+-- what is taken in of so many datagrams of a recording with its samples
+abbrev pub taken : List (Bor (List ℕ)) → ℕ → Intake
+taken xs i =
+    record {
+      tallies = map (λ datagram. tally_of (reading_of datagram)) (octets_of (take i xs));
+      acts = datagrams_and_samples (piece_acts_in (sending_of (octets_of xs))) [] (sending_of (octets_of (take i xs)));
+      announcing = map (map (λ one. one.act)) (sending_of (octets_of (take i xs)));
+    }
+
+module _ (xs : List (Bor (List ℕ))) (i : ℕ) (d : Bor (List ℕ)) (lt : i < length xs) where
+  abbrev octets : List ℕ
+  octets = (get_or xs i d).now
+
+  abbrev sending : List (List PieceAct)
+  sending = sending_of (octets_of xs)
+
+  there : slice_get (sending_of (octets_of xs)) i ≡ Some (piece_acts_of (get_or xs i d).now)
+  there = get_mapped piece_acts_of (octets_of xs) i (get_or xs i d).now (get_mapped (λ (datagram : Bor (List ℕ)). datagram.now) xs i (get_or xs i d) (slice_get-get_or xs i d lt))
+
+  so_far : take i (sending_of (octets_of xs)) ≡ sending_of (octets_of (take i xs))
+  so_far = take-map piece_acts_of i (octets_of xs) ∙ ap (map piece_acts_of) (take-map (λ (datagram : Bor (List ℕ)). datagram.now) i xs)
+
+  -- the acts of a datagram with what they tell among them
+  pub merged_here : (told : List ToldValue) → slice_get (told_by_datagram (sents_in (sending_of (octets_of xs))) [] (sending_of (octets_of xs))) i ≡ Some told
+      → merged_from 0 (map (λ one. one.act) (piece_acts_of (get_or xs i d).now)) told
+      ≡ acts_and_samples (piece_acts_in (sending_of (octets_of xs))) (piece_acts_in (sending_of (octets_of (take i xs)))) (piece_acts_of (get_or xs i d).now)
+  merged_here told at =
+      let same : told ≡ told_in_turn (sents_in sending) (sents_in (take i sending)) (sents_from 0 (piece_acts_of octets)) = one_item _ _ (sym at ∙ told_there (sents_in sending) [] sending i (piece_acts_of octets) there) in
+      ap (merged_from 0 (map (λ (one : PieceAct). one.act) (piece_acts_of octets))) (same ∙ ap (λ (r : List (List PieceAct)). told_in_turn (sents_in sending) (sents_in r) (sents_from 0 (piece_acts_of octets))) so_far)
+      ∙ merged_is (piece_acts_in sending) (sents_in sending) (matches_all sending (fragments_of_recording (octets_of xs)))
+      (piece_acts_in (sending_of (octets_of (take i xs)))) (sents_in (sending_of (octets_of (take i xs)))) (matches_all (sending_of (octets_of (take i xs))) (fragments_of_recording (octets_of (take i xs))))
+      0 (piece_acts_of octets) (fragments_of_datagram octets)
+    where
+      one_item : {X : Type 0} (x y : X) → Some x ≡ Some y → x ≡ y
+      one_item x y e = cc
+
+  read_next : {Y : Type 0} (f : List ℕ → Y) → map f (octets_of (take (i + 1) xs)) ≡ map f (octets_of (take i xs)) ++ f (get_or xs i d).now ∷ []
+  read_next f =
+      ap (λ ys. map f (octets_of ys)) (take_more xs i d lt) ∙ ap (map f) (map-append (λ (datagram : Bor (List ℕ)). datagram.now) (take i xs) (get_or xs i d ∷ [])) ∙ map-append f (octets_of (take i xs)) (octets ∷ [])
+
+  -- what is taken in, with one datagram more
+  pub taken_more : (told : List ToldValue) → slice_get (told_by_datagram (sents_in (sending_of (octets_of xs))) [] (sending_of (octets_of xs))) i ≡ Some told
+      → intake_more (taken xs i) (tally_of (reading_of (get_or xs i d).now)) (merged_from 0 (map (λ one. one.act) (piece_acts_of (get_or xs i d).now)) told) (map (λ one. one.act) (piece_acts_of (get_or xs i d).now)) ≡ taken xs (i + 1)
+  taken_more told at =
+      let one : List Tally → Intake = λ t. record { tallies = t; acts = (taken xs i).acts ++ merged_from 0 (map (λ (one : PieceAct). one.act) (piece_acts_of octets)) told ∷ []; announcing = (taken xs i).announcing ++ map (λ (one : PieceAct). one.act) (piece_acts_of octets) ∷ [] } in
+      let two : List (List ActValue) → Intake = λ a. record { tallies = (taken xs (i + 1)).tallies; acts = a; announcing = (taken xs i).announcing ++ map (λ (one : PieceAct). one.act) (piece_acts_of octets) ∷ [] } in
+      let three : List (List ActValue) → Intake = λ a. record { tallies = (taken xs (i + 1)).tallies; acts = (taken xs (i + 1)).acts; announcing = a } in
+      ap one (sym (read_next (λ datagram. tally_of (reading_of datagram))))
+      ∙ ap two (ap (λ a. (taken xs i).acts ++ a ∷ []) (merged_here told at) ∙ sym (ap (datagrams_and_samples (piece_acts_in sending) []) (sending_next xs i d lt) ∙ samples_next (piece_acts_in sending) [] (sending_of (octets_of (take i xs))) (piece_acts_of octets)))
+      ∙ ap three (sym (ap (map (map (λ (one : PieceAct). one.act))) (sending_next xs i d lt) ∙ map-append (map (λ (one : PieceAct). one.act)) (sending_of (octets_of (take i xs))) (piece_acts_of octets ∷ [])))
