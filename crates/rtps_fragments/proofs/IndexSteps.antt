@@ -1,11 +1,12 @@
 -- What an index takes in of a recording with its samples, with one datagram more.
-use Rattle.std.proofs.Common.{◌≡◌, ℕ, zero, suc, ◌+◌, ◌<◌, ◌≤◌, List, [], ◌∷◌, ◌++◌, length, map, take, get_or, Bor, Option, Some, None, slice_get, refl, sym, ◌∙◌, ap, subst, arith, inl, inr, append_assoc, append-nil}
+use Rattle.std.proofs.Common.{◌≡◌, ℕ, zero, suc, ◌+◌, ◌<◌, ◌≤◌, List, [], ◌∷◌, ◌++◌, drop, length, map, take, get_or, Bor, Option, Some, None, slice_get, refl, sym, ◌∙◌, ap, subst, arith, inl, inr, append_assoc, append-nil}
 use Rattle.std.specs.Prelude.{Contains}
 use Rattle.std.specs.List.{flat_map}
 use Rattle.std.proofs.lemmas.Grind.{flat_map-append}
 use Rattle.std.proofs.lemmas.List.{length-map, map-append, take-map, take_more}
 use Rattle.std.proofs.lemmas.List.Elements.{Contains-append_cases}
 use Rattle.std.proofs.lemmas.Option.{slice_get-get_or}
+use Rattle.rtps_wire.proofs.Offered.{fragments_of_sample}
 use Rattle.rtps_wire.specs.DataFrag.{DataFragValue, data_frag_at}
 use Rattle.rtps_wire.specs.Message.{Reading}
 use Rattle.rtps_wire.specs.Reading.{reading_of}
@@ -16,9 +17,12 @@ use Rattle.rtps_wire.specs.declared.header.Header.{Header}
 use Rattle.rtps_receiver.specs.Acts.{act_body, gathered, state_at_start, state_behind}
 use Rattle.rtps_receiver.specs.Values.{ActBodyValue, ActValue}
 use Rattle.rtps_receiver.specs.declared.state.State.{State}
+use Rattle.rtps_audit.specs.Speech.{announced_of_body}
 use Rattle.rtps_audit.specs.Intake.{Intake, intake_more}
 use Rattle.rtps_audit.proofs.Offered.{contains_cases, contains_mapped, contains_none, get_mapped}
 use Rattle.rtps_fragments.specs.FragmentDelivery.{Piece}
+use Rattle.rtps_fragments.specs.Laws.{ArePieceActs, IsPieceAct}
+use Rattle.rtps_fragments.proofs.CameLemmas.{length-parts_in}
 use Rattle.rtps_fragments.specs.Merging.{IsFragmentAct, merged_from, sents_from, sents_in}
 use Rattle.rtps_fragments.specs.RecordedSamples.{told_by_datagram}
 use Rattle.rtps_fragments.specs.SampleActs.{PieceAct, acts_and_samples, acts_with_samples, datagrams_and_samples, piece_acts_in}
@@ -56,6 +60,45 @@ fragment_of_item octets state item None one piece among is = by (data_frag_at _)
           }
       | inr none ↦ absurd (contains_none one none)
     ]
+
+-- a piece has fragments of its shape
+piece_of_item : (octets : List ℕ) (state : State) (item : ItemValue) (body : Option ActBodyValue) (one : PieceAct) (piece : Piece) → Contains (piece_acts_of_item octets state item body) one → one.piece ≡ Some piece → IsPieceAct one piece
+piece_of_item octets state item (Some body) one piece among is = elim (contains_cases _ [] one among) [
+  | inl same ↦ absurd (let clash : None ≡ Some piece = ap (λ (p : PieceAct). p.piece) same ∙ is in cc)
+  | inr none ↦ absurd (contains_none one none)
+]
+piece_of_item octets state item None one piece among is = by (data_frag_at (drop item.at octets)) refl among
+  where
+    by : (o : Option DataFragValue) → data_frag_at (drop item.at octets) ≡ o → Contains (fragment_acts state item o) one → IsPieceAct one piece
+    by None e among = absurd (contains_none one among)
+    by (Some value) e among = elim (contains_cases _ [] one among) [
+      | inl same ↦
+          let piece_is : piece_of value ≡ piece = (let h : Some (piece_of value) ≡ Some piece = ap (λ (p : PieceAct). p.piece) same ∙ is in cc) in
+          let well = fragments_of_sample (drop item.at octets) value e in
+          let count = length-parts_in value.shape.fragment value.count value.octets in
+          let own : IsPieceAct (record { act = one.act; piece = Some (piece_of value) }) (piece_of value) = record {
+            announces = ap (λ (p : PieceAct). announced_of_body p.act.body) (sym same);
+            first = well.first;
+            last = (let le = well.last in omega arith);
+          } in
+          subst (λ (p : Piece). IsPieceAct one p) piece_is (record { announces = own.announces; first = own.first; last = own.last })
+      | inr none ↦ absurd (contains_none one none)
+    ]
+
+piece_of_datagram : (octets : List ℕ) (one : PieceAct) (piece : Piece) → Contains (piece_acts_of octets) one → one.piece ≡ Some piece → IsPieceAct one piece
+unfolding piece_acts_of
+piece_of_datagram octets one piece among is = by (reading_of octets).header among
+  where
+    by : (header : Option Header) → Contains (piece_acts_with octets header (reading_of octets).items) one → IsPieceAct one piece
+    by None among = absurd (contains_none one among)
+    by (Some header) among =
+        let (state, item, there) = gathered_from (λ s i. piece_acts_of_item octets s i (act_body i.body)) (state_at_start header) [] (reading_of octets).items one among in
+        piece_of_item octets state item (act_body item.body) one piece there is
+
+pub pieces_of_recording : (recording : List (List ℕ)) → ArePieceActs (sending_of recording)
+pieces_of_recording recording datagram one piece there here is =
+    let (octets, sent, same) = contains_mapped piece_acts_of recording datagram there in
+    piece_of_datagram octets one piece (subst (λ (ones : List PieceAct). Contains ones one) (sym same) here) is
 
 pub fragments_of_datagram : (octets : List ℕ) (one : PieceAct) (piece : Piece) → Contains (piece_acts_of octets) one → one.piece ≡ Some piece → IsFragmentAct one piece
 unfolding piece_acts_of

@@ -13,6 +13,7 @@ use Rattle.rtps_audit.specs.declared.verdict.Verdict.{Verdict}
 use Rattle.rtps_fragments.specs.FragmentDelivery.{Fragment, FragmentSpeech, GivesFragment, IsPutTogether, Piece, Shape, last_fragment, said_in}
 use Rattle.rtps_fragments.specs.FragmentVerdict.{IsPayloadBefore, IsWordBefore, IsFragmentVerdictFrom}
 use Rattle.rtps_fragments.specs.Samples.{payloads_of, told_in}
+use Rattle.rtps_fragments.specs.Sending.{sending_of}
 use Rattle.rtps_fragments.specs.SampleActs.{PieceAct, acts_with_samples, fragment_speech_of, piece_acts_in, acts_of_sample, samples_told}
 use Rattle.rtps_fragments.specs.SamplesSent.{is_left, noted_act, samples_sent, sent_by}
 
@@ -116,3 +117,10 @@ abbrev pub SamplesStandAlone : Type 0
 SamplesStandAlone =
     (all before : List PieceAct) (act : ActValue) (piece : Piece)
     → samples_told all before act (Some piece) ≡ samples_told (acts_of_sample (origin_of act) piece.number piece.shape all) (acts_of_sample (origin_of act) piece.number piece.shape before) act (Some piece)
+
+-- of any writer and reader of a recording, the verdict by runs that take fragments one by one is that of the acts with the samples among
+-- them
+abbrev pub RecordedVerdictIsOfRuns : Type 0
+RecordedVerdictIsOfRuns =
+    (from : ℕ) (writer reader : Guid) (recording : List (List ℕ)) (verdict : Verdict)
+    → IsFragmentVerdictFrom from (fragment_speech_of writer reader (sending_of recording)) verdict ↔ IsVerdictFrom from (speech_by writer reader (acts_with_samples (sending_of recording))) verdict

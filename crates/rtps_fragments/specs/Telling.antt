@@ -162,8 +162,8 @@ HasCame last came (Some kept) = IsCame last came kept
 -- For each audience of each sample among all that is sent, what came by these is kept.
 pub record AreHeard (all before : List SentValue) (kept : BTreeMap Hearing Came) : Type 0 where
   pub each : (hearing : Hearing) (dest : Option GuidPrefix) (reader : EntityId) → slice_get (dests_of hearing.sample all) hearing.dest ≡ Some dest
-    → slice_get (readers_of hearing.sample all) hearing.reader ≡ Some reader
-    → HasCame (last_fragment (shape_of hearing.sample)) (came_to hearing.sample (record { dest = dest; reader = reader }) before) (get hearing_cmp kept hearing)
+      → slice_get (readers_of hearing.sample all) hearing.reader ≡ Some reader
+      → HasCame (last_fragment (shape_of hearing.sample)) (came_to hearing.sample (record { dest = dest; reader = reader }) before) (get hearing_cmp kept hearing)
 
 -- What is kept of one sample is to whom its fragments are sent.
 pub record IsKeptAs (addressed : Addressed) (key : SampleKey) (all : List SentValue) : Type 0 where
@@ -173,8 +173,8 @@ pub record IsKeptAs (addressed : Addressed) (key : SampleKey) (all : List SentVa
 -- The same, where these fragments came to some audiences, and not yet to the others.
 pub record AreHeardSo (all before : List SentValue) (sent : SentValue) (done : Hearing → Bool) (kept : BTreeMap Hearing Came) : Type 0 where
   pub each : (hearing : Hearing) (dest : Option GuidPrefix) (reader : EntityId) → slice_get (dests_of hearing.sample all) hearing.dest ≡ Some dest
-    → slice_get (readers_of hearing.sample all) hearing.reader ≡ Some reader
-    → HasCame (last_fragment (shape_of hearing.sample)) (came_to hearing.sample (record { dest = dest; reader = reader }) (if done hearing then before ++ sent ∷ [] else before)) (get hearing_cmp kept hearing)
+      → slice_get (readers_of hearing.sample all) hearing.reader ≡ Some reader
+      → HasCame (last_fragment (shape_of hearing.sample)) (came_to hearing.sample (record { dest = dest; reader = reader }) (if done hearing then before ++ sent ∷ [] else before)) (get hearing_cmp kept hearing)
 
 -- the audience is one of a destination before this place
 abbrev pub is_above : ℕ → Hearing → Bool

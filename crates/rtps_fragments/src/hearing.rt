@@ -88,12 +88,7 @@ impl<'a> Hearings<'a> {
     }
 
     /// Fragments come to the audiences of one destination, by its place among those that the sample is sent to.
-    fn hear_at(
-        &mut self,
-        addressed: &Addressed,
-        dest: usize,
-        sent: &Sent<'a>,
-    ) -> Result<(), Memory>
+    fn hear_at(&mut self, addressed: &Addressed, dest: usize, sent: &Sent<'a>) -> Result<(), Memory>
         requires sent { IsSent sent.now }
         requires within { dest < length addressed.now.dests.items }
         ensures { OnOk result ((all before : List SentValue) (to : Option GuidPrefixValue) → IsKeptAs addressed.now (sent_value sent.now).key all → slice_get addressed.now.dests.items dest ≡ Some to

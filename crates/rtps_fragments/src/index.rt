@@ -1,19 +1,23 @@
-ghost use Rattle.std.specs.Prelude.{◌≡◌, ◌+◌, ◌<◌, ◌^◌, map, IfOk, OnOk};
+ghost use Rattle.std.specs.Prelude.{ℕ, ◌≡◌, ◌+◌, ◌<◌, ◌^◌, map, IfOk, List, OnOk};
 ghost use Rattle.rtps_audit.specs.Index.{IsIndexBy};
 ghost use Rattle.rtps_audit.specs.Intake.{Intake, intake_more};
 ghost use Rattle.rtps_fragments.specs.Merging.{merged_from};
 ghost use Rattle.rtps_fragments.specs.RecordedSamples.{AreSamplesOf, intake_with};
-ghost use Rattle.rtps_fragments.specs.Sending.{piece_acts_of};
+ghost use Rattle.rtps_fragments.specs.FragmentVerdict.{IsFragmentVerdictFrom};
+ghost use Rattle.rtps_fragments.specs.SampleActs.{fragment_speech_of};
+ghost use Rattle.rtps_fragments.specs.Sending.{piece_acts_of, sending_of};
 ghost use Rattle.rtps_fragments.specs.Telling.{told_value};
 ghost use Rattle.rtps_wire.specs.Reading.{reading_of};
 ghost use Rattle.rtps_wire.specs.Tally.{tally_of};
 
+use crate::laws::recorded_verdict_is_of_runs;
 use crate::merging::merge;
 use crate::samples::Samples;
 use crate::sending::Sending;
 use crate::told::Told;
-use rtps_audit::Index;
-use rtps_ids::Memory;
+use rtps_audit::{Index, Verdict};
+use rtps_discovery::Pair;
+use rtps_ids::{Memory, SeqNum};
 use rtps_wire::tally;
 use std::alloc::Global;
 
@@ -48,4 +52,15 @@ pub fn index_with<'s>(
         note_datagram(&mut index, alloc, recording[place], &samples.told[place])?;
     }
     Ok(index)
+}
+
+/// Judges by the index of a recording with its samples what the recording says of a writer and a reader, of the writer's numbers from
+/// `from` on. The verdict is that by all runs in which the reader takes fragments one by one. `Memory` is answered where what is
+/// kept of that cannot grow.
+pub fn judge_with_samples(index: &Index<'_>, pair: Pair, from: SeqNum) -> Result<Verdict, Memory>
+    ensures { (recording : List (List ℕ)) → IsIndexBy (intake_with recording) index.now
+        → IfOk result (IsFragmentVerdictFrom from (fragment_speech_of pair.writer pair.reader (sending_of recording))) }
+{
+    recorded_verdict_is_of_runs();
+    index.judge_from(pair, from)
 }

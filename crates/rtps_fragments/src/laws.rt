@@ -1,6 +1,6 @@
 //! Laws over definitions alone. Each function does nothing: its clause is the law, and its proof the law's proof.
 
-ghost use Rattle.rtps_fragments.specs.Laws.{FragmentsTellAlike, SamplesTellAlike, FragmentVerdictIsTold, ActsTellAlike, FragmentVerdictOfActs, ActsStayWithoutPieces, VerdictStaysWithoutPieces, PiecesLeftAreOfNoSample, NotedSamplesAreSent, FewFragmentsMakeNoSample, SamplesStandAlone};
+ghost use Rattle.rtps_fragments.specs.Laws.{FragmentsTellAlike, SamplesTellAlike, FragmentVerdictIsTold, ActsTellAlike, FragmentVerdictOfActs, ActsStayWithoutPieces, VerdictStaysWithoutPieces, PiecesLeftAreOfNoSample, NotedSamplesAreSent, FewFragmentsMakeNoSample, SamplesStandAlone, RecordedVerdictIsOfRuns};
 
 use rtps_audit::laws::{runs_exist_where_founded, verdicts_agree};
 
@@ -77,3 +77,11 @@ pub fn few_fragments_make_no_sample()
 pub fn samples_stand_alone()
     ensures { SamplesStandAlone }
 {}
+
+/// Of any writer and reader of a recording, whatever its octets are, the verdict by all runs in which the reader takes fragments one by
+/// one is that of the acts of the recording with the samples among them, with its numbers, from any number on.
+pub fn recorded_verdict_is_of_runs()
+    ensures { RecordedVerdictIsOfRuns }
+{
+    fragment_verdict_of_acts();
+}

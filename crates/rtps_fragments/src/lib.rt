@@ -13,7 +13,7 @@ mod sending;
 mod telling;
 mod told;
 
-pub use index::index_with;
+pub use index::{index_with, judge_with_samples};
 pub use piece::{Fragments, SampleKey, Sent};
 pub use samples::Samples;
 pub use told::Told;

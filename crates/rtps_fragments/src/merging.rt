@@ -38,11 +38,7 @@ fn told_act<'s>(act: &Act<'s>, number: SeqNum, told: &'s Told) -> Act<'s>
 }
 
 /// Appends the samples that an act tells.
-fn push_told<'s>(
-    acts: &mut Vec<Act<'s>>,
-    act: &Act<'s>,
-    told: &'s [Told],
-) -> Result<(), Memory>
+fn push_told<'s>(acts: &mut Vec<Act<'s>>, act: &Act<'s>, told: &'s [Told]) -> Result<(), Memory>
     ensures { OnOk result (map act_value acts.new.items ≡ map act_value acts.old.items ++ acts_told (act_value act.now) (act_value act.now).body (map told_value told.now)) }
 {
     let ActBody::DataFrag(fragment) = &act.body else {

@@ -27,7 +27,11 @@ pub(crate) struct Sending<'a> {
 fn octets_from(octets: &[u8], at: usize) -> &[u8]
     ensures { result.now ≡ drop at octets.now }
 {
-    if at <= octets.len() { &octets[at..] } else { &[] }
+    if at <= octets.len() {
+        &octets[at..]
+    } else {
+        &[]
+    }
 }
 
 /// The fragments of a DATA_FRAG, which is the act at this place, in this state.
@@ -35,16 +39,16 @@ fn sent_of<'a>(act: usize, state: &State, fragments: &DataFrag<'a>) -> Sent<'a>
     requires { IsDataFrag (data_frag_value fragments.now) }
     ensures well { IsSent result }
     ensures value { sent_value result ≡ record {
-        act = act;
-        key = record {
-            writer = record { prefix = state.now.source.prefix; entity = fragments.now.writer };
-            number = fragments.now.number;
-            sample = fragments.now.shape.sample;
-            fragment = fragments.now.shape.fragment;
-            is_key = fragments.now.shape.is_key;
-        };
-        audience = record { dest = state.now.dest; reader = fragments.now.reader };
-        came = came_from fragments.now.first (parts_of (data_frag_value fragments.now));
+      act = act;
+      key = record {
+        writer = record { prefix = state.now.source.prefix; entity = fragments.now.writer };
+        number = fragments.now.number;
+        sample = fragments.now.shape.sample;
+        fragment = fragments.now.shape.fragment;
+        is_key = fragments.now.shape.is_key;
+      };
+      audience = record { dest = state.now.dest; reader = fragments.now.reader };
+      came = came_from fragments.now.first (parts_of (data_frag_value fragments.now));
     } }
 {
     Sent {
@@ -124,12 +128,7 @@ impl<'a> Sending<'a> {
 
     /// Adds the act that an item of a datagram is, if it is one, and changes the state as the item says. After `Memory` it is
     /// of no use.
-    fn add(
-        &mut self,
-        state: &mut State,
-        item: &Item<'a>,
-        datagram: &'a [u8],
-    ) -> Result<(), Memory>
+    fn add(&mut self, state: &mut State, item: &Item<'a>, datagram: &'a [u8]) -> Result<(), Memory>
         ensures acts { OnOk result (AddsActs self.old self.new (piece_acts_of_item datagram.now state.old (item_value item.now) (act_body (item_value item.now).body))) }
         ensures state { OnOk result (state.new ≡ state_behind state.old (item_value item.now ∷ [])) }
     {
