@@ -1,13 +1,10 @@
 -- To whom samples are sent, with fragments more.
 use Rattle.std.proofs.Common.{◌≡◌, Bool, true, false, cond, not, List, [], ◌∷◌, ◌++◌, filter, map, Option, Some, None, refl, sym, ◌∙◌, ap, subst, append-nil}
 use Rattle.std.specs.Prelude.{Contains, ◌||◌}
-use Rattle.std.specs.BTreeMap.{BTreeMap, Updates, get, is_at}
+use Rattle.std.specs.BTreeMap.{BTreeMap, Updates, get}
 use Rattle.std.specs.List.{list_any}
-use Rattle.std.specs.Ordering.{is_eq}
 use Rattle.std.proofs.lemmas.List.{map-append}
 use Rattle.std.proofs.lemmas.List.Elements.{filter-append}
-use Rattle.rtps_ids.specs.declared.identity.EntityId.{EntityId}
-use Rattle.rtps_ids.specs.declared.identity.GuidPrefix.{GuidPrefix}
 use Rattle.rtps_receiver.specs.Speech.{is_entity, unknown_entity}
 use Rattle.rtps_fragments.specs.SampleActs.{is_same_dest, once}
 use Rattle.rtps_fragments.specs.Telling.{AreAddressed, IsKeptAs, SentValue, added, dests_of, is_sample, kept_dests, kept_readers, readers_of, sample_cmp, sent_of}

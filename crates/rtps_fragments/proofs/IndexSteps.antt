@@ -1,14 +1,11 @@
 -- What an index takes in of a recording with its samples, with one datagram more.
-use Rattle.std.proofs.Common.{◌≡◌, ℕ, zero, suc, ◌+◌, ◌<◌, ◌≤◌, List, [], ◌∷◌, ◌++◌, drop, length, map, take, get_or, Bor, Option, Some, None, slice_get, refl, sym, ◌∙◌, ap, subst, arith, inl, inr, append_assoc, append-nil}
+use Rattle.std.proofs.Common.{◌≡◌, ℕ, zero, suc, ◌+◌, ◌<◌, List, [], ◌∷◌, ◌++◌, drop, length, map, take, get_or, Bor, Option, Some, None, slice_get, refl, sym, ◌∙◌, ap, subst, arith, inl, inr, append_assoc, append-nil}
 use Rattle.std.specs.Prelude.{Contains}
-use Rattle.std.specs.List.{flat_map}
-use Rattle.std.proofs.lemmas.Grind.{flat_map-append}
-use Rattle.std.proofs.lemmas.List.{length-map, map-append, take-map, take_more}
+use Rattle.std.proofs.lemmas.List.{map-append, take-map, take_more}
 use Rattle.std.proofs.lemmas.List.Elements.{Contains-append_cases}
 use Rattle.std.proofs.lemmas.Option.{slice_get-get_or}
 use Rattle.rtps_wire.proofs.Offered.{fragments_of_sample}
 use Rattle.rtps_wire.specs.DataFrag.{DataFragValue, data_frag_at}
-use Rattle.rtps_wire.specs.Message.{Reading}
 use Rattle.rtps_wire.specs.Reading.{reading_of}
 use Rattle.rtps_wire.specs.Tally.{tally_of}
 use Rattle.rtps_wire.specs.Values.{ItemValue}
@@ -25,8 +22,8 @@ use Rattle.rtps_fragments.specs.Laws.{ArePieceActs, IsPieceAct}
 use Rattle.rtps_fragments.proofs.CameLemmas.{length-parts_in}
 use Rattle.rtps_fragments.specs.Merging.{IsFragmentAct, merged_from, sents_from, sents_in}
 use Rattle.rtps_fragments.specs.RecordedSamples.{told_by_datagram}
-use Rattle.rtps_fragments.specs.SampleActs.{PieceAct, acts_and_samples, acts_with_samples, datagrams_and_samples, piece_acts_in}
-use Rattle.rtps_fragments.specs.Sending.{fragment_acts, piece_acts_behind, piece_acts_of, piece_acts_of_item, piece_acts_with, piece_of, sending_of}
+use Rattle.rtps_fragments.specs.SampleActs.{PieceAct, acts_and_samples, datagrams_and_samples, piece_acts_in}
+use Rattle.rtps_fragments.specs.Sending.{fragment_acts, piece_acts_of, piece_acts_of_item, piece_acts_with, piece_of, sending_of}
 use Rattle.rtps_fragments.specs.Telling.{SentValue, ToldValue, told_in_turn}
 use Rattle.rtps_fragments.proofs.Audiences.{flat_from}
 use Rattle.rtps_fragments.proofs.MergingLemmas.{AreFragmentActs, matches_all, merged_is}

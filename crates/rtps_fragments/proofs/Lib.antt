@@ -19,6 +19,7 @@ pub mod FewFragments
 pub mod SamplesAlone
 pub mod CameLemmas
 pub mod TellingLemmas
+pub mod OverheardLemmas
 pub mod ToldSoFar
 pub mod AddressedLemmas
 pub mod MergingLemmas

@@ -1,5 +1,5 @@
 -- The acts of a datagram and the samples that they tell, one act after another.
-use Rattle.std.proofs.Common.{◌≡◌, ℕ, suc, ◌+◌, List, [], ◌∷◌, ◌++◌, drop, map, Some, slice_get, refl, sym, ◌∙◌, ap, arith, append_assoc}
+use Rattle.std.proofs.Common.{◌≡◌, ℕ, suc, ◌+◌, List, [], ◌∷◌, ◌++◌, drop, Some, slice_get, sym, ◌∙◌, ap, arith, append_assoc}
 use Rattle.rtps_receiver.specs.Values.{ActValue}
 use Rattle.rtps_fragments.specs.Merging.{acts_told, merged_from, run_of, run_past}
 use Rattle.rtps_fragments.specs.Telling.{ToldValue}

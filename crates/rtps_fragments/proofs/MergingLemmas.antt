@@ -1,8 +1,7 @@
 -- What is sent tells the samples that acts tell.
-use Rattle.std.proofs.Common.{◌≡◌, ℕ, zero, suc, ◌+◌, ◌<◌, ◌≤◌, Bool, true, false, cond, not, ◌&&◌, List, [], ◌∷◌, ◌++◌, length, map, drop, filter, Option, Some, None, refl, sym, ◌∙◌, ap, subst, arith, inl, inr, ◌⊎◌, append_assoc, append-nil}
-use Rattle.std.specs.Prelude.{Contains, ◌==◌, ◌||◌, unwrap_or}
+use Rattle.std.proofs.Common.{◌≡◌, ℕ, suc, ◌<◌, ◌≤◌, Bool, true, false, cond, ◌&&◌, List, [], ◌∷◌, ◌++◌, length, map, drop, filter, Option, Some, None, refl, sym, ◌∙◌, ap, subst, arith, inl, inr, append_assoc, append-nil}
+use Rattle.std.specs.Prelude.{Contains, ◌==◌, unwrap_or}
 use Rattle.std.specs.List.{cons_option, filter_map, flat_map}
-use Rattle.std.proofs.lemmas.Bool.{cases_Bool}
 use Rattle.std.proofs.lemmas.Bool.Decides.{Decides-eqb, nat_tests}
 use Rattle.std.proofs.lemmas.List.{drop-map, length-map, map-append}
 use Rattle.std.proofs.lemmas.List.Concat.{flat_map-append}
@@ -10,7 +9,6 @@ use Rattle.std.proofs.lemmas.List.Elements.{Contains-append_cases, Contains-appe
 use Rattle.rtps_ids.specs.declared.identity.EntityId.{EntityId}
 use Rattle.rtps_ids.specs.declared.identity.Guid.{Guid}
 use Rattle.rtps_ids.specs.declared.identity.GuidPrefix.{GuidPrefix}
-use Rattle.rtps_wire.specs.Values.{PayloadValue}
 use Rattle.rtps_receiver.specs.Speech.{entity_from, is_entity, is_spoken_by, origin_of, reader_named, unknown_entity, writer_named}
 use Rattle.rtps_receiver.specs.Values.{ActBodyValue, ActValue, FragmentValue}
 use Rattle.rtps_receiver.specs.Values.ActBodyValue.{Data, Heartbeat, AckNack, Gap, DataFrag}
@@ -20,12 +18,11 @@ use Rattle.rtps_fragments.specs.Came.{came_from}
 use Rattle.rtps_fragments.specs.FragmentDelivery.{Fragment, Piece, Shape, fragments_from, fragments_of, last_fragment, payload_by}
 use Rattle.rtps_fragments.specs.Merging.{IsFragmentAct, acts_told, key_of, merged_from, run_of, run_past, sent_in, sent_to_whom, sents_from, sents_in}
 use Rattle.rtps_fragments.specs.Samples.{came_of, is_of, payloads_of, samples_of, told_by}
-use Rattle.rtps_fragments.specs.SampleActs.{PieceAct, acts_and_samples, acts_of_sample, audiences_among, fragments_in, is_piece_of, is_same_dest, once, piece_acts_in, reaches, sample_act, samples_told, sent_to, told_to}
+use Rattle.rtps_fragments.specs.SampleActs.{PieceAct, acts_and_samples, acts_of_sample, fragments_in, is_piece_of, is_same_dest, once, piece_acts_in, reaches, sample_act, samples_told, sent_to, told_to}
 use Rattle.rtps_fragments.specs.Telling.{SentValue, ToldValue, came_to, dests_of, is_for_audience, is_sample, readers_of, samples_more, sent_of, shape_of, told_as, told_behind, told_by_sent, told_in_turn, told_to_audience, told_to_dest}
 use Rattle.rtps_fragments.specs.declared.piece.SampleKey.{SampleKey}
 use Rattle.rtps_audit.proofs.Offered.{contains_cases, contains_head, contains_mapped, contains_none, contains_tail}
 use Rattle.rtps_fragments.proofs.Audiences.{flat_from, own_entity, own_prefix}
-use Rattle.rtps_fragments.proofs.HeardLemmas.{heard_one}
 use Rattle.rtps_fragments.proofs.SampleActLemmas.{spoken_is_origin}
 use Rattle.rtps_fragments.proofs.TellingLemmas.{comes, own_sample, sample_is}
 use Rattle.rtps_fragments.proofs.ToldLemmas.{and_true, none_came, own_shape, same_sample}

@@ -1,5 +1,5 @@
 -- The acts of a datagram, one item after another.
-use Rattle.std.proofs.Common.{◌≡◌, ℕ, zero, suc, ◌+◌, List, [], ◌∷◌, ◌++◌, length, map, Option, Some, None, refl, sym, ◌∙◌, ap, subst, arith, append_assoc, append-nil}
+use Rattle.std.proofs.Common.{◌≡◌, ℕ, suc, ◌+◌, List, [], ◌∷◌, ◌++◌, length, map, sym, ◌∙◌, ap, arith, append_assoc, append-nil}
 use Rattle.std.specs.Prelude.{All}
 use Rattle.std.proofs.lemmas.List.{length-append, length-map, map-append}
 use Rattle.rtps_wire.specs.Reading.{Outcome, items_among, reading_of, read_as, refused_with}
@@ -7,14 +7,13 @@ use Rattle.rtps_wire.specs.Values.{ItemValue}
 use Rattle.rtps_wire.specs.declared.fault.WireFault.{WireFault}
 use Rattle.rtps_wire.specs.declared.header.Header.{Header}
 use Rattle.rtps_receiver.specs.Acts.{act_body, state_at_start, state_behind}
-use Rattle.rtps_receiver.specs.Values.{ActValue, act_value}
+use Rattle.rtps_receiver.specs.Values.{act_value}
 use Rattle.rtps_receiver.specs.declared.state.State.{State}
 use Rattle.rtps_receiver.proofs.Offered.{gathered-one}
-use Rattle.rtps_fragments.specs.FragmentDelivery.{Piece}
 use Rattle.rtps_fragments.specs.Merging.{sent_in, sents_from}
 use Rattle.rtps_fragments.specs.SampleActs.{PieceAct}
 use Rattle.rtps_fragments.specs.Sending.{AddsActs, IsSending, piece_acts_behind, piece_acts_of, piece_acts_of_item, piece_acts_with}
-use Rattle.rtps_fragments.specs.Telling.{IsSent, SentValue, sent_value}
+use Rattle.rtps_fragments.specs.Telling.{IsSent, sent_value}
 use Rattle.rtps_fragments.specs.declared.sending.Sending.{Sending}
 
 -- the act of an item comes before those of the items behind it

@@ -1,7 +1,7 @@
 -- Delivery of one writer's numbers to one reader that takes samples whole or in fragments. DDSI-RTPS 2.5, 8.3.8.3 "DataFrag" and
 -- 8.4 "Behavior Module". What is said of words, answers and announced numbers, and the number `from`, are those of delivery without
 -- fragments.
-use Rattle.std.specs.Prelude.{ℕ, suc, ◌<◌, ◌≡◌, ◌+◌, ◌-◌, ◌/◌, ◌⊎◌, Bool, if◌then◌else◌, List, [], ◌∷◌, ◌++◌, length, map, Some, slice_get, Contains}
+use Rattle.std.specs.Prelude.{ℕ, suc, ◌<◌, ◌≡◌, ◌⊎◌, if◌then◌else◌, List, [], ◌∷◌, ◌++◌, length, map, Some, slice_get, Contains}
 use Rattle.std.specs.List.{concat}
 use Rattle.rtps_wire.specs.Values.{PayloadValue}
 use Rattle.rtps_wire.specs.Values.PayloadValue.{Whole, Key}

@@ -10,3 +10,4 @@ pub mod Telling
 pub mod Merging
 pub mod Sending
 pub mod RecordedSamples
+pub mod Overheard

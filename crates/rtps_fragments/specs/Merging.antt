@@ -2,7 +2,7 @@
 -- "DataFrag". own: a sample stands behind the act that completes it.
 use Rattle.std.specs.Prelude.{ℕ, suc, ◌==◌, ◌≡◌, if◌then◌else◌, List, [], ◌∷◌, ◌++◌, map, Option, Some, None, unwrap_or}
 use Rattle.std.specs.List.{flat_map}
-use Rattle.rtps_receiver.specs.Speech.{entity_from, origin_of, reader_named, unknown_entity}
+use Rattle.rtps_receiver.specs.Speech.{origin_of, reader_named, unknown_entity}
 use Rattle.rtps_receiver.specs.Values.{ActBodyValue, ActValue, FragmentValue}
 use Rattle.rtps_receiver.specs.Values.ActBodyValue.{Data, Heartbeat, AckNack, Gap, DataFrag}
 use Rattle.rtps_receiver.specs.declared.speech.Audience.{Audience}

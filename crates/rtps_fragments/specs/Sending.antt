@@ -2,7 +2,6 @@
 -- own: a DATA_FRAG that has no fragments that can be used is no act.
 use Rattle.std.specs.Prelude.{ℕ, ◌≡◌, All, List, [], ◌∷◌, ◌++◌, drop, length, map, Option, Some, None}
 use Rattle.rtps_wire.specs.DataFrag.{DataFragValue, data_frag_at, parts_of}
-use Rattle.rtps_wire.specs.Message.{Reading}
 use Rattle.rtps_wire.specs.Reading.{reading_of}
 use Rattle.rtps_wire.specs.Values.{ItemValue}
 use Rattle.rtps_wire.specs.declared.header.Header.{Header}

@@ -1,6 +1,6 @@
 -- What fragments tell, one act after another, to each audience of their samples. DDSI-RTPS 2.5, 8.3.8.3 "DataFrag". own: it is worked out
 -- of what is known of the fragments alone: their sample, whom they are for, and their octets.
-use Rattle.std.specs.Prelude.{ℕ, Bool, ◌<◌, ◌≡◌, ◌&&◌, ◌||◌, not, if◌then◌else◌, List, [], ◌∷◌, ◌++◌, drop, filter, length, map, nat_lt, ◌==◌, slice_get, Option, Some, None}
+use Rattle.std.specs.Prelude.{ℕ, Bool, ◌<◌, ◌≡◌, ◌&&◌, ◌||◌, if◌then◌else◌, List, [], ◌∷◌, ◌++◌, drop, filter, length, map, nat_lt, ◌==◌, slice_get, Option, Some, None}
 use Rattle.std.specs.BTreeMap.{BTreeMap, get}
 use Rattle.std.specs.List.{flat_map, list_any}
 use Rattle.std.specs.Ordering.{bool_cmp, is_eq, nat_cmp, ordering_then}

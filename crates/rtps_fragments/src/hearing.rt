@@ -36,14 +36,14 @@ pub(crate) struct Hearing {
 
 /// One audience of a sample.
 #[derive(Clone, Copy)]
-struct Listener {
-    hearing: Hearing,
-    audience: Audience,
-    alloc: Global,
+pub(crate) struct Listener {
+    pub(crate) hearing: Hearing,
+    pub(crate) audience: Audience,
+    pub(crate) alloc: Global,
 }
 
 /// Fragments come to an audience, and the samples that they tell it are appended. After `Memory` what is kept is of no use.
-fn tell_listener<'a>(
+pub(crate) fn tell_listener<'a>(
     kept: &mut BTreeMap<Hearing, Came<'a>>,
     listener: Listener,
     sent: &Sent<'a>,

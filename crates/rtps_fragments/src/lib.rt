@@ -7,6 +7,7 @@ mod hearing;
 mod index;
 pub mod laws;
 mod merging;
+mod overheard;
 mod piece;
 mod samples;
 mod sending;
@@ -14,6 +15,7 @@ mod telling;
 mod told;
 
 pub use index::{index_with, judge_with_samples};
+pub use overheard::OverheardSamples;
 pub use piece::{Fragments, SampleKey, Sent};
 pub use samples::Samples;
 pub use told::Told;

@@ -1,11 +1,10 @@
-use Rattle.std.proofs.Common.{◌≡◌, ℕ, List, [], Some, None, refl, ◌++◌, ◌∙◌, ap, map, sym, subst, rules}
-use Rattle.std.specs.Prelude.{IsSome, Option, false}
+use Rattle.std.proofs.Common.{◌≡◌, [], Some, None, refl, ◌++◌, ◌∙◌, ap, sym, subst}
+use Rattle.std.specs.Prelude.{IsSome, Option}
 use Rattle.std.specs.BTreeMap.{BTreeMap, Updates, get}
 use Rattle.std.specs.Option.{option_copied_mut}
-use Rattle.std.specs.Ordering.{is_eq}
 use Rattle.rtps_fragments.specs.Came.{IsCame}
 use Rattle.rtps_fragments.specs.FragmentDelivery.{last_fragment}
-use Rattle.rtps_fragments.specs.Telling.{HasCame, hearing_cmp, sent_value, shape_of, told_by_sent, told_value}
+use Rattle.rtps_fragments.specs.Telling.{HasCame, hearing_cmp, sent_value, shape_of}
 use Rattle.rtps_fragments.specs.declared.came.Came.{Came}
 use Rattle.rtps_fragments.specs.declared.hearing.Hearing.{Hearing}
 use Rattle.rtps_fragments.proofs.TellingLemmas.{on_ok}

@@ -1,7 +1,7 @@
-use Rattle.std.proofs.Common.{◌≡◌, ◌∙◌, ap, arith, List, map, subst, sym, take}
+use Rattle.std.proofs.Common.{◌∙◌, ap, arith, List, subst, sym, take}
 use Rattle.std.proofs.lemmas.List.{take_all}
 use Rattle.rtps_fragments.specs.Merging.{sents_in}
-use Rattle.rtps_fragments.specs.Sending.{piece_acts_of, sending_of}
+use Rattle.rtps_fragments.specs.Sending.{sending_of}
 use Rattle.rtps_fragments.specs.Telling.{AreAddressed, SentValue}
 use Rattle.rtps_fragments.proofs.SampleSteps.{octets_of, sending_next, sents_next}
 use Rattle.rtps_fragments.proofs.samples.addresses_of.Goals as goal

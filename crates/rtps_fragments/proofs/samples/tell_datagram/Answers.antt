@@ -3,7 +3,7 @@ use Rattle.std.specs.Prelude.{Contains}
 use Rattle.std.specs.List.{All}
 use Rattle.rtps_fragments.specs.Merging.{sents_from}
 use Rattle.rtps_fragments.specs.Sending.{piece_acts_of}
-use Rattle.rtps_fragments.specs.Telling.{AreAddressed, AreHeard, SentValue, sent_value, told_in_turn, told_value}
+use Rattle.rtps_fragments.specs.Telling.{AreHeard, SentValue, sent_value, told_in_turn}
 use Rattle.rtps_fragments.proofs.SampleSteps.{all_unmapped}
 use Rattle.rtps_fragments.proofs.samples.tell_datagram.Goals as goal
 

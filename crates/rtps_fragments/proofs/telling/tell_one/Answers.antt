@@ -1,7 +1,7 @@
-use Rattle.std.proofs.Common.{◌≡◌, List, Some, None, ◌∙◌, ap, refl, subst, sym}
+use Rattle.std.proofs.Common.{◌∙◌, ap, sym}
 use Rattle.std.specs.Prelude.{option_copied}
 use Rattle.rtps_fragments.specs.Telling.{sent_value}
-use Rattle.rtps_fragments.proofs.AddressedLemmas.{kept_at, sent_is_kept}
+use Rattle.rtps_fragments.proofs.AddressedLemmas.{sent_is_kept}
 use Rattle.rtps_fragments.proofs.telling.tell_one.Goals as goal
 
 pub returns-in_default : goal.returns-in_default

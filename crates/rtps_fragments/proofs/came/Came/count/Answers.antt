@@ -1,7 +1,7 @@
-use Rattle.std.proofs.Common.{◌≡◌, ℕ, List, ◌∙◌, ap, arith, cond, sym}
+use Rattle.std.proofs.Common.{◌≡◌, ◌∙◌, ap, arith, cond, sym}
 use Rattle.std.specs.Prelude.{◌==◌, nat_lt, true, false}
 use Rattle.std.proofs.lemmas.Bool.Decides.{nat_tests}
-use Rattle.rtps_fragments.proofs.CameLemmas.{sample_count, samples_counted}
+use Rattle.rtps_fragments.proofs.CameLemmas.{samples_counted}
 use Rattle.rtps_fragments.proofs.came.Came.count.Goals as goal
 
 pub returns-then-self-last : goal.returns-then-self-last

@@ -1,10 +1,9 @@
-use Rattle.std.proofs.Common.{◌≡◌, ℕ, List, ◌++◌, ◌∙◌, ap, arith, cond, refl, subst, sym, suc, take, add-one}
-use Rattle.std.specs.Prelude.{◌==◌, ◌<◌, true, false, option_copied, None, Some, slice_get, length}
+use Rattle.std.proofs.Common.{◌≡◌, ℕ, ◌∙◌, ap, arith, sym}
+use Rattle.std.specs.Prelude.{option_copied, length}
 use Rattle.std.specs.Global.{Vec}
 use Rattle.std.specs.List.{concat}
 use Rattle.std.proofs.lemmas.List.{take_all}
-use Rattle.std.proofs.lemmas.Bool.Decides.{Decides-eqb, nat_tests}
-use Rattle.rtps_fragments.specs.Came.{kept_first, with_part}
+use Rattle.rtps_fragments.specs.Came.{with_part}
 use Rattle.rtps_fragments.proofs.CameLemmas.{joined_first, joined_none, joined_with, length-with_part}
 use Rattle.rtps_fragments.proofs.SampleLemmas.{firsts_get}
 use Rattle.rtps_fragments.proofs.came.Came.joined.Goals as goal

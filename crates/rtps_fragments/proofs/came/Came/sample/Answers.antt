@@ -1,5 +1,5 @@
-use Rattle.std.proofs.Common.{◌≡◌, ℕ, List, ◌∙◌, ap, arith, refl, subst, sym}
-use Rattle.std.specs.Prelude.{◌<◌, Err, IfOk, Ok, Some, Result, slice_get, length}
+use Rattle.std.proofs.Common.{ℕ, ◌∙◌, ap, arith, sym}
+use Rattle.std.specs.Prelude.{Err, IfOk, Ok, Some, Result, slice_get}
 use Rattle.std.specs.Global.{Vec}
 use Rattle.rtps_ids.specs.declared.memory.Memory.{Memory}
 use Rattle.rtps_fragments.specs.Samples.{samples_of}

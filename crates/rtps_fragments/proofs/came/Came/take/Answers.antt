@@ -1,5 +1,5 @@
-use Rattle.std.proofs.Common.{◌≡◌, ℕ, List, ◌∙◌, ap, arith, cond, refl, subst, sym, inl, inr, suc, not}
-use Rattle.std.specs.Prelude.{◌==◌, ◌≤◌, ◌<◌, is_some, nat_lt, true, false, option_copied, None, Some}
+use Rattle.std.proofs.Common.{◌≡◌, ◌∙◌, ap, refl, subst, sym, inl, inr, not}
+use Rattle.std.specs.Prelude.{option_copied, Some}
 use Rattle.std.specs.Str.{bytes_eq}
 use Rattle.rtps_fragments.specs.Came.{IsCame, kept_first}
 use Rattle.rtps_fragments.specs.declared.came.Came.{Came}

@@ -1,4 +1,4 @@
-use Rattle.std.proofs.Common.{◌≡◌, ℕ, List, [], ◌∷◌, ◌++◌, ◌∙◌, ◌+◌, ◌-◌, ap, append_assoc, append-nil, arith, drop, length, min, refl, subst, sym, suc, take}
+use Rattle.std.proofs.Common.{◌≡◌, ◌++◌, ◌∙◌, ◌+◌, ◌-◌, ap, append-nil, arith, drop, length, min, subst, sym, suc, take}
 use Rattle.std.proofs.lemmas.List.{drop_min, take_min, take_all}
 use Rattle.rtps_fragments.specs.Came.{IsCame, came_from}
 use Rattle.rtps_fragments.specs.Pieces.{parts_in}

@@ -1,4 +1,4 @@
-use Rattle.std.proofs.Common.{◌≡◌, ◌≤◌, ◌<◌, ℕ, List, [], ◌∷◌, ◌++◌, ◌∙◌, ◌+◌, ap, append_assoc, arith, drop, length, map, refl, subst, sym, suc}
+use Rattle.std.proofs.Common.{◌≤◌, ◌<◌, ℕ, List, [], ◌∷◌, ◌++◌, ◌∙◌, ap, arith, length, map, subst, sym}
 use Rattle.std.proofs.lemmas.List.{map-append}
 use Rattle.rtps_fragments.specs.Came.{IsCame, came_from}
 use Rattle.rtps_fragments.specs.FragmentDelivery.{Shape, last_fragment}

@@ -1,4 +1,4 @@
-use Rattle.std.proofs.Common.{◌≡◌, ◌<◌, ◌≤◌, ℕ, List, ◌++◌, ◌∙◌, ◌+◌, ap, append-nil, arith, get_or, length, map, subst, suc, sym, take}
+use Rattle.std.proofs.Common.{◌≡◌, ◌<◌, ◌≤◌, ◌++◌, ◌∙◌, ◌+◌, ap, append-nil, arith, get_or, length, map, subst, suc, sym}
 use Rattle.std.specs.Prelude.{None, Option, Some, slice_get}
 use Rattle.std.specs.List.{flat_map}
 use Rattle.std.proofs.lemmas.List.{take_all}

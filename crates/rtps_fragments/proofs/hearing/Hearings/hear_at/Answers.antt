@@ -1,4 +1,4 @@
-use Rattle.std.proofs.Common.{◌≡◌, ◌<◌, ◌≤◌, ℕ, List, Option, Some, ◌++◌, ◌∙◌, ◌+◌, ap, append-nil, arith, cond, false, length, map, refl, subst, suc, sym, take, true}
+use Rattle.std.proofs.Common.{◌≡◌, ◌<◌, ◌≤◌, Option, Some, ◌++◌, ◌∙◌, ◌+◌, ap, append-nil, arith, length, map, subst, sym}
 use Rattle.std.specs.Prelude.{slice_get}
 use Rattle.std.specs.BTreeMap.{BTreeMap}
 use Rattle.std.specs.List.{flat_map}
@@ -7,7 +7,7 @@ use Rattle.std.proofs.lemmas.Option.{slice_get-get_or}
 use Rattle.rtps_ids.specs.declared.identity.EntityId.{EntityId}
 use Rattle.rtps_ids.specs.declared.identity.GuidPrefix.{GuidPrefix}
 use Rattle.rtps_receiver.specs.declared.speech.Audience.{Audience}
-use Rattle.rtps_fragments.specs.Telling.{AreHeardSo, SentValue, ToldValue, dests_of, is_above, is_above_reader, is_for_audience, readers_of, sent_value, told_to_audience, told_to_dest, told_value}
+use Rattle.rtps_fragments.specs.Telling.{AreHeardSo, dests_of, is_above_reader, readers_of, sent_value, told_to_audience, told_to_dest, told_value}
 use Rattle.rtps_fragments.specs.declared.came.Came.{Came}
 use Rattle.rtps_fragments.specs.declared.hearing.Hearing.{Hearing}
 use Rattle.rtps_fragments.specs.declared.hearing.Hearings.{Hearings}

@@ -1,7 +1,6 @@
-use Rattle.std.proofs.Common.{◌≡◌, ◌++◌, List, map, Option, Some, slice_get, take}
+use Rattle.std.proofs.Common.{◌≡◌, ◌++◌, List, map, take}
 use Rattle.std.specs.List.{flat_map}
-use Rattle.rtps_ids.specs.declared.identity.GuidPrefix.{GuidPrefix}
-use Rattle.rtps_fragments.specs.Telling.{AreHeardSo, IsKeptAs, SentValue, is_above, is_above_reader, readers_of, sent_value, told_to_audience, told_value}
+use Rattle.rtps_fragments.specs.Telling.{AreHeardSo, IsKeptAs, SentValue, is_above, is_above_reader, sent_value, told_to_audience, told_value}
 use Rattle.rtps_fragments.proofs.hearing.Hearings.hear_at.Given as goal
 
 -- each reader so far heard what is for it

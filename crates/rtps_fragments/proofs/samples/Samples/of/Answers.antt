@@ -1,10 +1,10 @@
-use Rattle.std.proofs.Common.{◌≡◌, ◌+◌, [], ◌∷◌, ◌++◌, ◌∙◌, ap, arith, get_or, List, map, refl, subst, sym, take}
+use Rattle.std.proofs.Common.{[], ◌∷◌, ◌++◌, ◌∙◌, ap, arith, List, map, subst, sym, take}
 use Rattle.std.specs.Global.{Vec}
 use Rattle.std.proofs.lemmas.List.{map-append, take_all}
-use Rattle.rtps_fragments.specs.Merging.{sents_from, sents_in}
+use Rattle.rtps_fragments.specs.Merging.{sents_in}
 use Rattle.rtps_fragments.specs.RecordedSamples.{told_by_datagram}
-use Rattle.rtps_fragments.specs.Sending.{piece_acts_of, sending_of}
-use Rattle.rtps_fragments.specs.Telling.{AreAddressed, AreHeard, SentValue, told_in_turn, told_value}
+use Rattle.rtps_fragments.specs.Sending.{sending_of}
+use Rattle.rtps_fragments.specs.Telling.{AreAddressed, AreHeard, SentValue, told_value}
 use Rattle.rtps_fragments.specs.declared.telling.Addresses.{Addresses}
 use Rattle.rtps_fragments.specs.declared.told.Told.{Told}
 use Rattle.rtps_fragments.proofs.SampleSteps.{all_sent, octets_of, sending_next, sents_next, told_next_datagram}

@@ -1,7 +1,7 @@
-use Rattle.std.proofs.Common.{◌≡◌, [], ◌∷◌, ◌++◌, ◌∙◌, List, Ok, ap, subst, sym}
+use Rattle.std.proofs.Common.{◌≡◌, ◌∷◌, ◌++◌, ◌∙◌, List, Ok, ap, subst, sym}
 use Rattle.rtps_wire.specs.Reading.{Outcome, items_among, outcome_value, outcomes_left}
 use Rattle.rtps_wire.specs.Values.{item_value}
-use Rattle.rtps_receiver.specs.Acts.{act_body, state_behind}
+use Rattle.rtps_receiver.specs.Acts.{act_body}
 use Rattle.rtps_fragments.specs.SampleActs.{PieceAct}
 use Rattle.rtps_fragments.specs.Sending.{piece_acts_behind, piece_acts_of_item}
 use Rattle.rtps_fragments.proofs.SendingLemmas.{IsReading, behind-item, reading_step}

@@ -1,4 +1,4 @@
-use Rattle.std.proofs.Common.{◌≡◌, List, [], ap, subst, sym}
+use Rattle.std.proofs.Common.{List, subst, sym}
 use Rattle.rtps_wire.specs.Reading.{outcomes_left}
 use Rattle.rtps_fragments.specs.SampleActs.{PieceAct}
 use Rattle.rtps_fragments.specs.Sending.{IsSending}

@@ -1,11 +1,11 @@
-use Rattle.std.proofs.Common.{◌≡◌, List, Some, None, ◌∙◌, ap, refl, subst, sym}
-use Rattle.std.specs.Prelude.{IsSome, Option, option_copied}
+use Rattle.std.proofs.Common.{◌≡◌, Some, None, ◌∙◌, ap, refl, subst, sym}
+use Rattle.std.specs.Prelude.{IsSome, Option}
 use Rattle.std.specs.BTreeMap.{BTreeMap, Updates, get}
 use Rattle.std.specs.Option.{option_copied_mut}
-use Rattle.rtps_fragments.specs.Telling.{AreAddressed, SentValue, sample_cmp, sent_value}
+use Rattle.rtps_fragments.specs.Telling.{AreAddressed, sample_cmp, sent_value}
 use Rattle.rtps_fragments.specs.declared.addressed.Addressed.{Addressed}
 use Rattle.rtps_fragments.specs.declared.piece.SampleKey.{SampleKey}
-use Rattle.rtps_fragments.proofs.AddressedLemmas.{AddsAudience, addressed_more, adds_first, adds_known}
+use Rattle.rtps_fragments.proofs.AddressedLemmas.{addressed_more, adds_first, adds_known}
 use Rattle.rtps_fragments.proofs.telling.Addresses.note.Goals as goal
 
 pub returns-in-Some : goal.returns-in-Some

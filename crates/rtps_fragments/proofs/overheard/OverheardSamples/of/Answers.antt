@@ -1,0 +1,34 @@
+use Rattle.std.proofs.Common.{[], ◌∷◌, ◌++◌, ◌∙◌, ap, arith, List, map, subst, sym, take}
+use Rattle.std.specs.Global.{Vec}
+use Rattle.std.proofs.lemmas.List.{map-append, take_all}
+use Rattle.rtps_fragments.specs.Merging.{sents_in}
+use Rattle.rtps_fragments.specs.Overheard.{AreOverheard, overheard_by_datagram}
+use Rattle.rtps_fragments.specs.Sending.{sending_of}
+use Rattle.rtps_fragments.specs.Telling.{SentValue, told_value}
+use Rattle.rtps_fragments.specs.declared.told.Told.{Told}
+use Rattle.rtps_fragments.proofs.OverheardLemmas.{overheard_next}
+use Rattle.rtps_fragments.proofs.SampleSteps.{octets_of, sending_next, sents_next}
+use Rattle.rtps_fragments.proofs.overheard.OverheardSamples.of.Goals as goal
+
+pub loop-datagram-preserved : goal.loop-datagram-preserved
+loop-datagram-preserved c =
+    let recording = c.args.recording.now in
+    let i = c.loop-datagram.datagram-index in
+    let lt = c.loop-datagram-test.true in
+    let old = c.loop-datagram.invariant in
+    let so_far = sending_of (octets_of (take i recording)) in
+    let next = sending_next recording i _ lt in
+    let both = c.in_ok-overhear_datagram.ensures (sents_in so_far) old.heard in
+    record {
+      heard = subst (λ (ss : List SentValue). AreOverheard ss c.overhear_datagram.new.overheard.came) (sym (ap sents_in next ∙ sents_next so_far _)) both.0;
+      told =
+          ap (map (λ (told : Vec Told). map told_value told.items)) c.in_ok-push.ensures.items ∙ map-append (λ (told : Vec Told). map told_value told.items) c.loop-datagram.told.items (c.in_ok-overhear_datagram.field-0 ∷ [])
+          ∙ ap (λ ts. ts ++ map told_value c.in_ok-overhear_datagram.field-0.items ∷ []) old.told ∙ ap (λ ts. overheard_by_datagram [] so_far ++ ts ∷ []) both.1
+          ∙ sym (ap (overheard_by_datagram []) next ∙ overheard_next [] so_far _);
+    }
+
+pub returns : goal.returns
+returns c =
+    let recording = c.args.recording.now in
+    let whole = take_all c.loop-datagram.datagram-index recording (omega (arith, c.loop-datagram-test.false)) in
+    c.loop-datagram.invariant.told ∙ ap (λ l. overheard_by_datagram [] (sending_of (octets_of l))) whole

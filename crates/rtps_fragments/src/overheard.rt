@@ -1,0 +1,116 @@
+ghost use Rattle.std.specs.Prelude.{◌≡◌, ◌++◌, ◌∷◌, [], map, All, IfOk, List, OnOk};
+ghost use Rattle.rtps_fragments.specs.Merging.{sents_from};
+ghost use Rattle.rtps_fragments.specs.Overheard.{AreOverheard, AreOverheardOf, everyone, overheard, overheard_in_turn};
+ghost use Rattle.rtps_fragments.specs.Sending.{piece_acts_of};
+ghost use Rattle.rtps_fragments.specs.Telling.{IsSent, SentValue, sent_value, told_by_sent, told_value};
+
+use crate::came::Came;
+use crate::hearing::{Hearing, Listener, tell_listener};
+use crate::piece::Sent;
+use crate::sending::Sending;
+use crate::told::Told;
+use rtps_ids::{EntityId, Memory};
+use rtps_receiver::Audience;
+use std::alloc::Global;
+use std::collections::BTreeMap;
+
+/// The entity id that names every reader.
+const UNKNOWN: EntityId = EntityId([0; 4]);
+
+/// What came of each sample, whoever it was sent to.
+#[derive(Drop)]
+pub(crate) struct Overheard<'a> {
+    pub(crate) came: BTreeMap<Hearing, Came<'a>>,
+    alloc: Global,
+}
+
+/// Fragments come, and the samples that they tell a reader which hears everything are appended. After `Memory` what is kept is
+/// of no use.
+fn overhear<'a>(
+    kept: &mut BTreeMap<Hearing, Came<'a>>,
+    alloc: Global,
+    sent: &Sent<'a>,
+    told: &mut Vec<Told>,
+) -> Result<(), Memory>
+    requires { IsSent sent.now }
+    ensures { OnOk result ((before : List SentValue) → AreOverheard before kept.old → AreOverheard (before ++ sent_value sent.now ∷ []) kept.new
+        × (map told_value told.new.items ≡ map told_value told.old.items ++ told_by_sent (sent_value sent.now) everyone (overheard (sent_value sent.now).key before))) }
+{
+    let listener = Listener {
+        hearing: Hearing {
+            sample: sent.key,
+            dest: 0,
+            reader: 0,
+        },
+        audience: Audience {
+            dest: None,
+            reader: UNKNOWN,
+        },
+        alloc,
+    };
+    tell_listener(kept, listener, sent, told)?;
+    Ok(())
+}
+
+impl<'a> Overheard<'a> {
+    /// Nothing came.
+    pub(crate) fn new(alloc: Global) -> Overheard<'a>
+        ensures { AreOverheard [] result.came }
+    {
+        Overheard {
+            came: BTreeMap::new(alloc),
+            alloc,
+        }
+    }
+
+    /// Fragments come, one act after another, and the samples that they tell a reader which hears everything are given. After
+    /// `Memory` it is of no use.
+    pub(crate) fn hear(&mut self, sents: &[Sent<'a>]) -> Result<Vec<Told>, Memory>
+        requires { All IsSent sents.now }
+        ensures { IfOk result (λ told. (before : List SentValue) → AreOverheard before self.old.came
+            → AreOverheard (before ++ map sent_value sents.now) self.new.came × (map told_value told.items ≡ overheard_in_turn before (map sent_value sents.now))) }
+    {
+        let mut told = Vec::new(self.alloc);
+        for sent in sents {
+            overhear(&mut self.came, self.alloc, sent, &mut told)?;
+        }
+        Ok(told)
+    }
+}
+
+/// The samples that the DATA_FRAG of a recording tell a reader which hears everything, put together, for each datagram those that
+/// its acts tell.
+#[derive(Drop)]
+pub struct OverheardSamples {
+    pub(crate) told: Vec<Vec<Told>>,
+}
+
+/// What the fragments of one datagram more tell a reader which hears everything. After `Memory` it is of no use.
+fn overhear_datagram<'a>(
+    overheard: &mut Overheard<'a>,
+    alloc: Global,
+    datagram: &'a [u8],
+) -> Result<Vec<Told>, Memory>
+    ensures { IfOk result (λ told. (before : List SentValue) → AreOverheard before overheard.old.came
+        → AreOverheard (before ++ sents_from 0 (piece_acts_of datagram.now)) overheard.new.came
+        × (map told_value told.items ≡ overheard_in_turn before (sents_from 0 (piece_acts_of datagram.now)))) }
+{
+    let sending = Sending::read(alloc, datagram)?;
+    let told = overheard.hear(&sending.sents)?;
+    Ok(told)
+}
+
+impl OverheardSamples {
+    /// Puts the samples of a recording together, whoever hears them, any datagrams in the order of sending. `Memory` is answered
+    /// where there is none for them.
+    pub fn of(alloc: Global, recording: &[&[u8]]) -> Result<OverheardSamples, Memory>
+        ensures { IfOk result (AreOverheardOf (map (λ datagram. datagram.now) recording.now)) }
+    {
+        let mut overheard = Overheard::new(alloc);
+        let mut told = Vec::new(alloc);
+        for datagram in recording {
+            told.push(overhear_datagram(&mut overheard, alloc, datagram)?)?;
+        }
+        Ok(OverheardSamples { told })
+    }
+}
