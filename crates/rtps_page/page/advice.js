@@ -5,7 +5,7 @@
 const SHARED_MEMORY = 'Shared memory and TCP are not in such a recording.';
 const QUIET_END = 'Record to a quiet end: stop publishing, wait some seconds, then stop the recording, with the writers still alive.';
 const KEEP_MORE = 'Raise the writer’s history depth or lifespan.';
-const IN_FRAGMENTS = 'With --any and --fragments they are read; else use smaller samples, or make a text of the capture with tshark.';
+const IN_FRAGMENTS = 'Read the capture with --any, which puts IP packets together. Samples in DATA_FRAG are not read: use smaller samples.';
 
 const inDatagram = (place) => `datagram ${place.datagram}`;
 

@@ -6,7 +6,7 @@ pub(crate) const HEAD: &str = "\
 <html lang=\"en\">\n\
 <head>\n\
 <meta charset=\"utf-8\">\n\
-<meta http-equiv=\"Content-Security-Policy\" content=\"default-src 'none'; style-src 'sha256-JBn21JIVbpNqflcXE2HZODbGua0YqYJQVW4LCHk/qDg='; script-src 'sha256-hC2KsasgTdKc6ko3xOdPgznnygFpeC9B8UTpn2WWcd0=' 'sha256-cDsLkF+fVtmAPxY30r6qoaikQVMRjMdNFNIKOmplYBA=' 'sha256-eDEO+4DarqDQnciRtZrAtVXEoYaA7NwhuLNW9IML36g=' 'sha256-/ytHXEwf/TnBSy0kKPwSpixVLmcJJBYh41xsagFbqbQ=' 'sha256-cH578LKKGXHXOedZZv3YodMAsgIWzkQUyVlzjS6BpJA=' 'sha256-e3E9/5OCOG3mgkW9vYRYQWuJyc1MEkbKfMjNZ/Q45fo=' 'sha256-Lb6QuKCPEHfJ+L7+sAu5XS1o6YvzIy94dXgiziZ4hTM=' 'sha256-aQRHS7bdGjBAGOi81N+WUopBRJRGwI5A8/s5r5+VODY=' 'sha256-2g33eBKhYklrFLVFG3umGVbvJUcicIx6MdIw2fc9QGQ=' 'sha256-MGxiAggoxh2zRiIgZMcokFoOKBNua4TOKwlWlctbEcg='; base-uri 'none'; form-action 'none'\">\n\
+<meta http-equiv=\"Content-Security-Policy\" content=\"default-src 'none'; style-src 'sha256-JBn21JIVbpNqflcXE2HZODbGua0YqYJQVW4LCHk/qDg='; script-src 'sha256-hC2KsasgTdKc6ko3xOdPgznnygFpeC9B8UTpn2WWcd0=' 'sha256-cDsLkF+fVtmAPxY30r6qoaikQVMRjMdNFNIKOmplYBA=' 'sha256-6A+IViAn7duCquln3UBZsv3YhNdbBpsx0NxPj9b4tfY=' 'sha256-/ytHXEwf/TnBSy0kKPwSpixVLmcJJBYh41xsagFbqbQ=' 'sha256-cH578LKKGXHXOedZZv3YodMAsgIWzkQUyVlzjS6BpJA=' 'sha256-e3E9/5OCOG3mgkW9vYRYQWuJyc1MEkbKfMjNZ/Q45fo=' 'sha256-Lb6QuKCPEHfJ+L7+sAu5XS1o6YvzIy94dXgiziZ4hTM=' 'sha256-aQRHS7bdGjBAGOi81N+WUopBRJRGwI5A8/s5r5+VODY=' 'sha256-2g33eBKhYklrFLVFG3umGVbvJUcicIx6MdIw2fc9QGQ=' 'sha256-MGxiAggoxh2zRiIgZMcokFoOKBNua4TOKwlWlctbEcg='; base-uri 'none'; form-action 'none'\">\n\
 <meta name=\"viewport\" content=\"width=device-width, initial-scale=1\">\n\
 <meta name=\"color-scheme\" content=\"light dark\">\n\
 <meta name=\"referrer\" content=\"no-referrer\">\n\
@@ -550,7 +550,7 @@ return make('span', { class: `badge ${kind}` }, words);\n\
 const SHARED_MEMORY = 'Shared memory and TCP are not in such a recording.';\n\
 const QUIET_END = 'Record to a quiet end: stop publishing, wait some seconds, then stop the recording, with the writers still alive.';\n\
 const KEEP_MORE = 'Raise the writer’s history depth or lifespan.';\n\
-const IN_FRAGMENTS = 'With --any and --fragments they are read; else use smaller samples, or make a text of the capture with tshark.';\n\
+const IN_FRAGMENTS = 'Read the capture with --any, which puts IP packets together. Samples in DATA_FRAG are not read: use smaller samples.';\n\
 const inDatagram = (place) => `datagram ${place.datagram}`;\n\
 function isHeard(to, reader) {\n\
 if (to === undefined) return true;\n\
