@@ -502,9 +502,9 @@ class PageTests(Counts):
 
     def paper(self):
         tab = self.open('robot', '#pair-2', dark=True)
-        tab.evaluate("addEventListener('beforeprint', () => { window.drawnFor = chartInSight.colour('--paper'); })")
+        tab.evaluate("addEventListener('beforeprint', () => { window.drawnFor = chartInSight.colour('--sheet'); })")
         self.holds('it is printed', b'%PDF', tab.print()[:4])
-        colours = tab.evaluate("[window.drawnFor, chartInSight.colour('--paper')]")
+        colours = tab.evaluate("[window.drawnFor, chartInSight.colour('--sheet')]")
         self.holds('the chart is drawn for paper, and then for the screen', ['#ffffff', '#14171a'], colours)
         tab.send('Emulation.setEmulatedMedia', media='print', features=[{'name': 'prefers-color-scheme', 'value': 'dark'}])
         tab.resize(700, 1000)

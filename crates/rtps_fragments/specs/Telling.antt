@@ -22,7 +22,7 @@ use Rattle.rtps_fragments.specs.declared.came.Came.{Came}
 use Rattle.rtps_fragments.specs.declared.hearing.Hearing.{Hearing}
 use Rattle.rtps_fragments.specs.declared.piece.SampleKey.{SampleKey}
 use Rattle.rtps_fragments.specs.declared.piece.Sent.{Sent}
-use Rattle.rtps_fragments.specs.declared.told.Told.{Told}
+use Rattle.rtps_fragments.specs.declared.told_sample.Told.{Told}
 
 -- ---- samples
 

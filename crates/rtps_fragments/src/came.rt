@@ -9,7 +9,7 @@ ghost use Rattle.rtps_fragments.specs.Samples.{firsts_of, samples_of};
 ghost use Rattle.rtps_fragments.specs.Telling.{IsSent, sent_value, shape_of, told_by_sent, told_value};
 
 use crate::piece::{Fragments, Sent};
-use crate::told::Told;
+use crate::told_sample::Told;
 use rtps_ids::Memory;
 use rtps_receiver::Audience;
 use rtps_wire::Shape;

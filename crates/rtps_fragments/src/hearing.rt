@@ -9,7 +9,7 @@ ghost use Rattle.rtps_fragments.specs.declared.hearing.Hearing.{Hearing as Heari
 use crate::addressed::{Addressed, is_same_dest};
 use crate::came::Came;
 use crate::piece::{SampleKey, Sent};
-use crate::told::Told;
+use crate::told_sample::Told;
 use rtps_ids::{EntityId, Memory};
 use rtps_receiver::Audience;
 use std::alloc::Global;

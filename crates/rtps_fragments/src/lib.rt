@@ -4,18 +4,18 @@
 mod addressed;
 mod came;
 mod hearing;
-mod index;
 pub mod laws;
 mod merging;
 mod overheard;
 mod piece;
+mod sample_index;
 mod samples;
 mod sending;
 mod telling;
-mod told;
+mod told_sample;
 
-pub use index::{index_with, judge_with_samples};
 pub use overheard::OverheardSamples;
 pub use piece::{Fragments, SampleKey, Sent};
+pub use sample_index::{index_with, judge_with_samples};
 pub use samples::Samples;
-pub use told::Told;
+pub use told_sample::Told;

@@ -4,7 +4,7 @@ ghost use Rattle.rtps_fragments.specs.Merging.{acts_told, merged_from, run_of, r
 ghost use Rattle.rtps_fragments.specs.SampleActs.{sample_act};
 ghost use Rattle.rtps_fragments.specs.Telling.{told_value};
 
-use crate::told::Told;
+use crate::told_sample::Told;
 use rtps_ids::{Memory, SeqNum};
 use rtps_receiver::{Act, ActBody, FragmentBody};
 use rtps_wire::Payload;

@@ -8,7 +8,7 @@ use crate::came::Came;
 use crate::hearing::{Hearing, Listener, tell_listener};
 use crate::piece::Sent;
 use crate::sending::Sending;
-use crate::told::Told;
+use crate::told_sample::Told;
 use rtps_ids::{EntityId, Memory};
 use rtps_receiver::Audience;
 use std::alloc::Global;

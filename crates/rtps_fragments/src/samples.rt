@@ -7,7 +7,7 @@ ghost use Rattle.rtps_fragments.specs.Telling.{AreAddressed, AreHeard, SentValue
 use crate::piece::Sent;
 use crate::sending::Sending;
 use crate::telling::{Addresses, Telling};
-use crate::told::Told;
+use crate::told_sample::Told;
 use rtps_ids::Memory;
 use std::alloc::Global;
 

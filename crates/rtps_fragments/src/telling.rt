@@ -4,7 +4,7 @@ ghost use Rattle.rtps_fragments.specs.Telling.{AreAddressed, AreHeard, IsSent, S
 use crate::addressed::Addressed;
 use crate::hearing::Hearings;
 use crate::piece::{SampleKey, Sent};
-use crate::told::Told;
+use crate::told_sample::Told;
 use rtps_ids::Memory;
 use std::alloc::Global;
 use std::collections::BTreeMap;

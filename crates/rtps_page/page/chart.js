@@ -483,7 +483,7 @@ class Chart {
     const { pen } = this;
     pen.save();
     pen.setLineDash([]);
-    pen.strokeStyle = this.colour('--paper');
+    pen.strokeStyle = this.colour('--sheet');
     pen.lineWidth = 4;
     pen.lineJoin = 'round';
     pen.strokeText(text, x, y);

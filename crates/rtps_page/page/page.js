@@ -22,7 +22,7 @@ function goToAddress(pairs) {
 function listenForColours() {
   matchMedia('(prefers-color-scheme: dark)').addEventListener('change', redrawChart);
   const onPaper = (isOnPaper) => () => {
-    document.documentElement.classList.toggle('paper', isOnPaper);
+    document.documentElement.classList.toggle('printed', isOnPaper);
     redrawChart();
   };
   window.addEventListener('beforeprint', onPaper(true));

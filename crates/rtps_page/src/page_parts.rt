@@ -6,13 +6,13 @@ pub(crate) const HEAD: &str = "\
 <html lang=\"en\">\n\
 <head>\n\
 <meta charset=\"utf-8\">\n\
-<meta http-equiv=\"Content-Security-Policy\" content=\"default-src 'none'; style-src 'sha256-JBn21JIVbpNqflcXE2HZODbGua0YqYJQVW4LCHk/qDg='; script-src 'sha256-hC2KsasgTdKc6ko3xOdPgznnygFpeC9B8UTpn2WWcd0=' 'sha256-cDsLkF+fVtmAPxY30r6qoaikQVMRjMdNFNIKOmplYBA=' 'sha256-6A+IViAn7duCquln3UBZsv3YhNdbBpsx0NxPj9b4tfY=' 'sha256-/ytHXEwf/TnBSy0kKPwSpixVLmcJJBYh41xsagFbqbQ=' 'sha256-cH578LKKGXHXOedZZv3YodMAsgIWzkQUyVlzjS6BpJA=' 'sha256-e3E9/5OCOG3mgkW9vYRYQWuJyc1MEkbKfMjNZ/Q45fo=' 'sha256-Lb6QuKCPEHfJ+L7+sAu5XS1o6YvzIy94dXgiziZ4hTM=' 'sha256-aQRHS7bdGjBAGOi81N+WUopBRJRGwI5A8/s5r5+VODY=' 'sha256-2g33eBKhYklrFLVFG3umGVbvJUcicIx6MdIw2fc9QGQ=' 'sha256-MGxiAggoxh2zRiIgZMcokFoOKBNua4TOKwlWlctbEcg='; base-uri 'none'; form-action 'none'\">\n\
+<meta http-equiv=\"Content-Security-Policy\" content=\"default-src 'none'; style-src 'sha256-enYgoXRT/G0PzIRirf8CEM28Fhw4eE54Vq1XbcE16AE='; script-src 'sha256-hC2KsasgTdKc6ko3xOdPgznnygFpeC9B8UTpn2WWcd0=' 'sha256-cDsLkF+fVtmAPxY30r6qoaikQVMRjMdNFNIKOmplYBA=' 'sha256-6A+IViAn7duCquln3UBZsv3YhNdbBpsx0NxPj9b4tfY=' 'sha256-/ytHXEwf/TnBSy0kKPwSpixVLmcJJBYh41xsagFbqbQ=' 'sha256-cH578LKKGXHXOedZZv3YodMAsgIWzkQUyVlzjS6BpJA=' 'sha256-MW1SO3tdmHKiaLw8ZATRgwXqqXuf/e00UWfvy8UI2Pg=' 'sha256-Lb6QuKCPEHfJ+L7+sAu5XS1o6YvzIy94dXgiziZ4hTM=' 'sha256-aQRHS7bdGjBAGOi81N+WUopBRJRGwI5A8/s5r5+VODY=' 'sha256-2g33eBKhYklrFLVFG3umGVbvJUcicIx6MdIw2fc9QGQ=' 'sha256-yzEnTDGIDLMZkdiHV0nen5L44p7VQ9WGXqz1leJvtq0='; base-uri 'none'; form-action 'none'\">\n\
 <meta name=\"viewport\" content=\"width=device-width, initial-scale=1\">\n\
 <meta name=\"color-scheme\" content=\"light dark\">\n\
 <meta name=\"referrer\" content=\"no-referrer\">\n\
 <title>rtps-audit: a report</title>\n\
 <style>:root {\n\
---paper: #ffffff;\n\
+--sheet: #ffffff;\n\
 --panel: #f3f5f7;\n\
 --ink: #1a1d21;\n\
 --faint: #55606b;\n\
@@ -34,8 +34,8 @@ pub(crate) const HEAD: &str = "\
 --mark: #a11528;\n\
 }\n\
 @media screen and (prefers-color-scheme: dark) {\n\
-:root:not(.paper) {\n\
---paper: #14171a;\n\
+:root:not(.printed) {\n\
+--sheet: #14171a;\n\
 --panel: #1e2328;\n\
 --ink: #e7eaed;\n\
 --faint: #a9b2bb;\n\
@@ -60,7 +60,7 @@ pub(crate) const HEAD: &str = "\
 * { box-sizing: border-box; }\n\
 html {\n\
 color: var(--ink);\n\
-background: var(--paper);\n\
+background: var(--sheet);\n\
 font: 16px/1.45 system-ui, -apple-system, 'Segoe UI', 'DejaVu Sans', sans-serif;\n\
 }\n\
 body { max-width: 1240px; margin: 0 auto; padding: 16px; overflow-wrap: break-word; }\n\
@@ -78,7 +78,7 @@ section:focus { outline: none; }\n\
 [hidden] { display: none !important; }\n\
 .hidden { position: absolute; width: 1px; height: 1px; overflow: hidden; clip-path: inset(50%); white-space: nowrap; }\n\
 .skip { position: absolute; left: -999px; }\n\
-.skip:focus { left: 16px; top: 4px; background: var(--paper); padding: 4px 8px; z-index: 2; }\n\
+.skip:focus { left: 16px; top: 4px; background: var(--sheet); padding: 4px 8px; z-index: 2; }\n\
 #asked, #line { color: var(--faint); font-size: 0.9rem; }\n\
 #explained { color: var(--faint); max-width: 90ch; }\n\
 .badge {\n\
@@ -91,9 +91,9 @@ font-weight: 600;\n\
 line-height: 1.5;\n\
 white-space: nowrap;\n\
 }\n\
-.badge.unfounded { background: var(--unfounded); color: var(--paper); }\n\
-.badge.conflict { background: var(--conflict); color: var(--paper); }\n\
-.badge.open { background: var(--open); color: var(--paper); }\n\
+.badge.unfounded { background: var(--unfounded); color: var(--sheet); }\n\
+.badge.conflict { background: var(--conflict); color: var(--sheet); }\n\
+.badge.open { background: var(--open); color: var(--sheet); }\n\
 .badge.missed { border: 1.5px dashed var(--missed); color: var(--missed); }\n\
 .badge.gone { border: 1.5px dashed var(--gone); color: var(--gone); }\n\
 .badge.complete { border-color: var(--complete); color: var(--complete); }\n\
@@ -146,7 +146,7 @@ tr.group .size { margin-left: 14px; color: var(--faint); font-weight: 400; font-
 .tools { display: flex; flex-wrap: wrap; gap: 8px; align-items: center; margin: 8px 0; }\n\
 .tools input { flex: 1 1 220px; max-width: 420px; }\n\
 input, select, button { font: inherit; color: inherit; }\n\
-input, select { background: var(--paper); border: 1px solid var(--faint); border-radius: 4px; padding: 4px 8px; min-height: 34px; }\n\
+input, select { background: var(--sheet); border: 1px solid var(--faint); border-radius: 4px; padding: 4px 8px; min-height: 34px; }\n\
 .tools button, .controls button, .more {\n\
 background: var(--panel);\n\
 border: 1px solid var(--faint);\n\
@@ -166,7 +166,7 @@ padding: 12px 14px 16px;\n\
 border-left: 4px solid var(--ink);\n\
 }\n\
 .lead { font-weight: 600; }\n\
-.advice { border: 1px solid var(--faint); border-radius: 4px; padding: 8px 10px; background: var(--paper); }\n\
+.advice { border: 1px solid var(--faint); border-radius: 4px; padding: 8px 10px; background: var(--sheet); }\n\
 .advice p:last-child { margin: 0; }\n\
 .ends-list { display: grid; grid-template-columns: max-content 1fr; gap: 2px 12px; margin: 0 0 8px; }\n\
 .ends-list dt { color: var(--faint); }\n\
@@ -176,7 +176,7 @@ border-left: 4px solid var(--ink);\n\
 display: block;\n\
 width: 100%;\n\
 height: 320px;\n\
-background: var(--paper);\n\
+background: var(--sheet);\n\
 border: 1px solid var(--line);\n\
 cursor: crosshair;\n\
 touch-action: pan-y;\n\
@@ -1476,7 +1476,7 @@ words(text, x, y) {\n\
 const { pen } = this;\n\
 pen.save();\n\
 pen.setLineDash([]);\n\
-pen.strokeStyle = this.colour('--paper');\n\
+pen.strokeStyle = this.colour('--sheet');\n\
 pen.lineWidth = 4;\n\
 pen.lineJoin = 'round';\n\
 pen.strokeText(text, x, y);\n\
@@ -1895,7 +1895,7 @@ if (at !== undefined) pairs.goTo(Number(at) - 1);\n\
 function listenForColours() {\n\
 matchMedia('(prefers-color-scheme: dark)').addEventListener('change', redrawChart);\n\
 const onPaper = (isOnPaper) => () => {\n\
-document.documentElement.classList.toggle('paper', isOnPaper);\n\
+document.documentElement.classList.toggle('printed', isOnPaper);\n\
 redrawChart();\n\
 };\n\
 window.addEventListener('beforeprint', onPaper(true));\n\

@@ -5,7 +5,7 @@ use Rattle.rtps_fragments.specs.FragmentDelivery.{Shape, last_fragment}
 use Rattle.rtps_fragments.specs.Pieces.{parts_in}
 use Rattle.rtps_fragments.specs.Samples.{samples_of}
 use Rattle.rtps_fragments.specs.Telling.{sent_value, shape_of, told_value}
-use Rattle.rtps_fragments.specs.declared.told.Told.{Told}
+use Rattle.rtps_fragments.specs.declared.told_sample.Told.{Told}
 use Rattle.rtps_fragments.proofs.ToldSoFar.{told_all, told_from, told_step}
 use Rattle.rtps_fragments.proofs.came.Came.tell.Goals as goal
 

@@ -5,7 +5,7 @@ use Rattle.rtps_fragments.specs.Merging.{sents_in}
 use Rattle.rtps_fragments.specs.Overheard.{AreOverheard, overheard_by_datagram}
 use Rattle.rtps_fragments.specs.Sending.{sending_of}
 use Rattle.rtps_fragments.specs.Telling.{SentValue, told_value}
-use Rattle.rtps_fragments.specs.declared.told.Told.{Told}
+use Rattle.rtps_fragments.specs.declared.told_sample.Told.{Told}
 use Rattle.rtps_fragments.proofs.OverheardLemmas.{overheard_next}
 use Rattle.rtps_fragments.proofs.SampleSteps.{octets_of, sending_next, sents_next}
 use Rattle.rtps_fragments.proofs.overheard.OverheardSamples.of.Goals as goal

@@ -6,7 +6,7 @@ use Rattle.rtps_fragments.specs.RecordedSamples.{told_by_datagram}
 use Rattle.rtps_fragments.specs.Sending.{sending_of}
 use Rattle.rtps_fragments.specs.Telling.{AreAddressed, AreHeard, SentValue, told_value}
 use Rattle.rtps_fragments.specs.declared.telling.Addresses.{Addresses}
-use Rattle.rtps_fragments.specs.declared.told.Told.{Told}
+use Rattle.rtps_fragments.specs.declared.told_sample.Told.{Told}
 use Rattle.rtps_fragments.proofs.SampleSteps.{all_sent, octets_of, sending_next, sents_next, told_next_datagram}
 use Rattle.rtps_fragments.proofs.samples.Samples.of.Goals as goal
 

@@ -6,7 +6,7 @@ use Rattle.std.proofs.lemmas.List.Elements.{All-get_or}
 use Rattle.rtps_fragments.specs.Telling.{AreAddressed, AreHeard, sent_value, told_in_turn, told_value}
 use Rattle.rtps_fragments.specs.declared.piece.Sent.{Sent}
 use Rattle.rtps_fragments.specs.declared.telling.Addresses.{Addresses}
-use Rattle.rtps_fragments.specs.declared.told.Told.{Told}
+use Rattle.rtps_fragments.specs.declared.told_sample.Told.{Told}
 use Rattle.rtps_fragments.proofs.ToldSoFar.{sents-more, told_after}
 use Rattle.rtps_fragments.proofs.telling.Telling.tell.Goals as goal
 

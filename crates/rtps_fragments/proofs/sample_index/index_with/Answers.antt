@@ -11,10 +11,10 @@ use Rattle.rtps_fragments.specs.RecordedSamples.{told_by_datagram}
 use Rattle.rtps_fragments.specs.SampleActs.{piece_acts_in}
 use Rattle.rtps_fragments.specs.Sending.{piece_acts_of, sending_of}
 use Rattle.rtps_fragments.specs.Telling.{ToldValue, told_value}
-use Rattle.rtps_fragments.specs.declared.told.Told.{Told}
+use Rattle.rtps_fragments.specs.declared.told_sample.Told.{Told}
 use Rattle.rtps_fragments.proofs.IndexSteps.{length-samples, length-told, taken, taken_more}
 use Rattle.rtps_fragments.proofs.SampleSteps.{octets_of}
-use Rattle.rtps_fragments.proofs.index.index_with.Goals as goal
+use Rattle.rtps_fragments.proofs.sample_index.index_with.Goals as goal
 
 pub index-requires : goal.index-requires
 index-requires c =

@@ -2,7 +2,7 @@ use Rattle.std.specs.Prelude.{Err, IfOk, Ok, Result}
 use Rattle.rtps_audit.specs.declared.verdict.Verdict.{Verdict}
 use Rattle.rtps_ids.specs.declared.memory.Memory.{Memory}
 use Rattle.rtps_fragments.specs.RecordedSamples.{intake_with}
-use Rattle.rtps_fragments.proofs.index.judge_with_samples.Goals as goal
+use Rattle.rtps_fragments.proofs.sample_index.judge_with_samples.Goals as goal
 
 weaker : (result : Result Verdict Memory) (P Q : Verdict → Type 0) → ((verdict : Verdict) → P verdict → Q verdict) → IfOk result P → IfOk result Q
 weaker (Ok verdict) P Q says is = says verdict is

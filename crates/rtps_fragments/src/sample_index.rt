@@ -14,7 +14,7 @@ use crate::laws::recorded_verdict_is_of_runs;
 use crate::merging::merge;
 use crate::samples::Samples;
 use crate::sending::Sending;
-use crate::told::Told;
+use crate::told_sample::Told;
 use rtps_audit::{Index, Verdict};
 use rtps_discovery::Pair;
 use rtps_ids::{Memory, SeqNum};

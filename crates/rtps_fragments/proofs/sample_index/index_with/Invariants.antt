@@ -1,6 +1,6 @@
 use Rattle.rtps_audit.specs.Index.{IsIndexBy}
 use Rattle.rtps_fragments.proofs.IndexSteps.{taken}
-use Rattle.rtps_fragments.proofs.index.index_with.Given as goal
+use Rattle.rtps_fragments.proofs.sample_index.index_with.Given as goal
 
 -- the index is of the datagrams so far
 abbrev pub invariant-loop-place : goal.invariant-loop-place
