@@ -7,7 +7,7 @@ use Rattle.rtps_receiver.specs.declared.speech.Audience.{Audience}
 use Rattle.rtps_fragments.specs.FragmentDelivery.{Shape, payload_by}
 use Rattle.rtps_fragments.specs.Samples.{samples_of}
 use Rattle.rtps_fragments.specs.Telling.{SentValue, ToldValue, samples_more, sent_value, told_as, told_behind, told_in_turn}
-use Rattle.rtps_fragments.specs.declared.piece.Sent.{Sent}
+use Rattle.rtps_fragments.specs.declared.piece.SentFragments.{SentFragments}
 
 pub drop_at : {X : Type 0} (xs : List X) (i : ℕ) (x : X) → slice_get xs i ≡ Some x → drop i xs ≡ x ∷ drop (suc i) xs
 drop_at [] i x e = cc
@@ -42,7 +42,7 @@ told-more all before (first ∷ sents) sent =
     ∙ ap (λ ss. told_in_turn all before (first ∷ sents) ++ told_behind all ss sent) (append_assoc before (first ∷ []) sents)
 
 -- the elements up to one more
-pub sents-more : (sents : List Sent) (i : ℕ) (d : Sent) → i < length sents → map sent_value (take (i + 1) sents) ≡ map sent_value (take i sents) ++ sent_value (get_or sents i d) ∷ []
+pub sents-more : (sents : List SentFragments) (i : ℕ) (d : SentFragments) → i < length sents → map sent_value (take (i + 1) sents) ≡ map sent_value (take i sents) ++ sent_value (get_or sents i d) ∷ []
 sents-more sents i d lt =
     let more : i + 1 ≡ suc i = omega arith in
     ap (λ n. map sent_value (take n sents)) more ∙ ap (map sent_value) (take-suc sents i d lt) ∙ map-append sent_value (take i sents) (get_or sents i d ∷ [])

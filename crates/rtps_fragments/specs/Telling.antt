@@ -21,8 +21,8 @@ use Rattle.rtps_fragments.specs.declared.addressed.Addressed.{Addressed}
 use Rattle.rtps_fragments.specs.declared.came.Came.{Came}
 use Rattle.rtps_fragments.specs.declared.hearing.Hearing.{Hearing}
 use Rattle.rtps_fragments.specs.declared.piece.SampleKey.{SampleKey}
-use Rattle.rtps_fragments.specs.declared.piece.Sent.{Sent}
-use Rattle.rtps_fragments.specs.declared.told_sample.Told.{Told}
+use Rattle.rtps_fragments.specs.declared.piece.SentFragments.{SentFragments}
+use Rattle.rtps_fragments.specs.declared.told_sample.ToldSample.{ToldSample}
 
 -- ---- samples
 
@@ -50,7 +50,7 @@ pub record SentValue : Type 0 where
   pub came : List (ℕ × List ℕ)
 
 -- what is sent, as a value
-abbrev pub sent_value : Sent → SentValue
+abbrev pub sent_value : SentFragments → SentValue
 sent_value sent =
     record {
       act = sent.act;
@@ -60,7 +60,7 @@ sent_value sent =
     }
 
 -- The sample has a fragment, fragments have octets, and fragments count from 1.
-pub record IsSent (sent : Sent) : Type 0 where
+pub record IsSent (sent : SentFragments) : Type 0 where
   pub some : 0 < last_fragment (shape_of sent.key)
   pub size : 0 < sent.key.fragment
   pub first : 0 < sent.fragments.first
@@ -116,7 +116,7 @@ pub record ToldValue : Type 0 where
   pub payload : PayloadValue
 
 -- a sample that is told, as a value
-abbrev pub told_value : Told → ToldValue
+abbrev pub told_value : ToldSample → ToldValue
 told_value told = record { act = told.act; audience = told.audience; payload = if told.is_key then Key told.octets.items else Whole told.octets.items }
 
 -- samples of this shape with these octets that the act at this place tells an audience

@@ -8,8 +8,8 @@ ghost use Rattle.rtps_fragments.specs.Pieces.{parts_in};
 ghost use Rattle.rtps_fragments.specs.Samples.{firsts_of, samples_of};
 ghost use Rattle.rtps_fragments.specs.Telling.{IsSent, sent_value, shape_of, told_by_sent, told_value};
 
-use crate::piece::{Fragments, Sent};
-use crate::told_sample::Told;
+use crate::piece::{FragmentRun, SentFragments};
+use crate::told_sample::ToldSample;
 use rtps_ids::Memory;
 use rtps_receiver::Audience;
 use rtps_wire::Shape;
@@ -120,7 +120,7 @@ impl<'a> Came<'a> {
     }
 
     /// Takes consecutive fragments of a sample of this shape.
-    fn take_all(&mut self, shape: Shape, fragments: &Fragments<'a>) -> Result<(), Memory>
+    fn take_all(&mut self, shape: Shape, fragments: &FragmentRun<'a>) -> Result<(), Memory>
         requires size { 0 < shape.fragment }
         requires first { 0 < fragments.now.first }
         ensures { OnOk result ((came : List (ℕ × List ℕ)) → IsCame (last_fragment shape) came self.old
@@ -141,9 +141,9 @@ impl<'a> Came<'a> {
     /// together before. After `Memory` it is of no use.
     pub(crate) fn tell(
         &mut self,
-        sent: &Sent<'a>,
+        sent: &SentFragments<'a>,
         audience: Audience,
-        told: &mut Vec<Told>,
+        told: &mut Vec<ToldSample>,
     ) -> Result<(), Memory>
         requires { IsSent sent.now }
         ensures came { OnOk result ((came : List (ℕ × List ℕ)) → IsCame (last_fragment (shape_of sent.now.key)) came self.old
@@ -158,7 +158,7 @@ impl<'a> Came<'a> {
         let after = self.count(last);
         for place in before..after {
             let octets = self.sample(last, place)?;
-            told.push(Told {
+            told.push(ToldSample {
                 act: sent.act,
                 audience,
                 is_key: sent.key.is_key,

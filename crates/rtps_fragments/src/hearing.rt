@@ -8,8 +8,8 @@ ghost use Rattle.rtps_fragments.specs.declared.hearing.Hearing.{Hearing as Heari
 
 use crate::addressed::{Addressed, is_same_dest};
 use crate::came::Came;
-use crate::piece::{SampleKey, Sent};
-use crate::told_sample::Told;
+use crate::piece::{SampleKey, SentFragments};
+use crate::told_sample::ToldSample;
 use rtps_ids::{EntityId, Memory};
 use rtps_receiver::Audience;
 use std::alloc::Global;
@@ -46,8 +46,8 @@ pub(crate) struct Listener {
 pub(crate) fn tell_listener<'a>(
     kept: &mut BTreeMap<Hearing, Came<'a>>,
     listener: Listener,
-    sent: &Sent<'a>,
-    told: &mut Vec<Told>,
+    sent: &SentFragments<'a>,
+    told: &mut Vec<ToldSample>,
 ) -> Result<(), Memory>
     requires { IsSent sent.now }
     ensures here { OnOk result ((came : List (ℕ × List ℕ)) → HasCame (last_fragment (shape_of sent.now.key)) came (get hearing_cmp kept.old listener.hearing)
@@ -70,7 +70,7 @@ pub(crate) fn tell_listener<'a>(
 #[derive(Drop)]
 pub(crate) struct Hearings<'a> {
     pub(crate) came: BTreeMap<Hearing, Came<'a>>,
-    pub(crate) told: Vec<Told>,
+    pub(crate) told: Vec<ToldSample>,
     alloc: Global,
 }
 
@@ -88,7 +88,7 @@ impl<'a> Hearings<'a> {
     }
 
     /// Fragments come to the audiences of one destination, by its place among those that the sample is sent to.
-    fn hear_at(&mut self, addressed: &Addressed, dest: usize, sent: &Sent<'a>) -> Result<(), Memory>
+    fn hear_at(&mut self, addressed: &Addressed, dest: usize, sent: &SentFragments<'a>) -> Result<(), Memory>
         requires sent { IsSent sent.now }
         requires within { dest < length addressed.now.dests.items }
         ensures { OnOk result ((all before : List SentValue) (to : Option GuidPrefixValue) → IsKeptAs addressed.now (sent_value sent.now).key all → slice_get addressed.now.dests.items dest ≡ Some to
@@ -120,7 +120,7 @@ impl<'a> Hearings<'a> {
     }
 
     /// Fragments come to all audiences of their sample.
-    pub(crate) fn hear_all(&mut self, addressed: &Addressed, sent: &Sent<'a>) -> Result<(), Memory>
+    pub(crate) fn hear_all(&mut self, addressed: &Addressed, sent: &SentFragments<'a>) -> Result<(), Memory>
         requires { IsSent sent.now }
         ensures { OnOk result ((all before : List SentValue) → IsKeptAs addressed.now (sent_value sent.now).key all → AreHeard all before self.old.came
             → AreHeard all (before ++ sent_value sent.now ∷ []) self.new.came

@@ -15,7 +15,7 @@ mod telling;
 mod told_sample;
 
 pub use overheard::OverheardSamples;
-pub use piece::{Fragments, SampleKey, Sent};
+pub use piece::{FragmentRun, SampleKey, SentFragments};
 pub use sample_index::{index_with, judge_with_samples};
 pub use samples::Samples;
-pub use told_sample::Told;
+pub use told_sample::ToldSample;

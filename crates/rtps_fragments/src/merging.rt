@@ -4,7 +4,7 @@ ghost use Rattle.rtps_fragments.specs.Merging.{acts_told, merged_from, run_of, r
 ghost use Rattle.rtps_fragments.specs.SampleActs.{sample_act};
 ghost use Rattle.rtps_fragments.specs.Telling.{told_value};
 
-use crate::told_sample::Told;
+use crate::told_sample::ToldSample;
 use rtps_ids::{Memory, SeqNum};
 use rtps_receiver::{Act, ActBody, FragmentBody};
 use rtps_wire::Payload;
@@ -12,7 +12,7 @@ use std::alloc::Global;
 use std::slice;
 
 /// The sample that a DATA_FRAG of this number tells, as an act.
-fn told_act<'s>(act: &Act<'s>, number: SeqNum, told: &'s Told) -> Act<'s>
+fn told_act<'s>(act: &Act<'s>, number: SeqNum, told: &'s ToldSample) -> Act<'s>
     ensures { act_value result ≡ sample_act (act_value act.now) number (told_value told.now).audience (told_value told.now).payload }
 {
     let payload = if told.is_key {
@@ -38,7 +38,7 @@ fn told_act<'s>(act: &Act<'s>, number: SeqNum, told: &'s Told) -> Act<'s>
 }
 
 /// Appends the samples that an act tells.
-fn push_told<'s>(acts: &mut Vec<Act<'s>>, act: &Act<'s>, told: &'s [Told]) -> Result<(), Memory>
+fn push_told<'s>(acts: &mut Vec<Act<'s>>, act: &Act<'s>, told: &'s [ToldSample]) -> Result<(), Memory>
     ensures { OnOk result (map act_value acts.new.items ≡ map act_value acts.old.items ++ acts_told (act_value act.now) (act_value act.now).body (map told_value told.now)) }
 {
     let ActBody::DataFrag(fragment) = &act.body else {
@@ -52,7 +52,7 @@ fn push_told<'s>(acts: &mut Vec<Act<'s>>, act: &Act<'s>, told: &'s [Told]) -> Re
 }
 
 /// How many of these, from the first on, the act at this place tells.
-fn run_length(told: &[Told], act: usize) -> usize
+fn run_length(told: &[ToldSample], act: usize) -> usize
     ensures within { result ≤ length told.now }
     ensures run { run_of act (map told_value told.now) ≡ map told_value (take result told.now) }
     ensures past { run_past act (map told_value told.now) ≡ map told_value (drop result told.now) }
@@ -69,7 +69,7 @@ fn run_length(told: &[Told], act: usize) -> usize
 pub(crate) fn merge<'s>(
     alloc: Global,
     acts: &[Act<'s>],
-    told: &'s [Told],
+    told: &'s [ToldSample],
 ) -> Result<Vec<Act<'s>>, Memory>
     ensures { IfOk result (λ merged. map act_value merged.items ≡ merged_from 0 (map act_value acts.now) (map told_value told.now)) }
 {

@@ -6,9 +6,9 @@ ghost use Rattle.rtps_fragments.specs.Telling.{IsSent, SentValue, sent_value, to
 
 use crate::came::Came;
 use crate::hearing::{Hearing, Listener, tell_listener};
-use crate::piece::Sent;
+use crate::piece::SentFragments;
 use crate::sending::Sending;
-use crate::told_sample::Told;
+use crate::told_sample::ToldSample;
 use rtps_ids::{EntityId, Memory};
 use rtps_receiver::Audience;
 use std::alloc::Global;
@@ -29,8 +29,8 @@ pub(crate) struct Overheard<'a> {
 fn overhear<'a>(
     kept: &mut BTreeMap<Hearing, Came<'a>>,
     alloc: Global,
-    sent: &Sent<'a>,
-    told: &mut Vec<Told>,
+    sent: &SentFragments<'a>,
+    told: &mut Vec<ToldSample>,
 ) -> Result<(), Memory>
     requires { IsSent sent.now }
     ensures { OnOk result ((before : List SentValue) → AreOverheard before kept.old → AreOverheard (before ++ sent_value sent.now ∷ []) kept.new
@@ -65,7 +65,7 @@ impl<'a> Overheard<'a> {
 
     /// Fragments come, one act after another, and the samples that they tell a reader which hears everything are given. After
     /// `Memory` it is of no use.
-    pub(crate) fn hear(&mut self, sents: &[Sent<'a>]) -> Result<Vec<Told>, Memory>
+    pub(crate) fn hear(&mut self, sents: &[SentFragments<'a>]) -> Result<Vec<ToldSample>, Memory>
         requires { All IsSent sents.now }
         ensures { IfOk result (λ told. (before : List SentValue) → AreOverheard before self.old.came
             → AreOverheard (before ++ map sent_value sents.now) self.new.came × (map told_value told.items ≡ overheard_in_turn before (map sent_value sents.now))) }
@@ -82,7 +82,7 @@ impl<'a> Overheard<'a> {
 /// its acts tell.
 #[derive(Drop)]
 pub struct OverheardSamples {
-    pub(crate) told: Vec<Vec<Told>>,
+    pub(crate) told: Vec<Vec<ToldSample>>,
 }
 
 /// What the fragments of one datagram more tell a reader which hears everything. After `Memory` it is of no use.
@@ -90,7 +90,7 @@ fn overhear_datagram<'a>(
     overheard: &mut Overheard<'a>,
     alloc: Global,
     datagram: &'a [u8],
-) -> Result<Vec<Told>, Memory>
+) -> Result<Vec<ToldSample>, Memory>
     ensures { IfOk result (λ told. (before : List SentValue) → AreOverheard before overheard.old.came
         → AreOverheard (before ++ sents_from 0 (piece_acts_of datagram.now)) overheard.new.came
         × (map told_value told.items ≡ overheard_in_turn before (sents_from 0 (piece_acts_of datagram.now)))) }

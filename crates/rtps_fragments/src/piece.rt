@@ -7,7 +7,7 @@ use rtps_wire::Shape;
 
 /// Consecutive fragments of one sample.
 #[derive(Clone, Copy, Debug)]
-pub struct Fragments<'a> {
+pub struct FragmentRun<'a> {
     /// The number of the first of them. Fragments count from 1.
     pub first: u32,
     /// How many there are.
@@ -45,12 +45,12 @@ impl SampleKey {
 
 /// Fragments that a DATA_FRAG sends.
 #[derive(Clone, Copy, Debug)]
-pub struct Sent<'a> {
+pub struct SentFragments<'a> {
     /// The place of the DATA_FRAG among the acts of its datagram.
     pub act: usize,
     /// The sample that they are of.
     pub key: SampleKey,
     /// To whom they are sent.
     pub audience: Audience,
-    pub fragments: Fragments<'a>,
+    pub fragments: FragmentRun<'a>,
 }

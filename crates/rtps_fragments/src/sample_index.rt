@@ -14,7 +14,7 @@ use crate::laws::recorded_verdict_is_of_runs;
 use crate::merging::merge;
 use crate::samples::Samples;
 use crate::sending::Sending;
-use crate::told_sample::Told;
+use crate::told_sample::ToldSample;
 use rtps_audit::{Index, Verdict};
 use rtps_discovery::Pair;
 use rtps_ids::{Memory, SeqNum};
@@ -26,7 +26,7 @@ fn note_datagram<'s>(
     index: &mut Index<'s>,
     alloc: Global,
     datagram: &'s [u8],
-    told: &'s [Told],
+    told: &'s [ToldSample],
 ) -> Result<(), Memory>
     requires { index.old.tallies.datagrams + 1 < 2 ^ 64 }
     ensures { OnOk result ((intake : Intake) → IsIndexBy intake index.old

@@ -4,21 +4,21 @@ ghost use Rattle.rtps_fragments.specs.RecordedSamples.{AreSamplesOf};
 ghost use Rattle.rtps_fragments.specs.Sending.{piece_acts_of, sending_of};
 ghost use Rattle.rtps_fragments.specs.Telling.{AreAddressed, AreHeard, SentValue, sent_value, told_in_turn, told_value};
 
-use crate::piece::Sent;
+use crate::piece::SentFragments;
 use crate::sending::Sending;
 use crate::telling::{Addresses, Telling};
-use crate::told_sample::Told;
+use crate::told_sample::ToldSample;
 use rtps_ids::Memory;
 use std::alloc::Global;
 
 /// The samples that the DATA_FRAG of a recording tell, put together, for each datagram those that its acts tell.
 #[derive(Drop)]
 pub struct Samples {
-    pub(crate) told: Vec<Vec<Told>>,
+    pub(crate) told: Vec<Vec<ToldSample>>,
 }
 
 /// Notes to whom these fragments are sent. After `Memory` the addresses are of no use.
-fn note_sents(addresses: &mut Addresses, sents: &[Sent<'_>]) -> Result<(), Memory>
+fn note_sents(addresses: &mut Addresses, sents: &[SentFragments<'_>]) -> Result<(), Memory>
     ensures { OnOk result ((all : List SentValue) → AreAddressed all addresses.old.kept → AreAddressed (all ++ map sent_value sents.now) addresses.new.kept) }
 {
     for sent in sents {
@@ -52,7 +52,7 @@ fn tell_datagram<'a>(
     telling: &mut Telling<'a>,
     alloc: Global,
     datagram: &'a [u8],
-) -> Result<Vec<Told>, Memory>
+) -> Result<Vec<ToldSample>, Memory>
     ensures addresses { OnOk result (telling.new.addresses ≡ telling.old.addresses) }
     ensures none { OnOk result (telling.new.hearings.told.items ≡ []) }
     ensures told { IfOk result (λ told. (all before : List SentValue) → AreAddressed all telling.old.addresses.kept → All (Contains all) (sents_from 0 (piece_acts_of datagram.now))

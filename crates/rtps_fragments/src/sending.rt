@@ -9,7 +9,7 @@ ghost use Rattle.rtps_fragments.specs.Came.{came_from};
 ghost use Rattle.rtps_fragments.specs.Sending.{AddsActs, IsSending, fragment_acts, piece_acts_behind, piece_acts_of, piece_acts_of_item};
 ghost use Rattle.rtps_fragments.specs.Telling.{IsSent, sent_value};
 
-use crate::piece::{Fragments, SampleKey, Sent};
+use crate::piece::{FragmentRun, SampleKey, SentFragments};
 use rtps_ids::{Guid, Memory};
 use rtps_receiver::{Act, ActBody, Audience, FragmentBody, State};
 use rtps_wire::{DataFrag, Item, Items};
@@ -20,7 +20,7 @@ use std::slice;
 #[derive(Drop)]
 pub(crate) struct Sending<'a> {
     pub(crate) acts: Vec<Act<'a>>,
-    pub(crate) sents: Vec<Sent<'a>>,
+    pub(crate) sents: Vec<SentFragments<'a>>,
 }
 
 /// The octets from this place on; none where it is past the end.
@@ -35,7 +35,7 @@ fn octets_from(octets: &[u8], at: usize) -> &[u8]
 }
 
 /// The fragments of a DATA_FRAG, which is the act at this place, in this state.
-fn sent_of<'a>(act: usize, state: &State, fragments: &DataFrag<'a>) -> Sent<'a>
+fn sent_of<'a>(act: usize, state: &State, fragments: &DataFrag<'a>) -> SentFragments<'a>
     requires { IsDataFrag (data_frag_value fragments.now) }
     ensures well { IsSent result }
     ensures value { sent_value result ≡ record {
@@ -51,7 +51,7 @@ fn sent_of<'a>(act: usize, state: &State, fragments: &DataFrag<'a>) -> Sent<'a>
       came = came_from fragments.now.first (parts_of (data_frag_value fragments.now));
     } }
 {
-    Sent {
+    SentFragments {
         act,
         key: SampleKey {
             writer: Guid {
@@ -67,7 +67,7 @@ fn sent_of<'a>(act: usize, state: &State, fragments: &DataFrag<'a>) -> Sent<'a>
             dest: state.dest,
             reader: fragments.reader,
         },
-        fragments: Fragments {
+        fragments: FragmentRun {
             first: fragments.first,
             count: fragments.count,
             octets: fragments.octets,

@@ -3,8 +3,8 @@ ghost use Rattle.rtps_fragments.specs.Telling.{AreAddressed, AreHeard, IsSent, S
 
 use crate::addressed::Addressed;
 use crate::hearing::Hearings;
-use crate::piece::{SampleKey, Sent};
-use crate::told_sample::Told;
+use crate::piece::{SampleKey, SentFragments};
+use crate::told_sample::ToldSample;
 use rtps_ids::Memory;
 use std::alloc::Global;
 use std::collections::BTreeMap;
@@ -28,7 +28,7 @@ impl Addresses {
     }
 
     /// Notes to whom fragments are sent. After `Memory` it is of no use.
-    pub(crate) fn note(&mut self, sent: &Sent<'_>) -> Result<(), Memory>
+    pub(crate) fn note(&mut self, sent: &SentFragments<'_>) -> Result<(), Memory>
         ensures { OnOk result ((all : List SentValue) → AreAddressed all self.old.kept → AreAddressed (all ++ sent_value sent.now ∷ []) self.new.kept) }
     {
         if let Some(addressed) = self.kept.get_mut(&sent.key) {
@@ -46,7 +46,7 @@ impl Addresses {
 fn tell_one<'a>(
     addresses: &Addresses,
     hearings: &mut Hearings<'a>,
-    sent: &Sent<'a>,
+    sent: &SentFragments<'a>,
 ) -> Result<(), Memory>
     requires { IsSent sent.now }
     ensures { OnOk result ((all before : List SentValue) → AreAddressed all addresses.now.kept → Contains all (sent_value sent.now) → AreHeard all before hearings.old.came
@@ -82,7 +82,7 @@ impl<'a> Telling<'a> {
     }
 
     /// Fragments come, one act after another, and the samples that they tell are given. After `Memory` it is of no use.
-    pub(crate) fn tell(&mut self, sents: &[Sent<'a>]) -> Result<Vec<Told>, Memory>
+    pub(crate) fn tell(&mut self, sents: &[SentFragments<'a>]) -> Result<Vec<ToldSample>, Memory>
         requires { All IsSent sents.now }
         ensures addresses { OnOk result (self.new.addresses ≡ self.old.addresses) }
         ensures none { OnOk result (self.new.hearings.told.items ≡ []) }

@@ -2,7 +2,7 @@ use rtps_receiver::Audience;
 
 /// A sample that is told: put together of its fragments by the DATA_FRAG that completed it.
 #[derive(Drop)]
-pub struct Told {
+pub struct ToldSample {
     /// The place of that DATA_FRAG among the acts of its datagram.
     pub act: usize,
     /// To whom the sample is told.

@@ -11,7 +11,7 @@ use Rattle.rtps_fragments.specs.RecordedSamples.{told_by_datagram}
 use Rattle.rtps_fragments.specs.SampleActs.{piece_acts_in}
 use Rattle.rtps_fragments.specs.Sending.{piece_acts_of, sending_of}
 use Rattle.rtps_fragments.specs.Telling.{ToldValue, told_value}
-use Rattle.rtps_fragments.specs.declared.told_sample.Told.{Told}
+use Rattle.rtps_fragments.specs.declared.told_sample.ToldSample.{ToldSample}
 use Rattle.rtps_fragments.proofs.IndexSteps.{length-samples, length-told, taken, taken_more}
 use Rattle.rtps_fragments.proofs.SampleSteps.{octets_of}
 use Rattle.rtps_fragments.proofs.sample_index.index_with.Goals as goal
@@ -21,7 +21,7 @@ index-requires c =
     let recording = c.args.recording.now in
     let told = c.args.samples.now.told.items in
     let count : length told ≡ length recording =
-    sym (length-map told (λ (t : Vec Told). map told_value t.items)) ∙ ap length c.requires ∙ length-told (sents_in (sending_of (octets_of recording))) [] (sending_of (octets_of recording))
+    sym (length-map told (λ (t : Vec ToldSample). map told_value t.items)) ∙ ap length c.requires ∙ length-told (sents_in (sending_of (octets_of recording))) [] (sending_of (octets_of recording))
     ∙ length-map (octets_of recording) piece_acts_of ∙ length-map recording (λ datagram. datagram.now) in
     omega (arith, count, c.loop-place-test.true)
 
@@ -41,9 +41,9 @@ loop-place-preserved c =
     let samples = c.args.samples.now.told.items in
     let item = c.index.result.now in
     let count : length samples ≡ length recording =
-    sym (length-map samples (λ (t : Vec Told). map told_value t.items)) ∙ ap length c.requires ∙ length-told (sents_in (sending_of (octets_of recording))) [] (sending_of (octets_of recording))
+    sym (length-map samples (λ (t : Vec ToldSample). map told_value t.items)) ∙ ap length c.requires ∙ length-told (sents_in (sending_of (octets_of recording))) [] (sending_of (octets_of recording))
     ∙ length-map (octets_of recording) piece_acts_of ∙ length-map recording (λ datagram. datagram.now) in
     let here : slice_get samples i ≡ Some item = slice_get-get_or samples i item (omega (arith, count, lt)) ∙ ap Some (sym c.index.ensures) in
     let at : slice_get (told_by_datagram (sents_in (sending_of (octets_of recording))) [] (sending_of (octets_of recording))) i ≡ Some (map told_value c.deref.result.now) =
-    ap (λ (ts : List (List ToldValue)). slice_get ts i) (sym c.requires) ∙ get_mapped (λ (t : Vec Told). map told_value t.items) samples i item here ∙ ap (λ (ts : List Told). Some (map told_value ts)) (sym c.deref.ensures.value) in
+    ap (λ (ts : List (List ToldValue)). slice_get ts i) (sym c.requires) ∙ get_mapped (λ (t : Vec ToldSample). map told_value t.items) samples i item here ∙ ap (λ (ts : List ToldSample). Some (map told_value ts)) (sym c.deref.ensures.value) in
     subst (λ intake. IsIndexBy intake c.note_datagram.new.index) (taken_more recording i _ lt (map told_value c.deref.result.now) at) (c.in_ok-note_datagram.ensures (taken recording i) c.loop-place.invariant)

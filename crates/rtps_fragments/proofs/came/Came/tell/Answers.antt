@@ -5,7 +5,7 @@ use Rattle.rtps_fragments.specs.FragmentDelivery.{Shape, last_fragment}
 use Rattle.rtps_fragments.specs.Pieces.{parts_in}
 use Rattle.rtps_fragments.specs.Samples.{samples_of}
 use Rattle.rtps_fragments.specs.Telling.{sent_value, shape_of, told_value}
-use Rattle.rtps_fragments.specs.declared.told_sample.Told.{Told}
+use Rattle.rtps_fragments.specs.declared.told_sample.ToldSample.{ToldSample}
 use Rattle.rtps_fragments.proofs.ToldSoFar.{told_all, told_from, told_step}
 use Rattle.rtps_fragments.proofs.came.Came.tell.Goals as goal
 
@@ -27,7 +27,7 @@ loop-place-preserved c = λ came is.
     let sent = c.args.sent.now in
     let last = c.last_fragment-last.result in
     let more = (sent_value sent).came in
-    let one : Told = record { act = sent.act; audience = c.args.audience; is_key = sent.key.is_key; octets = c.in_ok-octets.octets } in
+    let one : ToldSample = record { act = sent.act; audience = c.args.audience; is_key = sent.key.is_key; octets = c.in_ok-octets.octets } in
     let same = c.last_fragment-last.ensures ∙ ap last_fragment c.shape-shape.ensures in
     let Kept : Shape → Type 0 = λ s. (came : List (ℕ × List ℕ)) → IsCame (last_fragment s) came c.args.self.now
     → IsCame (last_fragment s) (came ++ came_from sent.fragments.first (parts_in s.fragment sent.fragments.count sent.fragments.octets.now)) c.take_all.new.self in

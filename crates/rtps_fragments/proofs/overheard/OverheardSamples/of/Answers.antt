@@ -5,7 +5,7 @@ use Rattle.rtps_fragments.specs.Merging.{sents_in}
 use Rattle.rtps_fragments.specs.Overheard.{AreOverheard, overheard_by_datagram}
 use Rattle.rtps_fragments.specs.Sending.{sending_of}
 use Rattle.rtps_fragments.specs.Telling.{SentValue, told_value}
-use Rattle.rtps_fragments.specs.declared.told_sample.Told.{Told}
+use Rattle.rtps_fragments.specs.declared.told_sample.ToldSample.{ToldSample}
 use Rattle.rtps_fragments.proofs.OverheardLemmas.{overheard_next}
 use Rattle.rtps_fragments.proofs.SampleSteps.{octets_of, sending_next, sents_next}
 use Rattle.rtps_fragments.proofs.overheard.OverheardSamples.of.Goals as goal
@@ -22,7 +22,7 @@ loop-datagram-preserved c =
     record {
       heard = subst (λ (ss : List SentValue). AreOverheard ss c.overhear_datagram.new.overheard.came) (sym (ap sents_in next ∙ sents_next so_far _)) both.0;
       told =
-          ap (map (λ (told : Vec Told). map told_value told.items)) c.in_ok-push.ensures.items ∙ map-append (λ (told : Vec Told). map told_value told.items) c.loop-datagram.told.items (c.in_ok-overhear_datagram.field-0 ∷ [])
+          ap (map (λ (told : Vec ToldSample). map told_value told.items)) c.in_ok-push.ensures.items ∙ map-append (λ (told : Vec ToldSample). map told_value told.items) c.loop-datagram.told.items (c.in_ok-overhear_datagram.field-0 ∷ [])
           ∙ ap (λ ts. ts ++ map told_value c.in_ok-overhear_datagram.field-0.items ∷ []) old.told ∙ ap (λ ts. overheard_by_datagram [] so_far ++ ts ∷ []) both.1
           ∙ sym (ap (overheard_by_datagram []) next ∙ overheard_next [] so_far _);
     }

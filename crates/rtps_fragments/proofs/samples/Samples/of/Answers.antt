@@ -6,7 +6,7 @@ use Rattle.rtps_fragments.specs.RecordedSamples.{told_by_datagram}
 use Rattle.rtps_fragments.specs.Sending.{sending_of}
 use Rattle.rtps_fragments.specs.Telling.{AreAddressed, AreHeard, SentValue, told_value}
 use Rattle.rtps_fragments.specs.declared.telling.Addresses.{Addresses}
-use Rattle.rtps_fragments.specs.declared.told_sample.Told.{Told}
+use Rattle.rtps_fragments.specs.declared.told_sample.ToldSample.{ToldSample}
 use Rattle.rtps_fragments.proofs.SampleSteps.{all_sent, octets_of, sending_next, sents_next, told_next_datagram}
 use Rattle.rtps_fragments.proofs.samples.Samples.of.Goals as goal
 
@@ -25,7 +25,7 @@ loop-datagram-preserved c =
       heard = subst (λ (ss : List SentValue). AreHeard all ss c.tell_datagram.new.telling.hearings.came) (sym (ap sents_in next ∙ sents_next so_far _)) both.0;
       none = c.in_ok-tell_datagram.ensures.none;
       told =
-          ap (map (λ (told : Vec Told). map told_value told.items)) c.in_ok-push.ensures.items ∙ map-append (λ (told : Vec Told). map told_value told.items) c.loop-datagram.told.items (c.in_ok-tell_datagram.field-0 ∷ [])
+          ap (map (λ (told : Vec ToldSample). map told_value told.items)) c.in_ok-push.ensures.items ∙ map-append (λ (told : Vec ToldSample). map told_value told.items) c.loop-datagram.told.items (c.in_ok-tell_datagram.field-0 ∷ [])
           ∙ ap (λ ts. ts ++ map told_value c.in_ok-tell_datagram.field-0.items ∷ []) old.told ∙ ap (λ ts. told_by_datagram all [] so_far ++ ts ∷ []) both.1
           ∙ sym (ap (told_by_datagram all []) next ∙ told_next_datagram all [] so_far _);
     }
