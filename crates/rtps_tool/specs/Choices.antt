@@ -1,7 +1,7 @@
 -- What a run does by what the words chose.
 -- own: each subcommand is one run.
 use Rattle.std.specs.Prelude.{ℕ, ◌≡◌, List, Option, Some, None, Result}
-use Rattle.rtps_fragments.specs.declared.sample_index.Fragments.{Fragments}
+use Rattle.rtps_fragments.specs.declared.fragments.Fragments.{Fragments}
 use Rattle.rtps_text.specs.Asked.{AskedValue, plainly}
 use Rattle.rtps_text.specs.SampleText.{sample}
 use Rattle.rtps_text.specs.declared.text.Ending.{Ending}

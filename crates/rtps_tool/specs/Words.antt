@@ -13,8 +13,8 @@ use Rattle.clap.specs.declared.error.Error.{Error}
 use Rattle.clap.specs.declared.error.kind.ErrorKind.{ErrorKind}
 use Rattle.clap.specs.declared.error.kind.ErrorKind.TheVariants.{DisplayHelp, DisplayVersion, MissingRequiredArgument, MissingSubcommand, OutOfMemory, UnknownArgument, ValueValidation}
 use Rattle.std.specs.String.{string_bytes}
-use Rattle.rtps_fragments.specs.declared.sample_index.Fragments.{Fragments}
-use Rattle.rtps_fragments.specs.declared.sample_index.Fragments.TheVariants.{Skipped, Read}
+use Rattle.rtps_fragments.specs.declared.fragments.Fragments.{Fragments}
+use Rattle.rtps_fragments.specs.declared.fragments.Fragments.TheVariants.{Skipped, Read}
 use Rattle.rtps_tool.specs.Limits.{usual}
 use Rattle.rtps_tool.specs.declared.captures.Captures.{Captures}
 use Rattle.rtps_tool.specs.declared.captures.Captures.TheVariants.{Classic, Any}
