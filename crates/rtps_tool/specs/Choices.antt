@@ -1,7 +1,8 @@
 -- What a run does by what the words chose.
 -- own: each subcommand is one run.
 use Rattle.std.specs.Prelude.{ℕ, ◌≡◌, List, Option, Some, None, Result}
-use Rattle.rtps_text.specs.Asked.{plainly}
+use Rattle.rtps_fragments.specs.declared.fragments.Fragments.{Fragments}
+use Rattle.rtps_text.specs.Asked.{AskedValue, plainly}
 use Rattle.rtps_text.specs.SampleText.{sample}
 use Rattle.rtps_text.specs.declared.text.Ending.{Ending}
 use Rattle.rtps_tool.specs.Commands.{IsTextOf}
@@ -14,7 +15,16 @@ use Rattle.rtps_tool.specs.declared.command.ReportForm.{ReportForm}
 use Rattle.rtps_tool.specs.declared.command.ReportForm.TheVariants.{Lines, Json}
 use Rattle.rtps_tool.specs.declared.faults.RunFault.{RunFault}
 use Rattle.rtps_tool.specs.declared.runs.Command.{Command}
-use Rattle.rtps_tool.specs.declared.runs.Command.TheVariants.{Check as CheckCommand, Show as ShowCommand, List as ListCommand, Audit as AuditCommand, Json as JsonCommand, Why as WhyCommand, Page as PageCommand}
+use Rattle.rtps_tool.specs.declared.runs.Command.TheVariants.{Check as CheckCommand, CheckJson as CheckJsonCommand, Show as ShowCommand, List as ListCommand, Audit as AuditCommand, Json as JsonCommand, Why as WhyCommand, Page as PageCommand}
+
+-- what `show` asks: that samples in fragments are read, or not
+abbrev pub shown_with : Fragments → AskedValue
+shown_with fragments = record (plainly 1) { fragments = fragments }
+
+-- what prints a check in this form
+abbrev pub check_command : ReportForm → Command
+check_command Lines = CheckCommand
+check_command Json = CheckJsonCommand
 
 -- what prints an audit in this form
 abbrev pub audit_command : ReportForm → Command
@@ -23,8 +33,8 @@ audit_command Json = JsonCommand
 
 -- the options of its run; `sample` reads nothing, and has none
 abbrev pub options_of : Choice → Option OptionsValue
-options_of (Check file from limits demands) = Some (record { command = CheckCommand; asked = asked_by demands from; limits = limits; captures = Any })
-options_of (Show file limits captures) = Some (record { command = ShowCommand; asked = plainly 1; limits = limits; captures = captures })
+options_of (Check file from limits form demands) = Some (record { command = check_command form; asked = asked_by demands from; limits = limits; captures = Any })
+options_of (Show file limits captures fragments) = Some (record { command = ShowCommand; asked = shown_with fragments; limits = limits; captures = captures })
 options_of (ListChoice file limits captures) = Some (record { command = ListCommand; asked = plainly 1; limits = limits; captures = captures })
 options_of (Audit file from limits captures form demands) = Some (record { command = audit_command form; asked = asked_by demands from; limits = limits; captures = captures })
 options_of (Why file from limits captures demands) = Some (record { command = WhyCommand; asked = asked_by demands from; limits = limits; captures = captures })

@@ -33,4 +33,5 @@ asked_by demands from =
       rows = record { topics = map string_bytes demands.topics.items; observed = demands.observed };
       expect = demands.expect;
       strict = demands.strict;
+      fragments = demands.fragments;
     }

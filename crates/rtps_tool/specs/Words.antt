@@ -1,7 +1,8 @@
 -- The words of the command line, as `clap` reads them.
--- own: a subcommand and one FILE; `sample` reads none. No option changes what a text means, but for those of `audit`, `why` and
--- `page`, which say from which number on verdicts ask, which rows are asked for, and what else has to be so; two options say how large a recording may be, a flag asks for any
--- capture to be read, and a flag of `audit` asks for its report as JSON.
+-- own: a subcommand and one FILE; `sample` reads none. Two options say how large a recording may be, and a flag asks for any capture
+-- to be read. A flag of `show` and of what judges asks for samples in fragments to be read. What judges has options that say from
+-- which number on verdicts ask, which rows are asked for, and what else has to be so. A flag of `check` and of `audit` asks for
+-- JSON.
 use Rattle.std.specs.Prelude.{ℕ, ◌≡◌, ◌≢◌, ◌-◌, ◌^◌, ◌||◌, codes, Bool, true, false, List, [], ◌∷◌, IfSome, Option, None, Some, map, unwrap_or}
 use Rattle.std.specs.Option.{option_and_then}
 use Rattle.std.specs.Str.Parse.{digits_value, without_leading_plus}
@@ -12,6 +13,8 @@ use Rattle.clap.specs.declared.error.Error.{Error}
 use Rattle.clap.specs.declared.error.kind.ErrorKind.{ErrorKind}
 use Rattle.clap.specs.declared.error.kind.ErrorKind.TheVariants.{DisplayHelp, DisplayVersion, MissingRequiredArgument, MissingSubcommand, OutOfMemory, UnknownArgument, ValueValidation}
 use Rattle.std.specs.String.{string_bytes}
+use Rattle.rtps_fragments.specs.declared.fragments.Fragments.{Fragments}
+use Rattle.rtps_fragments.specs.declared.fragments.Fragments.TheVariants.{Skipped, Read}
 use Rattle.rtps_tool.specs.Limits.{usual}
 use Rattle.rtps_tool.specs.declared.captures.Captures.{Captures}
 use Rattle.rtps_tool.specs.declared.captures.Captures.TheVariants.{Classic, Any}
@@ -36,13 +39,19 @@ number_rule called name = record (new_rule called) { long = Some name; action = 
 abbrev pub flag_rule : (name : Text) → Rule
 flag_rule name = record (new_rule name) { long = Some name; action = Some SetTrue }
 
--- a subcommand that reads a file, within two limits, and any capture where it is asked to
-abbrev pub reading_app : Text → App
-reading_app name =
-    with_rule
-    (with_rule (with_rule (with_rule (new_app name) file_rule) (flag_rule (codes "any")))
-    (number_rule (codes "DATAGRAMS") (codes "max-datagrams")))
+-- a subcommand that reads a file within two limits
+abbrev pub limited_app : Text → App
+limited_app name =
+    with_rule (with_rule (with_rule (new_app name) file_rule) (number_rule (codes "DATAGRAMS") (codes "max-datagrams")))
     (number_rule (codes "OCTETS") (codes "max-octets"))
+
+-- and any capture where it is asked to
+abbrev pub reading_app : Text → App
+reading_app name = with_rule (limited_app name) (flag_rule (codes "any"))
+
+-- and samples in fragments where it is asked to
+abbrev pub fragments_app : Text → App
+fragments_app name = with_rule (reading_app name) (flag_rule (codes "fragments"))
 
 -- the number from which on verdicts ask: a sequence number
 abbrev pub from_rule : Rule
@@ -63,21 +72,16 @@ demanding app =
 
 -- a subcommand that judges
 abbrev pub report_app : Text → App
-report_app name = demanding (with_rule (reading_app name) from_rule)
+report_app name = demanding (with_rule (fragments_app name) from_rule)
 
 -- the subcommand `audit`, which has a flag that asks for JSON
 abbrev pub audit_app : App
 audit_app = with_rule (report_app (codes "audit")) (flag_rule (codes "json"))
 
--- a subcommand that reads a file within two limits
-abbrev pub limited_app : Text → App
-limited_app name =
-    with_rule (with_rule (with_rule (new_app name) file_rule) (number_rule (codes "DATAGRAMS") (codes "max-datagrams")))
-    (number_rule (codes "OCTETS") (codes "max-octets"))
-
--- the subcommand `check`: it reads any capture, and what else `audit` may ask of its report is asked always
+-- the subcommand `check`: it reads any capture and samples in fragments, and what else `audit` may ask of its report is asked
+-- always
 abbrev pub check_app : App
-check_app = with_rule (with_rule (with_rule (limited_app (codes "check")) from_rule) pattern_rule) expect_rule
+check_app = with_rule (with_rule (with_rule (with_rule (limited_app (codes "check")) from_rule) pattern_rule) expect_rule) (flag_rule (codes "json"))
 
 -- a program that has a version and wants a subcommand
 abbrev pub bare_program : App
@@ -90,7 +94,7 @@ program =
     (with_subcommand
     (with_subcommand
     (with_subcommand
-    (with_subcommand (with_subcommand (with_subcommand bare_program check_app.top) (reading_app (codes "show")).top) (reading_app (codes "list")).top)
+    (with_subcommand (with_subcommand (with_subcommand bare_program check_app.top) (fragments_app (codes "show")).top) (reading_app (codes "list")).top)
     audit_app.top)
     (report_app (codes "why")).top)
     (report_app (codes "page")).top)
@@ -98,8 +102,8 @@ program =
 
 -- the subcommand that was chosen
 abbrev pub subcommand_name : Choice → Text
-subcommand_name (Check file from limits demands) = codes "check"
-subcommand_name (Show file limits captures) = codes "show"
+subcommand_name (Check file from limits form demands) = codes "check"
+subcommand_name (Show file limits captures fragments) = codes "show"
 subcommand_name (ListChoice file limits captures) = codes "list"
 subcommand_name (Audit file from limits captures form demands) = codes "audit"
 subcommand_name (Why file from limits captures demands) = codes "why"
@@ -108,8 +112,8 @@ subcommand_name Sample = codes "sample"
 
 -- the file that was chosen; `sample` has none
 abbrev pub file_name : Choice → Option Text
-file_name (Check file from limits demands) = Some (string_bytes file)
-file_name (Show file limits captures) = Some (string_bytes file)
+file_name (Check file from limits form demands) = Some (string_bytes file)
+file_name (Show file limits captures fragments) = Some (string_bytes file)
 file_name (ListChoice file limits captures) = Some (string_bytes file)
 file_name (Audit file from limits captures form demands) = Some (string_bytes file)
 file_name (Why file from limits captures demands) = Some (string_bytes file)
@@ -133,8 +137,8 @@ IsNumberGiven text n = IsGivenOr 1 text n
 
 -- its number is the one that was given; only `check`, `audit`, `why` and `page` have one
 abbrev pub HasItsNumber : Choice → List Row → Type 0
-HasItsNumber (Check file from limits demands) rows = IsNumberGiven (first_of (codes "N") rows) from
-HasItsNumber (Show file limits captures) rows = Unit {0}
+HasItsNumber (Check file from limits form demands) rows = IsNumberGiven (first_of (codes "N") rows) from
+HasItsNumber (Show file limits captures fragments) rows = Unit {0}
 HasItsNumber (ListChoice file limits captures) rows = Unit {0}
 HasItsNumber (Audit file from limits captures form demands) rows = IsNumberGiven (first_of (codes "N") rows) from
 HasItsNumber (Why file from limits captures demands) rows = IsNumberGiven (first_of (codes "N") rows) from
@@ -156,10 +160,15 @@ abbrev pub is_any : Captures → Bool
 is_any Classic = false
 is_any Any = true
 
--- its form is the one that was asked for; only `audit` has one
+-- fragments are read where the flag asks for it
+abbrev pub is_read : Fragments → Bool
+is_read Skipped = false
+is_read Read = true
+
+-- its form is the one that was asked for; only `check` and `audit` have one
 abbrev pub HasItsFlag : Choice → List Row → Type 0
-HasItsFlag (Check file from limits demands) rows = Unit {0}
-HasItsFlag (Show file limits captures) rows = Unit {0}
+HasItsFlag (Check file from limits form demands) rows = IsFlagGiven (one_of (codes "json") rows) (is_json form)
+HasItsFlag (Show file limits captures fragments) rows = Unit {0}
 HasItsFlag (ListChoice file limits captures) rows = Unit {0}
 HasItsFlag (Audit file from limits captures form demands) rows = IsFlagGiven (one_of (codes "json") rows) (is_json form)
 HasItsFlag (Why file from limits captures demands) rows = Unit {0}
@@ -176,8 +185,8 @@ pub record AreCapturesGiven (rows : List Row) (captures : Captures) : Type 0 whe
 
 -- it reads the captures that were asked for
 abbrev pub HasItsCaptures : Choice → List Row → Type 0
-HasItsCaptures (Check file from limits demands) rows = Unit {0}
-HasItsCaptures (Show file limits captures) rows = IsFlagGiven (one_of (codes "any") rows) (is_any captures)
+HasItsCaptures (Check file from limits form demands) rows = Unit {0}
+HasItsCaptures (Show file limits captures fragments) rows = IsFlagGiven (one_of (codes "any") rows) (is_any captures)
 HasItsCaptures (ListChoice file limits captures) rows = IsFlagGiven (one_of (codes "any") rows) (is_any captures)
 HasItsCaptures (Audit file from limits captures form demands) rows = AreCapturesGiven rows captures
 HasItsCaptures (Why file from limits captures demands) rows = AreCapturesGiven rows captures
@@ -191,12 +200,13 @@ IsExpectGiven None expect = expect ≡ None
 IsExpectGiven (Some text) expect =
     (IsUnsignedIn 0 (2 ^ 63 - 1) text → expect ≡ Some (digits_value 10 (without_leading_plus text))) × (¬ IsUnsignedIn 0 (2 ^ 63 - 1) text → expect ≡ None)
 
--- what was given that asks more of a report: all patterns, in their order, a flag, a number, and a flag
+-- what was given that asks more of a report: all patterns, in their order, flags, and a number
 pub record AreDemandsGiven (rows : List Row) (demands : Demands) : Type 0 where
   pub topics : map string_bytes demands.topics.items ≡ unwrap_or (all_of (codes "PATTERN") rows) []
   pub observed : IsFlagGiven (one_of (codes "observed") rows) demands.observed
   pub expect : IsExpectGiven (first_of (codes "PAIRS") rows) demands.expect
   pub strict : IsFlagGiven (one_of (codes "strict") rows) demands.strict
+  pub fragments : IsFlagGiven (one_of (codes "fragments") rows) (is_read demands.fragments)
 
 -- what `check` asks: the patterns and the number that were given, and all that the flags ask for
 pub record AreChecksGiven (rows : List Row) (demands : Demands) : Type 0 where
@@ -204,11 +214,13 @@ pub record AreChecksGiven (rows : List Row) (demands : Demands) : Type 0 where
   pub observed : demands.observed ≡ true
   pub expect : IsExpectGiven (first_of (codes "PAIRS") rows) demands.expect
   pub strict : demands.strict ≡ true
+  pub fragments : demands.fragments ≡ Read
 
--- it asks of its report what was given; only `check`, `audit`, `why` and `page` have one
+-- it asks of its report what was given; only `check`, `audit`, `why` and `page` have one. `show` asks alone whether fragments are
+-- read
 abbrev pub HasItsDemands : Choice → List Row → Type 0
-HasItsDemands (Check file from limits demands) rows = AreChecksGiven rows demands
-HasItsDemands (Show file limits captures) rows = Unit {0}
+HasItsDemands (Check file from limits form demands) rows = AreChecksGiven rows demands
+HasItsDemands (Show file limits captures fragments) rows = IsFlagGiven (one_of (codes "fragments") rows) (is_read fragments)
 HasItsDemands (ListChoice file limits captures) rows = Unit {0}
 HasItsDemands (Audit file from limits captures form demands) rows = AreDemandsGiven rows demands
 HasItsDemands (Why file from limits captures demands) rows = AreDemandsGiven rows demands
@@ -222,8 +234,8 @@ pub record AreLimitsGiven (rows : List Row) (limits : Limits) : Type 0 where
 
 -- its limits are those that were given
 abbrev pub HasItsLimits : Choice → List Row → Type 0
-HasItsLimits (Check file from limits demands) rows = AreLimitsGiven rows limits
-HasItsLimits (Show file limits captures) rows = AreLimitsGiven rows limits
+HasItsLimits (Check file from limits form demands) rows = AreLimitsGiven rows limits
+HasItsLimits (Show file limits captures fragments) rows = AreLimitsGiven rows limits
 HasItsLimits (ListChoice file limits captures) rows = AreLimitsGiven rows limits
 HasItsLimits (Audit file from limits captures form demands) rows = AreLimitsGiven rows limits
 HasItsLimits (Why file from limits captures demands) rows = AreLimitsGiven rows limits
@@ -282,6 +294,8 @@ pub record WordsAreWanted : Type 0 where
   pub no_file_to_check : faults_of_words (codes "check" ∷ []) ≡ MissingRequiredArgument ∷ []
   pub whole_check : faults_of_words (codes "check" ∷ codes "a.pcapng" ∷ []) ≡ []
   pub topic_of_check : faults_of_words (codes "check" ∷ codes "--topic" ∷ codes "rt/*" ∷ codes "--expect" ∷ codes "3" ∷ codes "--from" ∷ codes "2" ∷ codes "a.rec" ∷ []) ≡ []
+  pub json_of_check : faults_of_words (codes "check" ∷ codes "--json" ∷ codes "a.rec" ∷ []) ≡ []
+  pub fragments_of_check : faults_of_words (codes "check" ∷ codes "--fragments" ∷ codes "a.rec" ∷ []) ≡ UnknownArgument ∷ []
   pub strict_of_check : faults_of_words (codes "check" ∷ codes "--strict" ∷ codes "a.rec" ∷ []) ≡ UnknownArgument ∷ []
   pub no_file_to_show : faults_of_words (codes "show" ∷ []) ≡ MissingRequiredArgument ∷ []
   pub no_file_to_list : faults_of_words (codes "list" ∷ []) ≡ MissingRequiredArgument ∷ []
@@ -324,6 +338,11 @@ pub record WordsAreWanted : Type 0 where
   pub any_to_explain : faults_of_words (codes "why" ∷ codes "a.pcapng" ∷ codes "--any" ∷ []) ≡ []
   pub any_is_asked : flag_of_words (codes "any") (codes "why" ∷ codes "--any" ∷ codes "a.pcapng" ∷ []) ≡ Some (codes "true")
   pub no_any_is_asked : flag_of_words (codes "any") (codes "audit" ∷ codes "--json" ∷ codes "a.rec" ∷ []) ≡ Some (codes "false")
+  pub fragments_to_show : faults_of_words (codes "show" ∷ codes "--fragments" ∷ codes "a.rec" ∷ []) ≡ []
+  pub fragments_to_audit : faults_of_words (codes "audit" ∷ codes "--any" ∷ codes "--fragments" ∷ codes "--json" ∷ codes "a.pcapng" ∷ []) ≡ []
+  pub fragments_to_list : faults_of_words (codes "list" ∷ codes "--fragments" ∷ codes "a.rec" ∷ []) ≡ UnknownArgument ∷ []
+  pub fragments_are_asked : flag_of_words (codes "fragments") (codes "why" ∷ codes "--fragments" ∷ codes "a.rec" ∷ []) ≡ Some (codes "true")
+  pub no_fragments_are_asked : flag_of_words (codes "fragments") (codes "page" ∷ codes "--any" ∷ codes "a.pcapng" ∷ []) ≡ Some (codes "false")
   pub topic : faults_of_words (codes "audit" ∷ codes "--topic" ∷ codes "rt/*" ∷ codes "--topic" ∷ codes "" ∷ codes "a.rec" ∷ []) ≡ []
   pub topics : rows_of_words (codes "PATTERN") (codes "why" ∷ codes "--topic" ∷ codes "rt/*" ∷ codes "a.rec" ∷ codes "--topic" ∷ codes "" ∷ []) ≡ Some (codes "rt/*" ∷ codes "" ∷ [])
   pub topic_of_show : faults_of_words (codes "show" ∷ codes "--topic" ∷ codes "rt/*" ∷ codes "a.rec" ∷ []) ≡ UnknownArgument ∷ []

@@ -1,6 +1,7 @@
 ghost use Rattle.std.specs.Prelude.{◌≡◌};
 ghost use Rattle.std.specs.Option.{option_map};
-ghost use Rattle.rtps_tool.specs.Choices.{RunsBy, audit_command as audit_command_lem, options_of};
+ghost use Rattle.rtps_text.specs.Asked.{asked_value};
+ghost use Rattle.rtps_tool.specs.Choices.{RunsBy, audit_command as audit_command_lem, check_command as check_command_lem, options_of, shown_with as shown_with_lem};
 ghost use Rattle.rtps_tool.specs.Options.{options_value};
 ghost use Rattle.rtps_tool.specs.Words.{file_name};
 
@@ -10,7 +11,7 @@ use crate::faults::RunFault;
 use crate::follow::Follow;
 use crate::runs::{Command, Options, run, run_sample};
 use rtps_ids::SeqNum;
-use rtps_text::{Asked, Ending, Watch};
+use rtps_text::{Asked, Ending, Fragments, Rows, Watch};
 use std::alloc::Global;
 use std::io::{Read, Write};
 
@@ -38,10 +39,11 @@ impl Choice {
             Choice::Check {
                 from,
                 limits,
+                form,
                 demands,
                 ..
             } => Some(Options {
-                command: Command::Check,
+                command: check_command(*form),
                 asked: demands.asked_from(*from),
                 limits: *limits,
                 captures: Captures::Any,
@@ -49,10 +51,11 @@ impl Choice {
             Choice::Show {
                 limits,
                 captures,
+                fragments,
                 ..
             } => Some(Options {
                 command: Command::Show,
-                asked: Asked::plainly(SeqNum::first()),
+                asked: shown_with(*fragments),
                 limits: *limits,
                 captures: *captures,
             }),
@@ -105,6 +108,29 @@ impl Choice {
             }),
             Choice::Sample => None,
         }
+    }
+}
+
+/// What `show` asks: that samples in fragments are read, or not.
+fn shown_with(fragments: Fragments) -> Asked<'static>
+    ensures { asked_value result ≡ shown_with_lem fragments }
+{
+    Asked {
+        from: SeqNum::first(),
+        rows: Rows::all(),
+        expect: None,
+        strict: false,
+        fragments,
+    }
+}
+
+/// What prints a check in this form.
+fn check_command(form: ReportForm) -> Command
+    ensures { result ≡ check_command_lem form }
+{
+    match form {
+        ReportForm::Lines => Command::Check,
+        ReportForm::Json => Command::CheckJson,
     }
 }
 

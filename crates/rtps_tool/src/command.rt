@@ -2,7 +2,7 @@ ghost use Rattle.std.specs.Prelude.{◌≡◌, ◌⊎◌, ◌||◌, true, false,
 ghost use Rattle.std.specs.String.{string_bytes};
 ghost use Rattle.clap.specs.Words.{app_of, fault_of, first_of, found_of, new_app, one_of, rows_of, rule_of, subcommand_of, subcommand_rows_of, takes};
 ghost use Rattle.clap.specs.declared.builder.command.Command.TheViews.{out-Command};
-ghost use Rattle.rtps_tool.specs.Words.{bare_program as bare_app, audit_app, check_app, limited_app, flag_rule, is_any, is_json, number_rule, program as program_app, reading_app, report_app, AreCapturesGiven, AreLimitsGiven, IsChoice, IsFlagGiven, IsGivenOr, IsNumberGiven, IsOneOf, HasItsKind};
+ghost use Rattle.rtps_tool.specs.Words.{bare_program as bare_app, audit_app, check_app, fragments_app, limited_app, flag_rule, is_any, is_json, is_read, number_rule, program as program_app, reading_app, report_app, AreCapturesGiven, AreLimitsGiven, IsChoice, IsFlagGiven, IsGivenOr, IsNumberGiven, IsOneOf, HasItsKind};
 
 use crate::captures::Captures;
 use crate::demands::{Demands, checks_of, demands_of, with_demands, with_rows};
@@ -11,6 +11,7 @@ use clap::builder::ValueParser;
 use clap::error::ErrorKind;
 use clap::{Arg, ArgAction, ArgMatches, Command};
 use rtps_ids::SeqNum;
+use rtps_text::Fragments;
 use std::alloc::{AllocError, Global};
 use std::fmt;
 use thiserror::Error;
@@ -33,6 +34,7 @@ pub enum Choice {
         file: String,
         from: SeqNum,
         limits: Limits,
+        form: ReportForm,
         demands: Demands,
     },
     /// Show each datagram and its submessages.
@@ -40,6 +42,7 @@ pub enum Choice {
         file: String,
         limits: Limits,
         captures: Captures,
+        fragments: Fragments,
     },
     /// List participants, endpoints and the pairs that match.
     List {
@@ -145,6 +148,8 @@ const ANY_HELP: &str =
     "Read any capture: pcapng, Linux cooked, loopback and raw IP frames, VLAN tags, IPv6, \
     and packets that came in fragments";
 
+const FRAGMENTS_HELP: &str = "Read samples that were sent in DATA_FRAG, which are skipped otherwise";
+
 const FROM_HELP: &str = "The first number to ask for, 1 to 9223372036854775807; \
     smaller numbers are left out; 1 if it is not given";
 
@@ -169,6 +174,9 @@ const NEWCOMERS: &str = "A FILE is what was sent in a test: a capture, as tcpdum
   rtps-audit why test.pcap                  says which datagrams each of these verdicts rests on
   rtps-audit page test.pcap > test.html     makes a page of them, to look at in a browser
   rtps-audit sample | rtps-audit audit -    tries this program
+
+check reads any capture, and samples in DATA_FRAG. What one usually wants of audit, why and page is
+the same: rtps-audit audit --any --fragments test.pcapng
 
 Status: 0 all is well, also if there is no pair; 1 a pair is not complete; \
     2 the arguments or the recording are refused; 3 input, output or memory failed";
@@ -214,6 +222,27 @@ pub(crate) fn flag<'a>(alloc: Global, name: &'a str, help: &'a str) -> Arg<'a>
         .help(help)
 }
 
+/// A subcommand that reads a FILE within two limits, and ends with one of these statuses.
+fn limited_subcommand<'a>(
+    alloc: Global,
+    name: &'a str,
+    about: &'a str,
+    statuses: &'a str,
+) -> Result<Command<'a>, AllocError>
+    ensures app { IfOk result (λ command. app_of command ≡ limited_app name.now) }
+    ensures local { IfOk result (λ command. (out-Command command).has_globals ≡ false) }
+{
+    let file = Arg::new(alloc, "FILE")
+        .required(true)
+        .action(ArgAction::Set)
+        .help(FILE_HELP);
+    let bare = Command::new(alloc, name).about(about).after_help(statuses);
+    let one = bare.arg(file)?;
+    let datagrams = number_option(alloc, "DATAGRAMS", "max-datagrams", DATAGRAMS_HELP);
+    let two = one.arg(datagrams)?;
+    two.arg(number_option(alloc, "OCTETS", "max-octets", OCTETS_HELP))
+}
+
 /// A subcommand that reads a FILE, within two limits, and any capture where it is asked to.
 fn reading_subcommand<'a>(
     alloc: Global,
@@ -223,49 +252,34 @@ fn reading_subcommand<'a>(
     ensures app { IfOk result (λ command. app_of command ≡ reading_app name.now) }
     ensures local { IfOk result (λ command. (out-Command command).has_globals ≡ false) }
 {
-    let file = Arg::new(alloc, "FILE")
-        .required(true)
-        .action(ArgAction::Set)
-        .help(FILE_HELP);
-    let bare = Command::new(alloc, name).about(about).after_help(STATUSES);
-    let one = bare.arg(file)?;
-    let two = one.arg(flag(alloc, "any", ANY_HELP))?;
-    let datagrams = number_option(alloc, "DATAGRAMS", "max-datagrams", DATAGRAMS_HELP);
-    let three = two.arg(datagrams)?;
-    three.arg(number_option(alloc, "OCTETS", "max-octets", OCTETS_HELP))
+    let limited = limited_subcommand(alloc, name, about, STATUSES)?;
+    limited.arg(flag(alloc, "any", ANY_HELP))
 }
 
-/// A subcommand that reads a FILE within two limits.
-fn limited_subcommand<'a>(
+/// A subcommand that also reads samples in fragments where it is asked to.
+fn fragments_subcommand<'a>(
     alloc: Global,
     name: &'a str,
     about: &'a str,
 ) -> Result<Command<'a>, AllocError>
-    ensures app { IfOk result (λ command. app_of command ≡ limited_app name.now) }
+    ensures app { IfOk result (λ command. app_of command ≡ fragments_app name.now) }
     ensures local { IfOk result (λ command. (out-Command command).has_globals ≡ false) }
 {
-    let file = Arg::new(alloc, "FILE")
-        .required(true)
-        .action(ArgAction::Set)
-        .help(FILE_HELP);
-    let bare = Command::new(alloc, name)
-        .about(about)
-        .after_help(CHECK_STATUSES);
-    let one = bare.arg(file)?;
-    let datagrams = number_option(alloc, "DATAGRAMS", "max-datagrams", DATAGRAMS_HELP);
-    let two = one.arg(datagrams)?;
-    two.arg(number_option(alloc, "OCTETS", "max-octets", OCTETS_HELP))
+    let reading = reading_subcommand(alloc, name, about)?;
+    reading.arg(flag(alloc, "fragments", FRAGMENTS_HELP))
 }
 
-/// The subcommand `check`: it reads a FILE, asks for numbers from some number on, and chooses rows.
+/// The subcommand `check`: it reads a FILE, asks for numbers from some number on, chooses rows, and prints JSON where it is
+/// asked to.
 fn check_subcommand<'a>(alloc: Global) -> Result<Command<'a>, AllocError>
     ensures app { IfOk result (λ command. app_of command ≡ check_app) }
     ensures local { IfOk result (λ command. (out-Command command).has_globals ≡ false) }
 {
     let from = number_option(alloc, "N", "from", FROM_HELP);
-    let limited = limited_subcommand(alloc, "check", CHECKS)?;
+    let limited = limited_subcommand(alloc, "check", CHECKS, CHECK_STATUSES)?;
     let numbered = limited.arg(from)?;
-    with_rows(alloc, numbered)
+    let chosen = with_rows(alloc, numbered)?;
+    chosen.arg(flag(alloc, "json", JSON_HELP))
 }
 
 /// A subcommand that judges: it reads a FILE, asks for numbers from some number on, and may ask more of its report.
@@ -278,7 +292,7 @@ fn report_subcommand<'a>(
     ensures local { IfOk result (λ command. (out-Command command).has_globals ≡ false) }
 {
     let from = number_option(alloc, "N", "from", FROM_HELP);
-    let reading = reading_subcommand(alloc, name, about)?;
+    let reading = fragments_subcommand(alloc, name, about)?;
     let numbered = reading.arg(from)?;
     with_demands(alloc, numbered)
 }
@@ -317,7 +331,7 @@ fn program<'a>(alloc: Global) -> Result<Command<'a>, AllocError>
 {
     let check = check_subcommand(alloc)?;
     let zero = bare_program(alloc).subcommand(check)?;
-    let show = reading_subcommand(alloc, "show", SHOWS)?;
+    let show = fragments_subcommand(alloc, "show", SHOWS)?;
     let one = zero.subcommand(show)?;
     let list = reading_subcommand(alloc, "list", LISTS)?;
     let two = one.subcommand(list)?;
@@ -408,6 +422,17 @@ fn form_of(found: &ArgMatches) -> ReportForm
     }
 }
 
+/// What is asked to become of samples in fragments.
+pub(crate) fn fragments_of(found: &ArgMatches) -> Fragments
+    ensures { IsFlagGiven (one_of (codes "fragments") (rows_of (found_of found.now))) (is_read result) }
+{
+    if is_given(found, "fragments") {
+        Fragments::Read
+    } else {
+        Fragments::Skipped
+    }
+}
+
 /// The captures that are asked for.
 fn captures_of(found: &ArgMatches) -> Captures
     ensures { IsFlagGiven (one_of (codes "any") (rows_of (found_of found.now))) (is_any result) }
@@ -447,6 +472,7 @@ fn check_of(alloc: Global, check: &ArgMatches) -> Result<Choice, AllocError>
         file: file_of(alloc, check)?,
         from: number_of(check),
         limits: limits_of(check),
+        form: form_of(check),
         demands: checks_of(alloc, check)?,
     })
 }
@@ -459,6 +485,7 @@ fn show_of(alloc: Global, show: &ArgMatches) -> Result<Choice, AllocError>
         file: file_of(alloc, show)?,
         limits: limits_of(show),
         captures: captures_of(show),
+        fragments: fragments_of(show),
     })
 }
 

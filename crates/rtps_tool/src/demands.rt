@@ -4,11 +4,11 @@ ghost use Rattle.clap.specs.Words.{all_of, app_of, first_of, found_of, rows_of, 
 ghost use Rattle.clap.specs.declared.builder.command.Command.TheViews.{out-Command};
 ghost use Rattle.rtps_tool.specs.Words.{AreChecksGiven, AreDemandsGiven, IsExpectGiven, demanding, expect_rule, pattern_rule};
 
-use crate::command::{GREATEST, flag, is_given};
+use crate::command::{GREATEST, flag, fragments_of, is_given};
 use clap::builder::ValueParser;
 use clap::{Arg, ArgAction, ArgMatches, Command};
 use rtps_ids::SeqNum;
-use rtps_text::{Asked, Rows};
+use rtps_text::{Asked, Fragments, Rows};
 use std::alloc::{AllocError, Global};
 
 /// What the words ask of a report, beside the number from which on it asks.
@@ -22,6 +22,8 @@ pub struct Demands {
     pub expect: Option<u64>,
     /// That nothing weakens the report.
     pub strict: bool,
+    /// What becomes of samples that come in fragments.
+    pub fragments: Fragments,
 }
 
 impl Demands {
@@ -40,6 +42,7 @@ impl Demands {
             },
             expect: self.expect,
             strict: self.strict,
+            fragments: self.fragments,
         }
     }
 }
@@ -157,6 +160,7 @@ pub(crate) fn demands_of(alloc: Global, found: &ArgMatches) -> Result<Demands, A
         observed: is_given(found, "observed"),
         expect: expect_of(found),
         strict: is_given(found, "strict"),
+        fragments: fragments_of(found),
     })
 }
 
@@ -169,5 +173,6 @@ pub(crate) fn checks_of(alloc: Global, found: &ArgMatches) -> Result<Demands, Al
         observed: true,
         expect: expect_of(found),
         strict: true,
+        fragments: Fragments::Read,
     })
 }

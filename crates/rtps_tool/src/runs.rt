@@ -13,12 +13,12 @@ use crate::captures::Captures;
 use crate::faults::RunFault;
 use crate::follow::Follow;
 use crate::streams::{read_input, write_text};
-use rtps_check::check_text;
+use rtps_check::{check_json, check_text};
 use rtps_ids::{Memory, SeqNum};
 use rtps_page::page_text;
 use rtps_text::{
-    Asked, Ending, Fragments, Recording, Unwatched, Watch, audit_text, json_text, list_text,
-    sample_text, show_text, why_text,
+    Asked, Ending, Recording, Unwatched, Watch, audit_text, json_text, list_text, sample_text,
+    show_text, why_text,
 };
 use std::alloc::Global;
 use std::io::{Read, Write};
@@ -50,6 +50,8 @@ impl Limits {
 pub enum Command {
     /// Which topics lost data, what to do, and whether the recording is clean.
     Check,
+    /// Whether the recording is clean, and the report, as one JSON object on one line.
+    CheckJson,
     /// Each datagram and its submessages.
     Show,
     /// Participants, endpoints whose announcements agree, and matches.
@@ -68,7 +70,7 @@ pub enum Command {
 #[derive(Clone, Copy, Debug)]
 pub struct Options<'a> {
     pub command: Command,
-    /// What is asked of an audit. `Show` and `List` ask for nothing of it.
+    /// What is asked of an audit. Of it, `Show` asks alone what becomes of samples in fragments, and `List` nothing.
     pub asked: Asked<'a>,
     /// Those of the recording.
     pub limits: Limits,
@@ -126,7 +128,8 @@ fn text_of<P: Watch>(
 {
     match options.command {
         Command::Check => check_text(alloc, recording, &options.asked, watch),
-        Command::Show => show_text(alloc, recording, Fragments::Skipped),
+        Command::CheckJson => check_json(alloc, recording, &options.asked, watch),
+        Command::Show => show_text(alloc, recording, options.asked.fragments),
         Command::List => list_text(alloc, recording),
         Command::Audit => audit_text(alloc, recording, &options.asked, watch),
         Command::Json => json_text(alloc, recording, &options.asked, watch),

@@ -1,7 +1,6 @@
 use Rattle.std.proofs.Common.{◌≡◌, ◌∙◌, false, refl, ap, ap₂}
 use Rattle.std.proofs.lemmas.Result.{IfOk-weaker}
 use Rattle.clap.specs.Words.{with_rule}
-use Rattle.clap.specs.declared.builder.command.Command.TheViews.{out-Command}
 use Rattle.rtps_tool.specs.Words.{expect_rule, pattern_rule}
 use Rattle.rtps_tool.proofs.command.check_subcommand.Goals as goal
 
@@ -10,8 +9,13 @@ with_rows-requires c =
     let from = c.number_option-from.ensures in
     rw (c.in_ok-numbered.ensures.globals, c.in_ok-limited.ensures.local, from.local) refl
 
-pub returns-clause-app : goal.returns-clause-app
-returns-clause-app c =
+pub returns : goal.returns
+returns c =
     let from = c.number_option-from.ensures in
     let numbered = c.in_ok-numbered.ensures.shape from.local ∙ ap₂ with_rule c.in_ok-limited.ensures.app from.rule in
-    IfOk-weaker c.with_rows.result _ _ (λ command made. made ∙ ap (λ app. with_rule (with_rule app pattern_rule) expect_rule) numbered) c.with_rows.ensures.app
+    let chosen = c.in_ok-chosen.ensures.app ∙ ap (λ app. with_rule (with_rule app pattern_rule) expect_rule) numbered in
+    let json = c.flag.ensures in
+    record {
+      app = IfOk-weaker c.arg-2.result _ _ (λ command added. added.shape json.local ∙ ap₂ with_rule chosen json.rule) c.arg-2.ensures;
+      local = IfOk-weaker c.arg-2.result _ _ (λ command added. rw (added.globals, c.in_ok-chosen.ensures.local, json.local) refl) c.arg-2.ensures;
+    }

@@ -3,6 +3,9 @@ use Rattle.rtps_tool.proofs.runs.text_of.Goals as goal
 pub returns-in-Check : goal.returns-in-Check
 returns-in-Check g c = rw c.in-Check.is c.check_text.ensures
 
+pub returns-in-CheckJson : goal.returns-in-CheckJson
+returns-in-CheckJson g c = rw c.in-CheckJson.is c.check_json.ensures
+
 pub returns-in-Audit : goal.returns-in-Audit
 returns-in-Audit g c = rw c.in-Audit.is c.audit_text.ensures
 
