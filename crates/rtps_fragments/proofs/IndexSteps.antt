@@ -7,7 +7,7 @@ use Rattle.std.proofs.lemmas.Option.{slice_get-get_or}
 use Rattle.rtps_wire.proofs.Offered.{fragments_of_sample}
 use Rattle.rtps_wire.specs.DataFrag.{DataFragValue, data_frag_at}
 use Rattle.rtps_wire.specs.Reading.{reading_of}
-use Rattle.rtps_wire.specs.Tally.{tally_of}
+use Rattle.rtps_wire.specs.Tally.{is_fragment, tally_of}
 use Rattle.rtps_wire.specs.Values.{ItemValue}
 use Rattle.rtps_wire.specs.declared.counts.Tally.{Tally}
 use Rattle.rtps_wire.specs.declared.header.Header.{Header}
@@ -16,14 +16,14 @@ use Rattle.rtps_receiver.specs.Values.{ActBodyValue, ActValue}
 use Rattle.rtps_receiver.specs.declared.state.State.{State}
 use Rattle.rtps_audit.specs.Speech.{announced_of_body}
 use Rattle.rtps_audit.specs.Intake.{Intake, intake_more}
-use Rattle.rtps_audit.proofs.Offered.{contains_cases, contains_mapped, contains_none, get_mapped}
+use Rattle.rtps_audit.proofs.Offered.{contains_cases, contains_mapped, contains_none, get_mapped, if_some}
 use Rattle.rtps_fragments.specs.FragmentDelivery.{Piece}
 use Rattle.rtps_fragments.specs.Laws.{ArePieceActs, IsPieceAct}
 use Rattle.rtps_fragments.proofs.CameLemmas.{length-parts_in}
 use Rattle.rtps_fragments.specs.Merging.{IsFragmentAct, merged_from, sents_from, sents_in}
 use Rattle.rtps_fragments.specs.RecordedSamples.{told_by_datagram}
 use Rattle.rtps_fragments.specs.SampleActs.{PieceAct, acts_and_samples, datagrams_and_samples, piece_acts_in}
-use Rattle.rtps_fragments.specs.Sending.{fragment_acts, piece_acts_of, piece_acts_of_item, piece_acts_with, piece_of, sending_of}
+use Rattle.rtps_fragments.specs.Sending.{fragment_acts, fragments_at, piece_acts_of, piece_acts_of_item, piece_acts_with, piece_of, sending_of}
 use Rattle.rtps_fragments.specs.Telling.{SentValue, ToldValue, told_in_turn}
 use Rattle.rtps_fragments.proofs.Audiences.{flat_from}
 use Rattle.rtps_fragments.proofs.MergingLemmas.{AreFragmentActs, matches_all, merged_is}
@@ -43,7 +43,7 @@ fragment_of_item octets state item (Some body) one piece among is = elim (contai
   | inl same ↦ absurd (let clash : None ≡ Some piece = ap (λ (p : PieceAct). p.piece) same ∙ is in cc)
   | inr none ↦ absurd (contains_none one none)
 ]
-fragment_of_item octets state item None one piece among is = by (data_frag_at _) among
+fragment_of_item octets state item None one piece among is = by (fragments_at octets item) among
   where
     by : (o : Option DataFragValue) → Contains (fragment_acts state item o) one → IsFragmentAct one piece
     by None among = absurd (contains_none one among)
@@ -64,14 +64,14 @@ piece_of_item octets state item (Some body) one piece among is = elim (contains_
   | inl same ↦ absurd (let clash : None ≡ Some piece = ap (λ (p : PieceAct). p.piece) same ∙ is in cc)
   | inr none ↦ absurd (contains_none one none)
 ]
-piece_of_item octets state item None one piece among is = by (data_frag_at (drop item.at octets)) refl among
+piece_of_item octets state item None one piece among is = by (fragments_at octets item) refl among
   where
-    by : (o : Option DataFragValue) → data_frag_at (drop item.at octets) ≡ o → Contains (fragment_acts state item o) one → IsPieceAct one piece
+    by : (o : Option DataFragValue) → fragments_at octets item ≡ o → Contains (fragment_acts state item o) one → IsPieceAct one piece
     by None e among = absurd (contains_none one among)
     by (Some value) e among = elim (contains_cases _ [] one among) [
       | inl same ↦
           let piece_is : piece_of value ≡ piece = (let h : Some (piece_of value) ≡ Some piece = ap (λ (p : PieceAct). p.piece) same ∙ is in cc) in
-          let well = fragments_of_sample (drop item.at octets) value e in
+          let well = fragments_of_sample (drop item.at octets) value (if_some (is_fragment item.body) (data_frag_at (drop item.at octets)) value e).1 in
           let count = length-parts_in value.shape.fragment value.count value.octets in
           let own : IsPieceAct (record { act = one.act; piece = Some (piece_of value) }) (piece_of value) = record {
             announces = ap (λ (p : PieceAct). announced_of_body p.act.body) (sym same);

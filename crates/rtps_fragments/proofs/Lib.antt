@@ -27,3 +27,4 @@ pub mod MergedSteps
 pub mod SendingLemmas
 pub mod SampleSteps
 pub mod IndexSteps
+pub mod WithoutFragments

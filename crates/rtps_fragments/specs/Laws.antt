@@ -8,10 +8,12 @@ use Rattle.rtps_receiver.specs.Values.{ActValue}
 use Rattle.rtps_audit.specs.Delivery.{Speech, Claims, last_announced_from}
 use Rattle.rtps_audit.specs.RunVerdict.{IsTold, IsVerdictFrom}
 use Rattle.rtps_audit.specs.PlainVerdict.{SpeaksTwo}
+use Rattle.rtps_audit.specs.Intake.{intake_of}
 use Rattle.rtps_audit.specs.Speech.{announced_of_body, speech_by}
 use Rattle.rtps_audit.specs.declared.verdict.Verdict.{Verdict}
 use Rattle.rtps_fragments.specs.FragmentDelivery.{Fragment, FragmentSpeech, GivesFragment, IsPutTogether, Piece, Shape, last_fragment, said_in}
 use Rattle.rtps_fragments.specs.FragmentVerdict.{IsPayloadBefore, IsWordBefore, IsFragmentVerdictFrom}
+use Rattle.rtps_fragments.specs.RecordedSamples.{IsWithoutFragments, intake_with}
 use Rattle.rtps_fragments.specs.Samples.{payloads_of, told_in}
 use Rattle.rtps_fragments.specs.Sending.{sending_of}
 use Rattle.rtps_fragments.specs.SampleActs.{PieceAct, acts_with_samples, fragment_speech_of, piece_acts_in, acts_of_sample, samples_told}
@@ -124,3 +126,7 @@ abbrev pub RecordedVerdictIsOfRuns : Type 0
 RecordedVerdictIsOfRuns =
     (from : ℕ) (writer reader : Guid) (recording : List (List ℕ)) (verdict : Verdict)
     → IsFragmentVerdictFrom from (fragment_speech_of writer reader (sending_of recording)) verdict ↔ IsVerdictFrom from (speech_by writer reader (acts_with_samples (sending_of recording))) verdict
+
+-- where no submessage belongs to fragments, an index with samples takes in what a plain one does
+abbrev pub IntakeStaysWithoutFragments : Type 0
+IntakeStaysWithoutFragments = (recording : List (List ℕ)) → IsWithoutFragments recording → intake_with recording ≡ intake_of recording

@@ -1,6 +1,6 @@
 //! Laws over definitions alone. Each function does nothing: its clause is the law, and its proof the law's proof.
 
-ghost use Rattle.rtps_fragments.specs.Laws.{FragmentsTellAlike, SamplesTellAlike, FragmentVerdictIsTold, ActsTellAlike, FragmentVerdictOfActs, ActsStayWithoutPieces, VerdictStaysWithoutPieces, PiecesLeftAreOfNoSample, NotedSamplesAreSent, FewFragmentsMakeNoSample, SamplesStandAlone, RecordedVerdictIsOfRuns};
+ghost use Rattle.rtps_fragments.specs.Laws.{FragmentsTellAlike, SamplesTellAlike, FragmentVerdictIsTold, ActsTellAlike, FragmentVerdictOfActs, ActsStayWithoutPieces, VerdictStaysWithoutPieces, PiecesLeftAreOfNoSample, NotedSamplesAreSent, FewFragmentsMakeNoSample, SamplesStandAlone, RecordedVerdictIsOfRuns, IntakeStaysWithoutFragments};
 
 use rtps_audit::laws::{runs_exist_where_founded, verdicts_agree};
 
@@ -85,3 +85,8 @@ pub fn recorded_verdict_is_of_runs()
 {
     fragment_verdict_of_acts();
 }
+
+/// Where no submessage of a recording belongs to fragments, an index with samples takes in what a plain one does.
+pub fn intake_stays_without_fragments()
+    ensures { IntakeStaysWithoutFragments }
+{}

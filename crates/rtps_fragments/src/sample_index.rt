@@ -1,8 +1,8 @@
-ghost use Rattle.std.specs.Prelude.{ℕ, ◌≡◌, ◌+◌, ◌<◌, ◌^◌, map, IfOk, List, OnOk};
-ghost use Rattle.rtps_audit.specs.Index.{IsIndexBy};
+ghost use Rattle.std.specs.Prelude.{ℕ, ◌≡◌, ◌+◌, ◌<◌, ◌^◌, ◌×◌, map, IfOk, IfSome, List, OnOk};
+ghost use Rattle.rtps_audit.specs.Index.{IsIndexBy, IsIndexOf};
 ghost use Rattle.rtps_audit.specs.Intake.{Intake, intake_more};
 ghost use Rattle.rtps_fragments.specs.Merging.{merged_from};
-ghost use Rattle.rtps_fragments.specs.RecordedSamples.{AreSamplesOf, intake_with};
+ghost use Rattle.rtps_fragments.specs.RecordedSamples.{AreSamplesOf, IsWithoutFragments, intake_as, intake_with};
 ghost use Rattle.rtps_fragments.specs.FragmentVerdict.{IsFragmentVerdictFrom};
 ghost use Rattle.rtps_fragments.specs.SampleActs.{fragment_speech_of};
 ghost use Rattle.rtps_fragments.specs.Sending.{piece_acts_of, sending_of};
@@ -10,6 +10,7 @@ ghost use Rattle.rtps_fragments.specs.Telling.{told_value};
 ghost use Rattle.rtps_wire.specs.Reading.{reading_of};
 ghost use Rattle.rtps_wire.specs.Tally.{tally_of};
 
+use crate::fragments::Fragments;
 use crate::laws::recorded_verdict_is_of_runs;
 use crate::merging::merge;
 use crate::samples::Samples;
@@ -18,6 +19,7 @@ use crate::told_sample::ToldSample;
 use rtps_audit::{Index, Verdict};
 use rtps_discovery::Pair;
 use rtps_ids::{Memory, SeqNum};
+use rtps_receiver::Walk;
 use rtps_wire::tally;
 use std::alloc::Global;
 
@@ -52,6 +54,47 @@ pub fn index_with<'s>(
         note_datagram(&mut index, alloc, recording[place], &samples.told[place])?;
     }
     Ok(index)
+}
+
+/// The index of a recording where no submessage belongs to fragments; none where one does. `Memory` is answered where there is none
+/// for it.
+fn plain_index<'s>(alloc: Global, recording: &[&'s [u8]]) -> Result<Option<Index<'s>>, Memory>
+    ensures { IfOk result (λ found. IfSome found (λ index. IsIndexOf (map (λ datagram. datagram.now) recording.now) index
+        × IsWithoutFragments (map (λ datagram. datagram.now) recording.now))) }
+{
+    let mut index = Index::new(alloc);
+    let mut walk = Walk::new(alloc);
+    for datagram in recording {
+        let tally = walk.read(datagram)?;
+        if tally.fragments > 0 {
+            return Ok(None);
+        }
+        index.note(tally, walk.acts(), walk.acts())?;
+    }
+    Ok(Some(index))
+}
+
+/// The index of a recording, with its samples where fragments are read. The samples are put where the index may borrow them; where no
+/// submessage belongs to fragments they stay as they are, and the octets of each datagram are read once. `Memory` is answered where
+/// there is none for it, and then `samples` is of no use.
+pub fn index_as<'s>(
+    alloc: Global,
+    recording: &[&'s [u8]],
+    fragments: Fragments,
+    samples: &'s mut Samples,
+) -> Result<Index<'s>, Memory>
+    ensures { IfOk result (IsIndexBy (intake_as fragments (map (λ datagram. datagram.now) recording.now))) }
+{
+    match fragments {
+        Fragments::Skipped => Index::build(alloc, recording),
+        Fragments::Read => match plain_index(alloc, recording)? {
+            Some(index) => Ok(index),
+            None => {
+                *samples = Samples::of(alloc, recording)?;
+                index_with(alloc, recording, samples)
+            }
+        },
+    }
 }
 
 /// Judges by the index of a recording with its samples what the recording says of a writer and a reader, of the writer's numbers from

@@ -66,6 +66,15 @@ fn tell_datagram<'a>(
 }
 
 impl Samples {
+    /// No samples. It takes no memory.
+    pub fn none(alloc: Global) -> Samples
+        ensures { AreSamplesOf [] result }
+    {
+        Samples {
+            told: Vec::new(alloc),
+        }
+    }
+
     /// Puts the samples of a recording together, any datagrams in the order of sending. The octets of each are read twice.
     /// `Memory` is answered where there is none for them.
     pub fn of(alloc: Global, recording: &[&[u8]]) -> Result<Samples, Memory>
