@@ -3,6 +3,8 @@
 use Rattle.std.specs.Prelude.{ℕ, Bool, false, ◌==◌, ◌&&◌, not, length, [], Option, None}
 use Rattle.rtps_rows.specs.Rows.{RowsValue, rows_value}
 use Rattle.rtps_text.specs.declared.asked.Asked.{Asked}
+use Rattle.rtps_text.specs.declared.text.Fragments.{Fragments}
+use Rattle.rtps_text.specs.declared.text.Fragments.TheVariants.{Skipped}
 
 -- what is asked, with lists of octets where the type borrows texts
 pub record AskedValue : Type 0 where
@@ -10,14 +12,17 @@ pub record AskedValue : Type 0 where
   pub rows : RowsValue
   pub expect : Option ℕ
   pub strict : Bool
+  pub fragments : Fragments
 
 -- what the code asks, as a value
 abbrev pub asked_value : Asked → AskedValue
-asked_value asked = record { from = asked.from; rows = rows_value asked.rows; expect = asked.expect; strict = asked.strict }
+asked_value asked =
+    record { from = asked.from; rows = rows_value asked.rows; expect = asked.expect; strict = asked.strict; fragments = asked.fragments }
 
--- all rows by the numbers from this one on, and nothing else
+-- all rows by the numbers from this one on, and nothing else; fragments are skipped
 abbrev pub plainly : ℕ → AskedValue
-plainly from = record { from = from; rows = record { topics = []; observed = false }; expect = None; strict = false }
+plainly from =
+    record { from = from; rows = record { topics = []; observed = false }; expect = None; strict = false; fragments = Skipped }
 
 -- neither topics nor pairs are chosen
 abbrev pub asks_all_rows : AskedValue → Bool

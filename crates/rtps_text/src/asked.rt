@@ -1,5 +1,6 @@
 ghost use Rattle.std.specs.Prelude.{◌≡◌};
 
+use crate::text::Fragments;
 use rtps_ids::SeqNum;
 use rtps_rows::Rows;
 
@@ -15,12 +16,14 @@ pub struct Asked<'a> {
     /// Whether it also has to have a row, no row with missed numbers, and nothing that is left out of the recording: no
     /// fragments, no unsettled GUIDs, and, where any capture was read, no frame that was ignored as a piece or as cut.
     pub strict: bool,
+    /// What becomes of samples that come in fragments.
+    pub fragments: Fragments,
 }
 
 impl Asked<'_> {
     ghost use Rattle.rtps_text.specs.Asked.{asked_value, asks_all_rows as asks_all_rows_lem, plainly as plainly_lem};
 
-    /// All rows by the numbers from `from` on, and nothing else.
+    /// All rows by the numbers from `from` on, and nothing else. Fragments are skipped.
     pub fn plainly(from: SeqNum) -> Self
         ensures { asked_value result ≡ plainly_lem from }
     {
@@ -29,6 +32,7 @@ impl Asked<'_> {
             rows: Rows::all(),
             expect: None,
             strict: false,
+            fragments: Fragments::Skipped,
         }
     }
 
