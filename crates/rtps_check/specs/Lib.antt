@@ -1,6 +1,7 @@
 pub mod Advice
 pub mod ByTopic
 pub mod Causes
+pub mod CheckJson
 pub mod CheckText
 pub mod GroupedNumber
 pub mod Notes

@@ -4,6 +4,7 @@
 mod advice;
 mod by_topic;
 mod causes;
+mod checked_json;
 mod checked_text;
 mod grouped_number;
 mod notes;
@@ -13,4 +14,5 @@ mod table;
 mod topic_table;
 mod totals;
 
+pub use checked_json::check_json;
 pub use checked_text::check_text;

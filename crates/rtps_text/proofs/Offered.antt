@@ -11,7 +11,7 @@ use Rattle.rtps_text.specs.JsonText.{IsJsonLine, IsJsonTextAs, IsJsonTextFrom, r
 use Rattle.rtps_text.specs.Laws.{HaveOneText}
 use Rattle.rtps_text.specs.WhyText.{IsExplainedTextAs, IsExplainedTextFrom, ending_of_rows, explained_text}
 use Rattle.rtps_text.proofs.AskedLemmas.{all_explained, all_rows}
-pub use Rattle.rtps_text.proofs.JsonLemmas.{front, joined, report_depth, whole}
+pub use Rattle.rtps_text.proofs.JsonLemmas.{audit_depth, front, joined, mapped_tokens, object_tokens, report_depth, whole}
 pub use Rattle.rtps_text.proofs.PartLemmas.{two_parts, three_parts, four_parts, five_parts, six_parts, seven_parts}
 
 pub plainly_audited : (from : ℕ) → HaveOneText (IsAuditedAs (plainly from)) (IsAuditedFrom from)
