@@ -1,4 +1,4 @@
-ghost use Rattle.std.specs.Prelude.{ℕ, ◌≡◌, ◌+◌, ◌<◌, ◌^◌, ◌×◌, map, IfOk, IfSome, List, OnOk};
+ghost use Rattle.std.specs.Prelude.{ℕ, ◌≡◌, ◌+◌, ◌<◌, ◌^◌, map, IfOk, IfSome, List, OnOk};
 ghost use Rattle.rtps_audit.specs.Index.{IsIndexBy, IsIndexOf};
 ghost use Rattle.rtps_audit.specs.Intake.{Intake, intake_more};
 ghost use Rattle.rtps_fragments.specs.Merging.{merged_from};
