@@ -1,5 +1,5 @@
 -- The samples of built-in writers that are noted, one after another, and all at once.
-use Rattle.std.proofs.Common.{◌≡◌, ℕ, zero, suc, Bool, true, false, cond, ◌&&◌, List, [], ◌∷◌, ◌++◌, length, map, drop, Option, Some, None, refl, sym, ◌∙◌, ap, subst, inl, inr, ◌⊎◌, append_assoc, append-nil}
+use Rattle.std.proofs.Common.{◌≡◌, ℕ, zero, suc, Bool, true, cond, ◌&&◌, List, [], ◌∷◌, ◌++◌, map, Option, Some, None, refl, sym, ◌∙◌, ap, subst, inl, inr, ◌⊎◌, append_assoc, append-nil}
 use Rattle.std.specs.Prelude.{Contains}
 use Rattle.std.specs.List.{flat_map}
 use Rattle.std.proofs.lemmas.List.Elements.{Contains-append_cases, Contains-append_left, Contains-append_right}
@@ -11,8 +11,8 @@ use Rattle.rtps_receiver.specs.Values.{ActValue}
 use Rattle.rtps_audit.specs.Intake.{acts_together}
 use Rattle.rtps_audit.proofs.Offered.{contains_cases, contains_head, contains_mapped, contains_none, contains_tail, mapped_contains}
 use Rattle.rtps_fragments.specs.Announcing.{acts_and_notes, announcing_with, datagrams_and_notes, is_built_in, notes_told}
-use Rattle.rtps_fragments.specs.FragmentDelivery.{Fragment, Piece, Shape, fragments_of, last_fragment, payload_by}
-use Rattle.rtps_fragments.specs.Laws.{BuiltInSamplesAnnounce, HasData, IsPieceAct, data_of}
+use Rattle.rtps_fragments.specs.FragmentDelivery.{Piece, Shape, fragments_of, last_fragment, payload_by}
+use Rattle.rtps_fragments.specs.Laws.{BuiltInSamplesAnnounce, HasData, data_of}
 use Rattle.rtps_fragments.specs.Samples.{payloads_of, samples_of, told_by}
 use Rattle.rtps_fragments.specs.SampleActs.{PieceAct, fragments_in, piece_acts_in}
 use Rattle.rtps_fragments.specs.SamplesSent.{acts_to_note, noted_act, samples_sent, sent_by}

@@ -1,15 +1,14 @@
 -- What is sent tells the samples of built-in writers that acts tell a reader which hears everything.
-use Rattle.std.proofs.Common.{◌≡◌, ℕ, suc, ◌<◌, Bool, true, false, cond, ◌&&◌, List, [], ◌∷◌, ◌++◌, length, map, Option, Some, None, refl, sym, ◌∙◌, ap, arith, inl, inr, append_assoc, append-nil}
+use Rattle.std.proofs.Common.{◌≡◌, ℕ, suc, ◌<◌, Bool, true, false, cond, ◌&&◌, List, [], ◌∷◌, ◌++◌, map, Option, Some, None, refl, sym, ◌∙◌, ap, arith, inl, inr, append_assoc, append-nil}
 use Rattle.std.specs.Prelude.{Contains}
 use Rattle.std.specs.List.{filter_map, flat_map}
 use Rattle.std.proofs.lemmas.List.Concat.{flat_map-append}
 use Rattle.std.proofs.lemmas.List.Elements.{Contains-append_cases, Contains-append_left, Contains-append_right, filter-append, filter_map-append}
 use Rattle.rtps_receiver.specs.Speech.{entity_from, is_spoken_by, origin_of}
-use Rattle.rtps_receiver.specs.Values.{ActValue}
 use Rattle.rtps_audit.proofs.Offered.{contains_head, contains_mapped, contains_none, contains_tail}
 use Rattle.rtps_fragments.specs.Announcing.{acts_and_notes, announcing_with, datagrams_and_notes, is_built_in, notes_told}
 use Rattle.rtps_fragments.specs.Came.{came_from}
-use Rattle.rtps_fragments.specs.FragmentDelivery.{Piece, fragments_of, last_fragment, payload_by}
+use Rattle.rtps_fragments.specs.FragmentDelivery.{Piece, last_fragment, payload_by}
 use Rattle.rtps_fragments.specs.Laws.{HasNoPieces}
 use Rattle.rtps_fragments.specs.Merging.{IsFragmentAct, acts_told, key_of, merged_from, sent_in, sents_from, sents_in}
 use Rattle.rtps_fragments.specs.Overheard.{everyone, overheard, overheard_behind, overheard_in_turn}

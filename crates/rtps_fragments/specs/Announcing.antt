@@ -1,7 +1,7 @@
 -- What a recording announces by its acts and by the samples of built-in writers. DDSI-RTPS 2.5, 8.5 "Discovery Module", by which anybody
 -- may note what a built-in writer announces, and 9.3.1.2 "Mapping of the EntityId_t". own: such a sample announces what a DATA with its
 -- payload would, and stands behind the act that completes it.
-use Rattle.std.specs.Prelude.{ℕ, Bool, nat_le, get_or, if◌then◌else◌, List, [], ◌∷◌, ◌++◌, map, Option, Some, None}
+use Rattle.std.specs.Prelude.{Bool, nat_le, get_or, if◌then◌else◌, List, [], ◌∷◌, ◌++◌, map, Option, Some, None}
 use Rattle.rtps_ids.specs.declared.identity.EntityId.{EntityId}
 use Rattle.rtps_receiver.specs.Speech.{entity_from, origin_of}
 use Rattle.rtps_receiver.specs.Values.{ActValue}
