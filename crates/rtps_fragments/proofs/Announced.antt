@@ -1,10 +1,14 @@
 -- The samples of built-in writers that are noted, one after another, and all at once.
-use Rattle.std.proofs.Common.{◌≡◌, ℕ, zero, suc, Bool, true, cond, ◌&&◌, List, [], ◌∷◌, ◌++◌, map, Option, Some, None, refl, sym, ◌∙◌, ap, subst, inl, inr, ◌⊎◌, append_assoc, append-nil}
-use Rattle.std.specs.Prelude.{Contains}
+use Rattle.std.proofs.Common.{◌≡◌, ℕ, zero, suc, Bool, true, false, cond, ◌&&◌, List, [], ◌∷◌, ◌++◌, map, Option, Some, None, refl, sym, ◌∙◌, ap, subst, inl, inr, ◌⊎◌, append_assoc, append-nil}
+use Rattle.std.specs.Prelude.{Contains, get_or, is_some, nat_le}
 use Rattle.std.specs.List.{flat_map}
 use Rattle.std.proofs.lemmas.List.Elements.{Contains-append_cases, Contains-append_left, Contains-append_right}
 use Rattle.std.proofs.lemmas.Option.{some_pair_parts}
+use Rattle.std.specs.Cmp.Lexicographic.{bytes_decides}
+use Rattle.std.proofs.lemmas.Bool.{cases_Bool}
+use Rattle.rtps_ids.specs.declared.identity.EntityId.{EntityId}
 use Rattle.rtps_ids.specs.declared.identity.Guid.{Guid}
+use Rattle.rtps_discovery.specs.Notice.{is_entity, subject_of}
 use Rattle.rtps_wire.specs.Values.{PayloadValue}
 use Rattle.rtps_receiver.specs.Speech.{entity_from, is_prefix, is_spoken_by, names, origin_of}
 use Rattle.rtps_receiver.specs.Values.{ActValue}
@@ -12,7 +16,7 @@ use Rattle.rtps_audit.specs.Intake.{acts_together}
 use Rattle.rtps_audit.proofs.Offered.{contains_cases, contains_head, contains_mapped, contains_none, contains_tail, mapped_contains}
 use Rattle.rtps_fragments.specs.Announcing.{acts_and_notes, announcing_with, datagrams_and_notes, is_built_in, notes_told}
 use Rattle.rtps_fragments.specs.FragmentDelivery.{Piece, Shape, fragments_of, last_fragment, payload_by}
-use Rattle.rtps_fragments.specs.Laws.{BuiltInSamplesAnnounce, HasData, data_of}
+use Rattle.rtps_fragments.specs.Laws.{AnnouncersAreBuiltIn, BuiltInSamplesAnnounce, HasData, data_of}
 use Rattle.rtps_fragments.specs.Samples.{payloads_of, samples_of, told_by}
 use Rattle.rtps_fragments.specs.SampleActs.{PieceAct, fragments_in, piece_acts_in}
 use Rattle.rtps_fragments.specs.SamplesSent.{acts_to_note, noted_act, samples_sent, sent_by}
@@ -204,3 +208,21 @@ built_in_samples_announce recording parts writer n payload built = (to, from)
 
     from : HasData (acts_to_note (piece_acts_in recording)) writer n payload → HasData (acts_together (announcing_with recording)) writer n payload
     from has = subst (λ xs. HasData xs writer n payload) (sym (notes_together [] recording)) (sent_is_noted writer built (piece_acts_in recording) named n payload has)
+
+-- ---- who announces
+
+announcer_is : (octets : List ℕ) (writer : EntityId) → get_or octets 3 0 ≡ 0xc2 → is_entity octets writer ≡ true → is_built_in writer ≡ true
+announcer_is octets writer kind is = ap (nat_le 0xc0) (ap (λ (os : List ℕ). get_or os 3 0) ((bytes_decides writer.0 octets).0 is) ∙ kind)
+
+-- participants, writers and readers are announced by these (9.3.1.3 "Predefined EntityIds")
+pub announcers_are_built_in : AnnouncersAreBuiltIn
+announcers_are_built_in writer some = elim (cases_Bool (is_entity (0x00 ∷ 0x01 ∷ 0x00 ∷ 0xc2 ∷ []) writer)) [
+  | inl is ↦ announcer_is (0x00 ∷ 0x01 ∷ 0x00 ∷ 0xc2 ∷ []) writer refl is
+  | inr one ↦ elim (cases_Bool (is_entity (0x00 ∷ 0x00 ∷ 0x03 ∷ 0xc2 ∷ []) writer)) [
+    | inl is ↦ announcer_is (0x00 ∷ 0x00 ∷ 0x03 ∷ 0xc2 ∷ []) writer refl is
+    | inr two ↦ elim (cases_Bool (is_entity (0x00 ∷ 0x00 ∷ 0x04 ∷ 0xc2 ∷ []) writer)) [
+      | inl is ↦ announcer_is (0x00 ∷ 0x00 ∷ 0x04 ∷ 0xc2 ∷ []) writer refl is
+      | inr three ↦ absurd (let none : subject_of writer ≡ None = rw (one, two, three) refl in let clash : true ≡ false = sym some ∙ ap is_some none in cc)
+    ]
+  ]
+]

@@ -1,11 +1,13 @@
 -- Laws over definitions alone, whatever the number is from which on numbers are asked for. own: what a reader of the definitions
 -- would ask of them.
-use Rattle.std.specs.Prelude.{ℕ, ◌+◌, ◌<◌, ◌≤◌, ◌≡◌, ◌≢◌, ◌↔◌, ◌⊎◌, length, List, [], map, Option, Some, None, true, Contains}
+use Rattle.std.specs.Prelude.{ℕ, ◌+◌, ◌<◌, ◌≤◌, ◌≡◌, ◌≢◌, ◌↔◌, ◌⊎◌, length, List, [], map, Option, Some, None, is_some, true, Contains}
+use Rattle.rtps_ids.specs.declared.identity.EntityId.{EntityId}
 use Rattle.rtps_ids.specs.declared.identity.Guid.{Guid}
 use Rattle.rtps_wire.specs.Values.{PayloadValue}
 use Rattle.rtps_receiver.specs.Speech.{is_spoken_by, origin_of}
 use Rattle.rtps_receiver.specs.Values.{ActBodyValue, ActValue}
 use Rattle.rtps_receiver.specs.Values.ActBodyValue.{Data, Heartbeat, AckNack, Gap, DataFrag}
+use Rattle.rtps_discovery.specs.Notice.{subject_of}
 use Rattle.rtps_audit.specs.Delivery.{Speech, Claims, last_announced_from}
 use Rattle.rtps_audit.specs.RunVerdict.{IsTold, IsVerdictFrom}
 use Rattle.rtps_audit.specs.PlainVerdict.{SpeaksTwo}
@@ -130,6 +132,10 @@ abbrev pub BuiltInSamplesAnnounce : Type 0
 BuiltInSamplesAnnounce =
     (recording : List (List PieceAct)) → ArePieceActs recording → (writer : Guid) (n : ℕ) (payload : PayloadValue) → is_built_in writer.entity ≡ true
     → HasData (acts_together (announcing_with recording)) writer n payload ↔ HasData (acts_to_note (piece_acts_in recording)) writer n payload
+
+-- each writer of which a directory notes what it announces is a built-in one
+abbrev pub AnnouncersAreBuiltIn : Type 0
+AnnouncersAreBuiltIn = (writer : EntityId) → is_some (subject_of writer) ≡ true → is_built_in writer ≡ true
 
 -- fewer fragments than a sample has make no payload of it
 abbrev pub FewFragmentsMakeNoSample : Type 0
