@@ -16,11 +16,13 @@ use Rattle.rtps_receiver.specs.declared.state.State.{State}
 use Rattle.rtps_audit.specs.Intake.{Intake, intake_more, intake_of}
 use Rattle.rtps_audit.specs.Speech.{acts_by_datagram}
 use Rattle.rtps_audit.proofs.Offered.{contains_cases, contains_head, contains_mapped, contains_none, contains_tail}
+use Rattle.rtps_fragments.specs.Announcing.{announcing_with}
 use Rattle.rtps_fragments.specs.Laws.{HasNoPieces, IntakeStaysWithoutFragments}
 use Rattle.rtps_fragments.specs.RecordedSamples.{IsWithoutFragments}
 use Rattle.rtps_fragments.specs.SampleActs.{PieceAct}
 use Rattle.rtps_fragments.specs.Sending.{fragment_acts, piece_acts_of, piece_acts_of_item, piece_acts_with, sending_of}
 use Rattle.rtps_fragments.proofs.ActsTell.{acts_stay_without_pieces}
+use Rattle.rtps_fragments.proofs.NoteLemmas.{announcing_stays}
 use Rattle.rtps_fragments.proofs.SampleSteps.{octets_of}
 
 -- an act without a piece
@@ -91,9 +93,9 @@ intake_stays recording all =
     let none : EachWithout recording = λ octets among. All-contains (λ datagram. (tally_of (reading_of datagram)).fragments ≡ 0) recording octets all among in
     let plain_acts = acts_plain recording none in
     let tallies : List Tally = map (λ datagram. tally_of (reading_of datagram)) recording in
-    let said : List (List ActValue) → Intake = λ acts. record { tallies = tallies; acts = acts; announcing = map (map (λ (one : PieceAct). one.act)) (sending_of recording) } in
+    let said : List (List ActValue) → Intake = λ acts. record { tallies = tallies; acts = acts; announcing = announcing_with (sending_of recording) } in
     let noted : List (List ActValue) → Intake = λ acts. record { tallies = tallies; acts = acts_by_datagram recording; announcing = acts } in
-    ap said (acts_stay_without_pieces (sending_of recording) (no_pieces recording none) ∙ plain_acts) ∙ ap noted plain_acts
+    ap said (acts_stay_without_pieces (sending_of recording) (no_pieces recording none) ∙ plain_acts) ∙ ap noted (announcing_stays (sending_of recording) (no_pieces recording none) ∙ plain_acts)
 
 -- ---- one datagram more
 

@@ -1,10 +1,10 @@
 -- What is asked of a report.
 -- own: a job asks for the rows that it knows, and must not pass where the report says less than the job takes it to say.
-use Rattle.std.specs.Prelude.{ℕ, Bool, false, ◌==◌, ◌&&◌, not, length, [], Option, None}
+use Rattle.std.specs.Prelude.{ℕ, Bool, false, true, ◌==◌, ◌&&◌, not, length, [], Option, None}
+use Rattle.rtps_fragments.specs.declared.fragments.Fragments.{Fragments}
+use Rattle.rtps_fragments.specs.declared.fragments.Fragments.TheVariants.{Skipped, Read}
 use Rattle.rtps_rows.specs.Rows.{RowsValue, rows_value}
 use Rattle.rtps_text.specs.declared.asked.Asked.{Asked}
-use Rattle.rtps_text.specs.declared.text.Fragments.{Fragments}
-use Rattle.rtps_text.specs.declared.text.Fragments.TheVariants.{Skipped}
 
 -- what is asked, with lists of octets where the type borrows texts
 pub record AskedValue : Type 0 where
@@ -27,3 +27,12 @@ plainly from =
 -- neither topics nor pairs are chosen
 abbrev pub asks_all_rows : AskedValue → Bool
 asks_all_rows asked = (length asked.rows.topics == 0) && not asked.rows.observed
+
+-- samples that come in fragments are read
+abbrev pub are_read : Fragments → Bool
+are_read Skipped = false
+are_read Read = true
+
+-- neither topics nor pairs are chosen, and fragments are skipped
+abbrev pub is_plain : AskedValue → Bool
+is_plain asked = asks_all_rows asked && not (are_read asked.fragments)
