@@ -23,7 +23,10 @@ pub mod OverheardLemmas
 pub mod ToldSoFar
 pub mod AddressedLemmas
 pub mod MergingLemmas
+pub mod NoteLemmas
+pub mod Announced
 pub mod MergedSteps
 pub mod SendingLemmas
 pub mod SampleSteps
 pub mod IndexSteps
+pub mod WithoutFragments

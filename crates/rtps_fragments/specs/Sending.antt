@@ -1,8 +1,9 @@
 -- The acts of a datagram, each with the fragments that it sends. DDSI-RTPS 2.5, 8.3.4 "The RTPS Message Receiver" and 8.3.8.3 "DataFrag".
 -- own: a DATA_FRAG that has no fragments that can be used is no act.
-use Rattle.std.specs.Prelude.{ℕ, ◌≡◌, All, List, [], ◌∷◌, ◌++◌, drop, length, map, Option, Some, None}
+use Rattle.std.specs.Prelude.{ℕ, ◌≡◌, if◌then◌else◌, All, List, [], ◌∷◌, ◌++◌, drop, length, map, Option, Some, None}
 use Rattle.rtps_wire.specs.DataFrag.{DataFragValue, data_frag_at, parts_of}
 use Rattle.rtps_wire.specs.Reading.{reading_of}
+use Rattle.rtps_wire.specs.Tally.{is_fragment}
 use Rattle.rtps_wire.specs.Values.{ItemValue}
 use Rattle.rtps_wire.specs.declared.header.Header.{Header}
 use Rattle.rtps_receiver.specs.Acts.{act_at, act_body, gathered, state_at_start}
@@ -28,10 +29,14 @@ fragment_acts state item (Some value) =
     } ∷ []
 fragment_acts state item None = []
 
+-- the fragments that stand at an item of these octets, if it is a DATA_FRAG that has some
+abbrev pub fragments_at : List ℕ → ItemValue → Option DataFragValue
+fragments_at octets item = if is_fragment item.body then data_frag_at (drop item.at octets) else None
+
 -- the act that an item of these octets is, if it is one
 abbrev pub piece_acts_of_item : List ℕ → State → ItemValue → Option ActBodyValue → List PieceAct
 piece_acts_of_item octets state item (Some body) = record { act = act_at state item.at item.order body; piece = None } ∷ []
-piece_acts_of_item octets state item None = fragment_acts state item (data_frag_at (drop item.at octets))
+piece_acts_of_item octets state item None = fragment_acts state item (fragments_at octets item)
 
 -- the acts among items of these octets, each in the state after all items before it
 abbrev pub piece_acts_behind : List ℕ → State → List ItemValue → List PieceAct

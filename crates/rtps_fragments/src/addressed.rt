@@ -8,7 +8,7 @@ use rtps_receiver::Audience;
 use std::alloc::Global;
 
 /// The entity id that names every reader.
-const UNKNOWN: EntityId = EntityId([0; 4]);
+pub(crate) const UNKNOWN: EntityId = EntityId([0; 4]);
 
 /// To whom the fragments of a sample are sent: everyone and each destination, every reader and each one that is named, in the
 /// order in which they come first.

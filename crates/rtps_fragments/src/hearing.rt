@@ -6,17 +6,14 @@ ghost use Rattle.rtps_fragments.specs.Telling.{AreHeard, AreHeardSo, HasCame, Is
 ghost use Rattle.rtps_ids.specs.declared.identity.GuidPrefix.{GuidPrefix as GuidPrefixValue};
 ghost use Rattle.rtps_fragments.specs.declared.hearing.Hearing.{Hearing as HearingValue};
 
-use crate::addressed::{Addressed, is_same_dest};
+use crate::addressed::{Addressed, UNKNOWN, is_same_dest};
 use crate::came::Came;
 use crate::piece::{SampleKey, SentFragments};
 use crate::told_sample::ToldSample;
-use rtps_ids::{EntityId, Memory};
+use rtps_ids::Memory;
 use rtps_receiver::Audience;
 use std::alloc::Global;
 use std::collections::BTreeMap;
-
-/// The entity id that names every reader.
-const UNKNOWN: EntityId = EntityId([0; 4]);
 
 /// Whether all of the other audience hear what is sent to this one.
 fn is_for_audience(one: &Audience, other: &Audience) -> bool
@@ -88,7 +85,12 @@ impl<'a> Hearings<'a> {
     }
 
     /// Fragments come to the audiences of one destination, by its place among those that the sample is sent to.
-    fn hear_at(&mut self, addressed: &Addressed, dest: usize, sent: &SentFragments<'a>) -> Result<(), Memory>
+    fn hear_at(
+        &mut self,
+        addressed: &Addressed,
+        dest: usize,
+        sent: &SentFragments<'a>,
+    ) -> Result<(), Memory>
         requires sent { IsSent sent.now }
         requires within { dest < length addressed.now.dests.items }
         ensures { OnOk result ((all before : List SentValue) (to : Option GuidPrefixValue) → IsKeptAs addressed.now (sent_value sent.now).key all → slice_get addressed.now.dests.items dest ≡ Some to
@@ -120,7 +122,11 @@ impl<'a> Hearings<'a> {
     }
 
     /// Fragments come to all audiences of their sample.
-    pub(crate) fn hear_all(&mut self, addressed: &Addressed, sent: &SentFragments<'a>) -> Result<(), Memory>
+    pub(crate) fn hear_all(
+        &mut self,
+        addressed: &Addressed,
+        sent: &SentFragments<'a>,
+    ) -> Result<(), Memory>
         requires { IsSent sent.now }
         ensures { OnOk result ((all before : List SentValue) → IsKeptAs addressed.now (sent_value sent.now).key all → AreHeard all before self.old.came
             → AreHeard all (before ++ sent_value sent.now ∷ []) self.new.came

@@ -1,6 +1,6 @@
 //! Laws over definitions alone. Each function does nothing: its clause is the law, and its proof the law's proof.
 
-ghost use Rattle.rtps_fragments.specs.Laws.{FragmentsTellAlike, SamplesTellAlike, FragmentVerdictIsTold, ActsTellAlike, FragmentVerdictOfActs, ActsStayWithoutPieces, VerdictStaysWithoutPieces, PiecesLeftAreOfNoSample, NotedSamplesAreSent, FewFragmentsMakeNoSample, SamplesStandAlone, RecordedVerdictIsOfRuns};
+ghost use Rattle.rtps_fragments.specs.Laws.{FragmentsTellAlike, SamplesTellAlike, FragmentVerdictIsTold, ActsTellAlike, FragmentVerdictOfActs, ActsStayWithoutPieces, VerdictStaysWithoutPieces, PiecesLeftAreOfNoSample, NotedSamplesAreSent, BuiltInSamplesAnnounce, AnnouncersAreBuiltIn, FewFragmentsMakeNoSample, SamplesStandAlone, RecordedVerdictIsOfRuns, IntakeStaysWithoutFragments};
 
 use rtps_audit::laws::{runs_exist_where_founded, verdicts_agree};
 
@@ -68,6 +68,17 @@ pub fn noted_samples_are_sent()
     ensures { NotedSamplesAreSent }
 {}
 
+/// Of a built-in writer, the acts of which a directory notes what they announce have the DATA of the recording and of each payload that is
+/// to be noted as a sample, and no others.
+pub fn built_in_samples_announce()
+    ensures { BuiltInSamplesAnnounce }
+{}
+
+/// Each writer of which a directory notes what it announces is a built-in one.
+pub fn announcers_are_built_in()
+    ensures { AnnouncersAreBuiltIn }
+{}
+
 /// Fewer fragments than a sample has make no payload of it, so that nothing is put together before as many came.
 pub fn few_fragments_make_no_sample()
     ensures { FewFragmentsMakeNoSample }
@@ -85,3 +96,8 @@ pub fn recorded_verdict_is_of_runs()
 {
     fragment_verdict_of_acts();
 }
+
+/// Where no submessage of a recording belongs to fragments, an index with samples takes in what a plain one does.
+pub fn intake_stays_without_fragments()
+    ensures { IntakeStaysWithoutFragments }
+{}

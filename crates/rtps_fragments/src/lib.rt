@@ -3,6 +3,7 @@
 
 mod addressed;
 mod came;
+mod fragments;
 mod hearing;
 pub mod laws;
 mod merging;
@@ -14,8 +15,8 @@ mod sending;
 mod telling;
 mod told_sample;
 
-pub use overheard::OverheardSamples;
+pub use fragments::Fragments;
 pub use piece::{FragmentRun, SampleKey, SentFragments};
-pub use sample_index::{index_with, judge_with_samples};
+pub use sample_index::{index_as, index_with, judge_with_samples};
 pub use samples::Samples;
 pub use told_sample::ToldSample;

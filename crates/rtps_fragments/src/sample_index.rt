@@ -1,40 +1,59 @@
-ghost use Rattle.std.specs.Prelude.{ℕ, ◌≡◌, ◌+◌, ◌<◌, ◌^◌, map, IfOk, List, OnOk};
-ghost use Rattle.rtps_audit.specs.Index.{IsIndexBy};
+ghost use Rattle.std.specs.Prelude.{ℕ, ◌≡◌, ◌+◌, ◌<◌, ◌^◌, map, IfOk, IfSome, List, OnOk};
+ghost use Rattle.rtps_audit.specs.Index.{IsIndexBy, IsIndexOf};
 ghost use Rattle.rtps_audit.specs.Intake.{Intake, intake_more};
 ghost use Rattle.rtps_fragments.specs.Merging.{merged_from};
-ghost use Rattle.rtps_fragments.specs.RecordedSamples.{AreSamplesOf, intake_with};
+ghost use Rattle.rtps_fragments.specs.RecordedSamples.{AreSamplesOf, IsWithoutFragments, intake_as, intake_with};
 ghost use Rattle.rtps_fragments.specs.FragmentVerdict.{IsFragmentVerdictFrom};
 ghost use Rattle.rtps_fragments.specs.SampleActs.{fragment_speech_of};
 ghost use Rattle.rtps_fragments.specs.Sending.{piece_acts_of, sending_of};
 ghost use Rattle.rtps_fragments.specs.Telling.{told_value};
+ghost use Rattle.rtps_fragments.specs.declared.merging.SampleForm.TheVariants.{ForAudience, ForEveryone};
 ghost use Rattle.rtps_wire.specs.Reading.{reading_of};
 ghost use Rattle.rtps_wire.specs.Tally.{tally_of};
 
+use crate::fragments::Fragments;
 use crate::laws::recorded_verdict_is_of_runs;
-use crate::merging::merge;
+use crate::merging::{SampleForm, merge};
 use crate::samples::Samples;
 use crate::sending::Sending;
 use crate::told_sample::ToldSample;
 use rtps_audit::{Index, Verdict};
 use rtps_discovery::Pair;
 use rtps_ids::{Memory, SeqNum};
+use rtps_receiver::Walk;
 use rtps_wire::tally;
 use std::alloc::Global;
+
+/// The samples that the acts of one datagram tell.
+#[derive(Clone, Copy)]
+struct DatagramSamples<'s> {
+    /// Each audience.
+    told: &'s [ToldSample],
+    /// A reader that hears everything, of built-in writers.
+    overheard: &'s [ToldSample],
+}
 
 /// Takes in one datagram more, and behind each of its acts the samples that it tells. After `Memory` the index is of no use.
 fn note_datagram<'s>(
     index: &mut Index<'s>,
     alloc: Global,
     datagram: &'s [u8],
-    told: &'s [ToldSample],
+    samples: &DatagramSamples<'s>,
 ) -> Result<(), Memory>
     requires { index.old.tallies.datagrams + 1 < 2 ^ 64 }
     ensures { OnOk result ((intake : Intake) → IsIndexBy intake index.old
-        → IsIndexBy (intake_more intake (tally_of (reading_of datagram.now)) (merged_from 0 (map (λ one. one.act) (piece_acts_of datagram.now)) (map told_value told.now)) (map (λ one. one.act) (piece_acts_of datagram.now))) index.new) }
+        → IsIndexBy (intake_more intake (tally_of (reading_of datagram.now)) (merged_from ForAudience 0 (map (λ one. one.act) (piece_acts_of datagram.now)) (map told_value samples.now.told.now))
+        (merged_from ForEveryone 0 (map (λ one. one.act) (piece_acts_of datagram.now)) (map told_value samples.now.overheard.now))) index.new) }
 {
     let sending = Sending::read(alloc, datagram)?;
-    let acts = merge(alloc, &sending.acts, told)?;
-    index.note(tally(datagram), &acts, &sending.acts)?;
+    let acts = merge(alloc, SampleForm::ForAudience, &sending.acts, samples.told)?;
+    let announcing = merge(
+        alloc,
+        SampleForm::ForEveryone,
+        &sending.acts,
+        samples.overheard,
+    )?;
+    index.note(tally(datagram), &acts, &announcing)?;
     Ok(())
 }
 
@@ -49,9 +68,54 @@ pub fn index_with<'s>(
 {
     let mut index = Index::new(alloc);
     for place in 0..recording.len() {
-        note_datagram(&mut index, alloc, recording[place], &samples.told[place])?;
+        let told = DatagramSamples {
+            told: &samples.told[place],
+            overheard: &samples.overheard.told[place],
+        };
+        note_datagram(&mut index, alloc, recording[place], &told)?;
     }
     Ok(index)
+}
+
+/// The index of a recording where no submessage belongs to fragments; none where one does. `Memory` is answered where there is none
+/// for it.
+fn plain_index<'s>(alloc: Global, recording: &[&'s [u8]]) -> Result<Option<Index<'s>>, Memory>
+    ensures { IfOk result (λ found. IfSome found (λ index. IsIndexOf (map (λ datagram. datagram.now) recording.now) index
+        × IsWithoutFragments (map (λ datagram. datagram.now) recording.now))) }
+{
+    let mut index = Index::new(alloc);
+    let mut walk = Walk::new(alloc);
+    for datagram in recording {
+        let tally = walk.read(datagram)?;
+        if tally.fragments > 0 {
+            return Ok(None);
+        }
+        index.note(tally, walk.acts(), walk.acts())?;
+    }
+    Ok(Some(index))
+}
+
+/// The index of a recording, with its samples where fragments are read. The samples are put where the index may borrow them; where no
+/// submessage belongs to fragments they stay as they are, and the octets of each datagram are read once. `Memory` is answered where
+/// there is none for it, and then `samples` is of no use.
+pub fn index_as<'s>(
+    alloc: Global,
+    recording: &[&'s [u8]],
+    fragments: Fragments,
+    samples: &'s mut Samples,
+) -> Result<Index<'s>, Memory>
+    ensures { IfOk result (IsIndexBy (intake_as fragments (map (λ datagram. datagram.now) recording.now))) }
+{
+    match fragments {
+        Fragments::Skipped => Index::build(alloc, recording),
+        Fragments::Read => match plain_index(alloc, recording)? {
+            Some(index) => Ok(index),
+            None => {
+                *samples = Samples::of(alloc, recording)?;
+                index_with(alloc, recording, samples)
+            }
+        },
+    }
 }
 
 /// Judges by the index of a recording with its samples what the recording says of a writer and a reader, of the writer's numbers from

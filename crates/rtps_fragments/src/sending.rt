@@ -1,4 +1,5 @@
-ghost use Rattle.std.specs.Prelude.{◌≡◌, ◌∷◌, [], drop, IfOk, None, OnOk, Some};
+ghost use Rattle.std.specs.Prelude.{◌≡◌, ◌∷◌, [], drop, IfOk, IfSome, None, OnOk, Some};
+ghost use Rattle.std.specs.Option.{option_map};
 ghost use Rattle.rtps_receiver.specs.Acts.{act_at, act_body, state_behind};
 ghost use Rattle.rtps_receiver.specs.Values.{act_value};
 ghost use Rattle.rtps_receiver.specs.Values.ActBodyValue.{DataFrag as DataFragAct};
@@ -6,7 +7,7 @@ ghost use Rattle.rtps_wire.specs.DataFrag.{IsDataFrag, data_frag_value, parts_of
 ghost use Rattle.rtps_wire.specs.Reading.{items_among, outcomes_left};
 ghost use Rattle.rtps_wire.specs.Values.{item_value};
 ghost use Rattle.rtps_fragments.specs.Came.{came_from};
-ghost use Rattle.rtps_fragments.specs.Sending.{AddsActs, IsSending, fragment_acts, piece_acts_behind, piece_acts_of, piece_acts_of_item};
+ghost use Rattle.rtps_fragments.specs.Sending.{AddsActs, IsSending, fragment_acts, fragments_at as fragments_at_lem, piece_acts_behind, piece_acts_of, piece_acts_of_item};
 ghost use Rattle.rtps_fragments.specs.Telling.{IsSent, sent_value};
 
 use crate::piece::{FragmentRun, SampleKey, SentFragments};
@@ -31,6 +32,18 @@ fn octets_from(octets: &[u8], at: usize) -> &[u8]
         &octets[at..]
     } else {
         &[]
+    }
+}
+
+/// The fragments that stand at an item of a datagram, if it is a DATA_FRAG that has some.
+fn fragments_at<'a>(item: &Item<'_>, datagram: &'a [u8]) -> Option<DataFrag<'a>>
+    ensures value { option_map data_frag_value result ≡ fragments_at_lem datagram.now (item_value item.now) }
+    ensures fragments { IfSome result (λ read. IsDataFrag (data_frag_value read)) }
+{
+    if item.body.is_fragment() {
+        DataFrag::read(octets_from(datagram, item.at))
+    } else {
+        None
     }
 }
 
@@ -134,7 +147,7 @@ impl<'a> Sending<'a> {
     {
         if let Some(act) = state.act(item) {
             self.acts.extend_from_slice(slice::from_ref(&act))?;
-        } else if let Some(fragments) = DataFrag::read(octets_from(datagram, item.at)) {
+        } else if let Some(fragments) = fragments_at(item, datagram) {
             self.add_fragments(state, item, &fragments)?;
         }
         state.interpret(item);

@@ -1,14 +1,14 @@
 -- What is kept of rows, and what is found of them.
-use Rattle.std.proofs.Common.{◌≡◌, ◌∙◌, ◌+◌, ◌<◌, ◌++◌, ◌&&◌, ◌||◌, ◌==◌, ◌∷◌, [], ℕ, Bool, true, false, cond, List, All, ap, append-nil, filter, get_or, length, map, not, refl, sym, take}
+use Rattle.std.proofs.Common.{◌≡◌, ◌∙◌, ◌+◌, ◌<◌, ◌++◌, ◌&&◌, ◌||◌, ◌==◌, ◌∷◌, [], ℕ, Bool, true, false, cond, List, All, ap, append-nil, filter, get_or, length, map, not, refl, subst, sym, take}
 use Rattle.std.proofs.lemmas.List.{length-map}
-use Rattle.std.proofs.lemmas.List.Elements.{All-filter, All-head, All-same, All-tail, All-weaker, filter_more}
+use Rattle.std.proofs.lemmas.List.Elements.{All-cons, All-filter, All-head, All-nil, All-same, All-tail, All-weaker, filter_more}
 use Rattle.std.proofs.lemmas.List.Sums.{length-filter}
 use Rattle.std.specs.Prelude.{count_by}
 use Rattle.rtps_receiver.specs.Acts.{acts_in}
 use Rattle.rtps_receiver.specs.Values.{ActValue}
 use Rattle.rtps_discovery.specs.Directory.{DirectoryValue}
 use Rattle.rtps_discovery.specs.declared.matching.Pair.{Pair}
-use Rattle.rtps_audit.specs.Intake.{intake_of}
+use Rattle.rtps_audit.specs.Report.{IsJudgedFrom, IsReportBy}
 use Rattle.rtps_audit.specs.declared.report.Counts.{Counts}
 use Rattle.rtps_audit.specs.declared.report.Report.{Report}
 use Rattle.rtps_audit.specs.declared.report.Row.{Row}
@@ -16,10 +16,16 @@ use Rattle.rtps_evidence.specs.Evidence.{IsEvidenceFrom}
 use Rattle.rtps_evidence.specs.Explanation.{ExplanationValue, IsNamed, explanation_value, row_of}
 use Rattle.rtps_evidence.specs.declared.explanation.Explained.{Explained}
 use Rattle.rtps_evidence.specs.declared.explanation.Explanation.{Explanation}
+use Rattle.rtps_audit.specs.Intake.{intake_of}
+use Rattle.rtps_fragments.specs.Laws.{RecordedVerdictIsOfRuns}
+use Rattle.rtps_fragments.specs.RecordedSamples.{intake_as}
+use Rattle.rtps_fragments.specs.declared.fragments.Fragments.{Fragments}
+use Rattle.rtps_fragments.specs.declared.fragments.Fragments.TheVariants.{Skipped, Read}
 use Rattle.rtps_rows.specs.Rows.{RowsValue, is_kept}
-use Rattle.rtps_text.specs.Asked.{AskedValue, asks_all_rows}
+use Rattle.rtps_text.specs.Asked.{AskedValue, are_read, asks_all_rows, is_plain}
 use Rattle.rtps_text.specs.AuditText.{IsReportAs, facts_of_report, is_row_kept, missed_of, missed_rows}
 use Rattle.rtps_text.specs.Findings.{ending_as, ending_by, findings_of, when}
+use Rattle.rtps_text.specs.Laws.{ExplainedRowsAreByFragments, IsFragmentRow, RowsAreByFragments}
 use Rattle.rtps_text.specs.Recording.{RecordingValue}
 use Rattle.rtps_text.specs.WhyText.{IsExplainedAs, missed_in}
 
@@ -65,12 +71,35 @@ pub left_more : {X : Type 0} (p : X → Bool) (xs : List X) (i : ℕ) (d : X) (k
 left_more p xs i d kept within fails before =
     before ∙ sym (append-nil (filter p (take i xs))) ∙ ap (λ b. filter p (take i xs) ++ cond b (get_or xs i d ∷ []) []) (sym fails) ∙ sym (filter_more p xs i d within)
 
+-- what is so of all that elements are mapped to
+all_unmapped : {X Y : Type 0} (f : Y → X) (P : X → Type 0) (ys : List Y) → All P (map f ys) → All (λ y. P (f y)) ys
+all_unmapped f P [] all = All-nil (λ y. P (f y))
+all_unmapped f P (y ∷ ys) all =
+    All-cons (λ y. P (f y)) y ys (All-head P (f y) (map f ys) all) (all_unmapped f P ys (All-tail P (f y) (map f ys) all))
+
 -- ---- rows
 
 both_pass : (topics observed one other : Bool) → (topics && observed) ≡ true → ((topics || one) && (observed || other)) ≡ true
 both_pass true true one other all = refl
 both_pass true false one other all = absurd cc
 both_pass false observed one other all = absurd cc
+
+both_true : (all skips : Bool) → (all && skips) ≡ true → all ≡ true
+both_true true skips both = refl
+both_true false skips both = absurd cc
+
+-- where a report is plain, all rows are asked for
+pub plain_rows : (asked : AskedValue) → is_plain asked ≡ true → asks_all_rows asked ≡ true
+plain_rows asked plain = both_true (asks_all_rows asked) (not (are_read asked.fragments)) plain
+
+intake_skipped : (all : Bool) (fragments : Fragments) (recording : List (List ℕ)) → (all && not (are_read fragments)) ≡ true → intake_as fragments recording ≡ intake_of recording
+intake_skipped all Skipped recording plain = refl
+intake_skipped true Read recording plain = absurd cc
+intake_skipped false Read recording plain = absurd cc
+
+-- where it is plain, it is of the acts as they are
+pub plain_intake : (asked : AskedValue) (recording : List (List ℕ)) → is_plain asked ≡ true → intake_as asked.fragments recording ≡ intake_of recording
+plain_intake asked recording plain = intake_skipped (asks_all_rows asked) asked.fragments recording plain
 
 -- where all rows are asked for, each is kept
 pub each_kept : (asked : AskedValue) (acts : List ActValue) → asks_all_rows asked ≡ true → (topic : List ℕ) (pair : Pair) → is_kept asked.rows acts topic pair ≡ true
@@ -111,16 +140,16 @@ report_of_explained asked recording explained report explains rows counts =
 
 -- the rows with missed numbers are as many by their evidence as by the recording
 pub missed_of_explained : (asked : AskedValue) (recording : List (List ℕ)) (explained : Explained) → IsExplainedAs asked recording explained
-    → missed_in (map explanation_value explained.rows.items) ≡ missed_rows asked.from (intake_of recording) (map row_of explained.rows.items)
+    → missed_in (map explanation_value explained.rows.items) ≡ missed_rows asked.from (intake_as asked.fragments recording) (map row_of explained.rows.items)
 missed_of_explained asked recording explained explains =
-    let shown : All (λ (row : Explanation). IsEvidenceFrom asked.from row.pair (intake_of recording) row.evidence) explained.rows.items =
-    All-same (λ (row : Explanation). IsEvidenceFrom asked.from row.pair (intake_of recording) row.evidence) _ _ explains.rows
-    (All-filter _ (λ (row : Explanation). IsEvidenceFrom asked.from row.pair (intake_of recording) row.evidence) explains.whole.rows.items explains.explains.shown) in
+    let shown : All (λ (row : Explanation). IsEvidenceFrom asked.from row.pair (intake_as asked.fragments recording) row.evidence) explained.rows.items =
+    All-same (λ (row : Explanation). IsEvidenceFrom asked.from row.pair (intake_as asked.fragments recording) row.evidence) _ _ explains.rows
+    (All-filter _ (λ (row : Explanation). IsEvidenceFrom asked.from row.pair (intake_as asked.fragments recording) row.evidence) explains.whole.rows.items explains.explains.shown) in
     let by_evidence = λ (row : ExplanationValue). not (row.evidence.missed == 0) in
-    let by_recording = λ (row : Row). not (missed_of asked.from (intake_of recording) row.pair == 0) in
+    let by_recording = λ (row : Row). not (missed_of asked.from (intake_as asked.fragments recording) row.pair == 0) in
     count_map explanation_value by_evidence explained.rows.items
     ∙ count_same (λ (row : Explanation). not (row.evidence.missed == 0)) (λ (row : Explanation). by_recording (row_of row)) explained.rows.items
-    (All-weaker (λ (row : Explanation). IsEvidenceFrom asked.from row.pair (intake_of recording) row.evidence)
+    (All-weaker (λ (row : Explanation). IsEvidenceFrom asked.from row.pair (intake_as asked.fragments recording) row.evidence)
     (λ (row : Explanation). not (row.evidence.missed == 0) ≡ by_recording (row_of row)) (λ row evidence. ap (λ (n : ℕ). not (n == 0)) evidence.missed.count) explained.rows.items shown)
     ∙ sym (count_map row_of by_recording explained.rows.items)
 
@@ -151,3 +180,25 @@ one_explained asked recording one other is also rows =
     let test = λ (row : ExplanationValue). is_kept asked.rows (acts_in recording) row.topic row.pair in
     ap (map explanation_value) is.rows ∙ map_filter explanation_value test is.whole.rows.items ∙ ap (filter test) rows
     ∙ sym (map_filter explanation_value test also.whole.rows.items) ∙ sym (ap (map explanation_value) also.rows)
+
+-- ---- verdicts where fragments are read
+
+whole_by_fragments : RecordedVerdictIsOfRuns → (asked : AskedValue) (recording : List (List ℕ)) (report : Report) → asked.fragments ≡ Read
+    → IsReportBy asked.from (intake_as asked.fragments recording) report → All (IsFragmentRow asked.from recording) report.rows.items
+whole_by_fragments law asked recording report reads is =
+    let judged = subst (λ choice. All (IsJudgedFrom asked.from (intake_as choice recording).acts) report.rows.items) reads is.judged in
+    All-weaker (IsJudgedFrom asked.from (intake_as Read recording).acts) (IsFragmentRow asked.from recording)
+    (λ row verdict. (law asked.from row.pair.writer row.pair.reader recording row.verdict).1 verdict) report.rows.items judged
+
+pub rows_by_fragments : RecordedVerdictIsOfRuns → RowsAreByFragments
+rows_by_fragments law asked recording report reads is =
+    let whole = whole_by_fragments law asked recording is.whole reads is.reports in
+    All-same (IsFragmentRow asked.from recording) _ _ is.rows (All-filter _ (IsFragmentRow asked.from recording) is.whole.rows.items whole)
+
+pub explained_by_fragments : RecordedVerdictIsOfRuns → ExplainedRowsAreByFragments
+explained_by_fragments law asked recording explained reads is =
+    let ByFragments = IsFragmentRow asked.from recording in
+    let whole = whole_by_fragments law asked recording is.explains.report reads is.explains.reports in
+    let rows : All (λ (row : Explanation). ByFragments (row_of row)) is.whole.rows.items =
+    all_unmapped row_of ByFragments is.whole.rows.items (All-same ByFragments _ _ is.explains.rows whole) in
+    All-same (λ (row : Explanation). ByFragments (row_of row)) _ _ is.rows (All-filter _ (λ (row : Explanation). ByFragments (row_of row)) is.whole.rows.items rows)

@@ -10,7 +10,7 @@ use Rattle.rtps_wire.specs.declared.header.Header.{Header}
 use Rattle.rtps_text.proofs.ShowLemmas.{text_from-cons, text_from-nil}
 use Rattle.rtps_text.specs.Laws.{HasNoFragments}
 use Rattle.rtps_text.specs.ShowText.{datagram_line, datagram_text, ending_text, fragments_at, items_text, line_with, shown_line, text_from}
-use Rattle.rtps_text.specs.declared.text.Fragments.TheVariants as fragments
+use Rattle.rtps_fragments.specs.declared.fragments.Fragments.TheVariants as fragments
 
 -- items with no fragments at their places have the lines that they have where there are none anywhere
 plain_lines : (found : ℕ → Option DataFragValue) (state : State) (before items : List ItemValue) → All (λ item. found item.at ≡ None) items

@@ -9,7 +9,7 @@ use Rattle.rtps_wire.specs.Skipped.{skipped_id}
 use Rattle.rtps_wire.specs.Values.{ItemValue}
 use Rattle.rtps_wire.specs.Values.BodyValue.{Skipped}
 use Rattle.rtps_text.specs.ShowText.{body_line, datagram_text, ending_text, fragments_line, item_line, line_with, outcomes_text, shown_line, text_from, unread_line}
-use Rattle.rtps_text.specs.declared.text.Fragments.{Fragments}
+use Rattle.rtps_fragments.specs.declared.fragments.Fragments.{Fragments}
 
 -- the lines of a datagram, and those of the later ones
 pub text_from-cons : (choice : Fragments) (number : ℕ) (datagram : List ℕ) (datagrams : List (List ℕ))

@@ -1,6 +1,8 @@
 -- What is asked of a report.
 -- own: a job asks for the rows that it knows, and must not pass where the report says less than the job takes it to say.
-use Rattle.std.specs.Prelude.{ℕ, Bool, false, ◌==◌, ◌&&◌, not, length, [], Option, None}
+use Rattle.std.specs.Prelude.{ℕ, Bool, false, true, ◌==◌, ◌&&◌, not, length, [], Option, None}
+use Rattle.rtps_fragments.specs.declared.fragments.Fragments.{Fragments}
+use Rattle.rtps_fragments.specs.declared.fragments.Fragments.TheVariants.{Skipped, Read}
 use Rattle.rtps_rows.specs.Rows.{RowsValue, rows_value}
 use Rattle.rtps_text.specs.declared.asked.Asked.{Asked}
 
@@ -10,15 +12,27 @@ pub record AskedValue : Type 0 where
   pub rows : RowsValue
   pub expect : Option ℕ
   pub strict : Bool
+  pub fragments : Fragments
 
 -- what the code asks, as a value
 abbrev pub asked_value : Asked → AskedValue
-asked_value asked = record { from = asked.from; rows = rows_value asked.rows; expect = asked.expect; strict = asked.strict }
+asked_value asked =
+    record { from = asked.from; rows = rows_value asked.rows; expect = asked.expect; strict = asked.strict; fragments = asked.fragments }
 
--- all rows by the numbers from this one on, and nothing else
+-- all rows by the numbers from this one on, and nothing else; fragments are skipped
 abbrev pub plainly : ℕ → AskedValue
-plainly from = record { from = from; rows = record { topics = []; observed = false }; expect = None; strict = false }
+plainly from =
+    record { from = from; rows = record { topics = []; observed = false }; expect = None; strict = false; fragments = Skipped }
 
 -- neither topics nor pairs are chosen
 abbrev pub asks_all_rows : AskedValue → Bool
 asks_all_rows asked = (length asked.rows.topics == 0) && not asked.rows.observed
+
+-- samples that come in fragments are read
+abbrev pub are_read : Fragments → Bool
+are_read Skipped = false
+are_read Read = true
+
+-- neither topics nor pairs are chosen, and fragments are skipped
+abbrev pub is_plain : AskedValue → Bool
+is_plain asked = asks_all_rows asked && not (are_read asked.fragments)

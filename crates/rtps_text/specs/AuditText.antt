@@ -9,9 +9,9 @@ use Rattle.rtps_receiver.specs.Values.{ActValue}
 use Rattle.rtps_discovery.specs.Directory.{DirectoryValue, IsMapOf, settled_at}
 use Rattle.rtps_discovery.specs.declared.matching.Pair.{Pair}
 use Rattle.rtps_audit.specs.Delivery.{last_announced_from}
-use Rattle.rtps_audit.specs.Intake.{Intake, acts_together, intake_of}
+use Rattle.rtps_audit.specs.Intake.{Intake, acts_together}
 use Rattle.rtps_audit.specs.Placed.{placed_in}
-use Rattle.rtps_audit.specs.Report.{IsReportFrom}
+use Rattle.rtps_audit.specs.Report.{IsReportBy, IsReportFrom}
 use Rattle.rtps_audit.specs.Speech.{speech_by}
 use Rattle.rtps_audit.specs.declared.report.Counts.{Counts}
 use Rattle.rtps_audit.specs.declared.report.Report.{Report}
@@ -21,6 +21,7 @@ use Rattle.rtps_audit.specs.declared.verdict.Verdict.TheVariants.{Unfounded, Con
 use Rattle.rtps_evidence.specs.Amount.{count_in}
 use Rattle.rtps_evidence.specs.Explanation.{topic_of}
 use Rattle.rtps_evidence.specs.Missed.{is_missed, place_announced}
+use Rattle.rtps_fragments.specs.RecordedSamples.{intake_as}
 use Rattle.rtps_rows.specs.Rows.{RowsValue, is_kept}
 use Rattle.rtps_text.specs.Asked.{AskedValue}
 use Rattle.rtps_text.specs.Findings.{ending_as}
@@ -91,12 +92,13 @@ abbrev pub is_row_kept : RowsValue → List ActValue → DirectoryValue → Row 
 is_row_kept rows acts directory row = is_kept rows acts (topic_of (settled_at directory.endpoints row.pair.writer)) row.pair
 
 -- The rows are those of the report on the recording that are asked for, in its order, and the counts are the report's: they
--- are of the whole recording.
+-- are of the whole recording. Where fragments are read, the report is of the acts with the samples among them; which pairs are
+-- observed is by the acts without them.
 pub record IsReportAs (asked : AskedValue) (recording : List (List ℕ)) (report : Report) : Type 0 where
   pub whole : Report
-  pub reports : IsReportFrom asked.from recording whole
+  pub reports : IsReportBy asked.from (intake_as asked.fragments recording) whole
   pub directory : DirectoryValue
-  pub is_map : IsMapOf (acts_together (intake_of recording).announcing) directory
+  pub is_map : IsMapOf (acts_together (intake_as asked.fragments recording).announcing) directory
   pub rows : report.rows.items ≡ filter (is_row_kept asked.rows (acts_in recording) directory) whole.rows.items
   pub counts : report.counts ≡ whole.counts
 
@@ -112,7 +114,7 @@ missed_rows from intake rows = count_by (λ row. not (missed_of from intake row.
 -- it is the report that is asked for, and how many of its rows have missed numbers, where that is asked
 pub record IsCounted (asked : AskedValue) (recording : List (List ℕ)) (counted : AskedReport) : Type 0 where
   pub reports : IsReportAs asked recording counted.report
-  pub missed : asked.strict ≡ true → counted.missed ≡ missed_rows asked.from (intake_of recording) counted.report.rows.items
+  pub missed : asked.strict ≡ true → counted.missed ≡ missed_rows asked.from (intake_as asked.fragments recording) counted.report.rows.items
 
 -- what is known of a report with these rows and counts, of which so many have missed numbers
 abbrev pub facts_of_report : ℕ → List Row → Counts → RecordingValue → Facts
@@ -130,7 +132,7 @@ pub record IsAuditedAs (asked : AskedValue) (recording : RecordingValue) (text :
   pub report : Report
   pub reports : IsReportAs asked recording.datagrams report
   pub is_text : text ≡ report_text report.rows.items report.counts recording.ignored
-  pub ends : ending ≡ ending_as asked (facts_of_report (missed_rows asked.from (intake_of recording.datagrams) report.rows.items) report.rows.items report.counts recording)
+  pub ends : ending ≡ ending_as asked (facts_of_report (missed_rows asked.from (intake_as asked.fragments recording.datagrams) report.rows.items) report.rows.items report.counts recording)
 
 -- and of all numbers
 abbrev pub IsAudited : RecordingValue → List ℕ → Ending → Type 0

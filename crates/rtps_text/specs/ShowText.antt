@@ -32,8 +32,8 @@ use Rattle.rtps_wire.specs.declared.header.Header.{Header}
 use Rattle.rtps_text.specs.Recording.{RecordingValue}
 use Rattle.rtps_text.specs.declared.text.Ending.{Ending}
 use Rattle.rtps_text.specs.declared.text.Ending.TheVariants.{Clean}
-use Rattle.rtps_text.specs.declared.text.Fragments.{Fragments}
-use Rattle.rtps_text.specs.declared.text.Fragments.TheVariants as fragments
+use Rattle.rtps_fragments.specs.declared.fragments.Fragments.{Fragments}
+use Rattle.rtps_fragments.specs.declared.fragments.Fragments.TheVariants as fragments
 
 -- a line of fields: a space (32) after each, but a line feed (10) after the last
 abbrev pub line_of : List (List ℕ) → List ℕ

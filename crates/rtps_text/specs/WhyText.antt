@@ -9,7 +9,7 @@ use Rattle.rtps_audit.specs.declared.report.Counts.{Counts}
 use Rattle.rtps_audit.specs.declared.verdict.Verdict.{Verdict}
 use Rattle.rtps_audit.specs.declared.verdict.Verdict.TheVariants.{Unfounded, Conflict, Open, Complete}
 use Rattle.rtps_evidence.specs.Locations.{SentValue}
-use Rattle.rtps_evidence.specs.Explanation.{EvidenceValue, ExplanationValue, IsExplainedFrom, explanation_value}
+use Rattle.rtps_evidence.specs.Explanation.{EvidenceValue, ExplanationValue, IsExplainedBy, IsExplainedFrom, explanation_value}
 use Rattle.rtps_evidence.specs.declared.last_announcement.Announcement.{Announcement}
 use Rattle.rtps_evidence.specs.declared.acknowledgement.Claim.{Claim}
 use Rattle.rtps_evidence.specs.declared.explanation.Explained.{Explained}
@@ -19,6 +19,7 @@ use Rattle.rtps_evidence.specs.declared.location.Kind.{Kind}
 use Rattle.rtps_evidence.specs.declared.location.Kind.TheVariants.{Data, Heartbeat, AckNack, Gap, DataFrag}
 use Rattle.rtps_evidence.specs.declared.location.Location.{Location}
 use Rattle.rtps_evidence.specs.declared.teller.Teller.{Teller}
+use Rattle.rtps_fragments.specs.RecordedSamples.{intake_as}
 use Rattle.rtps_receiver.specs.Acts.{acts_in}
 use Rattle.rtps_rows.specs.Rows.{is_kept}
 use Rattle.rtps_wire.specs.Values.{PayloadValue}
@@ -186,7 +187,7 @@ pub record IsExplainedTextFrom (from : ℕ) (recording : RecordingValue) (text :
 -- The rows are those of the report that are asked for, each explained, in its order, and the counts are the report's.
 pub record IsExplainedAs (asked : AskedValue) (recording : List (List ℕ)) (explained : Explained) : Type 0 where
   pub whole : Explained
-  pub explains : IsExplainedFrom asked.from recording whole
+  pub explains : IsExplainedBy asked.from (intake_as asked.fragments recording) whole
   pub rows : explained.rows.items ≡ filter (λ row. is_kept asked.rows (acts_in recording) row.topic.now row.pair) whole.rows.items
   pub counts : explained.counts ≡ whole.counts
 

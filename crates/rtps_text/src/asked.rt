@@ -1,5 +1,6 @@
 ghost use Rattle.std.specs.Prelude.{◌≡◌};
 
+use rtps_fragments::Fragments;
 use rtps_ids::SeqNum;
 use rtps_rows::Rows;
 
@@ -15,12 +16,14 @@ pub struct Asked<'a> {
     /// Whether it also has to have a row, no row with missed numbers, and nothing that is left out of the recording: no
     /// fragments, no unsettled GUIDs, and, where any capture was read, no frame that was ignored as a piece or as cut.
     pub strict: bool,
+    /// What becomes of samples that come in fragments.
+    pub fragments: Fragments,
 }
 
 impl Asked<'_> {
-    ghost use Rattle.rtps_text.specs.Asked.{asked_value, asks_all_rows as asks_all_rows_lem, plainly as plainly_lem};
+    ghost use Rattle.rtps_text.specs.Asked.{are_read, asked_value, asks_all_rows as asks_all_rows_lem, is_plain as is_plain_lem, plainly as plainly_lem};
 
-    /// All rows by the numbers from `from` on, and nothing else.
+    /// All rows by the numbers from `from` on, and nothing else. Fragments are skipped.
     pub fn plainly(from: SeqNum) -> Self
         ensures { asked_value result ≡ plainly_lem from }
     {
@@ -29,6 +32,7 @@ impl Asked<'_> {
             rows: Rows::all(),
             expect: None,
             strict: false,
+            fragments: Fragments::Skipped,
         }
     }
 
@@ -37,5 +41,19 @@ impl Asked<'_> {
         ensures { result ≡ asks_all_rows_lem (asked_value self.now) }
     {
         self.rows.topics.is_empty() && !self.rows.observed
+    }
+
+    /// Whether samples that come in fragments are read.
+    pub fn reads_fragments(&self) -> bool
+        ensures { result ≡ are_read self.now.fragments }
+    {
+        matches!(self.fragments, Fragments::Read)
+    }
+
+    /// Whether all rows are asked for, and fragments are skipped.
+    pub(crate) fn is_plain(&self) -> bool
+        ensures { result ≡ is_plain_lem (asked_value self.now) }
+    {
+        self.asks_all_rows() && !self.reads_fragments()
     }
 }

@@ -25,7 +25,7 @@ pub struct Findings {
     pub empty: bool,
     /// How many of its rows have missed numbers.
     pub missed: u64,
-    /// The fragments that were not read.
+    /// The fragments that were not read, or whose samples never came whole.
     pub fragments: u128,
     /// GUIDs whose announcements disagree, which are in no row.
     pub unsettled: u64,

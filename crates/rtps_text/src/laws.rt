@@ -4,15 +4,16 @@ ghost use Rattle.std.specs.Prelude.{ℕ};
 ghost use Rattle.rtps_text.specs.Asked.{AskedValue, plainly};
 ghost use Rattle.rtps_text.specs.AuditText.{IsAuditedAs, IsAuditedFrom};
 ghost use Rattle.rtps_text.specs.JsonText.{IsJsonTextAs, IsJsonTextFrom};
-ghost use Rattle.rtps_text.specs.Laws.{HasOneText, HaveOneText, ShowsTheSameWithoutFragments};
+ghost use Rattle.rtps_text.specs.Laws.{ExplainedRowsAreByFragments, HasOneText, HaveOneText, RowsAreByFragments, ShowsTheSameWithoutFragments};
 ghost use Rattle.rtps_text.specs.ListText.{IsListed};
 ghost use Rattle.rtps_text.specs.ShowText.{IsShown, IsShownWith};
 ghost use Rattle.rtps_text.specs.WhyText.{IsExplainedTextAs, IsExplainedTextFrom};
-ghost use Rattle.rtps_text.specs.declared.text.Fragments.{Fragments};
+ghost use Rattle.rtps_fragments.specs.declared.fragments.Fragments.{Fragments};
 
 use rtps_audit::laws::one_report;
 use rtps_discovery::laws::one_map;
 use rtps_evidence::laws::one_explanation;
+use rtps_fragments::laws::recorded_verdict_is_of_runs;
 
 /// What is printed of a recording, and how a run on it ends, is decided by its datagrams alone; by `audit`, as JSON too,
 /// and `why`, also by how many frames of a capture were ignored and for which reasons, and by what is
@@ -46,3 +47,12 @@ pub fn options_change_nothing()
 pub fn show_is_the_same_without_fragments()
     ensures { ShowsTheSameWithoutFragments }
 {}
+
+/// Where fragments are read, the verdict of each row of the report is that by all runs in which its reader takes fragments one by one,
+/// of the numbers that are asked about; so is the verdict of each row that is explained.
+pub fn rows_are_by_fragments()
+    ensures reported { RowsAreByFragments }
+    ensures explained { ExplainedRowsAreByFragments }
+{
+    recorded_verdict_is_of_runs();
+}

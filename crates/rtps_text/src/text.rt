@@ -32,15 +32,6 @@ pub enum Ending {
     Unmet(Findings),
 }
 
-/// What becomes of samples that come in fragments (DDSI-RTPS 2.5, 8.3.8.3 "DataFrag").
-#[derive(Clone, Copy, Debug, PartialEq, Eq)]
-pub enum Fragments {
-    /// Each DATA_FRAG is skipped, as a submessage that is not read.
-    Skipped,
-    /// Each DATA_FRAG with fragments that can be used is read.
-    Read,
-}
-
 /// A recording to try: a participant, its writer and a reader of the topic `pose`, the samples 1 to 3, and the
 /// acknowledgement of all of them. The audit of it finds the pair complete.
 #[tactic(auto, unfolding(crate::specs::SampleText::sample))]

@@ -1,6 +1,8 @@
 ghost use Rattle.std.specs.Prelude.{ℕ, ◌≡◌, IfOk, List, filter, map};
 ghost use Rattle.rtps_receiver.specs.Values.{ActValue};
-ghost use Rattle.rtps_evidence.specs.Explanation.{IsExplainedFrom};
+ghost use Rattle.rtps_audit.specs.Index.{IsIndexBy};
+ghost use Rattle.rtps_evidence.specs.Explanation.{IsExplainedBy};
+ghost use Rattle.rtps_fragments.specs.RecordedSamples.{intake_as};
 ghost use Rattle.rtps_rows.specs.Filter.{IsFilterOf};
 ghost use Rattle.rtps_rows.specs.Rows.{RowsValue, is_kept};
 ghost use Rattle.rtps_text.specs.Asked.{asked_value};
@@ -8,8 +10,9 @@ ghost use Rattle.rtps_text.specs.WhyText.{IsExplainedAs};
 
 use crate::asked::Asked;
 use crate::recording::Recording;
-use rtps_audit::Watch;
-use rtps_evidence::{Explained, Explanation, explain_from};
+use rtps_audit::Index;
+use rtps_evidence::{Explained, Explanation};
+use rtps_fragments::{Samples, index_as};
 use rtps_ids::Memory;
 use rtps_rows::RowFilter;
 use std::alloc::{AllocError, Global};
@@ -25,36 +28,37 @@ pub fn datagrams_of(alloc: Global, recording: &Recording) -> Result<Vec<&[u8]>, 
     Ok(datagrams)
 }
 
-/// The rows of the report on a recording that are asked for, each explained, and its counts.
-pub(crate) fn explained_of<'a, P: Watch>(
+/// The index of a recording by which the verdicts are that are asked for. `samples` is where the samples are put that it borrows.
+/// `Memory` is answered where there is none for it.
+pub fn index_asked<'a>(
     alloc: Global,
     recording: &'a Recording,
     asked: &Asked<'_>,
-    watch: &mut P,
-) -> Result<Explained<'a>, Memory>
-    ensures { IfOk result (IsExplainedAs (asked_value asked.now) recording.now.datagrams) }
+    samples: &'a mut Samples,
+) -> Result<Index<'a>, Memory>
+    ensures { IfOk result (IsIndexBy (intake_as asked.now.fragments recording.now.datagrams)) }
 {
     let datagrams = datagrams_of(alloc, recording)?;
-    let explained = explain_from(alloc, &datagrams, asked.from, watch)?;
-    let kept = rows_asked(alloc, explained, asked, &datagrams)?;
-    Ok(kept)
+    let index = index_as(alloc, &datagrams, asked.fragments, samples)?;
+    Ok(index)
 }
 
-/// Those of a report's rows that are asked for, and its counts: of the report on these datagrams, whose rows are explained.
+/// Those of a report's rows that are asked for, and its counts: of the report on this recording, whose rows are explained.
 /// `Memory` is answered where what is kept cannot grow.
 pub fn rows_asked<'a>(
     alloc: Global,
     explained: Explained<'a>,
     asked: &Asked<'_>,
-    datagrams: &[&[u8]],
+    recording: &Recording,
 ) -> Result<Explained<'a>, Memory>
-    ensures { IsExplainedFrom asked.now.from (map (λ datagram. datagram.now) datagrams.now) explained.entry
-        → IfOk result (IsExplainedAs (asked_value asked.now) (map (λ datagram. datagram.now) datagrams.now)) }
+    ensures { IsExplainedBy asked.now.from (intake_as asked.now.fragments recording.now.datagrams) explained.entry
+        → IfOk result (IsExplainedAs (asked_value asked.now) recording.now.datagrams) }
 {
     if asked.asks_all_rows() {
         return Ok(explained);
     }
-    let wanted = RowFilter::of(alloc, asked.rows, datagrams)?;
+    let datagrams = datagrams_of(alloc, recording)?;
+    let wanted = RowFilter::of(alloc, asked.rows, &datagrams)?;
     let rows = kept_of(alloc, &explained.rows, &wanted)?;
     Ok(Explained {
         rows,

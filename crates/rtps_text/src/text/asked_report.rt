@@ -9,11 +9,12 @@ ghost use Rattle.rtps_text.specs.AuditText.{IsCounted, IsReportAs, is_row_kept};
 
 use crate::asked::Asked;
 use crate::recording::Recording;
-use crate::text::asked_evidence::{datagrams_of, explained_of};
+use crate::text::asked_evidence::{datagrams_of, index_asked, rows_asked};
 use crate::text::why_text::missed_among;
-use rtps_audit::{Index, Report, Row, Watch};
+use rtps_audit::{Report, Row, Watch};
 use rtps_discovery::Directory;
-use rtps_evidence::Explanation;
+use rtps_evidence::{Explanation, explain_index};
+use rtps_fragments::Samples;
 use rtps_ids::{Guid, Memory};
 use rtps_rows::RowFilter;
 use std::alloc::{AllocError, Global};
@@ -51,7 +52,10 @@ fn strict_report<P: Watch>(
 ) -> Result<AskedReport, Memory>
     ensures { IfOk result (IsCounted (asked_value asked.now) recording.now.datagrams) }
 {
-    let explained = explained_of(alloc, recording, asked, watch)?;
+    let mut samples = Samples::none(alloc);
+    let index = index_asked(alloc, recording, asked, &mut samples)?;
+    let whole = explain_index(alloc, &index, asked.from, watch)?;
+    let explained = rows_asked(alloc, whole, asked, recording)?;
     let rows = rows_in(alloc, &explained.rows)?;
     Ok(AskedReport {
         report: Report {
@@ -85,25 +89,27 @@ fn plain_report<P: Watch>(
 ) -> Result<Report, Memory>
     ensures { IfOk result (IsReportAs (asked_value asked.now) recording.now.datagrams) }
 {
-    let datagrams = datagrams_of(alloc, recording)?;
-    if asked.asks_all_rows() {
+    if asked.is_plain() {
+        let datagrams = datagrams_of(alloc, recording)?;
         return rtps_audit::audit_watched(alloc, &datagrams, asked.from, watch);
     }
-    chosen_report(alloc, &datagrams, asked, watch)
+    chosen_report(alloc, recording, asked, watch)
 }
 
-/// The report on datagrams, with the rows that are asked for.
+/// The report on a recording, with the rows that are asked for, by an index.
 fn chosen_report<P: Watch>(
     alloc: Global,
-    datagrams: &[&[u8]],
+    recording: &Recording,
     asked: &Asked<'_>,
     watch: &mut P,
 ) -> Result<Report, Memory>
-    ensures { IfOk result (IsReportAs (asked_value asked.now) (map (λ datagram. datagram.now) datagrams.now)) }
+    ensures { IfOk result (IsReportAs (asked_value asked.now) recording.now.datagrams) }
 {
-    let index = Index::build(alloc, datagrams)?;
+    let mut samples = Samples::none(alloc);
+    let index = index_asked(alloc, recording, asked, &mut samples)?;
     let report = index.report_from(asked.from, watch)?;
-    let wanted = RowFilter::of(alloc, asked.rows, datagrams)?;
+    let datagrams = datagrams_of(alloc, recording)?;
+    let wanted = RowFilter::of(alloc, asked.rows, &datagrams)?;
     let rows = kept_of(alloc, &report.rows, index.directory(), &wanted)?;
     Ok(Report {
         rows,

@@ -13,7 +13,7 @@ use crate::asked::Asked;
 use crate::findings::ending_of;
 use crate::recording::{Reasons, Recording};
 use crate::text::Ending;
-use crate::text::asked_evidence::explained_of;
+use crate::text::asked_evidence::{index_asked, rows_asked};
 use crate::text::json_delivery::{push_delivery, push_open};
 use crate::text::json_members::{
     push_claim, push_count, push_evidence, push_guid, push_name, push_number, push_sent,
@@ -22,7 +22,8 @@ use crate::text::json_members::{
 use crate::text::why_text::facts_of;
 use json::Writer;
 use rtps_audit::{Counts, Verdict, Watch};
-use rtps_evidence::{Evidence, Explained, Explanation};
+use rtps_evidence::{Evidence, Explained, Explanation, explain_index};
+use rtps_fragments::Samples;
 use rtps_ids::Memory;
 use std::alloc::{AllocError, Global};
 
@@ -36,7 +37,10 @@ pub fn json_text<P: Watch>(
 ) -> Result<(String, Ending), Memory>
     ensures { IfOk result (λ told. IsJsonTextAs (asked_value asked.now) recording.now (string_bytes told.0) told.1) }
 {
-    let explained = explained_of(alloc, recording, asked, watch)?;
+    let mut samples = Samples::none(alloc);
+    let index = index_asked(alloc, recording, asked, &mut samples)?;
+    let whole = explain_index(alloc, &index, asked.from, watch)?;
+    let explained = rows_asked(alloc, whole, asked, recording)?;
     let text = line_of(alloc, &explained, recording)?;
     let facts = facts_of(&explained, recording);
     Ok((text, ending_of(asked, &facts)))

@@ -9,9 +9,10 @@ ghost use Rattle.rtps_text.specs.ShowTail.{IsTailIn, says_of_state};
 ghost use Rattle.rtps_text.specs.ShowText.{IsShownWith, datagram_line, datagram_text, fragments_at as fragments_at_lem, outcomes_text, refusal_line, text_from};
 
 use crate::recording::Recording;
+use crate::text::Ending;
 use crate::text::item_lines::{push_data_frag, push_item, push_origin, push_skipped};
 use crate::text::parts::push_field;
-use crate::text::{Ending, Fragments};
+use rtps_fragments::Fragments;
 use rtps_ids::Memory;
 use rtps_receiver::State;
 use rtps_wire::{Body, DataFrag, Header, Item, Items, Refusal};

@@ -13,7 +13,7 @@ use crate::asked::Asked;
 use crate::findings::{Facts, ending_of};
 use crate::recording::Recording;
 use crate::text::Ending;
-use crate::text::asked_evidence::explained_of;
+use crate::text::asked_evidence::{index_asked, rows_asked};
 use crate::text::audit_lines::{PairsLine, ReportCountsLine};
 use crate::text::audit_text::is_complete;
 use crate::text::delivery_lines::{
@@ -25,7 +25,8 @@ use crate::text::why_lines::{
     ToldLine,
 };
 use rtps_audit::{Verdict, Watch};
-use rtps_evidence::{Evidence, Explained, Explanation, FirstMissed, Sent};
+use rtps_evidence::{Evidence, Explained, Explanation, FirstMissed, Sent, explain_index};
+use rtps_fragments::Samples;
 use rtps_ids::Memory;
 use std::alloc::{AllocError, Global};
 
@@ -39,7 +40,10 @@ pub fn why_text<P: Watch>(
 ) -> Result<(String, Ending), Memory>
     ensures { IfOk result (λ told. IsExplainedTextAs (asked_value asked.now) recording.now (string_bytes told.0) told.1) }
 {
-    let explained = explained_of(alloc, recording, asked, watch)?;
+    let mut samples = Samples::none(alloc);
+    let index = index_asked(alloc, recording, asked, &mut samples)?;
+    let whole = explain_index(alloc, &index, asked.from, watch)?;
+    let explained = rows_asked(alloc, whole, asked, recording)?;
     let text = text_of(alloc, &explained, recording.ignored())?;
     let facts = facts_of(&explained, recording);
     Ok((text, ending_of(asked, &facts)))

@@ -6,6 +6,7 @@ use Rattle.rtps_audit.specs.Intake.{acts_together, intake_of}
 use Rattle.rtps_audit.specs.declared.report.Counts.{Counts}
 use Rattle.rtps_audit.specs.declared.report.Row.{Row}
 use Rattle.rtps_evidence.specs.Explanation.{ExplanationValue, explanation_value}
+use Rattle.rtps_fragments.specs.RecordedSamples.{intake_as}
 use Rattle.rtps_text.specs.AuditText.{ending_of, facts_of_report, missed_rows, report_text}
 use Rattle.rtps_text.specs.Findings.{ending_as}
 use Rattle.rtps_text.specs.JsonText.{json_line, report_json}
@@ -51,17 +52,17 @@ returns-clause-json c = λ from recording one other ending last is also.
 pub returns-clause-audited_as : goal.returns-clause-audited_as
 returns-clause-audited_as c = λ asked recording one other ending last is also.
     let datagrams = recording.datagrams in
-    let whole = c.one_report.ensures asked.from (intake_of datagrams) is.reports.whole also.reports.whole is.reports.reports also.reports.reports in
-    let directory = c.one_map.ensures.unique (acts_together (intake_of datagrams).announcing) is.reports.directory also.reports.directory is.reports.is_map also.reports.is_map in
+    let whole = c.one_report.ensures asked.from (intake_as asked.fragments datagrams) is.reports.whole also.reports.whole is.reports.reports also.reports.reports in
+    let directory = c.one_map.ensures.unique (acts_together (intake_as asked.fragments datagrams).announcing) is.reports.directory also.reports.directory is.reports.is_map also.reports.is_map in
     let rows = one_rows asked datagrams is.report also.report is.reports also.reports whole.0 directory in
     let counts = is.reports.counts ∙ whole.1 ∙ sym also.reports.counts in (
       is.is_text ∙ ap₂ (λ (rows : List Row) (counts : Counts). report_text rows counts recording.ignored) rows counts ∙ sym also.is_text,
-      is.ends ∙ ap₂ (λ (rows : List Row) (counts : Counts). ending_as asked (facts_of_report (missed_rows asked.from (intake_of datagrams) rows) rows counts recording)) rows counts ∙ sym also.ends,
+      is.ends ∙ ap₂ (λ (rows : List Row) (counts : Counts). ending_as asked (facts_of_report (missed_rows asked.from (intake_as asked.fragments datagrams) rows) rows counts recording)) rows counts ∙ sym also.ends,
     )
 
 pub returns-clause-explained_as : goal.returns-clause-explained_as
 returns-clause-explained_as c = λ asked recording one other ending last is also.
-    let whole = c.one_explanation.ensures asked.from (intake_of recording.datagrams) is.explains.whole also.explains.whole is.explains.explains also.explains.explains in
+    let whole = c.one_explanation.ensures asked.from (intake_as asked.fragments recording.datagrams) is.explains.whole also.explains.whole is.explains.explains also.explains.explains in
     let rows = one_explained asked recording.datagrams is.explained also.explained is.explains also.explains whole.0 in
     let counts = is.explains.counts ∙ whole.1 ∙ sym also.explains.counts in (
       is.is_text ∙ ap₂ (λ (rows : List ExplanationValue) (counts : Counts). explained_text rows counts recording.ignored) rows counts ∙ sym also.is_text,
@@ -70,7 +71,7 @@ returns-clause-explained_as c = λ asked recording one other ending last is also
 
 pub returns-clause-json_as : goal.returns-clause-json_as
 returns-clause-json_as c = λ asked recording one other ending last is also.
-    let whole = c.one_explanation.ensures asked.from (intake_of recording.datagrams) is.explains.whole also.explains.whole is.explains.explains also.explains.explains in
+    let whole = c.one_explanation.ensures asked.from (intake_as asked.fragments recording.datagrams) is.explains.whole also.explains.whole is.explains.explains also.explains.explains in
     let rows = one_explained asked recording.datagrams is.explained also.explained is.explains also.explains whole.0 in
     let counts = is.explains.counts ∙ whole.1 ∙ sym also.explains.counts in (
       is.is_line.is_text ∙ ap₂ (λ (rows : List ExplanationValue) (counts : Counts). json_line (report_json rows counts recording)) rows counts ∙ sym also.is_line.is_text,

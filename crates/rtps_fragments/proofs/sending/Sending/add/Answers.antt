@@ -1,16 +1,16 @@
-use Rattle.std.proofs.Common.{◌≡◌, [], ◌∷◌, ◌++◌, ◌∙◌, ap, append-nil, drop, map, subst, sym}
+use Rattle.std.proofs.Common.{◌≡◌, [], ◌∷◌, ◌++◌, ◌∙◌, ap, append-nil, map, subst, sym}
 use Rattle.std.specs.Prelude.{None, Option, Some}
 use Rattle.std.specs.Option.{option_map}
 use Rattle.std.proofs.lemmas.List.{map-append}
 use Rattle.rtps_receiver.specs.Acts.{act_body}
 use Rattle.rtps_receiver.specs.Values.{ActBodyValue, act_value}
-use Rattle.rtps_fragments.specs.Sending.{AddsActs, fragment_acts, piece_acts_of_item}
+use Rattle.rtps_fragments.specs.Sending.{AddsActs, fragment_acts, fragments_at, piece_acts_of_item}
 use Rattle.rtps_fragments.specs.Telling.{sent_value}
 use Rattle.rtps_fragments.specs.declared.sending.Sending.{Sending}
-use Rattle.rtps_wire.specs.DataFrag.{DataFragValue, data_frag_at, data_frag_value}
+use Rattle.rtps_wire.specs.DataFrag.{DataFragValue, data_frag_value}
 use Rattle.rtps_wire.specs.Values.{item_value}
 use Rattle.rtps_fragments.proofs.sending.Sending.add.Goals as goal
-use Rattle.rtps_fragments.proofs.sending.Sending.add.Goals.{in_default+in-Some-read+in_ok-add_fragments, in_default+in_default-read, in-Some+in_ok-extend_from_slice}
+use Rattle.rtps_fragments.proofs.sending.Sending.add.Goals.{in_default+in-Some-fragments_at+in_ok-add_fragments, in_default+in_default-fragments_at, in-Some+in_ok-extend_from_slice}
 
 pub returns-clause-acts : goal.returns-clause-acts
 returns-clause-acts c =
@@ -26,13 +26,13 @@ returns-clause-acts c =
           let new : Sending = record { acts = w.extend_from_slice.new.self; sents = old.sents } in
           let added : At (Some is.0) new = record { acts = grown; sents = sym (append-nil (map sent_value old.sents.items)); well = λ kept. kept } in
           subst (λ s. At (act_body item.body) s) (sym w.self-is) (subst (λ o. At o new) (sym is.1) added)
-      | in_default+in-Some-read+in_ok-add_fragments w ↦
-          let value = data_frag_value w.in-Some-read.fragments in
-          let read : Some value ≡ data_frag_at (drop item.at octets) = ap (option_map data_frag_value) (sym w.in-Some-read.is) ∙ w.read.ensures.value ∙ ap data_frag_at w.octets_from.ensures in
+      | in_default+in-Some-fragments_at+in_ok-add_fragments w ↦
+          let value = data_frag_value w.in-Some-fragments_at.fragments in
+          let read : Some value ≡ fragments_at octets item = ap (option_map data_frag_value) (sym w.in-Some-fragments_at.is) ∙ w.fragments_at.ensures.value in
           let added : At None w.add_fragments.new.self = subst (λ (o : Option DataFragValue). AddsActs old w.add_fragments.new.self (fragment_acts state item o)) read w.in_ok-add_fragments.ensures in
           subst (λ s. At (act_body item.body) s) (sym w.self-is) (subst (λ o. At o w.add_fragments.new.self) (sym w.in_default.ensures) added)
-      | in_default+in_default-read w ↦
-          let read : None ≡ data_frag_at (drop item.at octets) = ap (option_map data_frag_value) (sym w.in_default-read.is) ∙ w.read.ensures.value ∙ ap data_frag_at w.octets_from.ensures in
+      | in_default+in_default-fragments_at w ↦
+          let read : None ≡ fragments_at octets item = ap (option_map data_frag_value) (sym w.in_default-fragments_at.is) ∙ w.fragments_at.ensures.value in
           let added : AddsActs old old [] = record { acts = sym (append-nil (map act_value old.acts.items)); sents = sym (append-nil (map sent_value old.sents.items)); well = λ kept. kept } in
           let none : At None old = subst (λ (o : Option DataFragValue). AddsActs old old (fragment_acts state item o)) read added in
           subst (λ s. At (act_body item.body) s) (sym w.self-is) (subst (λ o. At o old) (sym w.in_default.ensures) none)

@@ -1,6 +1,6 @@
 use Rattle.std.proofs.Common.{◌≡◌, ◌∙◌, ap, map, refl, sym}
-use Rattle.rtps_audit.specs.Intake.{intake_of}
 use Rattle.rtps_evidence.specs.Explanation.{explanation_value, row_of}
+use Rattle.rtps_fragments.specs.RecordedSamples.{intake_as}
 use Rattle.rtps_text.specs.Asked.{asked_value}
 use Rattle.rtps_text.specs.AuditText.{missed_rows}
 use Rattle.rtps_text.specs.WhyText.{missed_in}
@@ -12,9 +12,10 @@ returns g c =
     let asked = asked_value c.args.asked.now in
     let datagrams = c.args.recording.now.datagrams in
     let explained = c.in_ok-explained.explained in
+    let explains = c.in_ok-explained.ensures (c.in_ok-whole.ensures _ c.in_ok-index.ensures) in
     let rows : c.in_ok-rows.rows.items ≡ map row_of explained.rows.items = c.in_ok-rows.ensures ∙ ap (map row_of) c.deref.ensures.value in
     record {
-      reports = report_of_explained asked datagrams explained _ c.in_ok-explained.ensures rows refl;
+      reports = report_of_explained asked datagrams explained _ explains rows refl;
       missed = λ strict. c.missed_among.ensures ∙ ap (λ all. missed_in (map explanation_value all)) c.deref-2.ensures.value
-          ∙ missed_of_explained asked datagrams explained c.in_ok-explained.ensures ∙ ap (missed_rows asked.from (intake_of datagrams)) (sym rows);
+          ∙ missed_of_explained asked datagrams explained explains ∙ ap (missed_rows asked.from (intake_as asked.fragments datagrams)) (sym rows);
     }

@@ -1,5 +1,5 @@
 use Rattle.std.proofs.Common.{◌∙◌, ap}
-use Rattle.rtps_audit.specs.Intake.{intake_of}
+use Rattle.rtps_fragments.specs.RecordedSamples.{intake_as}
 use Rattle.rtps_text.specs.Asked.{asked_value}
 use Rattle.rtps_text.specs.AuditText.{missed_rows, report_text}
 use Rattle.rtps_text.specs.Findings.{ending_as}
@@ -17,5 +17,5 @@ returns g c =
       reports = c.in_ok-asked_report.ensures.reports;
       is_text = c.in_ok-text.ensures ∙ ap (report_text report.rows.items report.counts) c.ignored.ensures;
       ends = c.ending_of.ensures ∙ ap (ending_as asked) c.facts_of-facts.ensures
-          ∙ ending_same asked counted.missed (missed_rows asked.from (intake_of recording.datagrams) report.rows.items) report.rows.items report.counts recording c.in_ok-asked_report.ensures.missed;
+          ∙ ending_same asked counted.missed (missed_rows asked.from (intake_as asked.fragments recording.datagrams) report.rows.items) report.rows.items report.counts recording c.in_ok-asked_report.ensures.missed;
     }

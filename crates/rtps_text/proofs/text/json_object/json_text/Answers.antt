@@ -7,7 +7,7 @@ pub returns : goal.returns
 returns g c =
     record {
       explained = c.in_ok-explained.explained;
-      explains = c.in_ok-explained.ensures;
+      explains = c.in_ok-explained.ensures (c.in_ok-whole.ensures _ c.in_ok-index.ensures);
       is_line = c.in_ok-text.ensures;
       ends = c.ending_of.ensures ∙ ap (ending_as (asked_value c.args.asked.now)) c.facts_of-facts.ensures;
     }

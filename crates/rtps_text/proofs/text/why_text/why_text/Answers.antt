@@ -11,7 +11,7 @@ returns g c =
     let rows = map explanation_value explained.rows.items in
     record {
       explained = explained;
-      explains = c.in_ok-explained.ensures;
+      explains = c.in_ok-explained.ensures (c.in_ok-whole.ensures _ c.in_ok-index.ensures);
       is_text = c.in_ok-text.ensures ∙ ap (explained_text rows explained.counts) c.ignored.ensures;
       ends = c.ending_of.ensures ∙ ap (ending_as (asked_value c.args.asked.now)) c.facts_of-facts.ensures;
     }

@@ -1,0 +1,129 @@
+-- Recordings in which no submessage belongs to fragments.
+use Rattle.std.proofs.Common.{◌≡◌, ℕ, ◌+◌, ◌<◌, ◌≤◌, Bool, true, false, cond, List, [], ◌∷◌, ◌++◌, drop, filter, length, map, take, get_or, Bor, Option, Some, None, refl, sym, ◌∙◌, ap, subst, arith, inl, inr}
+use Rattle.std.specs.Prelude.{Contains}
+use Rattle.std.proofs.lemmas.List.{length-map, length-take-le, map-append, take_more}
+use Rattle.std.proofs.lemmas.List.Elements.{All-contains, All-push}
+use Rattle.std.proofs.lemmas.List.Sums.{length-filter}
+use Rattle.rtps_wire.specs.DataFrag.{data_frag_at}
+use Rattle.rtps_wire.specs.Reading.{reading_of}
+use Rattle.rtps_wire.specs.Tally.{is_fragment, tally_of}
+use Rattle.rtps_wire.specs.Values.{ItemValue}
+use Rattle.rtps_wire.specs.declared.counts.Tally.{Tally}
+use Rattle.rtps_wire.specs.declared.header.Header.{Header}
+use Rattle.rtps_receiver.specs.Acts.{act_body, acts_behind, acts_of, acts_of_item, acts_with, gathered, state_at_start, state_behind}
+use Rattle.rtps_receiver.specs.Values.{ActBodyValue, ActValue}
+use Rattle.rtps_receiver.specs.declared.state.State.{State}
+use Rattle.rtps_audit.specs.Intake.{Intake, intake_more, intake_of}
+use Rattle.rtps_audit.specs.Speech.{acts_by_datagram}
+use Rattle.rtps_audit.proofs.Offered.{contains_cases, contains_head, contains_mapped, contains_none, contains_tail}
+use Rattle.rtps_fragments.specs.Announcing.{announcing_with}
+use Rattle.rtps_fragments.specs.Laws.{HasNoPieces, IntakeStaysWithoutFragments}
+use Rattle.rtps_fragments.specs.RecordedSamples.{IsWithoutFragments}
+use Rattle.rtps_fragments.specs.SampleActs.{PieceAct}
+use Rattle.rtps_fragments.specs.Sending.{fragment_acts, piece_acts_of, piece_acts_of_item, piece_acts_with, sending_of}
+use Rattle.rtps_fragments.proofs.ActsTell.{acts_stay_without_pieces}
+use Rattle.rtps_fragments.proofs.NoteLemmas.{announcing_stays}
+use Rattle.rtps_fragments.proofs.SampleSteps.{octets_of}
+
+-- an act without a piece
+abbrev plain : ActValue → PieceAct
+plain act = record { act = act; piece = None }
+
+-- ---- one datagram
+
+none_counted : {X : Type 0} (test : X → Bool) (xs : List X) → length (filter test xs) ≡ 0 → (x : X) → Contains xs x → test x ≡ false
+none_counted test [] e x among = absurd (contains_none x among)
+none_counted test (y ∷ ys) e x among = by (test y) refl e (λ none there. none_counted test ys none x there)
+  where
+    by : (b : Bool) → test y ≡ b → length (cond b (y ∷ filter test ys) (filter test ys)) ≡ 0 → (length (filter test ys) ≡ 0 → Contains ys x → test x ≡ false) → test x ≡ false
+    by true is e behind = absurd (let none = e in omega arith)
+    by false is e behind = elim (contains_cases y ys x among) [
+      | inl here ↦ ap test (sym here) ∙ is
+      | inr there ↦ behind e there
+    ]
+
+item_plain : (octets : List ℕ) (state : State) (item : ItemValue) (body : Option ActBodyValue) → is_fragment item.body ≡ false → piece_acts_of_item octets state item body ≡ map plain (acts_of_item state item body)
+item_plain octets state item (Some body) none = refl
+item_plain octets state item None none = ap (λ b. fragment_acts state item (cond b (data_frag_at (drop item.at octets)) None)) none
+
+gathered_plain : (octets : List ℕ) (start : State) (before items : List ItemValue) → ((item : ItemValue) → Contains items item → is_fragment item.body ≡ false)
+    → gathered (λ s i. piece_acts_of_item octets s i (act_body i.body)) start before items ≡ map plain (acts_behind start before items)
+gathered_plain octets start before [] none = refl
+gathered_plain octets start before (item ∷ items) none =
+    let here = acts_of_item (state_behind start before) item (act_body item.body) in
+    ap (λ acts. acts ++ gathered (λ s i. piece_acts_of_item octets s i (act_body i.body)) start (before ++ item ∷ []) items) (item_plain octets (state_behind start before) item (act_body item.body) (none item (contains_head item items)))
+    ∙ ap (λ rest. map plain here ++ rest) (gathered_plain octets start (before ++ item ∷ []) items (λ other among. none other (contains_tail item items other among)))
+    ∙ sym (map-append plain here (acts_behind start (before ++ item ∷ []) items))
+
+with_plain : (octets : List ℕ) (header : Option Header) (items : List ItemValue) → ((item : ItemValue) → Contains items item → is_fragment item.body ≡ false)
+    → piece_acts_with octets header items ≡ map plain (acts_with header items)
+with_plain octets None items none = refl
+with_plain octets (Some header) items none = gathered_plain octets (state_at_start header) [] items none
+
+datagram_plain : (octets : List ℕ) → (tally_of (reading_of octets)).fragments ≡ 0 → piece_acts_of octets ≡ map plain (acts_of (reading_of octets))
+unfolding piece_acts_of acts_of
+datagram_plain octets none =
+    with_plain octets (reading_of octets).header (reading_of octets).items
+    (none_counted (λ item. is_fragment item.body) (reading_of octets).items (length-filter (λ (item : ItemValue). is_fragment item.body) (reading_of octets).items ∙ none))
+
+acts_of_plain : (acts : List ActValue) → map (λ one. one.act) (map plain acts) ≡ acts
+acts_of_plain [] = refl
+acts_of_plain (act ∷ acts) = ap (λ rest. act ∷ rest) (acts_of_plain acts)
+
+-- ---- a recording
+
+-- each of these datagrams is without fragments
+abbrev EachWithout : List (List ℕ) → Type 0
+EachWithout recording = (octets : List ℕ) → Contains recording octets → (tally_of (reading_of octets)).fragments ≡ 0
+
+acts_plain : (recording : List (List ℕ)) → EachWithout recording → map (map (λ one. one.act)) (sending_of recording) ≡ acts_by_datagram recording
+acts_plain [] none = refl
+acts_plain (octets ∷ recording) none =
+    ap (λ acts. acts ∷ map (map (λ (one : PieceAct). one.act)) (sending_of recording)) (ap (map (λ (one : PieceAct). one.act)) (datagram_plain octets (none octets (contains_head octets recording))) ∙ acts_of_plain (acts_of (reading_of octets)))
+    ∙ ap (λ rest. acts_of (reading_of octets) ∷ rest) (acts_plain recording (λ other among. none other (contains_tail octets recording other among)))
+
+no_pieces : (recording : List (List ℕ)) → EachWithout recording → HasNoPieces (sending_of recording)
+no_pieces recording none datagram one there among =
+    let (octets, sent, same) = contains_mapped piece_acts_of recording datagram there in
+    let (act, has, is) = contains_mapped plain (acts_of (reading_of octets)) one (subst (λ (ones : List PieceAct). Contains ones one) (sym same ∙ datagram_plain octets (none octets sent)) among) in
+    ap (λ (p : PieceAct). p.piece) (sym is)
+
+pub intake_stays : IntakeStaysWithoutFragments
+intake_stays recording all =
+    let none : EachWithout recording = λ octets among. All-contains (λ datagram. (tally_of (reading_of datagram)).fragments ≡ 0) recording octets all among in
+    let plain_acts = acts_plain recording none in
+    let tallies : List Tally = map (λ datagram. tally_of (reading_of datagram)) recording in
+    let said : List (List ActValue) → Intake = λ acts. record { tallies = tallies; acts = acts; announcing = announcing_with (sending_of recording) } in
+    let noted : List (List ActValue) → Intake = λ acts. record { tallies = tallies; acts = acts_by_datagram recording; announcing = acts } in
+    ap said (acts_stay_without_pieces (sending_of recording) (no_pieces recording none) ∙ plain_acts) ∙ ap noted (announcing_stays (sending_of recording) (no_pieces recording none) ∙ plain_acts)
+
+-- ---- one datagram more
+
+read_next : {Y : Type 0} (f : List ℕ → Y) (xs : List (Bor (List ℕ))) (i : ℕ) (d : Bor (List ℕ)) → i < length xs
+    → map f (octets_of (take (i + 1) xs)) ≡ map f (octets_of (take i xs)) ++ f (get_or xs i d).now ∷ []
+read_next f xs i d lt =
+    ap (λ ys. map f (octets_of ys)) (take_more xs i d lt) ∙ ap (map f) (map-append (λ (datagram : Bor (List ℕ)). datagram.now) (take i xs) (get_or xs i d ∷ [])) ∙ map-append f (octets_of (take i xs)) ((get_or xs i d).now ∷ [])
+
+-- what is taken in of a datagram as it is
+pub plain_more : (xs : List (Bor (List ℕ))) (i : ℕ) (d : Bor (List ℕ)) (tally : Tally) (acts announcing : List ActValue) → i < length xs → tally ≡ tally_of (reading_of (get_or xs i d).now)
+    → acts ≡ acts_of (reading_of (get_or xs i d).now) → announcing ≡ acts_of (reading_of (get_or xs i d).now)
+    → intake_more (intake_of (octets_of (take i xs))) tally acts announcing ≡ intake_of (octets_of (take (i + 1) xs))
+plain_more xs i d tally acts announcing lt tallied said announced =
+    let so_far = intake_of (octets_of (take i xs)) in
+    let next = sym (read_next (λ datagram. acts_of (reading_of datagram)) xs i d lt) in
+    let one : List Tally → Intake = λ t. record { tallies = t; acts = so_far.acts ++ acts ∷ []; announcing = so_far.announcing ++ announcing ∷ [] } in
+    let two : List (List ActValue) → Intake = λ a. record { tallies = (intake_of (octets_of (take (i + 1) xs))).tallies; acts = a; announcing = so_far.announcing ++ announcing ∷ [] } in
+    let three : List (List ActValue) → Intake = λ a. record { tallies = (intake_of (octets_of (take (i + 1) xs))).tallies; acts = (intake_of (octets_of (take (i + 1) xs))).acts; announcing = a } in
+    ap one (ap (λ t. so_far.tallies ++ t ∷ []) tallied ∙ sym (read_next (λ datagram. tally_of (reading_of datagram)) xs i d lt))
+    ∙ ap two (ap (λ a. so_far.acts ++ a ∷ []) said ∙ next) ∙ ap three (ap (λ a. so_far.announcing ++ a ∷ []) announced ∙ next)
+
+-- so many are taken in
+pub plain_count : (xs : List (Bor (List ℕ))) (i : ℕ) → i ≤ length xs → length (intake_of (octets_of (take i xs))).acts ≡ i
+plain_count xs i le = omega (arith, length-map (octets_of (take i xs)) (λ datagram. acts_of (reading_of datagram)), length-map (take i xs) (λ (datagram : Bor (List ℕ)). datagram.now), length-take-le i xs le)
+
+-- one more is without fragments
+pub without_more : (xs : List (Bor (List ℕ))) (i : ℕ) (d : Bor (List ℕ)) (tally : Tally) → i < length xs → IsWithoutFragments (octets_of (take i xs)) → tally ≡ tally_of (reading_of (get_or xs i d).now) → tally.fragments ≡ 0
+    → IsWithoutFragments (octets_of (take (i + 1) xs))
+without_more xs i d tally lt none is zero =
+    subst IsWithoutFragments (sym (ap octets_of (take_more xs i d lt) ∙ map-append (λ (datagram : Bor (List ℕ)). datagram.now) (take i xs) (get_or xs i d ∷ [])))
+    (All-push (λ datagram. (tally_of (reading_of datagram)).fragments ≡ 0) (octets_of (take i xs)) (get_or xs i d).now none (sym (ap (λ (t : Tally). t.fragments) is) ∙ zero))

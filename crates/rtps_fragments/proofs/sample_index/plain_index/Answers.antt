@@ -1,0 +1,26 @@
+use Rattle.std.proofs.Common.{◌∙◌, ap, arith, subst, take}
+use Rattle.rtps_audit.specs.Index.{IsIndexBy}
+use Rattle.rtps_audit.specs.Intake.{intake_of}
+use Rattle.rtps_audit.specs.declared.report.Counts.{Counts}
+use Rattle.rtps_fragments.proofs.SampleSteps.{octets_of}
+use Rattle.rtps_fragments.proofs.WithoutFragments.{plain_count, plain_more, without_more}
+use Rattle.rtps_fragments.proofs.sample_index.plain_index.Goals as goal
+
+pub note-requires : goal.note-requires
+note-requires c =
+    let recording = c.args.recording.now in
+    let i = c.loop-datagram.datagram-index in
+    let counted = ap (λ (counts : Counts). counts.datagrams) (c.loop-datagram.invariant.index.counts 0) ∙ plain_count recording i (omega (arith, c.loop-datagram-test.true)) in
+    omega (arith, counted, c.loop-datagram-test.true)
+
+pub loop-datagram-preserved : goal.loop-datagram-preserved
+loop-datagram-preserved c =
+    let recording = c.args.recording.now in
+    let i = c.loop-datagram.datagram-index in
+    let lt = c.loop-datagram-test.true in
+    record {
+      index = subst (λ intake. IsIndexBy intake c.note.new.self)
+          (plain_more recording i _ _ _ _ lt c.in_ok-tally.ensures.tally (c.acts.ensures ∙ c.in_ok-tally.ensures.acts) (c.acts-in-loop-datagram.ensures ∙ c.in_ok-tally.ensures.acts))
+          (c.in_ok-note.ensures (intake_of (octets_of (take i recording))) c.loop-datagram.invariant.index);
+      without = without_more recording i _ c.in_ok-tally.tally lt c.loop-datagram.invariant.without c.in_ok-tally.ensures.tally (omega (arith, c.if-tally-gt0.false));
+    }
