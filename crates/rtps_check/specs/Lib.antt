@@ -4,6 +4,7 @@ pub mod Causes
 pub mod CheckJson
 pub mod CheckText
 pub mod GroupedNumber
+pub mod Laws
 pub mod Notes
 pub mod Parted
 pub mod Sections

@@ -7,6 +7,7 @@ mod causes;
 mod checked_json;
 mod checked_text;
 mod grouped_number;
+pub mod laws;
 mod notes;
 mod parted;
 mod sections;
