@@ -1,6 +1,6 @@
 -- Lemmas for the crates above: where nothing but a number is asked, texts and endings are those by this number; tokens and depth
 -- of what is made of members; lists to which parts are appended.
-use Rattle.std.proofs.Common.{◌≡◌, ◌∙◌, ℕ, List, ap, ap₂, filter, map, refl, subst, sym}
+use Rattle.std.proofs.Common.{◌∙◌, ℕ, List, ap, ap₂, map, refl, subst, sym}
 use Rattle.rtps_receiver.specs.Acts.{acts_in}
 use Rattle.rtps_audit.specs.declared.report.Counts.{Counts}
 use Rattle.rtps_audit.specs.declared.report.Row.{Row}
