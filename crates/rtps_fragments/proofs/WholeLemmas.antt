@@ -137,10 +137,26 @@ module _ (before : List SentValue) (sent : SentValue) (number : SampleNumber) wh
         | inr old ↦ old
       ]
 
+  -- of a number of which one could be before
+  pub whole_known : has_whole before (number_of sent.key) ≡ true → has_whole (before ++ sent ∷ []) number ≡ has_whole before number
+  whole_known known = alike _ _ to whole_stays
+    where
+      to : has_whole (before ++ sent ∷ []) number ≡ true → has_whole before number ≡ true
+      to e = elim (whole_from e) [ inl (same, put) ↦ ap (has_whole before) (same_number number (number_of sent.key) same) ∙ known | inr old ↦ old ]
+
+  pub not_before : has_whole (before ++ sent ∷ []) number ≡ false → has_whole before number ≡ false
+  not_before none = by (has_whole before number) refl
+    where
+      by : (b : Bool) → has_whole before number ≡ b → has_whole before number ≡ false
+      by false e = e
+      by true e = let clash : true ≡ false = sym (whole_stays e) ∙ none in cc
+
 -- what is kept of one sample more
-module _ (before : List SentValue) (sent : SentValue) (old new : BTreeMap SampleKey Came) (heard : (key : SampleKey) → HasCame (last_fragment (shape_of key)) (overheard key before) (get sample_cmp old key))
+module _ (before : List SentValue) (sent : SentValue) (old new : BTreeMap SampleKey Came) (heard : (key : SampleKey) → has_whole before (number_of key) ≡ false → HasCame (last_fragment (shape_of key)) (overheard key before) (get sample_cmp old key))
     (here : (came : List (ℕ × List ℕ)) → HasCame (last_fragment (shape_of sent.key)) came (get sample_cmp old sent.key) → HasCame (last_fragment (shape_of sent.key)) (came ++ sent.came) (get sample_cmp new sent.key))
-    (others : (other : SampleKey) → is_eq (sample_cmp sent.key other) ≡ false → get sample_cmp new other ≡ get sample_cmp old other) where
+    (others : (other : SampleKey) → is_eq (sample_cmp sent.key other) ≡ false → get sample_cmp new other ≡ get sample_cmp old other) (whole : Bool)
+    (is : (came : List (ℕ × List ℕ)) → HasCame (last_fragment (shape_of sent.key)) came (get sample_cmp old sent.key) → whole ≡ has_sample (last_fragment (shape_of sent.key)) (came ++ sent.came))
+    (numbers : BTreeSet SampleNumber) (were : (number : SampleNumber) → contains number_cmp numbers number ≡ has_whole before number) where
   overheard_here : overheard sent.key (before ++ sent ∷ []) ≡ overheard sent.key before ++ sent.came
   overheard_here = overheard-more sent.key before sent ∙ ap (λ b. overheard sent.key before ++ cond b sent.came []) (own_sample sent.key)
 
@@ -151,36 +167,61 @@ module _ (before : List SentValue) (sent : SentValue) (old new : BTreeMap Sample
       by false e = e
       by true e = let clash : true ≡ false = sym (own_sample sent.key) ∙ ap (is_sample sent.key) (sym (sample_is key sent.key e)) ∙ apart in cc
 
-  came_more : (key : SampleKey) → HasCame (last_fragment (shape_of key)) (overheard key (before ++ sent ∷ [])) (get sample_cmp new key)
-  came_more key = elim (cases_Bool (is_sample sent.key key)) [
-    | inl is ↦
-        subst (λ k. HasCame (last_fragment (shape_of k)) (overheard k (before ++ sent ∷ [])) (get sample_cmp new k)) (sample_is sent.key key is)
-        (subst (λ cs. HasCame (last_fragment (shape_of sent.key)) cs (get sample_cmp new sent.key)) (sym overheard_here) (here (overheard sent.key before) (heard sent.key)))
-    | inr apart ↦
-        subst (λ cs. HasCame (last_fragment (shape_of key)) cs (get sample_cmp new key)) (sym (other_sample key before sent (apart_too key apart)))
-        (subst (HasCame (last_fragment (shape_of key)) (overheard key before)) (sym (others key apart)) (heard key))
-  ]
+  -- of another sample nothing came
+  elsewhere : (key : SampleKey) → has_whole before (number_of key) ≡ false → is_sample sent.key key ≡ false → HasCame (last_fragment (shape_of key)) (overheard key (before ++ sent ∷ [])) (get sample_cmp new key)
+  elsewhere key none apart =
+      subst (λ cs. HasCame (last_fragment (shape_of key)) cs (get sample_cmp new key)) (sym (other_sample key before sent (apart_too key apart)))
+      (subst (HasCame (last_fragment (shape_of key)) (overheard key before)) (sym (others key apart)) (heard key none))
 
-  -- what is tracked, where the sample can be put together now, and where it cannot
-  put_is : (whole : Bool) → ((came : List (ℕ × List ℕ)) → HasCame (last_fragment (shape_of sent.key)) came (get sample_cmp old sent.key) → whole ≡ has_sample (last_fragment (shape_of sent.key)) (came ++ sent.came))
-      → is_put (before ++ sent ∷ []) sent.key ≡ whole
-  put_is whole is = ap (has_sample (last_fragment (shape_of sent.key))) overheard_here ∙ sym (is (overheard sent.key before) (heard sent.key))
+  -- whether the sample can be put together now
+  put_is : has_whole before (number_of sent.key) ≡ false → is_put (before ++ sent ∷ []) sent.key ≡ whole
+  put_is none = ap (has_sample (last_fragment (shape_of sent.key))) overheard_here ∙ sym (is (overheard sent.key before) (heard sent.key none))
 
-  pub tracked_whole : (numbers after : BTreeSet SampleNumber) (whole : Bool) → ((number : SampleNumber) → contains number_cmp numbers number ≡ has_whole before number)
-      → ((came : List (ℕ × List ℕ)) → HasCame (last_fragment (shape_of sent.key)) came (get sample_cmp old sent.key) → whole ≡ has_sample (last_fragment (shape_of sent.key)) (came ++ sent.came))
-      → whole ≡ true → ((number : SampleNumber) → contains number_cmp after number ≡ cond (is_number (number_of sent.key) number) true (contains number_cmp numbers number))
-      → AreTracked (before ++ sent ∷ []) new after
-  tracked_whole numbers after whole were is holds added = record {
-    came = came_more;
-    whole = λ number. added number ∙ ap (cond (is_number (number_of sent.key) number) true) (were number) ∙ sym (whole_here before sent number (put_is whole is ∙ holds));
+  -- it cannot
+  pub tracked_not : whole ≡ false → AreTracked (before ++ sent ∷ []) new numbers
+  tracked_not fails = record {
+    came = λ key none.
+        let was = not_before before sent (number_of key) none in
+        elim (cases_Bool (is_sample sent.key key)) [
+          | inl same ↦
+              let key_is = sample_is sent.key key same in
+              subst (λ k. HasCame (last_fragment (shape_of k)) (overheard k (before ++ sent ∷ [])) (get sample_cmp new k)) key_is
+              (subst (λ cs. HasCame (last_fragment (shape_of sent.key)) cs (get sample_cmp new sent.key)) (sym overheard_here)
+              (here (overheard sent.key before) (heard sent.key (subst (λ k. has_whole before (number_of k) ≡ false) (sym key_is) was))))
+          | inr apart ↦ elsewhere key was apart
+        ];
+    whole = λ number. were number ∙ sym (elim (cases_Bool (has_whole before (number_of sent.key))) [
+      | inl known ↦ whole_known before sent number known
+      | inr none ↦ whole_not_here before sent number (put_is none ∙ fails)
+    ]);
   }
 
-  pub tracked_not : (numbers : BTreeSet SampleNumber) (whole : Bool) → ((number : SampleNumber) → contains number_cmp numbers number ≡ has_whole before number)
-      → ((came : List (ℕ × List ℕ)) → HasCame (last_fragment (shape_of sent.key)) came (get sample_cmp old sent.key) → whole ≡ has_sample (last_fragment (shape_of sent.key)) (came ++ sent.came))
-      → whole ≡ false → AreTracked (before ++ sent ∷ []) new numbers
-  tracked_not numbers whole were is fails = record {
-    came = came_more;
-    whole = λ number. were number ∙ sym (whole_not_here before sent number (put_is whole is ∙ fails));
+  -- it can
+  now_whole : whole ≡ true → has_whole (before ++ sent ∷ []) (number_of sent.key) ≡ true
+  now_whole holds = elim (cases_Bool (has_whole before (number_of sent.key))) [
+    | inl known ↦ whole_stays before sent (number_of sent.key) known
+    | inr none ↦ whole_here before sent (number_of sent.key) (put_is none ∙ holds) ∙ ap (λ b. cond b true (has_whole before (number_of sent.key))) (own_number (number_of sent.key))
+  ]
+
+  known_alike : (number : SampleNumber) → has_whole before (number_of sent.key) ≡ true → cond (is_number (number_of sent.key) number) true (has_whole before number) ≡ has_whole (before ++ sent ∷ []) number
+  known_alike number known = by (is_number (number_of sent.key) number) refl
+    where
+      by : (b : Bool) → is_number (number_of sent.key) number ≡ b → cond b true (has_whole before number) ≡ has_whole (before ++ sent ∷ []) number
+      by true e = sym (whole_stays before sent number (ap (has_whole before) (sym (same_number (number_of sent.key) number e)) ∙ known))
+      by false e = sym (whole_known before sent number known)
+
+  pub tracked_whole : (left : BTreeMap SampleKey Came) (after : BTreeSet SampleNumber) → ((other : SampleKey) → is_eq (sample_cmp sent.key other) ≡ false → get sample_cmp left other ≡ get sample_cmp new other)
+      → whole ≡ true → ((number : SampleNumber) → contains number_cmp after number ≡ cond (is_number (number_of sent.key) number) true (contains number_cmp numbers number))
+      → AreTracked (before ++ sent ∷ []) left after
+  tracked_whole left after stay holds added = record {
+    came = λ key none. elim (cases_Bool (is_sample sent.key key)) [
+      | inl same ↦ absurd (let clash : true ≡ false = sym (now_whole holds) ∙ ap (λ k. has_whole (before ++ sent ∷ []) (number_of k)) (sample_is sent.key key same) ∙ none in cc)
+      | inr apart ↦ subst (HasCame (last_fragment (shape_of key)) (overheard key (before ++ sent ∷ []))) (sym (stay key apart)) (elsewhere key (not_before before sent (number_of key) none) apart)
+    ];
+    whole = λ number. added number ∙ ap (cond (is_number (number_of sent.key) number) true) (were number) ∙ elim (cases_Bool (has_whole before (number_of sent.key))) [
+      | inl known ↦ known_alike number known
+      | inr none ↦ sym (whole_here before sent number (put_is none ∙ holds))
+    ];
   }
 
 -- ---- pieces of no sample

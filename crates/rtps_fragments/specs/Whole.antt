@@ -1,6 +1,6 @@
 -- The numbers of which a sample is ever whole. DDSI-RTPS 2.5, 8.3.8.3 "DataFrag". own: fragments of other numbers are counted, since what
 -- they would tell is not known; whoever hears which of them, and of whatever shape the sample is.
-use Rattle.std.specs.Prelude.{ℕ, Bool, ◌≡◌, ◌+◌, ◌&&◌, List, count_by, not}
+use Rattle.std.specs.Prelude.{ℕ, Bool, false, ◌≡◌, ◌+◌, ◌&&◌, List, count_by, not}
 use Rattle.std.specs.BTreeMap.{BTreeMap, get}
 use Rattle.std.specs.BTreeSet.{BTreeSet, contains}
 use Rattle.std.specs.List.{list_any}
@@ -53,9 +53,9 @@ tally_with_fragments plain count = record { refused = plain.refused; skipped = p
 abbrev pub tally_left : List SentValue → List ℕ → Tally
 tally_left all octets = tally_with_fragments (tally_of (reading_of octets)) (unread_in octets + left_among all (sents_from 0 (piece_acts_of octets)))
 
--- What came of each sample by these is kept, and the numbers of which some sample can be put together.
+-- The numbers of which some sample can be put together of these are kept, and what came of each sample of another number.
 pub record AreTracked (before : List SentValue) (kept : BTreeMap SampleKey Came) (numbers : BTreeSet SampleNumber) : Type 0 where
-  pub came : (key : SampleKey) → HasCame (last_fragment (shape_of key)) (overheard key before) (get sample_cmp kept key)
+  pub came : (key : SampleKey) → has_whole before (number_of key) ≡ false → HasCame (last_fragment (shape_of key)) (overheard key before) (get sample_cmp kept key)
   pub whole : (number : SampleNumber) → contains number_cmp numbers number ≡ has_whole before number
 
 -- these are the numbers of which some sample can be put together of all that is sent

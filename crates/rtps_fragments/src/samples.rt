@@ -88,14 +88,14 @@ impl Samples {
     pub fn of(alloc: Global, recording: &[&[u8]]) -> Result<Samples, Memory>
         ensures { IfOk result (AreSamplesOf (map (λ datagram. datagram.now) recording.now)) }
     {
+        let whole = WholeNumbers::of(alloc, recording)?;
+        let overheard = OverheardSamples::of(alloc, recording)?;
         let addresses = addresses_of(alloc, recording)?;
         let mut telling = Telling::new(alloc, addresses);
         let mut told = Vec::new(alloc);
         for datagram in recording {
             told.push(tell_datagram(&mut telling, alloc, datagram)?)?;
         }
-        let overheard = OverheardSamples::of(alloc, recording)?;
-        let whole = WholeNumbers::of(alloc, recording)?;
         Ok(Samples {
             told,
             overheard,

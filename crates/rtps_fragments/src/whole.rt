@@ -24,7 +24,7 @@ pub(crate) struct SampleNumber {
     pub(crate) number: SeqNum,
 }
 
-/// What came of each sample, whoever hears it, and the numbers of which some sample can be put together.
+/// The numbers of which some sample can be put together, and what came of each sample of another number, whoever hears it.
 #[derive(Drop)]
 pub(crate) struct Tracking<'a> {
     pub(crate) came: BTreeMap<SampleKey, Came<'a>>,
@@ -90,6 +90,7 @@ impl<'a> Tracking<'a> {
             → AreTracked (before ++ sent_value sent.now ∷ []) self.new.came self.new.numbers) }
     {
         if take_sent(&mut self.came, self.alloc, sent)? {
+            let _ = self.came.remove(&sent.key);
             self.numbers.insert(number_of(&sent.key))?;
         }
         Ok(())

@@ -13,11 +13,11 @@ returns-in_ok-insert c = λ before tracked.
     let taken = c.in_ok-take_sent.ensures in
     let added : (number : SampleNumber) → contains number_cmp c.insert.new.self number ≡ cond (is_number (number_of sent.key) number) true (contains number_cmp old.numbers number) =
     λ number. c.in_ok-insert.ensures.updates.0 number ∙ ap (λ n. cond (is_number n number) true (contains number_cmp old.numbers number)) c.number_of.ensures in
-    tracked_whole before sent old.came c.take_sent.new.kept tracked.came taken.here taken.others old.numbers c.insert.new.self c.in_ok-take_sent.field-0 tracked.whole taken.whole c.if-branch.true added
+    tracked_whole before sent old.came c.take_sent.new.kept tracked.came taken.here taken.others c.in_ok-take_sent.field-0 taken.whole old.numbers tracked.whole c.remove.new.self c.insert.new.self (λ other apart. c.remove.ensures.updates.2 other apart) c.if-branch.true added
 
 pub returns-else-branch : goal.returns-else-branch
 returns-else-branch c = λ before tracked.
     let sent = sent_value c.args.sent.now in
     let old = c.args.self.now in
     let taken = c.in_ok-take_sent.ensures in
-    tracked_not before sent old.came c.take_sent.new.kept tracked.came taken.here taken.others old.numbers c.in_ok-take_sent.field-0 tracked.whole taken.whole c.if-branch.false
+    tracked_not before sent old.came c.take_sent.new.kept tracked.came taken.here taken.others c.in_ok-take_sent.field-0 taken.whole old.numbers tracked.whole c.if-branch.false
