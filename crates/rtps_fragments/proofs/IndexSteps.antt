@@ -17,16 +17,21 @@ use Rattle.rtps_receiver.specs.declared.state.State.{State}
 use Rattle.rtps_audit.specs.Speech.{announced_of_body}
 use Rattle.rtps_audit.specs.Intake.{Intake, intake_more}
 use Rattle.rtps_audit.proofs.Offered.{contains_cases, contains_mapped, contains_none, get_mapped, if_some}
+use Rattle.rtps_fragments.specs.Announcing.{acts_and_notes, announcing_with}
 use Rattle.rtps_fragments.specs.FragmentDelivery.{Piece}
 use Rattle.rtps_fragments.specs.Laws.{ArePieceActs, IsPieceAct}
 use Rattle.rtps_fragments.proofs.CameLemmas.{length-parts_in}
 use Rattle.rtps_fragments.specs.Merging.{IsFragmentAct, merged_from, sents_from, sents_in}
+use Rattle.rtps_fragments.specs.Overheard.{overheard_by_datagram, overheard_in_turn}
 use Rattle.rtps_fragments.specs.RecordedSamples.{told_by_datagram}
 use Rattle.rtps_fragments.specs.SampleActs.{PieceAct, acts_and_samples, datagrams_and_samples, piece_acts_in}
 use Rattle.rtps_fragments.specs.Sending.{fragment_acts, fragments_at, piece_acts_of, piece_acts_of_item, piece_acts_with, piece_of, sending_of}
 use Rattle.rtps_fragments.specs.Telling.{SentValue, ToldValue, told_in_turn}
+use Rattle.rtps_fragments.specs.declared.merging.SampleForm.TheVariants.{ForAudience, ForEveryone}
 use Rattle.rtps_fragments.proofs.Audiences.{flat_from}
 use Rattle.rtps_fragments.proofs.MergingLemmas.{AreFragmentActs, matches_all, merged_is}
+use Rattle.rtps_fragments.proofs.NoteLemmas.{merged_notes_are, notes_next, overhears_all}
+use Rattle.rtps_fragments.proofs.OverheardLemmas.{overheard_there}
 use Rattle.rtps_fragments.proofs.SampleSteps.{octets_of, sending_next}
 
 -- ---- the pieces of a recording are of DATA_FRAG
@@ -146,7 +151,7 @@ taken xs i =
     record {
       tallies = map (λ datagram. tally_of (reading_of datagram)) (octets_of (take i xs));
       acts = datagrams_and_samples (piece_acts_in (sending_of (octets_of xs))) [] (sending_of (octets_of (take i xs)));
-      announcing = map (map (λ one. one.act)) (sending_of (octets_of (take i xs)));
+      announcing = announcing_with (sending_of (octets_of (take i xs)));
     }
 
 module _ (xs : List (Bor (List ℕ))) (i : ℕ) (d : Bor (List ℕ)) (lt : i < length xs) where
@@ -164,13 +169,25 @@ module _ (xs : List (Bor (List ℕ))) (i : ℕ) (d : Bor (List ℕ)) (lt : i < l
 
   -- the acts of a datagram with what they tell among them
   pub merged_here : (told : List ToldValue) → slice_get (told_by_datagram (sents_in (sending_of (octets_of xs))) [] (sending_of (octets_of xs))) i ≡ Some told
-      → merged_from 0 (map (λ one. one.act) (piece_acts_of (get_or xs i d).now)) told
+      → merged_from ForAudience 0 (map (λ one. one.act) (piece_acts_of (get_or xs i d).now)) told
       ≡ acts_and_samples (piece_acts_in (sending_of (octets_of xs))) (piece_acts_in (sending_of (octets_of (take i xs)))) (piece_acts_of (get_or xs i d).now)
   merged_here told at =
       let same : told ≡ told_in_turn (sents_in sending) (sents_in (take i sending)) (sents_from 0 (piece_acts_of octets)) = one_item _ _ (sym at ∙ told_there (sents_in sending) [] sending i (piece_acts_of octets) there) in
-      ap (merged_from 0 (map (λ (one : PieceAct). one.act) (piece_acts_of octets))) (same ∙ ap (λ (r : List (List PieceAct)). told_in_turn (sents_in sending) (sents_in r) (sents_from 0 (piece_acts_of octets))) so_far)
+      ap (merged_from ForAudience 0 (map (λ (one : PieceAct). one.act) (piece_acts_of octets))) (same ∙ ap (λ (r : List (List PieceAct)). told_in_turn (sents_in sending) (sents_in r) (sents_from 0 (piece_acts_of octets))) so_far)
       ∙ merged_is (piece_acts_in sending) (sents_in sending) (matches_all sending (fragments_of_recording (octets_of xs)))
       (piece_acts_in (sending_of (octets_of (take i xs)))) (sents_in (sending_of (octets_of (take i xs)))) (matches_all (sending_of (octets_of (take i xs))) (fragments_of_recording (octets_of (take i xs))))
+      0 (piece_acts_of octets) (fragments_of_datagram octets)
+    where
+      one_item : {X : Type 0} (x y : X) → Some x ≡ Some y → x ≡ y
+      one_item x y e = cc
+
+  -- and with what they tell a reader that hears everything
+  pub noted_here : (noted : List ToldValue) → slice_get (overheard_by_datagram [] (sending_of (octets_of xs))) i ≡ Some noted
+      → merged_from ForEveryone 0 (map (λ one. one.act) (piece_acts_of (get_or xs i d).now)) noted ≡ acts_and_notes (piece_acts_in (sending_of (octets_of (take i xs)))) (piece_acts_of (get_or xs i d).now)
+  noted_here noted at =
+      let same : noted ≡ overheard_in_turn (sents_in (take i sending)) (sents_from 0 (piece_acts_of octets)) = one_item _ _ (sym at ∙ overheard_there [] sending i (piece_acts_of octets) there) in
+      ap (merged_from ForEveryone 0 (map (λ (one : PieceAct). one.act) (piece_acts_of octets))) (same ∙ ap (λ (r : List (List PieceAct)). overheard_in_turn (sents_in r) (sents_from 0 (piece_acts_of octets))) so_far)
+      ∙ merged_notes_are (piece_acts_in (sending_of (octets_of (take i xs)))) (sents_in (sending_of (octets_of (take i xs)))) (overhears_all (sending_of (octets_of (take i xs))) (fragments_of_recording (octets_of (take i xs))))
       0 (piece_acts_of octets) (fragments_of_datagram octets)
     where
       one_item : {X : Type 0} (x y : X) → Some x ≡ Some y → x ≡ y
@@ -181,12 +198,14 @@ module _ (xs : List (Bor (List ℕ))) (i : ℕ) (d : Bor (List ℕ)) (lt : i < l
       ap (λ ys. map f (octets_of ys)) (take_more xs i d lt) ∙ ap (map f) (map-append (λ (datagram : Bor (List ℕ)). datagram.now) (take i xs) (get_or xs i d ∷ [])) ∙ map-append f (octets_of (take i xs)) (octets ∷ [])
 
   -- what is taken in, with one datagram more
-  pub taken_more : (told : List ToldValue) → slice_get (told_by_datagram (sents_in (sending_of (octets_of xs))) [] (sending_of (octets_of xs))) i ≡ Some told
-      → intake_more (taken xs i) (tally_of (reading_of (get_or xs i d).now)) (merged_from 0 (map (λ one. one.act) (piece_acts_of (get_or xs i d).now)) told) (map (λ one. one.act) (piece_acts_of (get_or xs i d).now)) ≡ taken xs (i + 1)
-  taken_more told at =
-      let one : List Tally → Intake = λ t. record { tallies = t; acts = (taken xs i).acts ++ merged_from 0 (map (λ (one : PieceAct). one.act) (piece_acts_of octets)) told ∷ []; announcing = (taken xs i).announcing ++ map (λ (one : PieceAct). one.act) (piece_acts_of octets) ∷ [] } in
-      let two : List (List ActValue) → Intake = λ a. record { tallies = (taken xs (i + 1)).tallies; acts = a; announcing = (taken xs i).announcing ++ map (λ (one : PieceAct). one.act) (piece_acts_of octets) ∷ [] } in
+  pub taken_more : (told noted : List ToldValue) → slice_get (told_by_datagram (sents_in (sending_of (octets_of xs))) [] (sending_of (octets_of xs))) i ≡ Some told
+      → slice_get (overheard_by_datagram [] (sending_of (octets_of xs))) i ≡ Some noted
+      → intake_more (taken xs i) (tally_of (reading_of (get_or xs i d).now)) (merged_from ForAudience 0 (map (λ one. one.act) (piece_acts_of (get_or xs i d).now)) told) (merged_from ForEveryone 0 (map (λ one. one.act) (piece_acts_of (get_or xs i d).now)) noted) ≡ taken xs (i + 1)
+  taken_more told noted at also =
+      let announced = merged_from ForEveryone 0 (map (λ (one : PieceAct). one.act) (piece_acts_of octets)) noted in
+      let one : List Tally → Intake = λ t. record { tallies = t; acts = (taken xs i).acts ++ merged_from ForAudience 0 (map (λ (one : PieceAct). one.act) (piece_acts_of octets)) told ∷ []; announcing = (taken xs i).announcing ++ announced ∷ [] } in
+      let two : List (List ActValue) → Intake = λ a. record { tallies = (taken xs (i + 1)).tallies; acts = a; announcing = (taken xs i).announcing ++ announced ∷ [] } in
       let three : List (List ActValue) → Intake = λ a. record { tallies = (taken xs (i + 1)).tallies; acts = (taken xs (i + 1)).acts; announcing = a } in
       ap one (sym (read_next (λ datagram. tally_of (reading_of datagram))))
       ∙ ap two (ap (λ a. (taken xs i).acts ++ a ∷ []) (merged_here told at) ∙ sym (ap (datagrams_and_samples (piece_acts_in sending) []) (sending_next xs i d lt) ∙ samples_next (piece_acts_in sending) [] (sending_of (octets_of (take i xs))) (piece_acts_of octets)))
-      ∙ ap three (sym (ap (map (map (λ (one : PieceAct). one.act))) (sending_next xs i d lt) ∙ map-append (map (λ (one : PieceAct). one.act)) (sending_of (octets_of (take i xs))) (piece_acts_of octets ∷ [])))
+      ∙ ap three (ap (λ a. (taken xs i).announcing ++ a ∷ []) (noted_here noted also) ∙ sym (ap announcing_with (sending_next xs i d lt) ∙ notes_next [] (sending_of (octets_of (take i xs))) (piece_acts_of octets)))

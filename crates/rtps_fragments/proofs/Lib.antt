@@ -23,6 +23,8 @@ pub mod OverheardLemmas
 pub mod ToldSoFar
 pub mod AddressedLemmas
 pub mod MergingLemmas
+pub mod NoteLemmas
+pub mod Announced
 pub mod MergedSteps
 pub mod SendingLemmas
 pub mod SampleSteps

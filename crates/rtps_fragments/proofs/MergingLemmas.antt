@@ -16,10 +16,12 @@ use Rattle.rtps_receiver.specs.declared.speech.Audience.{Audience}
 use Rattle.rtps_audit.specs.Speech.{announced_of_body}
 use Rattle.rtps_fragments.specs.Came.{came_from}
 use Rattle.rtps_fragments.specs.FragmentDelivery.{Fragment, Piece, Shape, fragments_from, fragments_of, last_fragment, payload_by}
-use Rattle.rtps_fragments.specs.Merging.{IsFragmentAct, acts_told, key_of, merged_from, run_of, run_past, sent_in, sent_to_whom, sents_from, sents_in}
+use Rattle.rtps_fragments.specs.Merging.{IsFragmentAct, act_as, acts_told, key_of, merged_from, run_of, run_past, sent_in, sent_to_whom, sents_from, sents_in}
 use Rattle.rtps_fragments.specs.Samples.{came_of, is_of, payloads_of, samples_of, told_by}
 use Rattle.rtps_fragments.specs.SampleActs.{PieceAct, acts_and_samples, acts_of_sample, fragments_in, is_piece_of, is_same_dest, once, piece_acts_in, reaches, sample_act, samples_told, sent_to, told_to}
 use Rattle.rtps_fragments.specs.Telling.{SentValue, ToldValue, came_to, dests_of, is_for_audience, is_sample, readers_of, samples_more, sent_of, shape_of, told_as, told_behind, told_by_sent, told_in_turn, told_to_audience, told_to_dest}
+use Rattle.rtps_fragments.specs.declared.merging.SampleForm.{SampleForm}
+use Rattle.rtps_fragments.specs.declared.merging.SampleForm.TheVariants.{ForAudience}
 use Rattle.rtps_fragments.specs.declared.piece.SampleKey.{SampleKey}
 use Rattle.rtps_audit.proofs.Offered.{contains_cases, contains_head, contains_mapped, contains_none, contains_tail}
 use Rattle.rtps_fragments.proofs.Audiences.{flat_from, own_entity, own_prefix}
@@ -160,6 +162,17 @@ matches_without one e = record {
 abbrev pub sent_by_act : ℕ → ActValue → Piece → SentValue
 sent_by_act i act piece = record { act = i; key = key_of act piece; audience = sent_to_whom act; came = came_from piece.first piece.parts }
 
+-- what comes of a sample by a piece of it, and by a piece of another one
+pub own_piece : (piece : Piece) (key : SampleKey) → is_of key.number (shape_of key) piece.number piece.shape ≡ true → came_from piece.first piece.parts ++ [] ≡ filter_map (came_of key.number (shape_of key)) (fragments_of piece ++ [])
+own_piece piece key its =
+    let (number, shape) = same_sample key.number (shape_of key) piece.number piece.shape its in
+    append-nil (came_from piece.first piece.parts) ∙ sym (own_came piece.number piece.shape piece.first piece.parts)
+    ∙ ap (λ n. filter_map (came_of n piece.shape) (fragments_of piece)) number ∙ ap (λ s. filter_map (came_of key.number s) (fragments_of piece)) shape
+    ∙ ap (filter_map (came_of key.number (shape_of key))) (sym (append-nil (fragments_of piece)))
+
+pub other_piece : (piece : Piece) (key : SampleKey) → is_of key.number (shape_of key) piece.number piece.shape ≡ false → [] ≡ filter_map (came_of key.number (shape_of key)) (fragments_of piece ++ [])
+other_piece piece key apart = sym (ap (filter_map (came_of key.number (shape_of key))) (append-nil (fragments_of piece)) ∙ none_came key.number (shape_of key) piece.number piece.shape piece.first piece.parts apart)
+
 matches_piece : (i : ℕ) (one : PieceAct) (piece : Piece) → one.piece ≡ Some piece → IsFragmentAct one piece → Matches (one ∷ []) (sent_by_act i one.act piece ∷ [])
 matches_piece i one piece e frag = record {
   dests = λ key. to_one key (is_sample key (key_of one.act piece)) ∙ ap (λ b. map (λ (p : PieceAct). p.act.dest) (cond b (one ∷ []) [])) (sym (part key));
@@ -183,16 +196,6 @@ matches_piece i one piece e frag = record {
     both_tests : (key : SampleKey) (audience : Audience) → (is_sample key (key_of one.act piece) && is_for_audience (sent_to_whom one.act) audience) ≡ ((is_spoken_by one.act key.writer && is_of key.number (shape_of key) piece.number piece.shape) && reaches one.act audience)
     both_tests key audience = ap (λ b. b && is_for_audience (sent_to_whom one.act) audience) (same_test one piece frag key) ∙ ap (λ b. (is_spoken_by one.act key.writer && is_of key.number (shape_of key) piece.number piece.shape) && b) (same_reach one piece frag audience)
 
-    whole : (key : SampleKey) → is_of key.number (shape_of key) piece.number piece.shape ≡ true → came_from piece.first piece.parts ++ [] ≡ filter_map (came_of key.number (shape_of key)) (fragments_of piece ++ [])
-    whole key its =
-        let (number, shape) = same_sample key.number (shape_of key) piece.number piece.shape its in
-        append-nil (came_from piece.first piece.parts) ∙ sym (own_came piece.number piece.shape piece.first piece.parts)
-        ∙ ap (λ n. filter_map (came_of n piece.shape) (fragments_of piece)) number ∙ ap (λ s. filter_map (came_of key.number s) (fragments_of piece)) shape
-        ∙ ap (filter_map (came_of key.number (shape_of key))) (sym (append-nil (fragments_of piece)))
-
-    none : (key : SampleKey) → is_of key.number (shape_of key) piece.number piece.shape ≡ false → [] ≡ filter_map (came_of key.number (shape_of key)) (fragments_of piece ++ [])
-    none key apart = sym (ap (filter_map (came_of key.number (shape_of key))) (append-nil (fragments_of piece)) ∙ none_came key.number (shape_of key) piece.number piece.shape piece.first piece.parts apart)
-
     fragments_are : fragments_in one.piece ++ [] ≡ fragments_of piece ++ []
     fragments_are = ap (λ o. fragments_in o ++ []) e
 
@@ -200,8 +203,8 @@ matches_piece i one piece e frag = record {
         → flat_map (λ (s : SentValue). s.came) (cond ((spoken && its) && reached) (sent_by_act i one.act piece ∷ []) [])
         ≡ filter_map (came_of key.number (shape_of key)) (flat_map (λ (p : PieceAct). fragments_in p.piece) (cond (spoken && reached) (one ∷ []) []))
     came_one key false its reached is = refl
-    came_one key true true true is = whole key is ∙ ap (filter_map (came_of key.number (shape_of key))) (sym fragments_are)
-    came_one key true false true is = none key is ∙ ap (filter_map (came_of key.number (shape_of key))) (sym fragments_are)
+    came_one key true true true is = own_piece piece key is ∙ ap (filter_map (came_of key.number (shape_of key))) (sym fragments_are)
+    came_one key true false true is = other_piece piece key is ∙ ap (filter_map (came_of key.number (shape_of key))) (sym fragments_are)
     came_one key true true false is = refl
     came_one key true false false is = refl
 
@@ -240,7 +243,7 @@ map_flat : {X Y Z : Type 0} (h : Y → Z) (f : X → List Y) (xs : List X) → m
 map_flat h f [] = refl
 map_flat h f (x ∷ xs) = map-append h (f x) (flat_map f xs) ∙ ap (λ zs. map h (f x) ++ zs) (map_flat h f xs)
 
-map_map : {X Y Z : Type 0} (h : Y → Z) (f : X → Y) (xs : List X) → map h (map f xs) ≡ map (λ x. h (f x)) xs
+pub map_map : {X Y Z : Type 0} (h : Y → Z) (f : X → Y) (xs : List X) → map h (map f xs) ≡ map (λ x. h (f x)) xs
 map_map h f [] = refl
 map_map h f (x ∷ xs) = ap (λ zs. h (f x) ∷ zs) (map_map h f xs)
 
@@ -249,7 +252,7 @@ flat_alike f g [] same = refl
 flat_alike f g (x ∷ xs) same = ap (λ ys. ys ++ flat_map f xs) (same x) ∙ ap (λ ys. g x ++ ys) (flat_alike f g xs same)
 
 -- the payloads that are told are those of the samples that are told
-payloads_more : (n : ℕ) (shape : Shape) (before : List Fragment) (came : List (ℕ × List ℕ)) (piece : Piece) → piece.number ≡ n → piece.shape ≡ shape → came ≡ filter_map (came_of n shape) before
+pub payloads_more : (n : ℕ) (shape : Shape) (before : List Fragment) (came : List (ℕ × List ℕ)) (piece : Piece) → piece.number ≡ n → piece.shape ≡ shape → came ≡ filter_map (came_of n shape) before
     → map (payload_by shape) (samples_more (last_fragment shape) came (came_from piece.first piece.parts)) ≡ told_by before piece
 payloads_more n shape before came piece number same is =
     let last = last_fragment shape in
@@ -266,28 +269,28 @@ payloads_more n shape before came piece number same is =
     ∙ ap (λ s. drop (length (payloads_of piece.number s before)) (payloads_of piece.number s (before ++ fragments_of piece))) (sym same)
 
 -- a sample that an act tells, as an act
-abbrev pub act_told : ActValue → ToldValue → ActValue
-act_told act told = sample_act act (unwrap_or (announced_of_body act.body) 0) told.audience told.payload
+abbrev pub act_told : SampleForm → ActValue → ToldValue → ActValue
+act_told form act told = act_as form act (unwrap_or (announced_of_body act.body) 0) told
 
 -- of a DATA_FRAG they are those that it tells
-acts_are : (act : ActValue) (value : FragmentValue) (told : List ToldValue) → act.body ≡ DataFrag value → acts_told act act.body told ≡ map (act_told act) told
-acts_are act value told e =
-    ap (λ b. acts_told act b told) e ∙ ap (λ n. map (λ (one : ToldValue). sample_act act n one.audience one.payload) told) (sym (ap (λ b. unwrap_or (announced_of_body b) 0) e))
+pub acts_are : (form : SampleForm) (act : ActValue) (value : FragmentValue) (told : List ToldValue) → act.body ≡ DataFrag value → acts_told form act act.body told ≡ map (act_told form act) told
+acts_are form act value told e =
+    ap (λ b. acts_told form act b told) e ∙ ap (λ n. map (act_as form act n) told) (sym (ap (λ b. unwrap_or (announced_of_body b) 0) e))
 
-no_acts : (act : ActValue) (body : ActBodyValue) → acts_told act body [] ≡ []
-no_acts act (DataFrag value) = refl
-no_acts act (Data value) = refl
-no_acts act (Heartbeat value) = refl
-no_acts act (AckNack value) = refl
-no_acts act (Gap value) = refl
+pub no_acts : (form : SampleForm) (act : ActValue) (body : ActBodyValue) → acts_told form act body [] ≡ []
+no_acts form act (DataFrag value) = refl
+no_acts form act (Data value) = refl
+no_acts form act (Heartbeat value) = refl
+no_acts form act (AckNack value) = refl
+no_acts form act (Gap value) = refl
 
-number_is : (one : PieceAct) (piece : Piece) → IsFragmentAct one piece → unwrap_or (announced_of_body one.act.body) 0 ≡ piece.number
+pub number_is : (one : PieceAct) (piece : Piece) → IsFragmentAct one piece → unwrap_or (announced_of_body one.act.body) 0 ≡ piece.number
 number_is one piece frag = ap (λ b. unwrap_or (announced_of_body b) 0) frag.body ∙ frag.number
 
 module _ (all before : List PieceAct) (sall sbefore : List SentValue) (whole : Matches all sall) (so_far : Matches before sbefore) (i : ℕ) (one : PieceAct) (piece : Piece) (frag : IsFragmentAct one piece) where
-  told_alike_to : (audience : Audience) → map (act_told one.act) (told_to_audience sbefore (sent_by_act i one.act piece) audience) ≡ told_to before one.act piece audience
+  told_alike_to : (audience : Audience) → map (act_told ForAudience one.act) (told_to_audience sbefore (sent_by_act i one.act piece) audience) ≡ told_to before one.act piece audience
   told_alike_to audience =
-      ap (λ b. map (act_told one.act) (cond b (told_by_sent (sent_by_act i one.act piece) audience came) [])) (same_reach one piece frag audience) ∙ by (reaches one.act audience)
+      ap (λ b. map (act_told ForAudience one.act) (cond b (told_by_sent (sent_by_act i one.act piece) audience came) [])) (same_reach one piece frag audience) ∙ by (reaches one.act audience)
     where
       key : SampleKey
       key = key_of one.act piece
@@ -298,19 +301,19 @@ module _ (all before : List PieceAct) (sall sbefore : List SentValue) (whole : M
       samples : List (List ℕ)
       samples = samples_more (last_fragment piece.shape) (came_to (key_of one.act piece) audience sbefore) (came_from piece.first piece.parts)
 
-      by : (b : Bool) → map (act_told one.act) (cond b (told_as i audience piece.shape (samples_more (last_fragment piece.shape) (came_to (key_of one.act piece) audience sbefore) (came_from piece.first piece.parts))) [])
+      by : (b : Bool) → map (act_told ForAudience one.act) (cond b (told_as i audience piece.shape (samples_more (last_fragment piece.shape) (came_to (key_of one.act piece) audience sbefore) (came_from piece.first piece.parts))) [])
           ≡ cond b (map (sample_act one.act piece.number audience) (told_by (sent_to (origin_of one.act) audience before) piece)) []
       by false = refl
       by true =
-          map_map (act_told one.act) (λ octets. let told : ToldValue = record { act = i; audience = audience; payload = payload_by piece.shape octets } in told) (samples_more (last_fragment piece.shape) (came_to (key_of one.act piece) audience sbefore) (came_from piece.first piece.parts))
+          map_map (act_told ForAudience one.act) (λ octets. let told : ToldValue = record { act = i; audience = audience; payload = payload_by piece.shape octets } in told) (samples_more (last_fragment piece.shape) (came_to (key_of one.act piece) audience sbefore) (came_from piece.first piece.parts))
           ∙ ap (λ n. map (λ octets. sample_act one.act n audience (payload_by piece.shape octets)) (samples_more (last_fragment piece.shape) (came_to (key_of one.act piece) audience sbefore) (came_from piece.first piece.parts))) (number_is one piece frag)
           ∙ sym (map_map (sample_act one.act piece.number audience) (payload_by piece.shape) (samples_more (last_fragment piece.shape) (came_to (key_of one.act piece) audience sbefore) (came_from piece.first piece.parts)))
           ∙ ap (map (sample_act one.act piece.number audience)) (payloads_more piece.number piece.shape (sent_to (origin_of one.act) audience before) (came_to (key_of one.act piece) audience sbefore) piece refl refl (so_far.came (key_of one.act piece) audience))
 
-  pub told_is : map (act_told one.act) (told_behind sall sbefore (sent_by_act i one.act piece)) ≡ samples_told all before one.act (Some piece)
+  pub told_is : map (act_told ForAudience one.act) (told_behind sall sbefore (sent_by_act i one.act piece)) ≡ samples_told all before one.act (Some piece)
   told_is =
-      map_flat (act_told one.act) (told_to_dest sall sbefore (sent_by_act i one.act piece)) (dests_of (key_of one.act piece) sall)
-      ∙ flat_alike (λ dest. map (act_told one.act) (told_to_dest sall sbefore (sent_by_act i one.act piece) dest)) (λ dest. flat_map (λ reader. told_to before one.act piece (at dest reader)) (readers_of (key_of one.act piece) sall)) (dests_of (key_of one.act piece) sall) each
+      map_flat (act_told ForAudience one.act) (told_to_dest sall sbefore (sent_by_act i one.act piece)) (dests_of (key_of one.act piece) sall)
+      ∙ flat_alike (λ dest. map (act_told ForAudience one.act) (told_to_dest sall sbefore (sent_by_act i one.act piece) dest)) (λ dest. flat_map (λ reader. told_to before one.act piece (at dest reader)) (readers_of (key_of one.act piece) sall)) (dests_of (key_of one.act piece) sall) each
       ∙ ap (λ ds. flat_map (λ dest. flat_map (λ reader. told_to before one.act piece (at dest reader)) (readers_of (key_of one.act piece) sall)) ds) (ap (λ ds. once is_same_dest (None ∷ ds)) (whole.dests (key_of one.act piece)))
       ∙ ap (λ rs. flat_map (λ dest. flat_map (λ reader. told_to before one.act piece (at dest reader)) rs) (once is_same_dest (None ∷ map (λ (p : PieceAct). p.act.dest) parts))) (ap (λ rs. once is_entity (unknown_entity ∷ rs)) (whole.readers (key_of one.act piece)))
       ∙ sym (flat_flat (told_to before one.act piece) (λ dest. map (at dest) readers) (once is_same_dest (None ∷ map (λ (p : PieceAct). p.act.dest) parts))
@@ -326,15 +329,15 @@ module _ (all before : List PieceAct) (sall sbefore : List SentValue) (whole : M
       readers : List EntityId
       readers = once is_entity (unknown_entity ∷ filter_map (λ (p : PieceAct). reader_named p.act.body) (acts_of_sample (origin_of one.act) piece.number piece.shape all))
 
-      each : (dest : Option GuidPrefix) → map (act_told one.act) (told_to_dest sall sbefore (sent_by_act i one.act piece) dest) ≡ flat_map (λ reader. told_to before one.act piece (record { dest = dest; reader = reader })) (readers_of (key_of one.act piece) sall)
+      each : (dest : Option GuidPrefix) → map (act_told ForAudience one.act) (told_to_dest sall sbefore (sent_by_act i one.act piece) dest) ≡ flat_map (λ reader. told_to before one.act piece (record { dest = dest; reader = reader })) (readers_of (key_of one.act piece) sall)
       each dest =
-          map_flat (act_told one.act) (λ reader. told_to_audience sbefore (sent_by_act i one.act piece) (record { dest = dest; reader = reader })) (readers_of (key_of one.act piece) sall)
-          ∙ flat_alike (λ reader. map (act_told one.act) (told_to_audience sbefore (sent_by_act i one.act piece) (record { dest = dest; reader = reader }))) (λ reader. told_to before one.act piece (record { dest = dest; reader = reader })) (readers_of (key_of one.act piece) sall)
+          map_flat (act_told ForAudience one.act) (λ reader. told_to_audience sbefore (sent_by_act i one.act piece) (record { dest = dest; reader = reader })) (readers_of (key_of one.act piece) sall)
+          ∙ flat_alike (λ reader. map (act_told ForAudience one.act) (told_to_audience sbefore (sent_by_act i one.act piece) (record { dest = dest; reader = reader }))) (λ reader. told_to before one.act piece (record { dest = dest; reader = reader })) (readers_of (key_of one.act piece) sall)
           (λ reader. told_alike_to (record { dest = dest; reader = reader }))
 
 -- ---- places
 
-if_among : {X : Type 0} (b : Bool) (xs : List X) (x : X) → Contains (cond b xs []) x → Contains xs x
+pub if_among : {X : Type 0} (b : Bool) (xs : List X) (x : X) → Contains (cond b xs []) x → Contains xs x
 if_among true xs x among = among
 if_among false xs x among = absurd (contains_none x among)
 
@@ -355,11 +358,11 @@ told_from_sent all before (sent ∷ sents) told among = elim (Contains-append_ca
   | inr there ↦ let (other, among, is) = told_from_sent all (before ++ sent ∷ []) sents told there in (other, contains_tail sent sents other among, is)
 ]
 
-sent_at : (i : ℕ) (act : ActValue) (o : Option Piece) (sent : SentValue) → Contains (sent_in i act o) sent → sent.act ≡ i
+pub sent_at : (i : ℕ) (act : ActValue) (o : Option Piece) (sent : SentValue) → Contains (sent_in i act o) sent → sent.act ≡ i
 sent_at i act None sent among = absurd (contains_none sent among)
 sent_at i act (Some piece) sent among = elim (contains_cases (sent_by_act i act piece) [] sent among) [ inl is ↦ ap (λ (s : SentValue). s.act) (sym is) | inr none ↦ absurd (contains_none sent none) ]
 
-sent_behind : (i : ℕ) (acts : List PieceAct) (sent : SentValue) → Contains (sents_from i acts) sent → i ≤ sent.act
+pub sent_behind : (i : ℕ) (acts : List PieceAct) (sent : SentValue) → Contains (sents_from i acts) sent → i ≤ sent.act
 sent_behind i [] sent among = absurd (contains_none sent among)
 sent_behind i (one ∷ acts) sent among = elim (Contains-append_cases (sent_in i one.act one.piece) (sents_from (suc i) acts) sent among) [
   | inl here ↦ let is = sent_at i one.act one.piece sent here in omega arith
@@ -387,27 +390,34 @@ runs i (one ∷ own) rest here past =
     let (run, behind) = runs i own rest (λ other among. here other (contains_tail one own other among)) past in
     (ap (λ b. cond b (one ∷ run_of i (own ++ rest)) []) same ∙ ap (λ ts. one ∷ ts) run, ap (λ b. cond b (run_past i (own ++ rest)) (one ∷ (own ++ rest))) same ∙ behind)
 
+-- the first of these acts, with what is told at its place
+pub merged_one : (form : SampleForm) (i : ℕ) (act : ActValue) (acts : List ActValue) (own rest : List ToldValue) → ((one : ToldValue) → Contains own one → one.act ≡ i) → ((one : ToldValue) → Contains rest one → i < one.act)
+    → merged_from form i (act ∷ acts) (own ++ rest) ≡ act ∷ (acts_told form act act.body own ++ merged_from form (suc i) acts rest)
+merged_one form i act acts own rest here past =
+    let parts = runs i own rest here past in
+    ap (λ ts. act ∷ (acts_told form act act.body ts ++ merged_from form (suc i) acts (run_past i (own ++ rest)))) parts.0
+    ∙ ap (λ ts. act ∷ (acts_told form act act.body own ++ merged_from form (suc i) acts ts)) parts.1
+
 -- ---- the acts of a datagram
 
 module _ (all : List PieceAct) (sall : List SentValue) (whole : Matches all sall) where
   own_told : (before : List PieceAct) (sbefore : List SentValue) → Matches before sbefore → (i : ℕ) (one : PieceAct) → ((piece : Piece) → one.piece ≡ Some piece → IsFragmentAct one piece)
-      → acts_told one.act one.act.body (told_in_turn sall sbefore (sent_in i one.act one.piece)) ≡ samples_told all before one.act one.piece
+      → acts_told ForAudience one.act one.act.body (told_in_turn sall sbefore (sent_in i one.act one.piece)) ≡ samples_told all before one.act one.piece
   own_told before sbefore so_far i one frag = by one.piece refl
     where
-      by : (o : Option Piece) → one.piece ≡ o → acts_told one.act one.act.body (told_in_turn sall sbefore (sent_in i one.act o)) ≡ samples_told all before one.act o
-      by None e = no_acts one.act one.act.body
+      by : (o : Option Piece) → one.piece ≡ o → acts_told ForAudience one.act one.act.body (told_in_turn sall sbefore (sent_in i one.act o)) ≡ samples_told all before one.act o
+      by None e = no_acts ForAudience one.act one.act.body
       by (Some piece) e =
-          acts_are one.act (frag piece e).value (told_behind sall sbefore (sent_by_act i one.act piece) ++ []) (frag piece e).body
-          ∙ ap (map (act_told one.act)) (append-nil (told_behind sall sbefore (sent_by_act i one.act piece))) ∙ told_is all before sall sbefore whole so_far i one piece (frag piece e)
+          acts_are ForAudience one.act (frag piece e).value (told_behind sall sbefore (sent_by_act i one.act piece) ++ []) (frag piece e).body
+          ∙ ap (map (act_told ForAudience one.act)) (append-nil (told_behind sall sbefore (sent_by_act i one.act piece))) ∙ told_is all before sall sbefore whole so_far i one piece (frag piece e)
 
   pub merged_is : (before : List PieceAct) (sbefore : List SentValue) → Matches before sbefore → (i : ℕ) (acts : List PieceAct) → AreFragmentActs acts
-      → merged_from i (map (λ one. one.act) acts) (told_in_turn sall sbefore (sents_from i acts)) ≡ acts_and_samples all before acts
+      → merged_from ForAudience i (map (λ one. one.act) acts) (told_in_turn sall sbefore (sents_from i acts)) ≡ acts_and_samples all before acts
   merged_is before sbefore so_far i [] frags = refl
   merged_is before sbefore so_far i (one ∷ acts) frags =
-      ap (merged_from i (map (λ (p : PieceAct). p.act) (one ∷ acts))) (in_turn-append sall sbefore sent (sents_from (suc i) acts))
-      ∙ ap (λ ts. one.act ∷ (acts_told one.act one.act.body ts ++ merged_from (suc i) (map (λ (p : PieceAct). p.act) acts) (run_past i (own ++ rest)))) parts.0
-      ∙ ap (λ ts. one.act ∷ (acts_told one.act one.act.body own ++ merged_from (suc i) (map (λ (p : PieceAct). p.act) acts) ts)) parts.1
-      ∙ ap (λ xs. one.act ∷ (xs ++ merged_from (suc i) (map (λ (p : PieceAct). p.act) acts) rest)) (own_told before sbefore so_far i one frag)
+      ap (merged_from ForAudience i (map (λ (p : PieceAct). p.act) (one ∷ acts))) (in_turn-append sall sbefore sent (sents_from (suc i) acts))
+      ∙ merged_one ForAudience i one.act (map (λ (p : PieceAct). p.act) acts) own rest own_at rest_at
+      ∙ ap (λ xs. one.act ∷ (xs ++ merged_from ForAudience (suc i) (map (λ (p : PieceAct). p.act) acts) rest)) (own_told before sbefore so_far i one frag)
       ∙ ap (λ xs. one.act ∷ (samples_told all before one.act one.piece ++ xs)) (merged_is (before ++ one ∷ []) (sbefore ++ sent) (matches_both before (one ∷ []) sbefore sent so_far (matches_one i one frag)) (suc i) acts (λ other piece among e. frags other piece (contains_tail one acts other among) e))
     where
       sent : List SentValue
@@ -427,7 +437,3 @@ module _ (all : List PieceAct) (sall : List SentValue) (whole : Matches all sall
 
       rest_at : (told : ToldValue) → Contains (told_in_turn sall (sbefore ++ sent_in i one.act one.piece) (sents_from (suc i) acts)) told → i < told.act
       rest_at told among = let (from, there, is) = told_from_sent sall (sbefore ++ sent_in i one.act one.piece) (sents_from (suc i) acts) told among in let le = sent_behind (suc i) acts from there in omega arith
-
-      parts : (run_of i (told_in_turn sall sbefore (sent_in i one.act one.piece) ++ told_in_turn sall (sbefore ++ sent_in i one.act one.piece) (sents_from (suc i) acts)) ≡ told_in_turn sall sbefore (sent_in i one.act one.piece))
-          × (run_past i (told_in_turn sall sbefore (sent_in i one.act one.piece) ++ told_in_turn sall (sbefore ++ sent_in i one.act one.piece) (sents_from (suc i) acts)) ≡ told_in_turn sall (sbefore ++ sent_in i one.act one.piece) (sents_from (suc i) acts))
-      parts = runs i own rest own_at rest_at

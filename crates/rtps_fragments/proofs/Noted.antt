@@ -6,11 +6,10 @@ use Rattle.std.proofs.lemmas.Option.{slice_get_cases, some_pair_parts}
 use Rattle.rtps_ids.specs.declared.identity.Guid.{Guid}
 use Rattle.rtps_wire.specs.Values.{PayloadValue}
 use Rattle.rtps_receiver.specs.Speech.{is_spoken_by, origin_of}
-use Rattle.rtps_receiver.specs.Values.{ActBodyValue, ActValue}
-use Rattle.rtps_receiver.specs.Values.ActBodyValue.{Data, Heartbeat, AckNack, Gap, DataFrag}
+use Rattle.rtps_receiver.specs.Values.{ActValue}
 use Rattle.rtps_audit.proofs.Offered.{contains_mapped, contains_none, mapped_contains}
 use Rattle.rtps_fragments.specs.FragmentDelivery.{Fragment, IsPutTogether, Piece, last_fragment, payload_by}
-use Rattle.rtps_fragments.specs.Laws.{IsNoted, IsPieceAct, NotedSamplesAreSent}
+use Rattle.rtps_fragments.specs.Laws.{IsNoted, IsPieceAct, NotedSamplesAreSent, data_of}
 use Rattle.rtps_fragments.specs.Samples.{came_of, payloads_of, samples_of}
 use Rattle.rtps_fragments.specs.SampleActs.{PieceAct, piece_acts_in}
 use Rattle.rtps_fragments.specs.SamplesSent.{noted_act, samples_sent, sent_by}
@@ -21,14 +20,6 @@ use Rattle.rtps_fragments.proofs.PiecesLeft.{of_its_piece, sent_within}
 use Rattle.rtps_fragments.proofs.PutTogether.{came_within, parts_picked, payloads_differ, put_of}
 use Rattle.rtps_fragments.proofs.SampleActLemmas.{spoken_is_origin}
 use Rattle.rtps_fragments.proofs.SampleLemmas.{AreWithin, two}
-
--- the number and the payload of a DATA
-abbrev data_of : ActBodyValue → Option (ℕ × PayloadValue)
-data_of (Data value) = Some (value.number, value.payload)
-data_of (Heartbeat value) = None
-data_of (AckNack value) = None
-data_of (Gap value) = None
-data_of (DataFrag value) = None
 
 module _ (all : List PieceAct) (writer : Guid) (n : ℕ) (parts : (part : PieceAct) (piece : Piece) → Contains all part → part.piece ≡ Some piece → IsPieceAct part piece) where
   origin : (part : PieceAct) (piece : Piece) → Contains all part → part.piece ≡ Some piece → is_spoken_by part.act writer ≡ true → origin_of part.act ≡ writer

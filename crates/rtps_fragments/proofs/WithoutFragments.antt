@@ -1,6 +1,6 @@
 -- Recordings in which no submessage belongs to fragments.
-use Rattle.std.proofs.Common.{◌≡◌, ℕ, suc, ◌+◌, ◌<◌, ◌≤◌, Bool, true, false, cond, List, [], ◌∷◌, ◌++◌, drop, filter, length, map, take, get_or, Bor, Option, Some, None, refl, sym, ◌∙◌, ap, subst, arith, inl, inr}
-use Rattle.std.specs.Prelude.{All, Contains}
+use Rattle.std.proofs.Common.{◌≡◌, ℕ, ◌+◌, ◌<◌, ◌≤◌, Bool, true, false, cond, List, [], ◌∷◌, ◌++◌, drop, filter, length, map, take, get_or, Bor, Option, Some, None, refl, sym, ◌∙◌, ap, subst, arith, inl, inr}
+use Rattle.std.specs.Prelude.{Contains}
 use Rattle.std.proofs.lemmas.List.{length-map, length-take-le, map-append, take_more}
 use Rattle.std.proofs.lemmas.List.Elements.{All-contains, All-push}
 use Rattle.std.proofs.lemmas.List.Sums.{length-filter}
@@ -16,11 +16,13 @@ use Rattle.rtps_receiver.specs.declared.state.State.{State}
 use Rattle.rtps_audit.specs.Intake.{Intake, intake_more, intake_of}
 use Rattle.rtps_audit.specs.Speech.{acts_by_datagram}
 use Rattle.rtps_audit.proofs.Offered.{contains_cases, contains_head, contains_mapped, contains_none, contains_tail}
+use Rattle.rtps_fragments.specs.Announcing.{announcing_with}
 use Rattle.rtps_fragments.specs.Laws.{HasNoPieces, IntakeStaysWithoutFragments}
-use Rattle.rtps_fragments.specs.RecordedSamples.{IsWithoutFragments, intake_with}
-use Rattle.rtps_fragments.specs.SampleActs.{PieceAct, acts_with_samples}
+use Rattle.rtps_fragments.specs.RecordedSamples.{IsWithoutFragments}
+use Rattle.rtps_fragments.specs.SampleActs.{PieceAct}
 use Rattle.rtps_fragments.specs.Sending.{fragment_acts, piece_acts_of, piece_acts_of_item, piece_acts_with, sending_of}
 use Rattle.rtps_fragments.proofs.ActsTell.{acts_stay_without_pieces}
+use Rattle.rtps_fragments.proofs.NoteLemmas.{announcing_stays}
 use Rattle.rtps_fragments.proofs.SampleSteps.{octets_of}
 
 -- an act without a piece
@@ -31,13 +33,13 @@ plain act = record { act = act; piece = None }
 
 none_counted : {X : Type 0} (test : X → Bool) (xs : List X) → length (filter test xs) ≡ 0 → (x : X) → Contains xs x → test x ≡ false
 none_counted test [] e x among = absurd (contains_none x among)
-none_counted test (y ∷ ys) e x among = by (test y) refl e
+none_counted test (y ∷ ys) e x among = by (test y) refl e (λ none there. none_counted test ys none x there)
   where
-    by : (b : Bool) → test y ≡ b → length (cond b (y ∷ filter test ys) (filter test ys)) ≡ 0 → test x ≡ false
-    by true is e = absurd (let none = e in omega arith)
-    by false is e = elim (contains_cases y ys x among) [
+    by : (b : Bool) → test y ≡ b → length (cond b (y ∷ filter test ys) (filter test ys)) ≡ 0 → (length (filter test ys) ≡ 0 → Contains ys x → test x ≡ false) → test x ≡ false
+    by true is e behind = absurd (let none = e in omega arith)
+    by false is e behind = elim (contains_cases y ys x among) [
       | inl here ↦ ap test (sym here) ∙ is
-      | inr there ↦ none_counted test ys e x there
+      | inr there ↦ behind e there
     ]
 
 item_plain : (octets : List ℕ) (state : State) (item : ItemValue) (body : Option ActBodyValue) → is_fragment item.body ≡ false → piece_acts_of_item octets state item body ≡ map plain (acts_of_item state item body)
@@ -91,9 +93,9 @@ intake_stays recording all =
     let none : EachWithout recording = λ octets among. All-contains (λ datagram. (tally_of (reading_of datagram)).fragments ≡ 0) recording octets all among in
     let plain_acts = acts_plain recording none in
     let tallies : List Tally = map (λ datagram. tally_of (reading_of datagram)) recording in
-    let said : List (List ActValue) → Intake = λ acts. record { tallies = tallies; acts = acts; announcing = map (map (λ (one : PieceAct). one.act)) (sending_of recording) } in
+    let said : List (List ActValue) → Intake = λ acts. record { tallies = tallies; acts = acts; announcing = announcing_with (sending_of recording) } in
     let noted : List (List ActValue) → Intake = λ acts. record { tallies = tallies; acts = acts_by_datagram recording; announcing = acts } in
-    ap said (acts_stay_without_pieces (sending_of recording) (no_pieces recording none) ∙ plain_acts) ∙ ap noted plain_acts
+    ap said (acts_stay_without_pieces (sending_of recording) (no_pieces recording none) ∙ plain_acts) ∙ ap noted (announcing_stays (sending_of recording) (no_pieces recording none) ∙ plain_acts)
 
 -- ---- one datagram more
 
@@ -120,8 +122,8 @@ pub plain_count : (xs : List (Bor (List ℕ))) (i : ℕ) → i ≤ length xs →
 plain_count xs i le = omega (arith, length-map (octets_of (take i xs)) (λ datagram. acts_of (reading_of datagram)), length-map (take i xs) (λ (datagram : Bor (List ℕ)). datagram.now), length-take-le i xs le)
 
 -- one more is without fragments
-pub without_more : (xs : List (Bor (List ℕ))) (i : ℕ) (d : Bor (List ℕ)) → i < length xs → IsWithoutFragments (octets_of (take i xs)) → (tally_of (reading_of (get_or xs i d).now)).fragments ≡ 0
+pub without_more : (xs : List (Bor (List ℕ))) (i : ℕ) (d : Bor (List ℕ)) (tally : Tally) → i < length xs → IsWithoutFragments (octets_of (take i xs)) → tally ≡ tally_of (reading_of (get_or xs i d).now) → tally.fragments ≡ 0
     → IsWithoutFragments (octets_of (take (i + 1) xs))
-without_more xs i d lt none here =
+without_more xs i d tally lt none is zero =
     subst IsWithoutFragments (sym (ap octets_of (take_more xs i d lt) ∙ map-append (λ (datagram : Bor (List ℕ)). datagram.now) (take i xs) (get_or xs i d ∷ [])))
-    (All-push (λ datagram. (tally_of (reading_of datagram)).fragments ≡ 0) (octets_of (take i xs)) (get_or xs i d).now none here)
+    (All-push (λ datagram. (tally_of (reading_of datagram)).fragments ≡ 0) (octets_of (take i xs)) (get_or xs i d).now none (sym (ap (λ (t : Tally). t.fragments) is) ∙ zero))

@@ -1,23 +1,27 @@
 -- Laws over definitions alone, whatever the number is from which on numbers are asked for. own: what a reader of the definitions
 -- would ask of them.
-use Rattle.std.specs.Prelude.{ℕ, ◌+◌, ◌<◌, ◌≤◌, ◌≡◌, ◌≢◌, ◌↔◌, ◌⊎◌, length, List, [], map, Some, None, true, Contains}
+use Rattle.std.specs.Prelude.{ℕ, ◌+◌, ◌<◌, ◌≤◌, ◌≡◌, ◌≢◌, ◌↔◌, ◌⊎◌, length, List, [], map, Option, Some, None, is_some, true, Contains}
+use Rattle.rtps_ids.specs.declared.identity.EntityId.{EntityId}
 use Rattle.rtps_ids.specs.declared.identity.Guid.{Guid}
 use Rattle.rtps_wire.specs.Values.{PayloadValue}
 use Rattle.rtps_receiver.specs.Speech.{is_spoken_by, origin_of}
-use Rattle.rtps_receiver.specs.Values.{ActValue}
+use Rattle.rtps_receiver.specs.Values.{ActBodyValue, ActValue}
+use Rattle.rtps_receiver.specs.Values.ActBodyValue.{Data, Heartbeat, AckNack, Gap, DataFrag}
+use Rattle.rtps_discovery.specs.Notice.{subject_of}
 use Rattle.rtps_audit.specs.Delivery.{Speech, Claims, last_announced_from}
 use Rattle.rtps_audit.specs.RunVerdict.{IsTold, IsVerdictFrom}
 use Rattle.rtps_audit.specs.PlainVerdict.{SpeaksTwo}
-use Rattle.rtps_audit.specs.Intake.{intake_of}
+use Rattle.rtps_audit.specs.Intake.{acts_together, intake_of}
 use Rattle.rtps_audit.specs.Speech.{announced_of_body, speech_by}
 use Rattle.rtps_audit.specs.declared.verdict.Verdict.{Verdict}
+use Rattle.rtps_fragments.specs.Announcing.{announcing_with, is_built_in}
 use Rattle.rtps_fragments.specs.FragmentDelivery.{Fragment, FragmentSpeech, GivesFragment, IsPutTogether, Piece, Shape, last_fragment, said_in}
 use Rattle.rtps_fragments.specs.FragmentVerdict.{IsPayloadBefore, IsWordBefore, IsFragmentVerdictFrom}
 use Rattle.rtps_fragments.specs.RecordedSamples.{IsWithoutFragments, intake_with}
 use Rattle.rtps_fragments.specs.Samples.{payloads_of, told_in}
 use Rattle.rtps_fragments.specs.Sending.{sending_of}
 use Rattle.rtps_fragments.specs.SampleActs.{PieceAct, acts_with_samples, fragment_speech_of, piece_acts_in, acts_of_sample, samples_told}
-use Rattle.rtps_fragments.specs.SamplesSent.{is_left, noted_act, samples_sent, sent_by}
+use Rattle.rtps_fragments.specs.SamplesSent.{acts_to_note, is_left, noted_act, samples_sent, sent_by}
 
 -- of all that is given, two different payloads are told or can be put together for n
 abbrev pub GivesTwoPayloads : ℕ → FragmentSpeech → ℕ → Type 0
@@ -109,6 +113,29 @@ NotedSamplesAreSent =
     × (IsPutTogether (Contains (sent_by writer (piece_acts_in recording))) n payload
     → IsNoted (piece_acts_in recording) writer n payload
     ⊎ ((x : PayloadValue) × (y : PayloadValue) × IsNoted (piece_acts_in recording) writer n x × IsNoted (piece_acts_in recording) writer n y × (x ≢ y)))
+
+-- the number and the payload of a DATA
+abbrev pub data_of : ActBodyValue → Option (ℕ × PayloadValue)
+data_of (Data value) = Some (value.number, value.payload)
+data_of (Heartbeat value) = None
+data_of (AckNack value) = None
+data_of (Gap value) = None
+data_of (DataFrag value) = None
+
+-- one of these acts is a DATA of the writer with the payload of n
+abbrev pub HasData : List ActValue → Guid → ℕ → PayloadValue → Type 0
+HasData acts writer n payload = (act : ActValue) × Contains acts act × (is_spoken_by act writer ≡ true) × (data_of act.body ≡ Some (n, payload))
+
+-- Of a built-in writer, the acts that announce have the DATA that the recording has, and for each payload that is to be noted a DATA.
+-- They have no others.
+abbrev pub BuiltInSamplesAnnounce : Type 0
+BuiltInSamplesAnnounce =
+    (recording : List (List PieceAct)) → ArePieceActs recording → (writer : Guid) (n : ℕ) (payload : PayloadValue) → is_built_in writer.entity ≡ true
+    → HasData (acts_together (announcing_with recording)) writer n payload ↔ HasData (acts_to_note (piece_acts_in recording)) writer n payload
+
+-- each writer of which a directory notes what it announces is a built-in one
+abbrev pub AnnouncersAreBuiltIn : Type 0
+AnnouncersAreBuiltIn = (writer : EntityId) → is_some (subject_of writer) ≡ true → is_built_in writer ≡ true
 
 -- fewer fragments than a sample has make no payload of it
 abbrev pub FewFragmentsMakeNoSample : Type 0

@@ -3,6 +3,7 @@ pub mod FragmentVerdict
 pub mod Samples
 pub mod SampleActs
 pub mod SamplesSent
+pub mod Announcing
 pub mod Laws
 pub mod Pieces
 pub mod Came

@@ -9,7 +9,10 @@ use Rattle.rtps_receiver.specs.declared.speech.Audience.{Audience}
 use Rattle.rtps_fragments.specs.Came.{came_from}
 use Rattle.rtps_fragments.specs.FragmentDelivery.{Piece}
 use Rattle.rtps_fragments.specs.SampleActs.{PieceAct, sample_act}
+use Rattle.rtps_fragments.specs.SamplesSent.{noted_act}
 use Rattle.rtps_fragments.specs.Telling.{SentValue, ToldValue}
+use Rattle.rtps_fragments.specs.declared.merging.SampleForm.{SampleForm}
+use Rattle.rtps_fragments.specs.declared.merging.SampleForm.TheVariants.{ForAudience, ForEveryone}
 use Rattle.rtps_fragments.specs.declared.piece.SampleKey.{SampleKey}
 
 -- the sample of which an act has a piece
@@ -35,13 +38,18 @@ sents_from i (one ∷ acts) = sent_in i one.act one.piece ++ sents_from (suc i) 
 abbrev pub sents_in : List (List PieceAct) → List SentValue
 sents_in recording = flat_map (sents_from 0) recording
 
+-- a sample that an act of this number tells, as an act: for its audience, or for everyone
+abbrev pub act_as : SampleForm → ActValue → ℕ → ToldValue → ActValue
+act_as ForAudience act n one = sample_act act n one.audience one.payload
+act_as ForEveryone act n one = noted_act act n one.payload
+
 -- the samples that an act with this body tells, as acts
-abbrev pub acts_told : ActValue → ActBodyValue → List ToldValue → List ActValue
-acts_told act (DataFrag value) told = map (λ one. sample_act act value.number one.audience one.payload) told
-acts_told act (Data value) told = []
-acts_told act (Heartbeat value) told = []
-acts_told act (AckNack value) told = []
-acts_told act (Gap value) told = []
+abbrev pub acts_told : SampleForm → ActValue → ActBodyValue → List ToldValue → List ActValue
+acts_told form act (DataFrag value) told = map (act_as form act value.number) told
+acts_told form act (Data value) told = []
+acts_told form act (Heartbeat value) told = []
+acts_told form act (AckNack value) told = []
+acts_told form act (Gap value) told = []
 
 -- the first of these that the act at this place tells
 abbrev pub run_of : ℕ → List ToldValue → List ToldValue
@@ -54,9 +62,9 @@ run_past i [] = []
 run_past i (one ∷ told) = if one.act == i then run_past i told else one ∷ told
 
 -- acts, the first of which is at this place, and behind each the samples that it tells
-abbrev pub merged_from : ℕ → List ActValue → List ToldValue → List ActValue
-merged_from i [] told = []
-merged_from i (act ∷ acts) told = act ∷ (acts_told act act.body (run_of i told) ++ merged_from (suc i) acts (run_past i told))
+abbrev pub merged_from : SampleForm → ℕ → List ActValue → List ToldValue → List ActValue
+merged_from form i [] told = []
+merged_from form i (act ∷ acts) told = act ∷ (acts_told form act act.body (run_of i told) ++ merged_from form (suc i) acts (run_past i told))
 
 -- An act with a piece is a DATA_FRAG of the piece's number.
 pub record IsFragmentAct (one : PieceAct) (piece : Piece) : Type 0 where

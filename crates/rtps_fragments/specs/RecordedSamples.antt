@@ -4,7 +4,9 @@ use Rattle.std.specs.Prelude.{ℕ, ◌≡◌, All, List, [], ◌∷◌, ◌++◌
 use Rattle.rtps_wire.specs.Reading.{reading_of}
 use Rattle.rtps_wire.specs.Tally.{tally_of}
 use Rattle.rtps_audit.specs.Intake.{Intake, intake_of}
+use Rattle.rtps_fragments.specs.Announcing.{announcing_with}
 use Rattle.rtps_fragments.specs.Merging.{sents_from, sents_in}
+use Rattle.rtps_fragments.specs.Overheard.{AreOverheardOf}
 use Rattle.rtps_fragments.specs.SampleActs.{PieceAct, acts_with_samples}
 use Rattle.rtps_fragments.specs.Sending.{sending_of}
 use Rattle.rtps_fragments.specs.Telling.{SentValue, ToldValue, told_in_turn, told_value}
@@ -17,18 +19,19 @@ abbrev pub told_by_datagram : List SentValue → List SentValue → List (List P
 told_by_datagram all before [] = []
 told_by_datagram all before (acts ∷ recording) = told_in_turn all before (sents_from 0 acts) ∷ told_by_datagram all (before ++ sents_from 0 acts) recording
 
--- these are the samples of a recording, which is the octets of its datagrams in the order of sending
-abbrev pub AreSamplesOf : List (List ℕ) → Samples → Type 0
-AreSamplesOf recording samples =
-    map (λ told. map told_value told.items) samples.told.items ≡ told_by_datagram (sents_in (sending_of recording)) [] (sending_of recording)
+-- These are the samples of a recording, which is the octets of its datagrams in the order of sending.
+pub record AreSamplesOf (recording : List (List ℕ)) (samples : Samples) : Type 0 where
+  pub told : map (λ told. map told_value told.items) samples.told.items ≡ told_by_datagram (sents_in (sending_of recording)) [] (sending_of recording)
+  pub overheard : AreOverheardOf recording samples.overheard
 
--- what an index takes in of a recording with its samples: the acts with the samples among them
+-- what an index takes in of a recording with its samples: the acts with the samples among them, and those that announce with the samples of
+-- built-in writers
 abbrev pub intake_with : List (List ℕ) → Intake
 intake_with recording =
     record {
       tallies = map (λ datagram. tally_of (reading_of datagram)) recording;
       acts = acts_with_samples (sending_of recording);
-      announcing = map (map (λ one. one.act)) (sending_of recording);
+      announcing = announcing_with (sending_of recording);
     }
 
 -- the same, where fragments are read, and where they are skipped

@@ -1,6 +1,6 @@
 //! Laws over definitions alone. Each function does nothing: its clause is the law, and its proof the law's proof.
 
-ghost use Rattle.rtps_fragments.specs.Laws.{FragmentsTellAlike, SamplesTellAlike, FragmentVerdictIsTold, ActsTellAlike, FragmentVerdictOfActs, ActsStayWithoutPieces, VerdictStaysWithoutPieces, PiecesLeftAreOfNoSample, NotedSamplesAreSent, FewFragmentsMakeNoSample, SamplesStandAlone, RecordedVerdictIsOfRuns, IntakeStaysWithoutFragments};
+ghost use Rattle.rtps_fragments.specs.Laws.{FragmentsTellAlike, SamplesTellAlike, FragmentVerdictIsTold, ActsTellAlike, FragmentVerdictOfActs, ActsStayWithoutPieces, VerdictStaysWithoutPieces, PiecesLeftAreOfNoSample, NotedSamplesAreSent, BuiltInSamplesAnnounce, AnnouncersAreBuiltIn, FewFragmentsMakeNoSample, SamplesStandAlone, RecordedVerdictIsOfRuns, IntakeStaysWithoutFragments};
 
 use rtps_audit::laws::{runs_exist_where_founded, verdicts_agree};
 
@@ -66,6 +66,17 @@ pub fn pieces_left_are_of_no_sample()
 /// What can be put together of them is noted, or two payloads are that differ.
 pub fn noted_samples_are_sent()
     ensures { NotedSamplesAreSent }
+{}
+
+/// Of a built-in writer, the acts of which a directory notes what they announce have the DATA of the recording and of each payload that is
+/// to be noted as a sample, and no others.
+pub fn built_in_samples_announce()
+    ensures { BuiltInSamplesAnnounce }
+{}
+
+/// Each writer of which a directory notes what it announces is a built-in one.
+pub fn announcers_are_built_in()
+    ensures { AnnouncersAreBuiltIn }
 {}
 
 /// Fewer fragments than a sample has make no payload of it, so that nothing is put together before as many came.

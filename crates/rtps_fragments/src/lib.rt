@@ -16,7 +16,6 @@ mod telling;
 mod told_sample;
 
 pub use fragments::Fragments;
-pub use overheard::OverheardSamples;
 pub use piece::{FragmentRun, SampleKey, SentFragments};
 pub use sample_index::{index_as, index_with, judge_with_samples};
 pub use samples::Samples;

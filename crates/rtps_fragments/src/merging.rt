@@ -1,25 +1,43 @@
 ghost use Rattle.std.specs.Prelude.{◌≡◌, ◌≤◌, ◌++◌, drop, length, map, take, IfOk, OnOk};
 ghost use Rattle.rtps_receiver.specs.Values.{act_value};
-ghost use Rattle.rtps_fragments.specs.Merging.{acts_told, merged_from, run_of, run_past};
+ghost use Rattle.rtps_wire.specs.Values.{payload_value};
+ghost use Rattle.rtps_fragments.specs.Merging.{act_as as act_as_lem, acts_told, merged_from, run_of, run_past};
 ghost use Rattle.rtps_fragments.specs.SampleActs.{sample_act};
+ghost use Rattle.rtps_fragments.specs.SamplesSent.{noted_act as noted_act_lem};
 ghost use Rattle.rtps_fragments.specs.Telling.{told_value};
 
+use crate::addressed::UNKNOWN;
 use crate::told_sample::ToldSample;
 use rtps_ids::{Memory, SeqNum};
 use rtps_receiver::{Act, ActBody, FragmentBody};
-use rtps_wire::Payload;
+use rtps_wire::{DataBody, Payload};
 use std::alloc::Global;
 use std::slice;
 
-/// The sample that a DATA_FRAG of this number tells, as an act.
-fn told_act<'s>(act: &Act<'s>, number: SeqNum, told: &'s ToldSample) -> Act<'s>
-    ensures { act_value result ≡ sample_act (act_value act.now) number (told_value told.now).audience (told_value told.now).payload }
+/// The form in which a sample that is told stands among acts.
+#[derive(Clone, Copy)]
+pub(crate) enum SampleForm {
+    /// As a DATA_FRAG that tells it to its audience.
+    ForAudience,
+    /// As a DATA for everyone.
+    ForEveryone,
+}
+
+/// The payload of a sample.
+fn payload_of(told: &ToldSample) -> Payload<'_>
+    ensures { payload_value result ≡ (told_value told.now).payload }
 {
-    let payload = if told.is_key {
+    if told.is_key {
         Payload::Key(&told.octets)
     } else {
         Payload::Whole(&told.octets)
-    };
+    }
+}
+
+/// The sample that a DATA_FRAG of this number tells, as a DATA_FRAG that tells it to its audience.
+fn told_act<'s>(act: &Act<'s>, number: SeqNum, told: &'s ToldSample) -> Act<'s>
+    ensures { act_value result ≡ sample_act (act_value act.now) number (told_value told.now).audience (told_value told.now).payload }
+{
     Act {
         at: act.at,
         source: act.source,
@@ -32,20 +50,57 @@ fn told_act<'s>(act: &Act<'s>, number: SeqNum, told: &'s ToldSample) -> Act<'s>
             reader: told.audience.reader,
             writer: act.origin().entity,
             number,
-            told: Some(payload),
+            told: Some(payload_of(told)),
         }),
     }
 }
 
+/// The same as a DATA for everyone.
+fn noted_act<'s>(act: &Act<'s>, number: SeqNum, told: &'s ToldSample) -> Act<'s>
+    ensures { act_value result ≡ noted_act_lem (act_value act.now) number (told_value told.now).payload }
+{
+    Act {
+        at: act.at,
+        source: act.source,
+        version: act.version,
+        vendor: act.vendor,
+        dest: None,
+        stamp: act.stamp,
+        order: act.order,
+        body: ActBody::Data(DataBody {
+            reader: UNKNOWN,
+            writer: act.origin().entity,
+            number,
+            qos: None,
+            payload: payload_of(told),
+        }),
+    }
+}
+
+/// The same in this form.
+fn act_as<'s>(form: SampleForm, act: &Act<'s>, number: SeqNum, told: &'s ToldSample) -> Act<'s>
+    ensures { act_value result ≡ act_as_lem form (act_value act.now) number (told_value told.now) }
+{
+    match form {
+        SampleForm::ForAudience => told_act(act, number, told),
+        SampleForm::ForEveryone => noted_act(act, number, told),
+    }
+}
+
 /// Appends the samples that an act tells.
-fn push_told<'s>(acts: &mut Vec<Act<'s>>, act: &Act<'s>, told: &'s [ToldSample]) -> Result<(), Memory>
-    ensures { OnOk result (map act_value acts.new.items ≡ map act_value acts.old.items ++ acts_told (act_value act.now) (act_value act.now).body (map told_value told.now)) }
+fn push_told<'s>(
+    acts: &mut Vec<Act<'s>>,
+    form: SampleForm,
+    act: &Act<'s>,
+    told: &'s [ToldSample],
+) -> Result<(), Memory>
+    ensures { OnOk result (map act_value acts.new.items ≡ map act_value acts.old.items ++ acts_told form (act_value act.now) (act_value act.now).body (map told_value told.now)) }
 {
     let ActBody::DataFrag(fragment) = &act.body else {
         return Ok(());
     };
     for one in told {
-        let sample = told_act(act, fragment.number, one);
+        let sample = act_as(form, act, fragment.number, one);
         acts.extend_from_slice(slice::from_ref(&sample))?;
     }
     Ok(())
@@ -65,13 +120,14 @@ fn run_length(told: &[ToldSample], act: usize) -> usize
     told.len()
 }
 
-/// The acts of a datagram, and behind each the samples that it tells.
+/// The acts of a datagram, and behind each the samples that it tells, in this form.
 pub(crate) fn merge<'s>(
     alloc: Global,
+    form: SampleForm,
     acts: &[Act<'s>],
     told: &'s [ToldSample],
 ) -> Result<Vec<Act<'s>>, Memory>
-    ensures { IfOk result (λ merged. map act_value merged.items ≡ merged_from 0 (map act_value acts.now) (map told_value told.now)) }
+    ensures { IfOk result (λ merged. map act_value merged.items ≡ merged_from form 0 (map act_value acts.now) (map told_value told.now)) }
 {
     let mut merged = Vec::new(alloc);
     let mut rest = told;
@@ -79,7 +135,7 @@ pub(crate) fn merge<'s>(
         let act = &acts[place];
         merged.extend_from_slice(slice::from_ref(act))?;
         let (run, behind) = rest.split_at(run_length(rest, place));
-        push_told(&mut merged, act, run)?;
+        push_told(&mut merged, form, act, run)?;
         rest = behind;
     }
     Ok(merged)

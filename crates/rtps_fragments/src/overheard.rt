@@ -1,9 +1,11 @@
 ghost use Rattle.std.specs.Prelude.{◌≡◌, ◌++◌, ◌∷◌, [], map, All, IfOk, List, OnOk};
+ghost use Rattle.rtps_fragments.specs.Announcing.{is_built_in as is_built_in_lem};
 ghost use Rattle.rtps_fragments.specs.Merging.{sents_from};
-ghost use Rattle.rtps_fragments.specs.Overheard.{AreOverheard, AreOverheardOf, everyone, overheard, overheard_in_turn};
+ghost use Rattle.rtps_fragments.specs.Overheard.{AreOverheard, AreOverheardOf, overheard_behind, overheard_in_turn};
 ghost use Rattle.rtps_fragments.specs.Sending.{piece_acts_of};
-ghost use Rattle.rtps_fragments.specs.Telling.{IsSent, SentValue, sent_value, told_by_sent, told_value};
+ghost use Rattle.rtps_fragments.specs.Telling.{IsSent, SentValue, sent_value, told_value};
 
+use crate::addressed::UNKNOWN;
 use crate::came::Came;
 use crate::hearing::{Hearing, Listener, tell_listener};
 use crate::piece::SentFragments;
@@ -14,18 +16,26 @@ use rtps_receiver::Audience;
 use std::alloc::Global;
 use std::collections::BTreeMap;
 
-/// The entity id that names every reader.
-const UNKNOWN: EntityId = EntityId([0; 4]);
+/// The least last octet of the entity id of a built-in entity: its two highest bits are set (DDSI-RTPS 2.5, 9.3.1.2 "Mapping of
+/// the EntityId_t").
+const BUILT_IN: u8 = 0xc0;
 
-/// What came of each sample, whoever it was sent to.
+/// Whether an entity is a built-in one.
+fn is_built_in(entity: EntityId) -> bool
+    ensures { result ≡ is_built_in_lem entity }
+{
+    entity.0[3] >= BUILT_IN
+}
+
+/// What came of each sample of a built-in writer, whoever it was sent to.
 #[derive(Drop)]
 pub(crate) struct Overheard<'a> {
     pub(crate) came: BTreeMap<Hearing, Came<'a>>,
     alloc: Global,
 }
 
-/// Fragments come, and the samples that they tell a reader which hears everything are appended. After `Memory` what is kept is
-/// of no use.
+/// Fragments come, and the samples that they tell a reader which hears everything are appended, if their writer is a built-in one.
+/// After `Memory` what is kept is of no use.
 fn overhear<'a>(
     kept: &mut BTreeMap<Hearing, Came<'a>>,
     alloc: Global,
@@ -34,8 +44,11 @@ fn overhear<'a>(
 ) -> Result<(), Memory>
     requires { IsSent sent.now }
     ensures { OnOk result ((before : List SentValue) → AreOverheard before kept.old → AreOverheard (before ++ sent_value sent.now ∷ []) kept.new
-        × (map told_value told.new.items ≡ map told_value told.old.items ++ told_by_sent (sent_value sent.now) everyone (overheard (sent_value sent.now).key before))) }
+        × (map told_value told.new.items ≡ map told_value told.old.items ++ overheard_behind before (sent_value sent.now))) }
 {
+    if !is_built_in(sent.key.writer.entity) {
+        return Ok(());
+    }
     let listener = Listener {
         hearing: Hearing {
             sample: sent.key,
@@ -78,10 +91,10 @@ impl<'a> Overheard<'a> {
     }
 }
 
-/// The samples that the DATA_FRAG of a recording tell a reader which hears everything, put together, for each datagram those that
-/// its acts tell.
+/// The samples of built-in writers that the DATA_FRAG of a recording tell a reader which hears everything, put together, for each
+/// datagram those that its acts tell.
 #[derive(Drop)]
-pub struct OverheardSamples {
+pub(crate) struct OverheardSamples {
     pub(crate) told: Vec<Vec<ToldSample>>,
 }
 
@@ -101,9 +114,18 @@ fn overhear_datagram<'a>(
 }
 
 impl OverheardSamples {
-    /// Puts the samples of a recording together, whoever hears them, any datagrams in the order of sending. `Memory` is answered
-    /// where there is none for them.
-    pub fn of(alloc: Global, recording: &[&[u8]]) -> Result<OverheardSamples, Memory>
+    /// No samples. It takes no memory.
+    pub(crate) fn none(alloc: Global) -> OverheardSamples
+        ensures { AreOverheardOf [] result }
+    {
+        OverheardSamples {
+            told: Vec::new(alloc),
+        }
+    }
+
+    /// Puts the samples of the built-in writers of a recording together, whoever hears them, any datagrams in the order of
+    /// sending. `Memory` is answered where there is none for them.
+    pub(crate) fn of(alloc: Global, recording: &[&[u8]]) -> Result<OverheardSamples, Memory>
         ensures { IfOk result (AreOverheardOf (map (λ datagram. datagram.now) recording.now)) }
     {
         let mut overheard = Overheard::new(alloc);

@@ -1,4 +1,4 @@
-ghost use Rattle.std.specs.Prelude.{ℕ, ◌≡◌, ◌+◌, ◌<◌, ◌^◌, ◌×◌, map, IfOk, IfSome, List, OnOk};
+ghost use Rattle.std.specs.Prelude.{ℕ, ◌≡◌, ◌+◌, ◌<◌, ◌^◌, map, IfOk, IfSome, List, OnOk};
 ghost use Rattle.rtps_audit.specs.Index.{IsIndexBy, IsIndexOf};
 ghost use Rattle.rtps_audit.specs.Intake.{Intake, intake_more};
 ghost use Rattle.rtps_fragments.specs.Merging.{merged_from};
@@ -7,12 +7,13 @@ ghost use Rattle.rtps_fragments.specs.FragmentVerdict.{IsFragmentVerdictFrom};
 ghost use Rattle.rtps_fragments.specs.SampleActs.{fragment_speech_of};
 ghost use Rattle.rtps_fragments.specs.Sending.{piece_acts_of, sending_of};
 ghost use Rattle.rtps_fragments.specs.Telling.{told_value};
+ghost use Rattle.rtps_fragments.specs.declared.merging.SampleForm.TheVariants.{ForAudience, ForEveryone};
 ghost use Rattle.rtps_wire.specs.Reading.{reading_of};
 ghost use Rattle.rtps_wire.specs.Tally.{tally_of};
 
 use crate::fragments::Fragments;
 use crate::laws::recorded_verdict_is_of_runs;
-use crate::merging::merge;
+use crate::merging::{SampleForm, merge};
 use crate::samples::Samples;
 use crate::sending::Sending;
 use crate::told_sample::ToldSample;
@@ -23,20 +24,36 @@ use rtps_receiver::Walk;
 use rtps_wire::tally;
 use std::alloc::Global;
 
+/// The samples that the acts of one datagram tell.
+#[derive(Clone, Copy)]
+struct DatagramSamples<'s> {
+    /// Each audience.
+    told: &'s [ToldSample],
+    /// A reader that hears everything, of built-in writers.
+    overheard: &'s [ToldSample],
+}
+
 /// Takes in one datagram more, and behind each of its acts the samples that it tells. After `Memory` the index is of no use.
 fn note_datagram<'s>(
     index: &mut Index<'s>,
     alloc: Global,
     datagram: &'s [u8],
-    told: &'s [ToldSample],
+    samples: &DatagramSamples<'s>,
 ) -> Result<(), Memory>
     requires { index.old.tallies.datagrams + 1 < 2 ^ 64 }
     ensures { OnOk result ((intake : Intake) → IsIndexBy intake index.old
-        → IsIndexBy (intake_more intake (tally_of (reading_of datagram.now)) (merged_from 0 (map (λ one. one.act) (piece_acts_of datagram.now)) (map told_value told.now)) (map (λ one. one.act) (piece_acts_of datagram.now))) index.new) }
+        → IsIndexBy (intake_more intake (tally_of (reading_of datagram.now)) (merged_from ForAudience 0 (map (λ one. one.act) (piece_acts_of datagram.now)) (map told_value samples.now.told.now))
+        (merged_from ForEveryone 0 (map (λ one. one.act) (piece_acts_of datagram.now)) (map told_value samples.now.overheard.now))) index.new) }
 {
     let sending = Sending::read(alloc, datagram)?;
-    let acts = merge(alloc, &sending.acts, told)?;
-    index.note(tally(datagram), &acts, &sending.acts)?;
+    let acts = merge(alloc, SampleForm::ForAudience, &sending.acts, samples.told)?;
+    let announcing = merge(
+        alloc,
+        SampleForm::ForEveryone,
+        &sending.acts,
+        samples.overheard,
+    )?;
+    index.note(tally(datagram), &acts, &announcing)?;
     Ok(())
 }
 
@@ -51,7 +68,11 @@ pub fn index_with<'s>(
 {
     let mut index = Index::new(alloc);
     for place in 0..recording.len() {
-        note_datagram(&mut index, alloc, recording[place], &samples.told[place])?;
+        let told = DatagramSamples {
+            told: &samples.told[place],
+            overheard: &samples.overheard.told[place],
+        };
+        note_datagram(&mut index, alloc, recording[place], &told)?;
     }
     Ok(index)
 }

@@ -4,6 +4,7 @@ ghost use Rattle.rtps_fragments.specs.RecordedSamples.{AreSamplesOf};
 ghost use Rattle.rtps_fragments.specs.Sending.{piece_acts_of, sending_of};
 ghost use Rattle.rtps_fragments.specs.Telling.{AreAddressed, AreHeard, SentValue, sent_value, told_in_turn, told_value};
 
+use crate::overheard::OverheardSamples;
 use crate::piece::SentFragments;
 use crate::sending::Sending;
 use crate::telling::{Addresses, Telling};
@@ -15,6 +16,8 @@ use std::alloc::Global;
 #[derive(Drop)]
 pub struct Samples {
     pub(crate) told: Vec<Vec<ToldSample>>,
+    /// Those of built-in writers, whoever hears them.
+    pub(crate) overheard: OverheardSamples,
 }
 
 /// Notes to whom these fragments are sent. After `Memory` the addresses are of no use.
@@ -72,10 +75,11 @@ impl Samples {
     {
         Samples {
             told: Vec::new(alloc),
+            overheard: OverheardSamples::none(alloc),
         }
     }
 
-    /// Puts the samples of a recording together, any datagrams in the order of sending. The octets of each are read twice.
+    /// Puts the samples of a recording together, any datagrams in the order of sending. The octets of each are read three times.
     /// `Memory` is answered where there is none for them.
     pub fn of(alloc: Global, recording: &[&[u8]]) -> Result<Samples, Memory>
         ensures { IfOk result (AreSamplesOf (map (λ datagram. datagram.now) recording.now)) }
@@ -86,6 +90,7 @@ impl Samples {
         for datagram in recording {
             told.push(tell_datagram(&mut telling, alloc, datagram)?)?;
         }
-        Ok(Samples { told })
+        let overheard = OverheardSamples::of(alloc, recording)?;
+        Ok(Samples { told, overheard })
     }
 }

@@ -7,4 +7,4 @@ use Rattle.rtps_fragments.proofs.merging.merge.Given as goal
 -- what is merged so far and what is left are all
 abbrev pub invariant-loop-place : goal.invariant-loop-place
 invariant-loop-place l =
-    map act_value l.merged.items ++ merged_from l.place (drop l.place (map act_value l.acts)) (map told_value l.rest) ≡ merged_from 0 (map act_value l.acts) (map told_value l.told)
+    map act_value l.merged.items ++ merged_from l.form l.place (drop l.place (map act_value l.acts)) (map told_value l.rest) ≡ merged_from l.form 0 (map act_value l.acts) (map told_value l.told)

@@ -7,4 +7,4 @@ use Rattle.rtps_fragments.proofs.merging.push_told.Given as goal
 -- the samples so far
 abbrev pub invariant-loop-one : goal.invariant-loop-one
 invariant-loop-one l =
-    map act_value l.acts.items ≡ map act_value l.fn.acts.items ++ acts_told (act_value l.act) (act_value l.act).body (map told_value (take l.one-index l.told))
+    map act_value l.acts.items ≡ map act_value l.fn.acts.items ++ acts_told l.form (act_value l.act) (act_value l.act).body (map told_value (take l.one-index l.told))

@@ -34,4 +34,7 @@ pub returns : goal.returns
 returns c =
     let recording = c.args.recording.now in
     let whole = take_all c.loop-datagram.datagram-index recording (omega (arith, c.loop-datagram-test.false)) in
-    c.loop-datagram.invariant.told ∙ ap (λ l. told_by_datagram (sents_in (sending_of (octets_of recording))) [] (sending_of (octets_of l))) whole
+    record {
+      told = c.loop-datagram.invariant.told ∙ ap (λ l. told_by_datagram (sents_in (sending_of (octets_of recording))) [] (sending_of (octets_of l))) whole;
+      overheard = c.in_ok-overheard.ensures;
+    }
