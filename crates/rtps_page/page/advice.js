@@ -5,7 +5,13 @@
 const SHARED_MEMORY = 'Shared memory and TCP are not in such a recording.';
 const QUIET_END = 'Record to a quiet end: stop publishing, wait some seconds, then stop the recording, with the writers still alive.';
 const KEEP_MORE = 'Raise the writer’s history depth or lifespan.';
-const IN_FRAGMENTS = 'Read the capture with --any, which puts IP packets together. Samples in DATA_FRAG are not read: use smaller samples.';
+const NEVER_WHOLE = 'Record at the writer’s side, from before the start, and look for dropped frames.';
+
+// What puts together what came in pieces, of what was not asked for.
+function putTogetherText({ any, fragments }) {
+  const ways = [!any && '--any, which puts IP packets together', !fragments && '--fragments, which puts samples together'];
+  return `Use ${ways.filter(Boolean).join(', and ')}.`;
+}
 
 const inDatagram = (place) => `datagram ${place.datagram}`;
 
@@ -111,7 +117,7 @@ const UNFOUNDED = [
   },
   {
     fits: ({ row }) => row.told !== null,
-    means: ({ row }) => `Sample ${row.number} was first ${row.told.by === 'data' ? 'sent' : 'told'} in ${inDatagram(row.told)}, behind the `
+    means: ({ row }) => `Sample ${row.number} was first ${toldHow(row.told)} in ${inDatagram(row.told)}, behind the `
       + 'answer. The datagrams are out of order, as in captures of two hosts that were merged; or the copy that the reader received is not '
       + 'in the recording.',
     todo: () => 'Record at the writer’s side, on one interface, and see whether tcpdump dropped packets.',
@@ -120,7 +126,12 @@ const UNFOUNDED = [
     fits: ({ report: { counts, options } }) => (isAbove(counts.fragments, 0) && !options.fragments)
       || (isAbove(counts.ignored || 0, 0) && !options.any),
     means: ({ row }) => `${notSentText(row)} It may have come in fragments, or in a frame that gave no datagram.`,
-    todo: () => IN_FRAGMENTS,
+    todo: ({ report }) => putTogetherText(report.options),
+  },
+  {
+    fits: ({ report: { counts } }) => isAbove(counts.fragments, 0),
+    means: ({ row }) => `${notSentText(row)} It may have come in fragments of which the recording has not all.`,
+    todo: () => NEVER_WHOLE,
   },
   {
     fits: ({ row }) => row.announced === null || isAbove(row.number, row.announced.number),
@@ -256,8 +267,10 @@ function fragments({ counts, options }) {
   if (!isAbove(counts.fragments, 0)) return null;
   return {
     count: plural(counts.fragments, 'fragment'),
-    means: 'Submessages of fragmented samples were not read as samples. Their rows are unfounded or open, also if all is well.',
-    todo: options.fragments ? 'Their samples never came whole. Record from before the start, and look for dropped frames.' : IN_FRAGMENTS,
+    means: options.fragments
+      ? 'Their samples never came whole, so rows of them are unfounded or open.'
+      : 'Submessages of fragmented samples were not read as samples. Their rows are unfounded or open, also if all is well.',
+    todo: options.fragments ? NEVER_WHOLE : putTogetherText(options),
   };
 }
 

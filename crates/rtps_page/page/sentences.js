@@ -3,6 +3,9 @@
 
 const KIND_OF_ACT = { data: 'a DATA', heartbeat: 'a HEARTBEAT', gap: 'a GAP', data_frag: 'a DATA_FRAG' };
 
+// Whether it was sent itself, or told gone.
+const toldHow = ({ by }) => (by === 'data' || by === 'data_frag' ? 'sent' : 'told');
+
 // A place: the datagram, and the octet of it at which the submessage begins.
 function placeText(place) {
   return `datagram ${place.datagram}, octet ${place.at}`;
@@ -42,7 +45,7 @@ function sinceOf(row) {
   const { number, told, announced } = row;
   if (row.verdict === 'unfounded') return { datagram: row.datagram, what: `${number} acknowledged too early` };
   if (row.verdict === 'conflict') return { datagram: row.sent[1].datagram, what: `${number} sent with another payload` };
-  if (row.verdict === 'open' && told) return { datagram: told.datagram, what: `${number} first ${told.by === 'data' ? 'sent' : 'told'}` };
+  if (row.verdict === 'open' && told) return { datagram: told.datagram, what: `${number} first ${toldHow(told)}` };
   if (row.verdict === 'open') return { datagram: announced.datagram, what: `${announced.number} announced` };
   if (row.kind === 'missed') return { datagram: row.first_missed.asked.datagram, what: `${row.first_missed.number} asked for` };
   const { gone, number: first } = (row.kind === 'gone' && row.not_received) || {};

@@ -12,8 +12,7 @@ use Rattle.rtps_discovery.specs.Directory.{DirectoryValue, settled_in}
 use Rattle.rtps_discovery.specs.declared.matching.Pair.{Pair}
 use Rattle.rtps_receiver.specs.Speech.{is_spoken_by}
 use Rattle.rtps_wire.specs.Values.{PayloadValue}
-use Rattle.rtps_audit.specs.Placed.{PlacedValue, answers_among, placed_in}
-use Rattle.rtps_audit.specs.Speech.{acts_by_datagram}
+use Rattle.rtps_audit.specs.Placed.{PlacedValue, answers_among}
 use Rattle.rtps_audit.specs.declared.report.Counts.{Counts}
 use Rattle.rtps_evidence.specs.Explanation.{ExplanationValue}
 use Rattle.rtps_evidence.specs.declared.location.Location.{Location}
@@ -23,7 +22,7 @@ use Rattle.rtps_text.specs.Recording.{RecordingValue}
 use Rattle.rtps_text.proofs.Offered.{joined, report_depth, whole}
 use Rattle.rtps_page.specs.ChartEntries.{base_json, entries_at, entries_of, entry_json, gone_json, members_of as numbers_of, named_json, one_gone_json, piece_json}
 use Rattle.rtps_page.specs.ChartRoom.{charted_pairs, writers_behind}
-use Rattle.rtps_page.specs.PageData.{answers_json, chart_members, directory_members, endpoint_json, expect_json, guid_json, option_members, page_json, report_members, writer_json}
+use Rattle.rtps_page.specs.PageData.{acts_judged, answers_json, chart_members, directory_members, endpoint_json, expect_json, guid_json, option_members, page_json, report_members, writer_json}
 
 -- ---- tokens
 
@@ -129,7 +128,7 @@ chart_part acts pairs =
 pub page_within : (asked : AskedValue) (rows : List ExplanationValue) (counts : Counts) (recording : RecordingValue) (directory : DirectoryValue)
     → depth (page_json asked rows counts recording directory) ≤ max_depth
 page_within asked rows counts recording directory =
-    let acts = placed_in (acts_by_datagram recording.datagrams) in
+    let acts = acts_judged asked recording in
     let pairs = charted_pairs acts rows in
     let late = joined 5 (directory_members directory) (chart_members acts pairs) (directory_part directory) (chart_part acts pairs) in
     let all = joined 5 (report_members asked rows counts recording) (directory_members directory ++ chart_members acts pairs) (report_part asked rows counts recording) late in

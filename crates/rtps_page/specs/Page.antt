@@ -6,9 +6,10 @@ use Rattle.json.specs.Json.{Json, document}
 use Rattle.json.specs.Print.{print}
 use Rattle.json.specs.Tree.{json_tokens}
 use Rattle.rtps_discovery.specs.Directory.{DirectoryValue, IsMapOf}
-use Rattle.rtps_audit.specs.Intake.{acts_together, intake_of}
+use Rattle.rtps_audit.specs.Intake.{acts_together}
 use Rattle.rtps_evidence.specs.Explanation.{ExplanationValue, explanation_value}
 use Rattle.rtps_evidence.specs.declared.explanation.Explained.{Explained}
+use Rattle.rtps_fragments.specs.RecordedSamples.{intake_as}
 use Rattle.rtps_text.specs.Asked.{AskedValue}
 use Rattle.rtps_text.specs.Findings.{ending_as}
 use Rattle.rtps_text.specs.Recording.{RecordingValue}
@@ -49,7 +50,7 @@ pub record IsPage (asked : AskedValue) (recording : RecordingValue) (page : List
   pub explained : Explained
   pub explains : IsExplainedAs asked recording.datagrams explained
   pub directory : DirectoryValue
-  pub is_map : IsMapOf (acts_together (intake_of recording.datagrams).announcing) directory
+  pub is_map : IsMapOf (acts_together (intake_as asked.fragments recording.datagrams).announcing) directory
   pub is_page : IsPageWith (map explanation_value explained.rows.items)
       (page_json asked (map explanation_value explained.rows.items) explained.counts recording directory) page
   pub ends : ending ≡ ending_as asked (facts_of_rows (map explanation_value explained.rows.items) explained.counts recording)

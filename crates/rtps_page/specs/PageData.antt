@@ -1,7 +1,7 @@
 -- The data of a page: one value of JSON. RFC 8259 "The JavaScript Object Notation (JSON) Data Interchange Format".
 -- own: what was asked, the report as `audit --json` prints it, what discovery announced as `list` prints it, and for the rows
 -- that have a chart what their writers say and their readers answer. Members stand in the order given here.
-use Rattle.std.specs.Prelude.{ℕ, ◌≡◌, Bool, false, is_some, ◌==◌, ◌++◌, List, [], ◌∷◌, codes, length, map, count_by, Option, None, Some}
+use Rattle.std.specs.Prelude.{ℕ, ◌≡◌, Bool, is_some, ◌==◌, ◌++◌, List, [], ◌∷◌, codes, length, map, count_by, Option, None, Some}
 use Rattle.std.specs.Str.{IsUtf8}
 use Rattle.json.specs.Json.{Json, boolean, null, string}
 use Rattle.json.specs.Lex.{tokens}
@@ -12,10 +12,10 @@ use Rattle.rtps_discovery.specs.Directory.{DirectoryValue, settled_in}
 use Rattle.rtps_discovery.specs.Endpoint.{EndpointValue}
 use Rattle.rtps_discovery.specs.declared.matching.Pair.{Pair}
 use Rattle.rtps_audit.specs.Placed.{PlacedValue, answers_among, placed_in}
-use Rattle.rtps_audit.specs.Speech.{acts_by_datagram}
 use Rattle.rtps_audit.specs.declared.report.Counts.{Counts}
 use Rattle.rtps_evidence.specs.Explanation.{ExplanationValue, explanation_value}
-use Rattle.rtps_text.specs.Asked.{AskedValue, asked_value}
+use Rattle.rtps_fragments.specs.RecordedSamples.{intake_as}
+use Rattle.rtps_text.specs.Asked.{AskedValue, are_read, asked_value}
 use Rattle.rtps_text.specs.JsonText.{Member, array_of, count_json, name_json, object_of, report_json}
 use Rattle.rtps_text.specs.ListText.{durability_text, guid_text, reliability_text, side_text}
 use Rattle.rtps_text.specs.Recording.{RecordingValue}
@@ -28,9 +28,9 @@ abbrev pub expect_json : Option ℕ → Json
 expect_json None = null
 expect_json (Some rows) = count_json rows
 
--- what was asked, and whether any capture was read; samples in fragments are not read
+-- what was asked, and whether any capture was read
 abbrev pub option_members : AskedValue → Bool → List Member
-option_members asked any = (codes "from", count_json asked.from) ∷ (codes "any", boolean any) ∷ (codes "fragments", boolean false)
+option_members asked any = (codes "from", count_json asked.from) ∷ (codes "any", boolean any) ∷ (codes "fragments", boolean (are_read asked.fragments))
     ∷ (codes "observed", boolean asked.rows.observed) ∷ (codes "strict", boolean asked.strict)
     ∷ (codes "topics", array_of (map string asked.rows.topics)) ∷ (codes "expect", expect_json asked.expect) ∷ []
 
@@ -76,11 +76,15 @@ abbrev pub chart_members : List PlacedValue → List Pair → List Member
 chart_members acts pairs = (codes "writers", array_of (map (writer_json acts) (writers_behind None pairs)))
     ∷ (codes "answers", array_of (map (answers_json acts) pairs)) ∷ []
 
+-- the acts that the verdicts are by, with their places
+abbrev pub acts_judged : AskedValue → RecordingValue → List PlacedValue
+acts_judged asked recording = placed_in (intake_as asked.fragments recording.datagrams).acts
+
 -- all of it
 abbrev pub page_json : AskedValue → List ExplanationValue → Counts → RecordingValue → DirectoryValue → Json
 page_json asked rows counts recording directory =
     object_of (report_members asked rows counts recording
-    ++ (directory_members directory ++ chart_members (placed_in (acts_by_datagram recording.datagrams)) (charted_pairs (placed_in (acts_by_datagram recording.datagrams)) rows)))
+    ++ (directory_members directory ++ chart_members (acts_judged asked recording) (charted_pairs (acts_judged asked recording) rows)))
 
 -- the rows of what the code makes a page of
 abbrev pub rows_in : Subject → List ExplanationValue
@@ -90,7 +94,7 @@ rows_in subject = map explanation_value subject.explained.now.rows.items
 abbrev pub members_in : Subject → List Pair → List Member
 members_in subject pairs =
     report_members (asked_value subject.asked.now) (rows_in subject) subject.explained.now.counts subject.recording.now
-    ++ (directory_members subject.directory.now ++ chart_members (placed_in (acts_by_datagram subject.recording.now.datagrams)) pairs)
+    ++ (directory_members subject.directory.now ++ chart_members (acts_judged (asked_value subject.asked.now) subject.recording.now) pairs)
 
 -- its data
 abbrev pub json_in : Subject → Json

@@ -2,7 +2,7 @@ ghost use Rattle.std.specs.Prelude.{◌≡◌, ◌++◌, IfOk};
 ghost use Rattle.std.specs.Str.{IsUtf8};
 ghost use Rattle.std.specs.String.{string_bytes};
 ghost use Rattle.rtps_audit.specs.Index.{IsIndexBy};
-ghost use Rattle.rtps_audit.specs.Intake.{intake_of};
+ghost use Rattle.rtps_fragments.specs.RecordedSamples.{intake_as};
 ghost use Rattle.rtps_text.specs.Asked.{asked_value};
 ghost use Rattle.rtps_page.specs.Page.{IsPage, IsPageOf};
 ghost use Rattle.rtps_page.specs.SafeText.{in_json, in_line, safe_text};
@@ -12,10 +12,11 @@ use crate::page_data::{Subject, data_of};
 use crate::page_parts::{HEAD, MIDDLE, TAIL};
 use crate::plain_rows::rows_of;
 use crate::safe_text::push_safe;
-use rtps_audit::{Index, Watch};
+use rtps_audit::Watch;
 use rtps_evidence::explain_index;
+use rtps_fragments::Samples;
 use rtps_ids::Memory;
-use rtps_text::{Asked, Ending, Recording, datagrams_of, ending_asked, rows_asked};
+use rtps_text::{Asked, Ending, Recording, ending_asked, index_asked, rows_asked};
 use std::alloc::{AllocError, Global};
 
 /// What `page` writes of a recording, of what is asked, and how it ends: as `audit` does. It tells how far it is. `Memory` is
@@ -28,10 +29,10 @@ pub fn page_text<'a, P: Watch>(
 ) -> Result<(String, Ending), Memory>
     ensures { IfOk result (λ page. IsPage (asked_value asked.now) recording.now (string_bytes page.0) page.1) }
 {
-    let datagrams = datagrams_of(alloc, recording)?;
-    let index = Index::build(alloc, &datagrams)?;
-    let explained = explain_index(alloc, &index, asked.from, watch)?;
-    let explained = rows_asked(alloc, explained, asked, &datagrams)?;
+    let mut samples = Samples::none(alloc);
+    let index = index_asked(alloc, recording, asked, &mut samples)?;
+    let whole = explain_index(alloc, &index, asked.from, watch)?;
+    let explained = rows_asked(alloc, whole, asked, recording)?;
     let subject = Subject {
         asked,
         recording,
@@ -44,8 +45,8 @@ pub fn page_text<'a, P: Watch>(
 }
 
 /// The page of its rows and data.
-fn page_of(alloc: Global, subject: &Subject<'_, '_>) -> Result<String, Memory>
-    requires { IsIndexBy (intake_of subject.now.recording.now.datagrams) subject.now.index.now }
+fn page_of(alloc: Global, subject: &Subject<'_, '_, '_>) -> Result<String, Memory>
+    requires { IsIndexBy (intake_as subject.now.asked.now.fragments subject.now.recording.now.datagrams) subject.now.index.now }
     ensures { IfOk result (λ page. IsPageOf subject.now (string_bytes page)) }
 {
     let rows = rows_of(alloc, &subject.explained.rows)?;

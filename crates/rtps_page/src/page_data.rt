@@ -5,8 +5,9 @@ ghost use Rattle.json.specs.Json.{string};
 ghost use Rattle.json.specs.Token.{boolean, key};
 ghost use Rattle.json.specs.Tree.{json_tokens};
 ghost use Rattle.rtps_audit.specs.Index.{IsIndexBy};
-ghost use Rattle.rtps_audit.specs.Intake.{Intake, intake_of};
+ghost use Rattle.rtps_audit.specs.Intake.{Intake};
 ghost use Rattle.rtps_audit.specs.Placed.{placed_in};
+ghost use Rattle.rtps_fragments.specs.RecordedSamples.{intake_as};
 ghost use Rattle.rtps_text.specs.Asked.{asked_value};
 ghost use Rattle.rtps_text.specs.JsonText.{array_of, object_of, tokens_of};
 ghost use Rattle.rtps_page.specs.ChartRoom.{writers_behind};
@@ -26,12 +27,12 @@ use std::alloc::{AllocError, Global};
 
 /// What a page is made of.
 #[derive(Clone, Copy)]
-pub(crate) struct Subject<'r, 'i> {
+pub(crate) struct Subject<'r, 'i, 'a> {
     pub(crate) asked: &'r Asked<'r>,
     pub(crate) recording: &'r Recording,
-    pub(crate) index: &'i Index<'r>,
-    pub(crate) directory: &'i Directory<'r>,
-    pub(crate) explained: &'i Explained<'r>,
+    pub(crate) index: &'i Index<'a>,
+    pub(crate) directory: &'i Directory<'a>,
+    pub(crate) explained: &'i Explained<'a>,
 }
 
 /// Appends a member that is true or false.
@@ -85,7 +86,7 @@ fn push_option_members(writer: &mut Writer, asked: &Asked<'_>, any: bool) -> Res
 {
     push_count(writer, "from", asked.from.get().cast_unsigned())?;
     push_flag(writer, "any", any)?;
-    push_flag(writer, "fragments", false)?;
+    push_flag(writer, "fragments", asked.reads_fragments())?;
     push_flag(writer, "observed", asked.rows.observed)?;
     push_flag(writer, "strict", asked.strict)?;
     push_topics(writer, asked.rows.topics)?;
@@ -121,7 +122,7 @@ fn one_octet_among(recording: &Recording) -> u64
 fn push_reported(
     alloc: Global,
     writer: &mut Writer,
-    subject: &Subject<'_, '_>,
+    subject: &Subject<'_, '_, '_>,
 ) -> Result<(), AllocError>
     ensures tokens { OnOk result (writer.new.tokens ≡ writer.old.tokens
         ++ tokens_of (report_members (asked_value subject.now.asked.now) (rows_in subject.now)
@@ -193,10 +194,10 @@ fn push_charts(
 fn push_members(
     alloc: Global,
     writer: &mut Writer,
-    subject: &Subject<'_, '_>,
+    subject: &Subject<'_, '_, '_>,
     pairs: &[Pair],
 ) -> Result<(), Memory>
-    requires { IsIndexBy (intake_of subject.now.recording.now.datagrams) subject.now.index.now }
+    requires { IsIndexBy (intake_as subject.now.asked.now.fragments subject.now.recording.now.datagrams) subject.now.index.now }
     ensures tokens { OnOk result (writer.new.tokens ≡ writer.old.tokens ++ tokens_of (members_in subject.now pairs.now)) }
     ensures before { writer.new.before ≡ writer.old.before }
 {
@@ -211,10 +212,10 @@ fn push_members(
 fn push_data(
     alloc: Global,
     writer: &mut Writer,
-    subject: &Subject<'_, '_>,
+    subject: &Subject<'_, '_, '_>,
     pairs: &[Pair],
 ) -> Result<(), Memory>
-    requires { IsIndexBy (intake_of subject.now.recording.now.datagrams) subject.now.index.now }
+    requires { IsIndexBy (intake_as subject.now.asked.now.fragments subject.now.recording.now.datagrams) subject.now.index.now }
     ensures tokens { OnOk result (writer.new.tokens ≡ writer.old.tokens ++ json_tokens (object_of (members_in subject.now pairs.now))) }
     ensures before { writer.new.before ≡ writer.old.before }
 {
@@ -225,8 +226,8 @@ fn push_data(
 }
 
 /// The text of the data.
-pub(crate) fn data_of(alloc: Global, subject: &Subject<'_, '_>) -> Result<Vec<u8>, Memory>
-    requires { IsIndexBy (intake_of subject.now.recording.now.datagrams) subject.now.index.now }
+pub(crate) fn data_of(alloc: Global, subject: &Subject<'_, '_, '_>) -> Result<Vec<u8>, Memory>
+    requires { IsIndexBy (intake_as subject.now.asked.now.fragments subject.now.recording.now.datagrams) subject.now.index.now }
     ensures { IfOk result (λ text. IsPrinted (json_in subject.now) text.items) }
 {
     let pairs = pairs_with_charts(alloc, subject.index, &subject.explained.rows)?;

@@ -6,7 +6,7 @@ pub(crate) const HEAD: &str = "\
 <html lang=\"en\">\n\
 <head>\n\
 <meta charset=\"utf-8\">\n\
-<meta http-equiv=\"Content-Security-Policy\" content=\"default-src 'none'; style-src 'sha256-enYgoXRT/G0PzIRirf8CEM28Fhw4eE54Vq1XbcE16AE='; script-src 'sha256-hC2KsasgTdKc6ko3xOdPgznnygFpeC9B8UTpn2WWcd0=' 'sha256-cDsLkF+fVtmAPxY30r6qoaikQVMRjMdNFNIKOmplYBA=' 'sha256-6A+IViAn7duCquln3UBZsv3YhNdbBpsx0NxPj9b4tfY=' 'sha256-/ytHXEwf/TnBSy0kKPwSpixVLmcJJBYh41xsagFbqbQ=' 'sha256-cH578LKKGXHXOedZZv3YodMAsgIWzkQUyVlzjS6BpJA=' 'sha256-MW1SO3tdmHKiaLw8ZATRgwXqqXuf/e00UWfvy8UI2Pg=' 'sha256-Lb6QuKCPEHfJ+L7+sAu5XS1o6YvzIy94dXgiziZ4hTM=' 'sha256-aQRHS7bdGjBAGOi81N+WUopBRJRGwI5A8/s5r5+VODY=' 'sha256-2g33eBKhYklrFLVFG3umGVbvJUcicIx6MdIw2fc9QGQ=' 'sha256-yzEnTDGIDLMZkdiHV0nen5L44p7VQ9WGXqz1leJvtq0='; base-uri 'none'; form-action 'none'\">\n\
+<meta http-equiv=\"Content-Security-Policy\" content=\"default-src 'none'; style-src 'sha256-enYgoXRT/G0PzIRirf8CEM28Fhw4eE54Vq1XbcE16AE='; script-src 'sha256-hC2KsasgTdKc6ko3xOdPgznnygFpeC9B8UTpn2WWcd0=' 'sha256-cDsLkF+fVtmAPxY30r6qoaikQVMRjMdNFNIKOmplYBA=' 'sha256-mJRlMQ/tTVtaxS1hcTqKtLafDG2Qsx2IjOY2uSjjow0=' 'sha256-xdEzlNEeICrer3qbFUfgwCtmg9ZDPq42E4bqU6apqA8=' 'sha256-cH578LKKGXHXOedZZv3YodMAsgIWzkQUyVlzjS6BpJA=' 'sha256-MW1SO3tdmHKiaLw8ZATRgwXqqXuf/e00UWfvy8UI2Pg=' 'sha256-Lb6QuKCPEHfJ+L7+sAu5XS1o6YvzIy94dXgiziZ4hTM=' 'sha256-aQRHS7bdGjBAGOi81N+WUopBRJRGwI5A8/s5r5+VODY=' 'sha256-2g33eBKhYklrFLVFG3umGVbvJUcicIx6MdIw2fc9QGQ=' 'sha256-yzEnTDGIDLMZkdiHV0nen5L44p7VQ9WGXqz1leJvtq0='; base-uri 'none'; form-action 'none'\">\n\
 <meta name=\"viewport\" content=\"width=device-width, initial-scale=1\">\n\
 <meta name=\"color-scheme\" content=\"light dark\">\n\
 <meta name=\"referrer\" content=\"no-referrer\">\n\
@@ -550,7 +550,11 @@ return make('span', { class: `badge ${kind}` }, words);\n\
 const SHARED_MEMORY = 'Shared memory and TCP are not in such a recording.';\n\
 const QUIET_END = 'Record to a quiet end: stop publishing, wait some seconds, then stop the recording, with the writers still alive.';\n\
 const KEEP_MORE = 'Raise the writer’s history depth or lifespan.';\n\
-const IN_FRAGMENTS = 'Read the capture with --any, which puts IP packets together. Samples in DATA_FRAG are not read: use smaller samples.';\n\
+const NEVER_WHOLE = 'Record at the writer’s side, from before the start, and look for dropped frames.';\n\
+function putTogetherText({ any, fragments }) {\n\
+const ways = [!any && '--any, which puts IP packets together', !fragments && '--fragments, which puts samples together'];\n\
+return `Use ${ways.filter(Boolean).join(', and ')}.`;\n\
+}\n\
 const inDatagram = (place) => `datagram ${place.datagram}`;\n\
 function isHeard(to, reader) {\n\
 if (to === undefined) return true;\n\
@@ -642,7 +646,7 @@ todo: () => 'A relay packed them, or the recording was changed: record at the wr
 },\n\
 {\n\
 fits: ({ row }) => row.told !== null,\n\
-means: ({ row }) => `Sample ${row.number} was first ${row.told.by === 'data' ? 'sent' : 'told'} in ${inDatagram(row.told)}, behind the `\n\
+means: ({ row }) => `Sample ${row.number} was first ${toldHow(row.told)} in ${inDatagram(row.told)}, behind the `\n\
 + 'answer. The datagrams are out of order, as in captures of two hosts that were merged; or the copy that the reader received is not '\n\
 + 'in the recording.',\n\
 todo: () => 'Record at the writer’s side, on one interface, and see whether tcpdump dropped packets.',\n\
@@ -651,7 +655,12 @@ todo: () => 'Record at the writer’s side, on one interface, and see whether tc
 fits: ({ report: { counts, options } }) => (isAbove(counts.fragments, 0) && !options.fragments)\n\
 || (isAbove(counts.ignored || 0, 0) && !options.any),\n\
 means: ({ row }) => `${notSentText(row)} It may have come in fragments, or in a frame that gave no datagram.`,\n\
-todo: () => IN_FRAGMENTS,\n\
+todo: ({ report }) => putTogetherText(report.options),\n\
+},\n\
+{\n\
+fits: ({ report: { counts } }) => isAbove(counts.fragments, 0),\n\
+means: ({ row }) => `${notSentText(row)} It may have come in fragments of which the recording has not all.`,\n\
+todo: () => NEVER_WHOLE,\n\
 },\n\
 {\n\
 fits: ({ row }) => row.announced === null || isAbove(row.number, row.announced.number),\n\
@@ -769,8 +778,10 @@ function fragments({ counts, options }) {\n\
 if (!isAbove(counts.fragments, 0)) return null;\n\
 return {\n\
 count: plural(counts.fragments, 'fragment'),\n\
-means: 'Submessages of fragmented samples were not read as samples. Their rows are unfounded or open, also if all is well.',\n\
-todo: options.fragments ? 'Their samples never came whole. Record from before the start, and look for dropped frames.' : IN_FRAGMENTS,\n\
+means: options.fragments\n\
+? 'Their samples never came whole, so rows of them are unfounded or open.'\n\
+: 'Submessages of fragmented samples were not read as samples. Their rows are unfounded or open, also if all is well.',\n\
+todo: options.fragments ? NEVER_WHOLE : putTogetherText(options),\n\
 };\n\
 }\n\
 function unsettledEndpoints({ counts }) {\n\
@@ -823,6 +834,7 @@ todo: 'It is no fault if the reader joined late and they are older (--from leave
 </script>\n\
 <script>'use strict';\n\
 const KIND_OF_ACT = { data: 'a DATA', heartbeat: 'a HEARTBEAT', gap: 'a GAP', data_frag: 'a DATA_FRAG' };\n\
+const toldHow = ({ by }) => (by === 'data' || by === 'data_frag' ? 'sent' : 'told');\n\
 function placeText(place) {\n\
 return `datagram ${place.datagram}, octet ${place.at}`;\n\
 }\n\
@@ -853,7 +865,7 @@ function sinceOf(row) {\n\
 const { number, told, announced } = row;\n\
 if (row.verdict === 'unfounded') return { datagram: row.datagram, what: `${number} acknowledged too early` };\n\
 if (row.verdict === 'conflict') return { datagram: row.sent[1].datagram, what: `${number} sent with another payload` };\n\
-if (row.verdict === 'open' && told) return { datagram: told.datagram, what: `${number} first ${told.by === 'data' ? 'sent' : 'told'}` };\n\
+if (row.verdict === 'open' && told) return { datagram: told.datagram, what: `${number} first ${toldHow(told)}` };\n\
 if (row.verdict === 'open') return { datagram: announced.datagram, what: `${announced.number} announced` };\n\
 if (row.kind === 'missed') return { datagram: row.first_missed.asked.datagram, what: `${row.first_missed.number} asked for` };\n\
 const { gone, number: first } = (row.kind === 'gone' && row.not_received) || {};\n\

@@ -1,4 +1,4 @@
-use Rattle.std.proofs.Common.{◌≡◌, ℕ, List, length, map, take}
+use Rattle.std.proofs.Common.{◌≡◌, length, map, take}
 use Rattle.std.specs.Prelude.{IfSome}
 use Rattle.rtps_evidence.specs.Explanation.{explanation_value}
 use Rattle.rtps_audit.specs.Index.{IsIndexBy}

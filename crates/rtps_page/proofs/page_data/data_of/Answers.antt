@@ -3,9 +3,8 @@ use Rattle.std.specs.Str.{IsUtf8}
 use Rattle.json.specs.Lex.{tokens}
 use Rattle.json.specs.Print.{print}
 use Rattle.json.specs.Tree.{json_tokens}
-use Rattle.rtps_audit.specs.Intake.{intake_of}
 use Rattle.rtps_audit.specs.Placed.{placed_in}
-use Rattle.rtps_audit.specs.Speech.{acts_by_datagram}
+use Rattle.rtps_fragments.specs.RecordedSamples.{intake_as}
 use Rattle.rtps_evidence.specs.Explanation.{explanation_value}
 use Rattle.rtps_text.specs.JsonText.{object_of}
 use Rattle.rtps_page.specs.ChartRoom.{charted_pairs}
@@ -15,9 +14,9 @@ use Rattle.rtps_page.proofs.page_data.data_of.Goals as goal
 pub returns : goal.returns
 returns c =
     let subject = c.args.subject.now in
-    let recording = subject.recording.now.datagrams in
-    let acts = placed_in (acts_by_datagram recording) in
-    let pairs = c.deref-2.ensures.value ∙ c.in_ok-pairs.ensures (intake_of recording) c.requires ∙ ap (λ rows. charted_pairs acts (map explanation_value rows)) c.deref.ensures.value in
+    let intake = intake_as subject.asked.now.fragments subject.recording.now.datagrams in
+    let acts = placed_in intake.acts in
+    let pairs = c.deref-2.ensures.value ∙ c.in_ok-pairs.ensures intake c.requires ∙ ap (λ rows. charted_pairs acts (map explanation_value rows)) c.deref.ensures.value in
     let written : c.push_data.new.writer.tokens ≡ json_tokens (json_in subject) =
     c.in_ok-push_data.ensures.tokens ∙ ap (λ start. start ++ json_tokens (object_of (members_in subject c.deref-2.result.now))) c.new-writer.ensures.tokens
     ∙ ap (λ all. json_tokens (object_of (members_in subject all))) pairs in

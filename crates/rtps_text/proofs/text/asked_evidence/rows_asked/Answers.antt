@@ -1,4 +1,4 @@
-use Rattle.std.proofs.Common.{◌≡◌, ◌∙◌, ℕ, Bor, List, ap, filter, map, refl, subst, sym}
+use Rattle.std.proofs.Common.{◌∙◌, ℕ, Bor, List, ap, filter, map, refl, subst, sym}
 use Rattle.rtps_receiver.specs.Acts.{acts_in}
 use Rattle.rtps_evidence.specs.declared.explanation.Explanation.{Explanation}
 use Rattle.rtps_rows.specs.Filter.{IsFilterOf}
