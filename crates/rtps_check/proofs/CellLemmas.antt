@@ -1,5 +1,5 @@
 -- The texts of a line that are appended one by one.
-use Rattle.std.proofs.Common.{◌≡◌, ◌≤◌, ◌<◌, ◌+◌, ◌++◌, ◌∷◌, [], ◌∙◌, ℕ, List, add-one, ap, append-nil, append_assoc, drop, get_or, length, map, suc, sym}
+use Rattle.std.proofs.Common.{◌≡◌, ◌≤◌, ◌<◌, ◌+◌, ◌++◌, ◌∷◌, ◌∙◌, ℕ, List, add-one, ap, append-nil, append_assoc, drop, get_or, length, map, suc, sym}
 use Rattle.std.proofs.Math.Seq.{drop-cons}
 use Rattle.std.proofs.lemmas.List.{drop_all}
 use Rattle.rtps_check.specs.Table.{cell_text, cells_text}

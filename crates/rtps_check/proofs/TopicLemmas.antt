@@ -1,7 +1,7 @@
 -- The first topic of rows, and the topics of those that are left.
-use Rattle.std.proofs.Common.{◌≡◌, ◌+◌, ◌-◌, ◌<◌, ◌∷◌, ◌++◌, [], ◌∙◌, ℕ, Bool, true, false, List, add-one, ap, append_assoc, arith, drop, drop-drop, get_or, if◌then◌else◌, length, map, refl, rules, subst, suc, sym, take}
+use Rattle.std.proofs.Common.{◌≡◌, ◌+◌, ◌-◌, ◌<◌, ◌∷◌, ◌++◌, [], ◌∙◌, ℕ, Bool, true, false, List, add-one, ap, append_assoc, arith, drop, drop-drop, get_or, if◌then◌else◌, length, map, refl, suc, sym, take}
 use Rattle.std.proofs.Math.Seq.{drop-cons, drop-length}
-use Rattle.std.proofs.lemmas.List.{drop-map, map-append, take-map}
+use Rattle.std.proofs.lemmas.List.{drop-map, take-map}
 use Rattle.rtps_evidence.specs.Explanation.{ExplanationValue, explanation_value}
 use Rattle.rtps_evidence.specs.declared.explanation.Explanation.{Explanation}
 use Rattle.rtps_check.specs.ByTopic.{have_one_topic, joined, topics_of}

@@ -1,5 +1,5 @@
 -- Rows by topic. own: a person knows the topics of a system, and not the GUIDs of its endpoints.
-use Rattle.std.specs.Prelude.{ℕ, ◌&&◌, Bool, if◌then◌else◌, List, [], ◌∷◌, IsPermutation, IsSorted}
+use Rattle.std.specs.Prelude.{◌&&◌, Bool, if◌then◌else◌, List, [], ◌∷◌, IsPermutation, IsSorted}
 use Rattle.std.specs.Cmp.Lexicographic.{slice_cmp}
 use Rattle.std.specs.List.Sorted.{IsStable}
 use Rattle.std.specs.Ordering.{nat_cmp, ordering_then}

@@ -14,9 +14,12 @@ use crate::sections::push_sections;
 use crate::topic_table::push_topic_table;
 use crate::totals::{Totals, totals_of};
 use rtps_audit::{Counts, Watch};
-use rtps_evidence::Explanation;
+use rtps_evidence::{Explanation, explain_index};
+use rtps_fragments::Samples;
 use rtps_ids::Memory;
-use rtps_text::{Asked, Ending, Reasons, Recording, datagrams_of, ending_of, facts_of};
+use rtps_text::{
+    Asked, Ending, Reasons, Recording, datagrams_of, ending_of, facts_of, index_asked,
+};
 use std::alloc::{AllocError, Global};
 
 /// What is known of a recording, of which the rows stand by topic.
@@ -234,7 +237,10 @@ pub fn check_text<P: Watch>(
     ensures { IfOk result (λ told. IsCheckedAs (asked_value asked.now) recording.now (string_bytes told.0) told.1) }
 {
     let datagrams = datagrams_of(alloc, recording)?;
-    let parted = parted_of(alloc, &datagrams, asked, watch)?;
+    let mut samples = Samples::none(alloc);
+    let index = index_asked(alloc, recording, asked, &mut samples)?;
+    let whole = explain_index(alloc, &index, asked.from, watch)?;
+    let parted = parted_of(alloc, whole, asked, &datagrams)?;
     let ending = ending_of(asked, &facts_of(&parted.explained, recording));
     let rows = by_topic(alloc, &parted.explained.rows)?;
     let left_out = by_topic(alloc, &parted.left_out)?;

@@ -1,12 +1,13 @@
 ghost use Rattle.std.specs.Prelude.{ℕ, ◌≡◌, List, IfOk, filter, map};
 ghost use Rattle.rtps_receiver.specs.Values.{ActValue};
+ghost use Rattle.rtps_evidence.specs.Explanation.{IsExplainedBy};
+ghost use Rattle.rtps_fragments.specs.RecordedSamples.{intake_as};
 ghost use Rattle.rtps_rows.specs.Filter.{IsFilterOf};
 ghost use Rattle.rtps_rows.specs.Rows.{RowsValue, is_kept, rows_value};
 ghost use Rattle.rtps_text.specs.Asked.{asked_value};
 ghost use Rattle.rtps_check.specs.Parted.{IsPartedAs, is_left_out as is_left_out_lem, of_all_pairs as of_all_pairs_lem};
 
-use rtps_audit::Watch;
-use rtps_evidence::{Explained, Explanation, explain_from};
+use rtps_evidence::{Explained, Explanation};
 use rtps_ids::Memory;
 use rtps_rows::{RowFilter, Rows};
 use rtps_text::{Asked, kept_of};
@@ -58,16 +59,17 @@ fn left_out_of<'a>(
     Ok(left_out)
 }
 
-/// The rows of a recording, parted by what is asked. It tells how far it is. `Memory` is answered where what is kept cannot grow.
-pub(crate) fn parted_of<'a, P: Watch>(
+/// The rows of a report, parted by what is asked: of the report on these datagrams, whose rows are explained. `Memory` is answered
+/// where what is kept cannot grow.
+pub(crate) fn parted_of<'a>(
     alloc: Global,
-    datagrams: &[&'a [u8]],
+    whole: Explained<'a>,
     asked: &Asked<'_>,
-    watch: &mut P,
+    datagrams: &[&[u8]],
 ) -> Result<Parted<'a>, Memory>
-    ensures { IfOk result (IsPartedAs (asked_value asked.now) (map (λ datagram. datagram.now) datagrams.now)) }
+    ensures { IsExplainedBy asked.now.from (intake_as asked.now.fragments (map (λ datagram. datagram.now) datagrams.now)) whole.entry
+        → IfOk result (IsPartedAs (asked_value asked.now) (map (λ datagram. datagram.now) datagrams.now)) }
 {
-    let whole = explain_from(alloc, datagrams, asked.from, watch)?;
     let wanted = RowFilter::of(alloc, asked.rows, datagrams)?;
     let of_topic = RowFilter::of(alloc, of_all_pairs(asked.rows), datagrams)?;
     let left_out = left_out_of(alloc, &whole.rows, &wanted, &of_topic)?;

@@ -1,4 +1,4 @@
-use Rattle.std.proofs.Common.{◌++◌, ◌+◌, ◌∙◌, [], ◌∷◌, Bor, List, ap, arith, drop, length, length-drop, map, take}
+use Rattle.std.proofs.Common.{◌++◌, ◌+◌, ◌∙◌, Bor, List, ap, arith, drop, length, length-drop, map}
 use Rattle.std.proofs.lemmas.List.{map-append}
 use Rattle.rtps_evidence.specs.Explanation.{ExplanationValue, explanation_value}
 use Rattle.rtps_evidence.specs.declared.explanation.Explanation.{Explanation}

@@ -1,4 +1,6 @@
-use Rattle.std.proofs.Common.{◌≡◌, ◌∙◌, ℕ, Bor, List, ap, map, subst}
+use Rattle.std.proofs.Common.{◌∙◌, ℕ, Bor, List, ap, map, subst, sym}
+use Rattle.rtps_evidence.specs.Explanation.{IsExplainedBy}
+use Rattle.rtps_fragments.specs.RecordedSamples.{intake_as}
 use Rattle.rtps_text.specs.Asked.{asked_value}
 use Rattle.rtps_text.specs.Findings.{ending_as}
 use Rattle.rtps_check.specs.ByTopic.{AreByTopic}
@@ -12,11 +14,14 @@ returns g c =
     let view : Bor (List ℕ) → List ℕ = λ datagram. datagram.now in
     let asked = asked_value c.args.asked.now in
     let parted = c.in_ok-parted.parted in
+    let same = ap (map view) c.deref.ensures.value ∙ c.in_ok-datagrams.ensures in
+    let whole = c.in_ok-whole.ensures _ c.in_ok-index.ensures in
+    let explains = subst (λ all. IsExplainedBy asked.from (intake_as asked.fragments all) c.in_ok-whole.whole) (sym same) whole in
     let rows = c.in_ok-rows.rows.items in
     let left_out = c.in_ok-left_out.left_out.items in
     record {
       parted = parted;
-      parts = subst (λ all. IsPartedAs asked all parted) (ap (map view) c.deref.ensures.value ∙ c.in_ok-datagrams.ensures) c.in_ok-parted.ensures;
+      parts = subst (λ all. IsPartedAs asked all parted) same (c.in_ok-parted.ensures explains);
       rows = rows;
       rows_by_topic = subst (λ all. AreByTopic all rows) c.deref-2.ensures.value c.in_ok-rows.ensures;
       left_out = left_out;
