@@ -23,16 +23,18 @@ use Rattle.rtps_fragments.specs.Laws.{ArePieceActs, IsPieceAct}
 use Rattle.rtps_fragments.proofs.CameLemmas.{length-parts_in}
 use Rattle.rtps_fragments.specs.Merging.{IsFragmentAct, merged_from, sents_from, sents_in}
 use Rattle.rtps_fragments.specs.Overheard.{overheard_by_datagram, overheard_in_turn}
-use Rattle.rtps_fragments.specs.RecordedSamples.{told_by_datagram}
+use Rattle.rtps_fragments.specs.RecordedSamples.{tally_with, told_by_datagram}
 use Rattle.rtps_fragments.specs.SampleActs.{PieceAct, acts_and_samples, datagrams_and_samples, piece_acts_in}
-use Rattle.rtps_fragments.specs.Sending.{fragment_acts, fragments_at, piece_acts_of, piece_acts_of_item, piece_acts_with, piece_of, sending_of}
+use Rattle.rtps_fragments.specs.Sending.{fragment_acts, fragments_at, piece_acts_of, piece_acts_of_item, piece_acts_with, piece_of, sending_of, unread_in}
 use Rattle.rtps_fragments.specs.Telling.{SentValue, ToldValue, told_in_turn}
 use Rattle.rtps_fragments.specs.declared.merging.SampleForm.TheVariants.{ForAudience, ForEveryone}
+use Rattle.rtps_fragments.specs.Whole.{tally_left, tally_with_fragments}
 use Rattle.rtps_fragments.proofs.Audiences.{flat_from}
 use Rattle.rtps_fragments.proofs.MergingLemmas.{AreFragmentActs, matches_all, merged_is}
 use Rattle.rtps_fragments.proofs.NoteLemmas.{merged_notes_are, notes_next, overhears_all}
 use Rattle.rtps_fragments.proofs.OverheardLemmas.{overheard_there}
 use Rattle.rtps_fragments.proofs.SampleSteps.{octets_of, sending_next}
+use Rattle.rtps_fragments.proofs.WholeLemmas.{all_alike, left_alike}
 
 -- ---- the pieces of a recording are of DATA_FRAG
 
@@ -149,7 +151,7 @@ length-samples all before (acts ∷ recording) = ap suc (length-samples all (bef
 abbrev pub taken : List (Bor (List ℕ)) → ℕ → Intake
 taken xs i =
     record {
-      tallies = map (λ datagram. tally_of (reading_of datagram)) (octets_of (take i xs));
+      tallies = map (tally_with (piece_acts_in (sending_of (octets_of xs)))) (octets_of (take i xs));
       acts = datagrams_and_samples (piece_acts_in (sending_of (octets_of xs))) [] (sending_of (octets_of (take i xs)));
       announcing = announcing_with (sending_of (octets_of (take i xs)));
     }
@@ -193,6 +195,14 @@ module _ (xs : List (Bor (List ℕ))) (i : ℕ) (d : Bor (List ℕ)) (lt : i < l
       one_item : {X : Type 0} (x y : X) → Some x ≡ Some y → x ≡ y
       one_item x y e = cc
 
+  -- its tally
+  pub tallied_here : tally_left (sents_in (sending_of (octets_of xs))) (get_or xs i d).now ≡ tally_with (piece_acts_in (sending_of (octets_of xs))) (get_or xs i d).now
+  tallied_here =
+      let frags = fragments_of_recording (octets_of xs) in
+      let overhears = overhears_all sending frags in
+      ap (λ n. tally_with_fragments (tally_of (reading_of octets)) (unread_in octets + n))
+      (left_alike (piece_acts_in sending) (sents_in sending) overhears (λ number. all_alike (piece_acts_in sending) (sents_in sending) overhears number sending frags) 0 (piece_acts_of octets))
+
   read_next : {Y : Type 0} (f : List ℕ → Y) → map f (octets_of (take (i + 1) xs)) ≡ map f (octets_of (take i xs)) ++ f (get_or xs i d).now ∷ []
   read_next f =
       ap (λ ys. map f (octets_of ys)) (take_more xs i d lt) ∙ ap (map f) (map-append (λ (datagram : Bor (List ℕ)). datagram.now) (take i xs) (get_or xs i d ∷ [])) ∙ map-append f (octets_of (take i xs)) (octets ∷ [])
@@ -200,12 +210,12 @@ module _ (xs : List (Bor (List ℕ))) (i : ℕ) (d : Bor (List ℕ)) (lt : i < l
   -- what is taken in, with one datagram more
   pub taken_more : (told noted : List ToldValue) → slice_get (told_by_datagram (sents_in (sending_of (octets_of xs))) [] (sending_of (octets_of xs))) i ≡ Some told
       → slice_get (overheard_by_datagram [] (sending_of (octets_of xs))) i ≡ Some noted
-      → intake_more (taken xs i) (tally_of (reading_of (get_or xs i d).now)) (merged_from ForAudience 0 (map (λ one. one.act) (piece_acts_of (get_or xs i d).now)) told) (merged_from ForEveryone 0 (map (λ one. one.act) (piece_acts_of (get_or xs i d).now)) noted) ≡ taken xs (i + 1)
+      → intake_more (taken xs i) (tally_left (sents_in (sending_of (octets_of xs))) (get_or xs i d).now) (merged_from ForAudience 0 (map (λ one. one.act) (piece_acts_of (get_or xs i d).now)) told) (merged_from ForEveryone 0 (map (λ one. one.act) (piece_acts_of (get_or xs i d).now)) noted) ≡ taken xs (i + 1)
   taken_more told noted at also =
       let announced = merged_from ForEveryone 0 (map (λ (one : PieceAct). one.act) (piece_acts_of octets)) noted in
       let one : List Tally → Intake = λ t. record { tallies = t; acts = (taken xs i).acts ++ merged_from ForAudience 0 (map (λ (one : PieceAct). one.act) (piece_acts_of octets)) told ∷ []; announcing = (taken xs i).announcing ++ announced ∷ [] } in
       let two : List (List ActValue) → Intake = λ a. record { tallies = (taken xs (i + 1)).tallies; acts = a; announcing = (taken xs i).announcing ++ announced ∷ [] } in
       let three : List (List ActValue) → Intake = λ a. record { tallies = (taken xs (i + 1)).tallies; acts = (taken xs (i + 1)).acts; announcing = a } in
-      ap one (sym (read_next (λ datagram. tally_of (reading_of datagram))))
+      ap one (ap (λ t. (taken xs i).tallies ++ t ∷ []) tallied_here ∙ sym (read_next (tally_with (piece_acts_in sending))))
       ∙ ap two (ap (λ a. (taken xs i).acts ++ a ∷ []) (merged_here told at) ∙ sym (ap (datagrams_and_samples (piece_acts_in sending) []) (sending_next xs i d lt) ∙ samples_next (piece_acts_in sending) [] (sending_of (octets_of (take i xs))) (piece_acts_of octets)))
       ∙ ap three (ap (λ a. (taken xs i).announcing ++ a ∷ []) (noted_here noted also) ∙ sym (ap announcing_with (sending_next xs i d lt) ∙ notes_next [] (sending_of (octets_of (take i xs))) (piece_acts_of octets)))

@@ -28,5 +28,7 @@ pub mod Announced
 pub mod MergedSteps
 pub mod SendingLemmas
 pub mod SampleSteps
+pub mod WholeLemmas
 pub mod IndexSteps
+pub mod FragmentCounts
 pub mod WithoutFragments

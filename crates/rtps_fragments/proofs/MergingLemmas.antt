@@ -31,7 +31,7 @@ use Rattle.rtps_fragments.proofs.ToldLemmas.{and_true, none_came, own_shape, sam
 
 -- ---- one act
 
-alike : (a b : Bool) → (a ≡ true → b ≡ true) → (b ≡ true → a ≡ true) → a ≡ b
+pub alike : (a b : Bool) → (a ≡ true → b ≡ true) → (b ≡ true → a ≡ true) → a ≡ b
 alike true true f g = refl
 alike true false f g = sym (f refl)
 alike false true f g = g refl
@@ -49,13 +49,13 @@ own_came n shape i (octets ∷ parts) =
     ap (λ b. cons_option (cond b (Some first) None) (filter_map (came_of n shape) (fragments_from n shape (suc i) parts))) (own_shape n shape) ∙ ap (λ cs. first ∷ cs) (own_came n shape (suc i) parts)
 
 module _ (one : PieceAct) (piece : Piece) (frag : IsFragmentAct one piece) where
-  named : writer_named one.act.body ≡ Some (entity_from one.act.body)
+  pub named : writer_named one.act.body ≡ Some (entity_from one.act.body)
   named = by one.act.body frag.body
     where
       by : (body : ActBodyValue) → body ≡ DataFrag frag.value → writer_named body ≡ Some (entity_from body)
       by body e = subst (λ b. writer_named b ≡ Some (entity_from b)) (sym e) refl
 
-  spoken_by_own : is_spoken_by one.act (origin_of one.act) ≡ true
+  pub spoken_by_own : is_spoken_by one.act (origin_of one.act) ≡ true
   spoken_by_own = by one.act.body frag.body
     where
       by : (body : ActBodyValue) → body ≡ DataFrag frag.value → is_spoken_by (record one.act { body = body }) (record { prefix = one.act.source; entity = entity_from body }) ≡ true

@@ -17,7 +17,7 @@ use Rattle.rtps_fragments.specs.declared.hearing.Hearing.{Hearing}
 use Rattle.rtps_fragments.specs.declared.piece.SampleKey.{SampleKey}
 use Rattle.rtps_fragments.proofs.TellingLemmas.{hearing_is, own_hearing, own_sample, sample_is}
 
-overheard-more : (key : SampleKey) (before : List SentValue) (sent : SentValue) → overheard key (before ++ sent ∷ []) ≡ overheard key before ++ cond (is_sample key sent.key) sent.came []
+pub overheard-more : (key : SampleKey) (before : List SentValue) (sent : SentValue) → overheard key (before ++ sent ∷ []) ≡ overheard key before ++ cond (is_sample key sent.key) sent.came []
 overheard-more key before sent =
     ap (flat_map (λ (s : SentValue). s.came)) (filter-append (λ (s : SentValue). is_sample key s.key) before (sent ∷ []))
     ∙ flat_map-append (λ (s : SentValue). s.came) (sent_of key before) (cond (is_sample key sent.key) (sent ∷ []) []) ∙ ap (λ cs. overheard key before ++ cs) (by (is_sample key sent.key))
@@ -26,7 +26,7 @@ overheard-more key before sent =
     by true = append-nil sent.came
     by false = refl
 
-other_sample : (key : SampleKey) (before : List SentValue) (sent : SentValue) → is_sample key sent.key ≡ false → overheard key (before ++ sent ∷ []) ≡ overheard key before
+pub other_sample : (key : SampleKey) (before : List SentValue) (sent : SentValue) → is_sample key sent.key ≡ false → overheard key (before ++ sent ∷ []) ≡ overheard key before
 other_sample key before sent apart = overheard-more key before sent ∙ ap (λ b. overheard key before ++ cond b sent.came []) apart ∙ append-nil (overheard key before)
 
 -- samples that a test tells apart are not the same

@@ -38,7 +38,7 @@ verdict_stays of_acts stay from writer reader recording verdict none =
 
 -- ---- pieces of no sample
 
-any_from : {X : Type 0} (test : X → Bool) (xs : List X) (x : X) → Contains xs x → test x ≡ true → list_any test xs ≡ true
+pub any_from : {X : Type 0} (test : X → Bool) (xs : List X) (x : X) → Contains xs x → test x ≡ true → list_any test xs ≡ true
 any_from test [] x among is = absurd (contains_none x among)
 any_from test (y ∷ ys) x among is = elim (contains_cases y ys x among) [
   | inl here ↦ first (test y) (ap test here ∙ is)

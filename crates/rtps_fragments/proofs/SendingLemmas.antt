@@ -1,18 +1,21 @@
 -- The acts of a datagram, one item after another.
-use Rattle.std.proofs.Common.{◌≡◌, ℕ, suc, ◌+◌, List, [], ◌∷◌, ◌++◌, length, map, sym, ◌∙◌, ap, arith, append_assoc, append-nil}
-use Rattle.std.specs.Prelude.{All}
+use Rattle.std.proofs.Common.{◌≡◌, ℕ, suc, ◌+◌, ◌<◌, ◌≤◌, ◌^◌, Bool, true, false, cond, ◌&&◌, List, [], ◌∷◌, ◌++◌, length, map, Option, Some, None, refl, sym, ◌∙◌, ap, arith, append_assoc, append-nil}
+use Rattle.std.specs.Prelude.{All, is_none}
 use Rattle.std.proofs.lemmas.List.{length-append, length-map, map-append}
+use Rattle.std.proofs.lemmas.List.Sums.{sum_by-cons}
+use Rattle.rtps_wire.specs.DataFrag.{DataFragValue}
 use Rattle.rtps_wire.specs.Reading.{Outcome, items_among, reading_of, read_as, refused_with}
-use Rattle.rtps_wire.specs.Values.{ItemValue}
+use Rattle.rtps_wire.specs.Values.{BodyValue, ItemValue}
+use Rattle.rtps_wire.specs.Values.BodyValue.{Data, Heartbeat, AckNack, Gap, InfoTs, InfoDst, InfoSrc, Skipped}
 use Rattle.rtps_wire.specs.declared.fault.WireFault.{WireFault}
 use Rattle.rtps_wire.specs.declared.header.Header.{Header}
 use Rattle.rtps_receiver.specs.Acts.{act_body, state_at_start, state_behind}
-use Rattle.rtps_receiver.specs.Values.{act_value}
+use Rattle.rtps_receiver.specs.Values.{ActBodyValue, act_value}
 use Rattle.rtps_receiver.specs.declared.state.State.{State}
 use Rattle.rtps_receiver.proofs.Offered.{gathered-one}
 use Rattle.rtps_fragments.specs.Merging.{sent_in, sents_from}
 use Rattle.rtps_fragments.specs.SampleActs.{PieceAct}
-use Rattle.rtps_fragments.specs.Sending.{AddsActs, IsSending, piece_acts_behind, piece_acts_of, piece_acts_of_item, piece_acts_with}
+use Rattle.rtps_fragments.specs.Sending.{AddsActs, IsSending, fragment_acts, fragments_at, is_data_frag, is_unread, one_unread, piece_acts_behind, piece_acts_of, piece_acts_of_item, piece_acts_with, unread_among, unread_in}
 use Rattle.rtps_fragments.specs.Telling.{IsSent, sent_value}
 use Rattle.rtps_fragments.specs.declared.sending.Sending.{Sending}
 
@@ -29,23 +32,80 @@ sents-append i (one ∷ ones) more =
     ap (λ rest. sent_in i one.act one.piece ++ rest) (sents-append (suc i) ones more ∙ ap (λ n. sents_from (suc i) ones ++ sents_from n more) index)
     ∙ sym (append_assoc (sent_in i one.act one.piece) (sents_from (suc i) ones) (sents_from (i + suc (length ones)) more))
 
--- What is kept, with what these acts are, is all that there is.
-pub record IsReading (left all : List PieceAct) (sending : Sending) : Type 0 where
+-- ---- DATA_FRAG that are no act
+
+-- 1 where the test holds, and 0 where it does not
+abbrev pub one_of : Bool → ℕ
+one_of b = cond b 1 0
+
+not_frag : (body : BodyValue) (act : ActBodyValue) → act_body body ≡ Some act → is_data_frag body ≡ false
+not_frag (Skipped id) act e = cc
+not_frag (Data value) act e = refl
+not_frag (Heartbeat value) act e = refl
+not_frag (AckNack value) act e = refl
+not_frag (Gap value) act e = refl
+not_frag (InfoTs time) act e = refl
+not_frag (InfoDst prefix) act e = refl
+not_frag (InfoSrc version vendor prefix) act e = refl
+
+-- whether an item counts as one, by the act that it is and the fragments that it has
+pub unread_act : (octets : List ℕ) (item : ItemValue) (act : ActBodyValue) → act_body item.body ≡ Some act → one_unread octets item ≡ 0
+unread_act octets item act e = ap (λ b. one_of (b && is_none (fragments_at octets item))) (not_frag item.body act e)
+
+pub unread_some : (octets : List ℕ) (item : ItemValue) (value : DataFragValue) → fragments_at octets item ≡ Some value → one_unread octets item ≡ 0
+unread_some octets item value e = ap (λ (o : Option DataFragValue). one_of (is_data_frag item.body && is_none o)) e ∙ by (is_data_frag item.body)
+  where
+    by : (b : Bool) → one_of (b && false) ≡ 0
+    by true = refl
+    by false = refl
+
+pub unread_none : (octets : List ℕ) (item : ItemValue) → fragments_at octets item ≡ None → one_unread octets item ≡ one_of (is_data_frag item.body)
+unread_none octets item e = ap (λ (o : Option DataFragValue). one_of (is_data_frag item.body && is_none o)) e ∙ by (is_data_frag item.body)
+  where
+    by : (b : Bool) → one_of (b && true) ≡ one_of b
+    by true = refl
+    by false = refl
+
+pub at_most_one : (b : Bool) → one_of b ≤ 1
+at_most_one true = omega arith
+at_most_one false = omega arith
+
+-- of an item, one at most
+pub one_at_most : (octets : List ℕ) (state : State) (item : ItemValue) (n : ℕ) → one_unread octets item + length (sents_from n (piece_acts_of_item octets state item (act_body item.body))) ≤ 1
+one_at_most octets state item n = by (act_body item.body)
+  where
+    of : (o : Option DataFragValue) → fragments_at octets item ≡ o → one_unread octets item + length (sents_from n (fragment_acts state item o)) ≤ 1
+    of None e = let few = at_most_one (is_unread octets item) in omega arith
+    of (Some value) e = let none = unread_some octets item value e in omega arith
+
+    by : (body : Option ActBodyValue) → one_unread octets item + length (sents_from n (piece_acts_of_item octets state item body)) ≤ 1
+    by None = of (fragments_at octets item) refl
+    by (Some body) = let few = at_most_one (is_unread octets item) in omega arith
+
+pub unread-item : (octets : List ℕ) (item : ItemValue) (items : List ItemValue) → unread_among octets (item ∷ items) ≡ one_unread octets item + unread_among octets items
+unread-item octets item items = sum_by-cons (one_unread octets) item items
+
+-- ---- what is kept
+
+-- What is kept, with what these acts are and so many DATA_FRAG that are no act, is all that there is.
+pub record IsReading (left all : List PieceAct) (unread_left unread : ℕ) (sending : Sending) : Type 0 where
   pub acts : map act_value sending.acts.items ++ map (λ one. one.act) left ≡ map (λ one. one.act) all
   pub sents : map sent_value sending.sents.items ++ sents_from (length sending.acts.items) left ≡ sents_from 0 all
   pub well : All IsSent sending.sents.items
+  pub counted : sending.unread + unread_left ≡ unread
 
-pub reading_begun : (all : List PieceAct) (sending : Sending) → IsSending [] sending → IsReading all all sending
-reading_begun all sending none =
+pub reading_begun : (all : List PieceAct) (unread : ℕ) (sending : Sending) → IsSending [] 0 sending → IsReading all all unread unread sending
+reading_begun all unread sending none =
     let count : length sending.acts.items ≡ 0 = sym (length-map sending.acts.items act_value) ∙ ap length none.acts in
     record {
       acts = ap (λ xs. xs ++ map (λ (one : PieceAct). one.act) all) none.acts;
       sents = ap (λ xs. xs ++ sents_from (length sending.acts.items) all) none.sents ∙ ap (λ n. sents_from n all) count;
       well = none.well;
+      counted = (let zero = none.unread in omega arith);
     }
 
-pub reading_step : (gives left all : List PieceAct) (old new : Sending) → AddsActs old new gives → IsReading (gives ++ left) all old → IsReading left all new
-reading_step gives left all old new adds reading =
+pub reading_step : (gives left all : List PieceAct) (one unread_left unread : ℕ) (old new : Sending) → AddsActs old new gives one → IsReading (gives ++ left) all (one + unread_left) unread old → IsReading left all unread_left unread new
+reading_step gives left all one unread_left unread old new adds reading =
     let acts = λ (ones : List PieceAct). map (λ (one : PieceAct). one.act) ones in
     let count : length new.acts.items ≡ length old.acts.items + length gives =
     sym (length-map new.acts.items act_value) ∙ ap length adds.acts ∙ length-append (map act_value old.acts.items) (acts gives) ∙ omega (arith, length-map old.acts.items act_value, length-map gives (λ (one : PieceAct). one.act)) in
@@ -56,15 +116,40 @@ reading_step gives left all old new adds reading =
           ∙ ap (λ n. map sent_value old.sents.items ++ (sents_from (length old.acts.items) gives ++ sents_from n left)) count
           ∙ ap (λ xs. map sent_value old.sents.items ++ xs) (sym (sents-append (length old.acts.items) gives left)) ∙ reading.sents;
       well = adds.well reading.well;
+      counted = (let more = adds.unread in let so_far = reading.counted in omega arith);
     }
 
-pub reading_done : (all : List PieceAct) (sending : Sending) → IsReading [] all sending → IsSending all sending
-reading_done all sending reading = record { acts = sym (append-nil (map act_value sending.acts.items)) ∙ reading.acts; sents = sym (append-nil (map sent_value sending.sents.items)) ∙ reading.sents; well = reading.well }
+-- few items more
+pub few_more : (octets : List ℕ) (state : State) (item : ItemValue) (left : ℕ) (old new : Sending) → AddsActs old new (piece_acts_of_item octets state item (act_body item.body)) (one_unread octets item)
+    → old.unread + length old.sents.items + suc left < 2 ^ 64 → new.unread + length new.sents.items + left < 2 ^ 64
+few_more octets state item left old new adds few =
+    let gives = piece_acts_of_item octets state item (act_body item.body) in
+    let sents : length new.sents.items ≡ length old.sents.items + length (sents_from (length old.acts.items) gives) =
+    sym (length-map new.sents.items sent_value) ∙ ap length adds.sents ∙ length-append (map sent_value old.sents.items) (sents_from (length old.acts.items) gives)
+    ∙ ap (λ n. n + length (sents_from (length old.acts.items) gives)) (length-map old.sents.items sent_value) in
+    let counted = adds.unread in
+    let one = one_at_most octets state item (length old.acts.items) in
+    omega arith
+
+pub reading_done : (all : List PieceAct) (unread : ℕ) (sending : Sending) → IsReading [] all 0 unread sending → sending.unread + length sending.sents.items < 2 ^ 64 → IsSending all unread sending
+reading_done all unread sending reading few = record {
+  acts = sym (append-nil (map act_value sending.acts.items)) ∙ reading.acts;
+  sents = sym (append-nil (map sent_value sending.sents.items)) ∙ reading.sents;
+  well = reading.well;
+  unread = (let counted = reading.counted in omega arith);
+  few = few;
+}
 
 -- the acts of a datagram that is read, and of one that is refused at its header
 pub acts_read : (octets : List ℕ) (header : Header) (outcomes : List Outcome) (start : State) → reading_of octets ≡ read_as header outcomes → start ≡ state_at_start header → piece_acts_of octets ≡ piece_acts_behind octets start (items_among outcomes)
 unfolding piece_acts_of
 acts_read octets header outcomes start is begins = ap (λ r. piece_acts_with octets r.header r.items) is ∙ ap (λ s. piece_acts_behind octets s (items_among outcomes)) (sym begins)
+
+pub unread_read : (octets : List ℕ) (header : Header) (outcomes : List Outcome) → reading_of octets ≡ read_as header outcomes → unread_in octets ≡ unread_among octets (items_among outcomes)
+unread_read octets header outcomes is = ap (λ r. unread_among octets r.items) is
+
+pub unread_refused : (octets : List ℕ) (fault : WireFault) → reading_of octets ≡ refused_with fault → unread_in octets ≡ 0
+unread_refused octets fault is = ap (λ r. unread_among octets r.items) is
 
 pub acts_refused : (octets : List ℕ) (fault : WireFault) → reading_of octets ≡ refused_with fault → piece_acts_of octets ≡ []
 unfolding piece_acts_of

@@ -30,12 +30,12 @@ use Rattle.rtps_fragments.proofs.CameLemmas.{at_number}
 
 -- ---- orders
 
-eq_then : (a b : Ordering) → is_eq (ordering_then a b) ≡ true → (is_eq a ≡ true) × (is_eq b ≡ true)
+pub eq_then : (a b : Ordering) → is_eq (ordering_then a b) ≡ true → (is_eq a ≡ true) × (is_eq b ≡ true)
 eq_then Less b e = cc
 eq_then Equal b e = (refl, e)
 eq_then Greater b e = cc
 
-number_is : (a b : ℕ) → is_eq (nat_cmp a b) ≡ true → a ≡ b
+pub number_is : (a b : ℕ) → is_eq (nat_cmp a b) ≡ true → a ≡ b
 number_is a b e = sym ((Decides-eqb b a).0 (sym (at_number a b) ∙ e))
 
 flag_is : (a b : Bool) → is_eq (bool_cmp a b) ≡ true → a ≡ b
@@ -44,7 +44,7 @@ flag_is true false e = cc
 flag_is false true e = cc
 flag_is false false e = refl
 
-guid_is : (a b : Guid) → is_eq (guid_cmp a b) ≡ true → a ≡ b
+pub guid_is : (a b : Guid) → is_eq (guid_cmp a b) ≡ true → a ≡ b
 guid_is a b e =
     let (prefix, entity) = eq_then _ _ e in
     let first : GuidPrefix → Guid = λ p. record { prefix = p; entity = a.entity } in
@@ -74,7 +74,7 @@ hearing_is a b e =
     let three : ℕ → Hearing = λ n. record { sample = b.sample; dest = b.dest; reader = n } in
     ap one (sample_is a.sample b.sample sample) ∙ ap two (number_is a.dest b.dest dest) ∙ ap three (number_is a.reader b.reader reader)
 
-guids_total : IsTotalOrder guid_cmp
+pub guids_total : IsTotalOrder guid_cmp
 guids_total = then_total (on_total (λ (guid : Guid). guid.prefix.0) nat_list_cmp_total) (on_total (λ (guid : Guid). guid.entity.0) nat_list_cmp_total)
 
 pub samples_total : IsTotalOrder sample_cmp
@@ -89,7 +89,7 @@ hearings_total =
     then_total (on_total (λ (hearing : Hearing). hearing.sample) samples_total)
     (then_total (on_total (λ (hearing : Hearing). hearing.dest) nat_cmp_total) (on_total (λ (hearing : Hearing). hearing.reader) nat_cmp_total))
 
-own_eq : (order : Ordering) → order ≡ ordering_reverse order → is_eq order ≡ true
+pub own_eq : (order : Ordering) → order ≡ ordering_reverse order → is_eq order ≡ true
 own_eq Less e = cc
 own_eq Equal e = refl
 own_eq Greater e = cc

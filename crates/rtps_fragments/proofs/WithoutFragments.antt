@@ -18,11 +18,13 @@ use Rattle.rtps_audit.specs.Speech.{acts_by_datagram}
 use Rattle.rtps_audit.proofs.Offered.{contains_cases, contains_head, contains_mapped, contains_none, contains_tail}
 use Rattle.rtps_fragments.specs.Announcing.{announcing_with}
 use Rattle.rtps_fragments.specs.Laws.{HasNoPieces, IntakeStaysWithoutFragments}
-use Rattle.rtps_fragments.specs.RecordedSamples.{IsWithoutFragments}
-use Rattle.rtps_fragments.specs.SampleActs.{PieceAct}
+use Rattle.rtps_fragments.specs.RecordedSamples.{IsWithoutFragments, fragments_left, tally_with}
+use Rattle.rtps_fragments.specs.SampleActs.{PieceAct, acts_with_samples, piece_acts_in}
 use Rattle.rtps_fragments.specs.Sending.{fragment_acts, piece_acts_of, piece_acts_of_item, piece_acts_with, sending_of}
+use Rattle.rtps_fragments.specs.Whole.{tally_with_fragments}
 use Rattle.rtps_fragments.proofs.ActsTell.{acts_stay_without_pieces}
 use Rattle.rtps_fragments.proofs.NoteLemmas.{announcing_stays}
+use Rattle.rtps_fragments.proofs.FragmentCounts.{no_more}
 use Rattle.rtps_fragments.proofs.SampleSteps.{octets_of}
 
 -- an act without a piece
@@ -88,6 +90,16 @@ no_pieces recording none datagram one there among =
     let (act, has, is) = contains_mapped plain (acts_of (reading_of octets)) one (subst (λ (ones : List PieceAct). Contains ones one) (sym same ∙ datagram_plain octets (none octets sent)) among) in
     ap (λ (p : PieceAct). p.piece) (sym is)
 
+-- nothing is counted
+tallies_stay : (all : List PieceAct) (recording : List (List ℕ)) → EachWithout recording → map (tally_with all) recording ≡ map (λ datagram. tally_of (reading_of datagram)) recording
+tallies_stay all [] none = refl
+tallies_stay all (octets ∷ recording) none =
+    let zero = none octets (contains_head octets recording) in
+    let few = no_more all octets in
+    let left : fragments_left all octets ≡ (tally_of (reading_of octets)).fragments = omega arith in
+    let first : tally_with all octets ≡ tally_of (reading_of octets) = ap (tally_with_fragments (tally_of (reading_of octets))) left in
+    ap (λ t. t ∷ map (tally_with all) recording) first ∙ ap (λ ts. tally_of (reading_of octets) ∷ ts) (tallies_stay all recording (λ other among. none other (contains_tail octets recording other among)))
+
 pub intake_stays : IntakeStaysWithoutFragments
 intake_stays recording all =
     let none : EachWithout recording = λ octets among. All-contains (λ datagram. (tally_of (reading_of datagram)).fragments ≡ 0) recording octets all among in
@@ -95,7 +107,9 @@ intake_stays recording all =
     let tallies : List Tally = map (λ datagram. tally_of (reading_of datagram)) recording in
     let said : List (List ActValue) → Intake = λ acts. record { tallies = tallies; acts = acts; announcing = announcing_with (sending_of recording) } in
     let noted : List (List ActValue) → Intake = λ acts. record { tallies = tallies; acts = acts_by_datagram recording; announcing = acts } in
-    ap said (acts_stay_without_pieces (sending_of recording) (no_pieces recording none) ∙ plain_acts) ∙ ap noted (announcing_stays (sending_of recording) (no_pieces recording none) ∙ plain_acts)
+    let sending = sending_of recording in
+    let counted : List Tally → Intake = λ t. record { tallies = t; acts = acts_with_samples sending; announcing = announcing_with sending } in
+    ap counted (tallies_stay (piece_acts_in sending) recording none) ∙ ap said (acts_stay_without_pieces (sending_of recording) (no_pieces recording none) ∙ plain_acts) ∙ ap noted (announcing_stays (sending_of recording) (no_pieces recording none) ∙ plain_acts)
 
 -- ---- one datagram more
 

@@ -1,8 +1,11 @@
 -- Laws over definitions alone, whatever the number is from which on numbers are asked for. own: what a reader of the definitions
 -- would ask of them.
-use Rattle.std.specs.Prelude.{ℕ, ◌+◌, ◌<◌, ◌≤◌, ◌≡◌, ◌≢◌, ◌↔◌, ◌⊎◌, length, List, [], map, Option, Some, None, is_some, true, Contains}
+use Rattle.std.specs.Prelude.{ℕ, ◌+◌, ◌<◌, ◌≤◌, ◌≡◌, ◌≢◌, ◌↔◌, ◌⊎◌, length, List, [], map, Option, Some, None, is_some, true, drop, sum_by, All, Contains}
 use Rattle.rtps_ids.specs.declared.identity.EntityId.{EntityId}
 use Rattle.rtps_ids.specs.declared.identity.Guid.{Guid}
+use Rattle.rtps_wire.specs.DataFrag.{DataFragValue, data_frag_at}
+use Rattle.rtps_wire.specs.Reading.{reading_of}
+use Rattle.rtps_wire.specs.Tally.{tally_of}
 use Rattle.rtps_wire.specs.Values.{PayloadValue}
 use Rattle.rtps_receiver.specs.Speech.{is_spoken_by, origin_of}
 use Rattle.rtps_receiver.specs.Values.{ActBodyValue, ActValue}
@@ -17,11 +20,11 @@ use Rattle.rtps_audit.specs.declared.verdict.Verdict.{Verdict}
 use Rattle.rtps_fragments.specs.Announcing.{announcing_with, is_built_in}
 use Rattle.rtps_fragments.specs.FragmentDelivery.{Fragment, FragmentSpeech, GivesFragment, IsPutTogether, Piece, Shape, last_fragment, said_in}
 use Rattle.rtps_fragments.specs.FragmentVerdict.{IsPayloadBefore, IsWordBefore, IsFragmentVerdictFrom}
-use Rattle.rtps_fragments.specs.RecordedSamples.{IsWithoutFragments, intake_with}
+use Rattle.rtps_fragments.specs.RecordedSamples.{IsWithoutFragments, fragments_left, intake_with}
 use Rattle.rtps_fragments.specs.Samples.{payloads_of, told_in}
-use Rattle.rtps_fragments.specs.Sending.{sending_of}
+use Rattle.rtps_fragments.specs.Sending.{is_data_frag, sending_of, unread_in}
 use Rattle.rtps_fragments.specs.SampleActs.{PieceAct, acts_with_samples, fragment_speech_of, piece_acts_in, acts_of_sample, samples_told}
-use Rattle.rtps_fragments.specs.SamplesSent.{acts_to_note, is_left, noted_act, samples_sent, sent_by}
+use Rattle.rtps_fragments.specs.SamplesSent.{acts_to_note, is_left, noted_act, pieces_left, samples_sent, sent_by}
 
 -- of all that is given, two different payloads are told or can be put together for n
 abbrev pub GivesTwoPayloads : ℕ → FragmentSpeech → ℕ → Type 0
@@ -157,3 +160,19 @@ RecordedVerdictIsOfRuns =
 -- where no submessage belongs to fragments, an index with samples takes in what a plain one does
 abbrev pub IntakeStaysWithoutFragments : Type 0
 IntakeStaysWithoutFragments = (recording : List (List ℕ)) → IsWithoutFragments recording → intake_with recording ≡ intake_of recording
+
+-- of all datagrams together those DATA_FRAG are counted that have no fragments that can be used, and those of a number of which no sample
+-- is whole
+abbrev pub FragmentsAreCounted : Type 0
+FragmentsAreCounted =
+    (recording : List (List ℕ)) → sum_by (λ tally. tally.fragments) (intake_with recording).tallies
+    ≡ sum_by unread_in recording + pieces_left (piece_acts_in (sending_of recording)) (piece_acts_in (sending_of recording))
+
+-- of a datagram, no more are counted than without samples, whatever acts the recording has
+abbrev pub NoMoreFragmentsAreCounted : Type 0
+NoMoreFragmentsAreCounted = (all : List PieceAct) (datagram : List ℕ) → fragments_left all datagram ≤ (tally_of (reading_of datagram)).fragments
+
+-- only what is a DATA_FRAG has fragments
+abbrev pub OnlyDataFragsHaveFragments : Type 0
+OnlyDataFragsHaveFragments =
+    (datagram : List ℕ) → All (λ item. (value : DataFragValue) → data_frag_at (drop item.at datagram) ≡ Some value → is_data_frag item.body ≡ true) (reading_of datagram).items

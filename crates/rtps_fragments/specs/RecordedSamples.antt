@@ -1,15 +1,18 @@
 -- The samples that a recording tells in fragments, datagram by datagram. DDSI-RTPS 2.5, 8.3.8.3 "DataFrag". own: a sample is told by the act
 -- that completes it.
-use Rattle.std.specs.Prelude.{ℕ, ◌≡◌, All, List, [], ◌∷◌, ◌++◌, map}
+use Rattle.std.specs.Prelude.{ℕ, ◌≡◌, ◌+◌, All, List, [], ◌∷◌, ◌++◌, map}
 use Rattle.rtps_wire.specs.Reading.{reading_of}
 use Rattle.rtps_wire.specs.Tally.{tally_of}
+use Rattle.rtps_wire.specs.declared.counts.Tally.{Tally}
 use Rattle.rtps_audit.specs.Intake.{Intake, intake_of}
 use Rattle.rtps_fragments.specs.Announcing.{announcing_with}
 use Rattle.rtps_fragments.specs.Merging.{sents_from, sents_in}
 use Rattle.rtps_fragments.specs.Overheard.{AreOverheardOf}
-use Rattle.rtps_fragments.specs.SampleActs.{PieceAct, acts_with_samples}
-use Rattle.rtps_fragments.specs.Sending.{sending_of}
+use Rattle.rtps_fragments.specs.SampleActs.{PieceAct, acts_with_samples, piece_acts_in}
+use Rattle.rtps_fragments.specs.SamplesSent.{pieces_left}
+use Rattle.rtps_fragments.specs.Sending.{piece_acts_of, sending_of, unread_in}
 use Rattle.rtps_fragments.specs.Telling.{SentValue, ToldValue, told_in_turn, told_value}
+use Rattle.rtps_fragments.specs.Whole.{AreWholeOf, tally_with_fragments}
 use Rattle.rtps_fragments.specs.declared.fragments.Fragments.{Fragments}
 use Rattle.rtps_fragments.specs.declared.fragments.Fragments.TheVariants as fragments
 use Rattle.rtps_fragments.specs.declared.samples.Samples.{Samples}
@@ -23,13 +26,23 @@ told_by_datagram all before (acts ∷ recording) = told_in_turn all before (sent
 pub record AreSamplesOf (recording : List (List ℕ)) (samples : Samples) : Type 0 where
   pub told : map (λ told. map told_value told.items) samples.told.items ≡ told_by_datagram (sents_in (sending_of recording)) [] (sending_of recording)
   pub overheard : AreOverheardOf recording samples.overheard
+  pub whole : AreWholeOf recording samples.whole
+
+-- how many DATA_FRAG of a datagram are of no sample that is ever whole, among all acts of a recording: those that have no fragments that can
+-- be used, and those of a number of which no sample is whole
+abbrev pub fragments_left : List PieceAct → List ℕ → ℕ
+fragments_left all octets = unread_in octets + pieces_left all (piece_acts_of octets)
+
+-- the tally of a datagram, of which these are counted as fragments
+abbrev pub tally_with : List PieceAct → List ℕ → Tally
+tally_with all octets = tally_with_fragments (tally_of (reading_of octets)) (fragments_left all octets)
 
 -- what an index takes in of a recording with its samples: the acts with the samples among them, and those that announce with the samples of
--- built-in writers
+-- built-in writers. The DATA_FRAG of no sample are counted
 abbrev pub intake_with : List (List ℕ) → Intake
 intake_with recording =
     record {
-      tallies = map (λ datagram. tally_of (reading_of datagram)) recording;
+      tallies = map (tally_with (piece_acts_in (sending_of recording))) recording;
       acts = acts_with_samples (sending_of recording);
       announcing = announcing_with (sending_of recording);
     }

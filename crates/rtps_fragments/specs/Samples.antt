@@ -1,7 +1,7 @@
 -- The samples that a reader is told by the fragments that it hears. DDSI-RTPS 2.5, 8.3.8.3 "DataFrag". own: the standard does not say
 -- what a reader makes of a fragment that comes twice with different octets; of each sample one payload is told, and a second one where
 -- some fragment came so, which is enough for a conflict.
-use Rattle.std.specs.Prelude.{ℕ, zero, suc, pred, Bool, false, not, ◌==◌, ◌&&◌, if◌then◌else◌, List, [], ◌∷◌, ◌++◌, length, map, drop, slice_set, Option, Some, None}
+use Rattle.std.specs.Prelude.{ℕ, zero, suc, pred, Bool, false, not, nat_lt, ◌==◌, ◌&&◌, if◌then◌else◌, List, [], ◌∷◌, ◌++◌, length, map, drop, slice_set, Option, Some, None}
 use Rattle.std.specs.List.{concat, filter_map, find, flat_map}
 use Rattle.std.specs.Str.{bytes_eq}
 use Rattle.rtps_wire.specs.Values.{PayloadValue}
@@ -51,6 +51,10 @@ samples_by (Some parts) (Some other) = concat parts ∷ concat (slice_set parts 
 -- the octets of the samples that are put together of all that came. Of several other octets those that came first are taken
 abbrev pub samples_of : ℕ → List (ℕ × List ℕ) → List (List ℕ)
 samples_of last came = samples_by (firsts_of came last) (find (is_other came) came)
+
+-- there is one
+abbrev pub has_sample : ℕ → List (ℕ × List ℕ) → Bool
+has_sample last came = nat_lt 0 (length (samples_of last came))
 
 -- ---- what a reader is told
 

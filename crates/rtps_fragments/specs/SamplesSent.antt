@@ -49,6 +49,6 @@ abbrev pub is_left : List PieceAct → ActValue → Option Piece → Bool
 is_left all act (Some piece) = not (list_any (λ other. is_spoken_by other.act (origin_of act) && is_whole all (origin_of act) piece.number other.piece) all)
 is_left all act None = false
 
--- how many pieces are of no sample
-abbrev pub pieces_left : List PieceAct → ℕ
-pieces_left all = count_by (λ one. is_left all one.act one.piece) all
+-- how many of these acts have a piece of no sample, among all of a recording
+abbrev pub pieces_left : List PieceAct → List PieceAct → ℕ
+pieces_left all acts = count_by (λ one. is_left all one.act one.piece) acts

@@ -1,10 +1,11 @@
 -- The acts of a datagram, each with the fragments that it sends. DDSI-RTPS 2.5, 8.3.4 "The RTPS Message Receiver" and 8.3.8.3 "DataFrag".
 -- own: a DATA_FRAG that has no fragments that can be used is no act.
-use Rattle.std.specs.Prelude.{ℕ, ◌≡◌, if◌then◌else◌, All, List, [], ◌∷◌, ◌++◌, drop, length, map, Option, Some, None}
+use Rattle.std.specs.Prelude.{ℕ, Bool, false, ◌≡◌, ◌+◌, ◌<◌, ◌^◌, ◌==◌, ◌&&◌, if◌then◌else◌, All, List, [], ◌∷◌, ◌++◌, count_by, drop, is_none, length, map, Option, Some, None}
 use Rattle.rtps_wire.specs.DataFrag.{DataFragValue, data_frag_at, parts_of}
 use Rattle.rtps_wire.specs.Reading.{reading_of}
 use Rattle.rtps_wire.specs.Tally.{is_fragment}
-use Rattle.rtps_wire.specs.Values.{ItemValue}
+use Rattle.rtps_wire.specs.Values.{BodyValue, ItemValue}
+use Rattle.rtps_wire.specs.Values.BodyValue.{Skipped}
 use Rattle.rtps_wire.specs.declared.header.Header.{Header}
 use Rattle.rtps_receiver.specs.Acts.{act_at, act_body, gathered, state_at_start}
 use Rattle.rtps_receiver.specs.Values.{ActBodyValue, act_value}
@@ -14,6 +15,7 @@ use Rattle.rtps_fragments.specs.FragmentDelivery.{Piece}
 use Rattle.rtps_fragments.specs.Merging.{sents_from}
 use Rattle.rtps_fragments.specs.SampleActs.{PieceAct}
 use Rattle.rtps_fragments.specs.Telling.{IsSent, sent_value}
+use Rattle.rtps_fragments.specs.declared.layout.TheConstants.{DATA_FRAG}
 use Rattle.rtps_fragments.specs.declared.sending.Sending.{Sending}
 
 -- the fragments of a DATA_FRAG, as a piece of their sample
@@ -32,6 +34,27 @@ fragment_acts state item None = []
 -- the fragments that stand at an item of these octets, if it is a DATA_FRAG that has some
 abbrev pub fragments_at : List ℕ → ItemValue → Option DataFragValue
 fragments_at octets item = if is_fragment item.body then data_frag_at (drop item.at octets) else None
+
+-- the submessage is a DATA_FRAG
+abbrev pub is_data_frag : BodyValue → Bool
+is_data_frag (Skipped id) = id == DATA_FRAG
+is_data_frag _ = false
+
+-- the item of these octets is a DATA_FRAG, and has no fragments that can be used
+abbrev pub is_unread : List ℕ → ItemValue → Bool
+is_unread octets item = is_data_frag item.body && is_none (fragments_at octets item)
+
+-- 1 for such an item, and 0 for another
+abbrev pub one_unread : List ℕ → ItemValue → ℕ
+one_unread octets item = if is_unread octets item then 1 else 0
+
+-- how many of these items are such
+abbrev pub unread_among : List ℕ → List ItemValue → ℕ
+unread_among octets items = count_by (is_unread octets) items
+
+-- how many of a datagram of these octets are such
+abbrev pub unread_in : List ℕ → ℕ
+unread_in octets = unread_among octets (reading_of octets).items
 
 -- the act that an item of these octets is, if it is one
 abbrev pub piece_acts_of_item : List ℕ → State → ItemValue → Option ActBodyValue → List PieceAct
@@ -55,14 +78,17 @@ piece_acts_of octets = piece_acts_with octets (reading_of octets).header (readin
 abbrev pub sending_of : List (List ℕ) → List (List PieceAct)
 sending_of recording = map piece_acts_of recording
 
--- these acts are kept, with what they send
-pub record IsSending (ones : List PieceAct) (sending : Sending) : Type 0 where
+-- these acts are kept, with what they send and how many DATA_FRAG are no act
+pub record IsSending (ones : List PieceAct) (count : ℕ) (sending : Sending) : Type 0 where
   pub acts : map act_value sending.acts.items ≡ map (λ one. one.act) ones
   pub sents : map sent_value sending.sents.items ≡ sents_from 0 ones
   pub well : All IsSent sending.sents.items
+  pub unread : sending.unread ≡ count
+  pub few : sending.unread + length sending.sents.items < 2 ^ 64
 
--- what is kept grew by these acts, with what they send
-pub record AddsActs (old new : Sending) (ones : List PieceAct) : Type 0 where
+-- what is kept grew by these acts, with what they send, and by so many DATA_FRAG that are no act
+pub record AddsActs (old new : Sending) (ones : List PieceAct) (count : ℕ) : Type 0 where
   pub acts : map act_value new.acts.items ≡ map act_value old.acts.items ++ map (λ one. one.act) ones
   pub sents : map sent_value new.sents.items ≡ map sent_value old.sents.items ++ sents_from (length old.acts.items) ones
   pub well : All IsSent old.sents.items → All IsSent new.sents.items
+  pub unread : new.unread ≡ old.unread + count

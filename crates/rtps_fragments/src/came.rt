@@ -5,7 +5,7 @@ ghost use Rattle.std.specs.Ordering.{nat_cmp};
 ghost use Rattle.rtps_fragments.specs.Came.{IsCame, came_from, with_part};
 ghost use Rattle.rtps_fragments.specs.FragmentDelivery.{last_fragment};
 ghost use Rattle.rtps_fragments.specs.Pieces.{parts_in};
-ghost use Rattle.rtps_fragments.specs.Samples.{firsts_of, samples_of};
+ghost use Rattle.rtps_fragments.specs.Samples.{firsts_of, has_sample, samples_of};
 ghost use Rattle.rtps_fragments.specs.Telling.{IsSent, sent_value, shape_of, told_by_sent, told_value};
 
 use crate::piece::{FragmentRun, SentFragments};
@@ -135,6 +135,21 @@ impl<'a> Came<'a> {
             rest = behind;
         }
         Ok(())
+    }
+
+    /// Takes fragments that are sent, and says whether their sample can be put together of all that came. After `Memory` it is of no
+    /// use.
+    pub(crate) fn take_sent(&mut self, sent: &SentFragments<'a>) -> Result<bool, Memory>
+        requires { IsSent sent.now }
+        ensures came { OnOk result ((came : List (ℕ × List ℕ)) → IsCame (last_fragment (shape_of sent.now.key)) came self.old
+            → IsCame (last_fragment (shape_of sent.now.key)) (came ++ (sent_value sent.now).came) self.new) }
+        ensures whole { IfOk result (λ whole. (came : List (ℕ × List ℕ)) → IsCame (last_fragment (shape_of sent.now.key)) came self.old
+            → whole ≡ has_sample (last_fragment (shape_of sent.now.key)) (came ++ (sent_value sent.now).came)) }
+    {
+        let shape = sent.key.shape();
+        let last = shape.last_fragment();
+        self.take_all(shape, &sent.fragments)?;
+        Ok(self.count(last) > 0)
     }
 
     /// Takes fragments that are sent to this audience, and appends the samples that they tell: those that could not be put

@@ -1,6 +1,6 @@
 //! Laws over definitions alone. Each function does nothing: its clause is the law, and its proof the law's proof.
 
-ghost use Rattle.rtps_fragments.specs.Laws.{FragmentsTellAlike, SamplesTellAlike, FragmentVerdictIsTold, ActsTellAlike, FragmentVerdictOfActs, ActsStayWithoutPieces, VerdictStaysWithoutPieces, PiecesLeftAreOfNoSample, NotedSamplesAreSent, BuiltInSamplesAnnounce, AnnouncersAreBuiltIn, FewFragmentsMakeNoSample, SamplesStandAlone, RecordedVerdictIsOfRuns, IntakeStaysWithoutFragments};
+ghost use Rattle.rtps_fragments.specs.Laws.{FragmentsTellAlike, SamplesTellAlike, FragmentVerdictIsTold, ActsTellAlike, FragmentVerdictOfActs, ActsStayWithoutPieces, VerdictStaysWithoutPieces, PiecesLeftAreOfNoSample, NotedSamplesAreSent, BuiltInSamplesAnnounce, AnnouncersAreBuiltIn, FewFragmentsMakeNoSample, SamplesStandAlone, RecordedVerdictIsOfRuns, IntakeStaysWithoutFragments, FragmentsAreCounted, NoMoreFragmentsAreCounted, OnlyDataFragsHaveFragments};
 
 use rtps_audit::laws::{runs_exist_where_founded, verdicts_agree};
 
@@ -100,4 +100,20 @@ pub fn recorded_verdict_is_of_runs()
 /// Where no submessage of a recording belongs to fragments, an index with samples takes in what a plain one does.
 pub fn intake_stays_without_fragments()
     ensures { IntakeStaysWithoutFragments }
+{}
+
+/// As fragments of a recording with its samples those DATA_FRAG are counted that have no fragments that can be used, and those of a number
+/// of which no sample is whole: of which no payload can be put together of all fragments that the writer sends.
+pub fn fragments_are_counted()
+    ensures { FragmentsAreCounted }
+{}
+
+/// Of a datagram, no more fragments are counted with samples than without.
+pub fn no_more_fragments_are_counted()
+    ensures { NoMoreFragmentsAreCounted }
+{}
+
+/// Only what is a DATA_FRAG has fragments.
+pub fn only_data_frags_have_fragments()
+    ensures { OnlyDataFragsHaveFragments }
 {}

@@ -6,6 +6,7 @@ mod came;
 mod fragments;
 mod hearing;
 pub mod laws;
+mod layout;
 mod merging;
 mod overheard;
 mod piece;
@@ -14,6 +15,7 @@ mod samples;
 mod sending;
 mod telling;
 mod told_sample;
+mod whole;
 
 pub use fragments::Fragments;
 pub use piece::{FragmentRun, SampleKey, SentFragments};

@@ -6,10 +6,9 @@ ghost use Rattle.rtps_fragments.specs.RecordedSamples.{AreSamplesOf, IsWithoutFr
 ghost use Rattle.rtps_fragments.specs.FragmentVerdict.{IsFragmentVerdictFrom};
 ghost use Rattle.rtps_fragments.specs.SampleActs.{fragment_speech_of};
 ghost use Rattle.rtps_fragments.specs.Sending.{piece_acts_of, sending_of};
-ghost use Rattle.rtps_fragments.specs.Telling.{told_value};
+ghost use Rattle.rtps_fragments.specs.Telling.{SentValue, told_value};
+ghost use Rattle.rtps_fragments.specs.Whole.{AreWholeIn, tally_left};
 ghost use Rattle.rtps_fragments.specs.declared.merging.SampleForm.TheVariants.{ForAudience, ForEveryone};
-ghost use Rattle.rtps_wire.specs.Reading.{reading_of};
-ghost use Rattle.rtps_wire.specs.Tally.{tally_of};
 
 use crate::fragments::Fragments;
 use crate::laws::recorded_verdict_is_of_runs;
@@ -17,6 +16,7 @@ use crate::merging::{SampleForm, merge};
 use crate::samples::Samples;
 use crate::sending::Sending;
 use crate::told_sample::ToldSample;
+use crate::whole::WholeNumbers;
 use rtps_audit::{Index, Verdict};
 use rtps_discovery::Pair;
 use rtps_ids::{Memory, SeqNum};
@@ -31,6 +31,8 @@ struct DatagramSamples<'s> {
     told: &'s [ToldSample],
     /// A reader that hears everything, of built-in writers.
     overheard: &'s [ToldSample],
+    /// The numbers of which some sample of the recording is ever whole.
+    whole: &'s WholeNumbers,
 }
 
 /// Takes in one datagram more, and behind each of its acts the samples that it tells. After `Memory` the index is of no use.
@@ -41,8 +43,8 @@ fn note_datagram<'s>(
     samples: &DatagramSamples<'s>,
 ) -> Result<(), Memory>
     requires { index.old.tallies.datagrams + 1 < 2 ^ 64 }
-    ensures { OnOk result ((intake : Intake) → IsIndexBy intake index.old
-        → IsIndexBy (intake_more intake (tally_of (reading_of datagram.now)) (merged_from ForAudience 0 (map (λ one. one.act) (piece_acts_of datagram.now)) (map told_value samples.now.told.now))
+    ensures { OnOk result ((intake : Intake) (all : List SentValue) → AreWholeIn all samples.now.whole.now → IsIndexBy intake index.old
+        → IsIndexBy (intake_more intake (tally_left all datagram.now) (merged_from ForAudience 0 (map (λ one. one.act) (piece_acts_of datagram.now)) (map told_value samples.now.told.now))
         (merged_from ForEveryone 0 (map (λ one. one.act) (piece_acts_of datagram.now)) (map told_value samples.now.overheard.now))) index.new) }
 {
     let sending = Sending::read(alloc, datagram)?;
@@ -53,7 +55,8 @@ fn note_datagram<'s>(
         &sending.acts,
         samples.overheard,
     )?;
-    index.note(tally(datagram), &acts, &announcing)?;
+    let tally = samples.whole.tally(tally(datagram), &sending);
+    index.note(tally, &acts, &announcing)?;
     Ok(())
 }
 
@@ -71,6 +74,7 @@ pub fn index_with<'s>(
         let told = DatagramSamples {
             told: &samples.told[place],
             overheard: &samples.overheard.told[place],
+            whole: &samples.whole,
         };
         note_datagram(&mut index, alloc, recording[place], &told)?;
     }

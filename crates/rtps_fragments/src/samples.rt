@@ -9,6 +9,7 @@ use crate::piece::SentFragments;
 use crate::sending::Sending;
 use crate::telling::{Addresses, Telling};
 use crate::told_sample::ToldSample;
+use crate::whole::WholeNumbers;
 use rtps_ids::Memory;
 use std::alloc::Global;
 
@@ -18,6 +19,8 @@ pub struct Samples {
     pub(crate) told: Vec<Vec<ToldSample>>,
     /// Those of built-in writers, whoever hears them.
     pub(crate) overheard: OverheardSamples,
+    /// The numbers of which some sample is ever whole.
+    pub(crate) whole: WholeNumbers,
 }
 
 /// Notes to whom these fragments are sent. After `Memory` the addresses are of no use.
@@ -76,21 +79,27 @@ impl Samples {
         Samples {
             told: Vec::new(alloc),
             overheard: OverheardSamples::none(alloc),
+            whole: WholeNumbers::none(alloc),
         }
     }
 
-    /// Puts the samples of a recording together, any datagrams in the order of sending. The octets of each are read three times.
+    /// Puts the samples of a recording together, any datagrams in the order of sending. The octets of each are read four times.
     /// `Memory` is answered where there is none for them.
     pub fn of(alloc: Global, recording: &[&[u8]]) -> Result<Samples, Memory>
         ensures { IfOk result (AreSamplesOf (map (λ datagram. datagram.now) recording.now)) }
     {
+        let whole = WholeNumbers::of(alloc, recording)?;
+        let overheard = OverheardSamples::of(alloc, recording)?;
         let addresses = addresses_of(alloc, recording)?;
         let mut telling = Telling::new(alloc, addresses);
         let mut told = Vec::new(alloc);
         for datagram in recording {
             told.push(tell_datagram(&mut telling, alloc, datagram)?)?;
         }
-        let overheard = OverheardSamples::of(alloc, recording)?;
-        Ok(Samples { told, overheard })
+        Ok(Samples {
+            told,
+            overheard,
+            whole,
+        })
     }
 }

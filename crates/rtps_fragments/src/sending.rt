@@ -1,27 +1,29 @@
-ghost use Rattle.std.specs.Prelude.{◌≡◌, ◌∷◌, [], drop, IfOk, IfSome, None, OnOk, Some};
+ghost use Rattle.std.specs.Prelude.{◌≡◌, ◌≤◌, ◌<◌, ◌+◌, ◌^◌, ◌∷◌, [], drop, length, IfOk, IfSome, None, OnOk, Some};
 ghost use Rattle.std.specs.Option.{option_map};
 ghost use Rattle.rtps_receiver.specs.Acts.{act_at, act_body, state_behind};
 ghost use Rattle.rtps_receiver.specs.Values.{act_value};
 ghost use Rattle.rtps_receiver.specs.Values.ActBodyValue.{DataFrag as DataFragAct};
 ghost use Rattle.rtps_wire.specs.DataFrag.{IsDataFrag, data_frag_value, parts_of};
 ghost use Rattle.rtps_wire.specs.Reading.{items_among, outcomes_left};
-ghost use Rattle.rtps_wire.specs.Values.{item_value};
+ghost use Rattle.rtps_wire.specs.Values.{body_value, item_value};
 ghost use Rattle.rtps_fragments.specs.Came.{came_from};
-ghost use Rattle.rtps_fragments.specs.Sending.{AddsActs, IsSending, fragment_acts, fragments_at as fragments_at_lem, piece_acts_behind, piece_acts_of, piece_acts_of_item};
+ghost use Rattle.rtps_fragments.specs.Sending.{AddsActs, IsSending, fragment_acts, fragments_at as fragments_at_lem, is_data_frag as is_data_frag_lem, one_unread, piece_acts_behind, piece_acts_of, piece_acts_of_item, unread_among, unread_in};
 ghost use Rattle.rtps_fragments.specs.Telling.{IsSent, sent_value};
 
+use crate::layout::DATA_FRAG;
 use crate::piece::{FragmentRun, SampleKey, SentFragments};
 use rtps_ids::{Guid, Memory};
 use rtps_receiver::{Act, ActBody, Audience, FragmentBody, State};
-use rtps_wire::{DataFrag, Item, Items};
+use rtps_wire::{Body, DataFrag, Item, Items};
 use std::alloc::Global;
 use std::slice;
 
-/// The acts of a datagram, and the fragments that its DATA_FRAG send.
+/// The acts of a datagram, the fragments that its DATA_FRAG send, and how many of these have none that can be used.
 #[derive(Drop)]
 pub(crate) struct Sending<'a> {
     pub(crate) acts: Vec<Act<'a>>,
     pub(crate) sents: Vec<SentFragments<'a>>,
+    pub(crate) unread: u64,
 }
 
 /// The octets from this place on; none where it is past the end.
@@ -32,6 +34,16 @@ fn octets_from(octets: &[u8], at: usize) -> &[u8]
         &octets[at..]
     } else {
         &[]
+    }
+}
+
+/// Whether a submessage is a DATA_FRAG.
+fn is_data_frag(body: &Body<'_>) -> bool
+    ensures { result ≡ is_data_frag_lem (body_value body.now) }
+{
+    match body {
+        Body::Skipped { id } => *id == DATA_FRAG,
+        _ => false,
     }
 }
 
@@ -113,11 +125,12 @@ fn act_of<'a>(state: &State, item: &Item<'_>, fragments: &DataFrag<'a>) -> Act<'
 impl<'a> Sending<'a> {
     /// No acts.
     pub(crate) fn new(alloc: Global) -> Sending<'a>
-        ensures { IsSending [] result }
+        ensures { IsSending [] 0 result }
     {
         Sending {
             acts: Vec::new(alloc),
             sents: Vec::new(alloc),
+            unread: 0,
         }
     }
 
@@ -129,7 +142,7 @@ impl<'a> Sending<'a> {
         fragments: &DataFrag<'a>,
     ) -> Result<(), Memory>
         requires { IsDataFrag (data_frag_value fragments.now) }
-        ensures { OnOk result (AddsActs self.old self.new (fragment_acts state.now (item_value item.now) (Some (data_frag_value fragments.now)))) }
+        ensures { OnOk result (AddsActs self.old self.new (fragment_acts state.now (item_value item.now) (Some (data_frag_value fragments.now))) 0) }
     {
         let place = self.acts.len();
         let act = act_of(state, item, fragments);
@@ -139,16 +152,20 @@ impl<'a> Sending<'a> {
         Ok(())
     }
 
-    /// Adds the act that an item of a datagram is, if it is one, and changes the state as the item says. After `Memory` it is
-    /// of no use.
+    /// Adds the act that an item of a datagram is, if it is one, and changes the state as the item says. A DATA_FRAG that is no act
+    /// is counted. After `Memory` it is of no use.
     fn add(&mut self, state: &mut State, item: &Item<'a>, datagram: &'a [u8]) -> Result<(), Memory>
-        ensures acts { OnOk result (AddsActs self.old self.new (piece_acts_of_item datagram.now state.old (item_value item.now) (act_body (item_value item.now).body))) }
+        requires { self.old.unread + 1 < 2 ^ 64 }
+        ensures acts { OnOk result (AddsActs self.old self.new (piece_acts_of_item datagram.now state.old (item_value item.now) (act_body (item_value item.now).body))
+            (one_unread datagram.now (item_value item.now))) }
         ensures state { OnOk result (state.new ≡ state_behind state.old (item_value item.now ∷ [])) }
     {
         if let Some(act) = state.act(item) {
             self.acts.extend_from_slice(slice::from_ref(&act))?;
         } else if let Some(fragments) = fragments_at(item, datagram) {
             self.add_fragments(state, item, &fragments)?;
+        } else if is_data_frag(&item.body) {
+            self.unread += 1;
         }
         state.interpret(item);
         Ok(())
@@ -161,7 +178,9 @@ impl<'a> Sending<'a> {
         items: Items<'a>,
         datagram: &'a [u8],
     ) -> Result<(), Memory>
-        ensures { OnOk result (IsSending [] self.old → IsSending (piece_acts_behind datagram.now start (items_among (outcomes_left items.entry))) self.new) }
+        requires few { self.old.unread + length self.old.sents.items + length (outcomes_left items) < 2 ^ 64 }
+        ensures { OnOk result (IsSending [] 0 self.old → IsSending (piece_acts_behind datagram.now start (items_among (outcomes_left items.entry)))
+            (unread_among datagram.now (items_among (outcomes_left items.entry))) self.new) }
     {
         let mut state = start;
         let mut items = items;
@@ -176,7 +195,7 @@ impl<'a> Sending<'a> {
 
     /// The acts of a datagram of any length, and the fragments that its DATA_FRAG send, up to its refusal, if it has one.
     pub(crate) fn read(alloc: Global, datagram: &'a [u8]) -> Result<Sending<'a>, Memory>
-        ensures { IfOk result (IsSending (piece_acts_of datagram.now)) }
+        ensures { IfOk result (IsSending (piece_acts_of datagram.now) (unread_in datagram.now)) }
     {
         let mut sending = Sending::new(alloc);
         match Items::open(datagram) {

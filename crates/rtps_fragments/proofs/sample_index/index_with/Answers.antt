@@ -59,4 +59,4 @@ loop-place-preserved c =
     let overheard = overheard_count recording samples c.requires in
     let at = kept_at samples.told.items _ i c.index.result.now c.deref.result.now c.requires.told (omega (arith, told, lt)) c.index.ensures c.deref.ensures.value in
     let also = kept_at samples.overheard.told.items _ i c.index-in-loop-place.result.now c.deref-in-loop-place.result.now c.requires.overheard (omega (arith, overheard, lt)) c.index-in-loop-place.ensures c.deref-in-loop-place.ensures.value in
-    subst (λ intake. IsIndexBy intake c.note_datagram.new.index) (taken_more recording i _ lt (map told_value c.deref.result.now) (map told_value c.deref-in-loop-place.result.now) at also) (c.in_ok-note_datagram.ensures (taken recording i) c.loop-place.invariant)
+    subst (λ intake. IsIndexBy intake c.note_datagram.new.index) (taken_more recording i _ lt (map told_value c.deref.result.now) (map told_value c.deref-in-loop-place.result.now) at also) (c.in_ok-note_datagram.ensures (taken recording i) (sents_in (sending_of (octets_of recording))) c.requires.whole c.loop-place.invariant)

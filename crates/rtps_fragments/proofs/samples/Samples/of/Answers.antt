@@ -37,4 +37,5 @@ returns c =
     record {
       told = c.loop-datagram.invariant.told ∙ ap (λ l. told_by_datagram (sents_in (sending_of (octets_of recording))) [] (sending_of (octets_of l))) whole;
       overheard = c.in_ok-overheard.ensures;
+      whole = c.in_ok-whole.ensures;
     }

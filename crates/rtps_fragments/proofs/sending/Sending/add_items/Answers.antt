@@ -1,20 +1,34 @@
-use Rattle.std.proofs.Common.{◌≡◌, ◌∷◌, ◌++◌, ◌∙◌, List, Ok, ap, subst, sym}
+use Rattle.std.proofs.Common.{◌≡◌, ◌+◌, ◌<◌, ◌^◌, ◌∷◌, ◌++◌, ◌∙◌, List, Ok, ap, arith, length, subst, sym}
 use Rattle.rtps_wire.specs.Reading.{Outcome, items_among, outcome_value, outcomes_left}
 use Rattle.rtps_wire.specs.Values.{item_value}
 use Rattle.rtps_receiver.specs.Acts.{act_body}
 use Rattle.rtps_fragments.specs.SampleActs.{PieceAct}
-use Rattle.rtps_fragments.specs.Sending.{piece_acts_behind, piece_acts_of_item}
-use Rattle.rtps_fragments.proofs.SendingLemmas.{IsReading, behind-item, reading_step}
+use Rattle.rtps_fragments.specs.Sending.{one_unread, piece_acts_behind, piece_acts_of_item, unread_among}
+use Rattle.rtps_fragments.proofs.SendingLemmas.{IsReading, behind-item, few_more, reading_step, unread-item}
 use Rattle.rtps_fragments.proofs.sending.Sending.add_items.Goals as goal
 
+pub add-requires : goal.add-requires
+add-requires c =
+    let next = ap length (c.in-Some-Ok.ensures.steps) in
+    omega (arith, c.items.invariant.few, next)
+
 pub items-preserved-in-Continue-1 : goal.items-preserved-in-Continue-1
-items-preserved-in-Continue-1 c = λ none.
+items-preserved-in-Continue-1 c =
     let octets = c.args.datagram.now in
     let state = c.items.state in
     let item = item_value c.in-Some-Ok.item in
     let later = outcomes_left c.next.new.self in
     let all = piece_acts_behind octets c.args.start (items_among (outcomes_left c.args.items)) in
     let next : outcomes_left c.items.items ≡ Ok item ∷ later = c.in-Some-Ok.ensures.steps ∙ ap (λ o. outcome_value o ∷ outcomes_left c.next.new.self) c.in-Some-Ok.field-0-is in
+    let one = one_unread octets item in
+    let adds = c.in_ok-add-in-Some-Ok.ensures.acts in
     let step = ap (λ (o : List Outcome). piece_acts_behind octets state (items_among o)) next ∙ behind-item octets state item (items_among later) ∙ ap (λ s. piece_acts_of_item octets state item (act_body item.body) ++ piece_acts_behind octets s (items_among later)) (sym c.in_ok-add-in-Some-Ok.ensures.state) in
-    reading_step (piece_acts_of_item octets state item (act_body item.body)) (piece_acts_behind octets c.add.new.state (items_among later)) all c.items.self c.add.new.self c.in_ok-add-in-Some-Ok.ensures.acts
-    (subst (λ (left : List PieceAct). IsReading left all c.items.self) step (c.items.invariant none))
+    let counted = ap (λ (o : List Outcome). unread_among octets (items_among o)) next ∙ unread-item octets item (items_among later) in
+    let unread = unread_among octets (items_among (outcomes_left c.args.items)) in
+    record {
+      few = few_more octets state item (length later) c.items.self c.add.new.self adds (subst (λ n. c.items.self.unread + length c.items.self.sents.items + n < 2 ^ 64) (ap length next) c.items.invariant.few);
+      reading = λ none.
+          reading_step (piece_acts_of_item octets state item (act_body item.body)) (piece_acts_behind octets c.add.new.state (items_among later)) all one (unread_among octets (items_among later)) unread c.items.self c.add.new.self adds
+          (subst (λ n. IsReading (piece_acts_of_item octets state item (act_body item.body) ++ piece_acts_behind octets c.add.new.state (items_among later)) all n unread c.items.self) counted
+          (subst (λ (left : List PieceAct). IsReading left all (unread_among octets (items_among (outcomes_left c.items.items))) unread c.items.self) step (c.items.invariant.reading none)));
+    }

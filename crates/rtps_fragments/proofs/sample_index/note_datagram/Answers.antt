@@ -1,0 +1,34 @@
+use Rattle.std.proofs.Common.{◌≡◌, ◌+◌, ◌∙◌, List, ap, map, subst}
+use Rattle.rtps_wire.specs.Reading.{reading_of}
+use Rattle.rtps_wire.specs.Tally.{tally_of}
+use Rattle.rtps_wire.specs.declared.counts.Tally.{Tally}
+use Rattle.rtps_receiver.specs.Values.{ActValue, act_value}
+use Rattle.rtps_audit.specs.Index.{IsIndexBy}
+use Rattle.rtps_audit.specs.Intake.{intake_more}
+use Rattle.rtps_fragments.specs.Merging.{merged_from}
+use Rattle.rtps_fragments.specs.SampleActs.{PieceAct}
+use Rattle.rtps_fragments.specs.Sending.{piece_acts_of, unread_in}
+use Rattle.rtps_fragments.specs.Telling.{SentValue, sent_value, told_value}
+use Rattle.rtps_fragments.specs.Whole.{left_among, tally_left, tally_with_fragments}
+use Rattle.rtps_fragments.specs.declared.merging.SampleForm.TheVariants.{ForAudience, ForEveryone}
+use Rattle.rtps_fragments.proofs.sample_index.note_datagram.Goals as goal
+
+pub returns : goal.returns
+returns c = λ intake all whole is.
+    let octets = c.args.datagram.now in
+    let sending = c.in_ok-sending.sending in
+    let sent = c.in_ok-sending.ensures in
+    let plain = tally_of (reading_of octets) in
+    let tally : c.tally-tally.result ≡ tally_left all octets =
+    c.tally-tally.ensures all whole ∙ ap (λ (t : Tally). tally_with_fragments t (sending.unread + left_among all (map sent_value sending.sents.items))) c.tally.ensures
+    ∙ ap (λ n. tally_with_fragments plain (n + left_among all (map sent_value sending.sents.items))) sent.unread ∙ ap (λ (ss : List SentValue). tally_with_fragments plain (unread_in octets + left_among all ss)) sent.sents in
+    let told = map told_value c.args.samples.now.told.now in
+    let noted = map told_value c.args.samples.now.overheard.now in
+    let own = map (λ (one : PieceAct). one.act) (piece_acts_of octets) in
+    let acts : map act_value c.deref-3.result.now ≡ merged_from ForAudience 0 own told =
+    ap (map act_value) c.deref-3.ensures.value ∙ c.in_ok-acts.ensures ∙ ap (λ ones. merged_from ForAudience 0 ones told) (ap (map act_value) c.deref.ensures.value ∙ sent.acts) in
+    let announcing : map act_value c.deref-4.result.now ≡ merged_from ForEveryone 0 own noted =
+    ap (map act_value) c.deref-4.ensures.value ∙ c.in_ok-announcing.ensures ∙ ap (λ ones. merged_from ForEveryone 0 ones noted) (ap (map act_value) c.deref-2.ensures.value ∙ sent.acts) in
+    subst (λ (t : Tally). IsIndexBy (intake_more intake t (merged_from ForAudience 0 own told) (merged_from ForEveryone 0 own noted)) c.note.new.self) tally
+    (subst (λ (ones : List ActValue). IsIndexBy (intake_more intake c.tally-tally.result ones (merged_from ForEveryone 0 own noted)) c.note.new.self) acts
+    (subst (λ (ones : List ActValue). IsIndexBy (intake_more intake c.tally-tally.result (map act_value c.deref-3.result.now) ones) c.note.new.self) announcing (c.in_ok-note.ensures intake is)))

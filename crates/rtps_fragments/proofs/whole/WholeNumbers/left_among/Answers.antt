@@ -1,0 +1,28 @@
+use Rattle.std.proofs.Common.{◌≡◌, ◌+◌, Bool, not, [], ◌∷◌, ◌++◌, ◌∙◌, ap, arith, map, sym, take}
+use Rattle.rtps_fragments.specs.Telling.{sent_value}
+use Rattle.rtps_fragments.specs.Whole.{has_whole, left_among, number_of}
+use Rattle.rtps_fragments.specs.declared.piece.SentFragments.{SentFragments}
+use Rattle.rtps_fragments.proofs.SendingLemmas.{at_most_one, one_of}
+use Rattle.rtps_fragments.proofs.ToldSoFar.{sents-more}
+use Rattle.rtps_fragments.proofs.WholeLemmas.{left-more}
+use Rattle.rtps_fragments.proofs.whole.WholeNumbers.left_among.Goals as goal
+use Rattle.rtps_fragments.proofs.whole.WholeNumbers.left_among.Goals.{then-not-contains, else-not-contains}
+
+pub loop-sent-preserved : goal.loop-sent-preserved
+loop-sent-preserved c =
+    let sents = c.args.sents.now in
+    let i = c.loop-sent.sent-index in
+    let item = c.sent-item.result in
+    let counted : c.if-not-contains.left ≡ c.loop-sent.left + one_of (not c.contains.result) = elim c.if-not-contains.branch [
+      | then-not-contains w ↦ omega (arith, w.left-is, ap (λ (b : Bool). one_of (not b)) w.if-not-contains.true)
+      | else-not-contains w ↦ omega (arith, w.left-is, ap (λ (b : Bool). one_of (not b)) w.if-not-contains.false)
+    ] in
+    let one = at_most_one (not c.contains.result) in
+    let sents_are : map sent_value (take (i + 1) sents) ≡ map sent_value (take i sents) ++ sent_value item ∷ [] = sents-more sents i item c.loop-sent-test.true ∙ ap (λ (s : SentFragments). map sent_value (take i sents) ++ sent_value s ∷ []) (sym c.sent-item.is) in
+    record {
+      few = omega (arith, counted, one, c.loop-sent.invariant.few);
+      left = λ all are.
+          let is : c.contains.result ≡ has_whole all (number_of item.key) = c.contains.ensures ∙ are c.number_of.result ∙ ap (has_whole all) c.number_of.ensures in
+          counted ∙ ap (λ n. n + one_of (not c.contains.result)) (c.loop-sent.invariant.left all are) ∙ ap (λ (b : Bool). left_among all (map sent_value (take i sents)) + one_of (not b)) is
+          ∙ sym (ap (left_among all) sents_are ∙ left-more all (map sent_value (take i sents)) (sent_value item));
+    }

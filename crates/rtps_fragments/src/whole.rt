@@ -1,0 +1,171 @@
+ghost use Rattle.std.specs.Prelude.{ℕ, ◌≡◌, ◌≤◌, ◌<◌, ◌+◌, ◌^◌, ◌++◌, ◌∷◌, [], false, length, List, map, All, IfOk, OnOk};
+ghost use Rattle.std.specs.BTreeMap.{get};
+ghost use Rattle.std.specs.Ordering.{is_eq};
+ghost use Rattle.rtps_fragments.specs.FragmentDelivery.{last_fragment};
+ghost use Rattle.rtps_fragments.specs.Merging.{sents_from};
+ghost use Rattle.rtps_fragments.specs.Samples.{has_sample};
+ghost use Rattle.rtps_fragments.specs.Sending.{piece_acts_of};
+ghost use Rattle.rtps_fragments.specs.Telling.{HasCame, IsSent, SentValue, sample_cmp, sent_value, shape_of};
+ghost use Rattle.rtps_fragments.specs.Whole.{AreTracked, AreWholeIn, AreWholeOf, left_among as left_among_lem, number_of as number_of_lem, tally_with_fragments};
+ghost use Rattle.rtps_fragments.specs.declared.piece.SampleKey.{SampleKey as SampleKeyValue};
+
+use crate::came::Came;
+use crate::piece::{SampleKey, SentFragments};
+use crate::sending::Sending;
+use rtps_ids::{Guid, Memory, SeqNum};
+use rtps_wire::Tally;
+use std::alloc::Global;
+use std::collections::{BTreeMap, BTreeSet};
+
+/// The number of a sample, and its writer.
+#[derive(Clone, Copy, PartialEq, Eq, PartialOrd, Ord, Debug)]
+pub(crate) struct SampleNumber {
+    pub(crate) writer: Guid,
+    pub(crate) number: SeqNum,
+}
+
+/// The numbers of which some sample can be put together, and what came of each sample of another number, whoever hears it.
+#[derive(Drop)]
+pub(crate) struct Tracking<'a> {
+    pub(crate) came: BTreeMap<SampleKey, Came<'a>>,
+    pub(crate) numbers: BTreeSet<SampleNumber>,
+    alloc: Global,
+}
+
+/// The numbers of which some sample can be put together of all fragments that a recording sends, whoever hears them.
+#[derive(Drop)]
+pub(crate) struct WholeNumbers {
+    pub(crate) numbers: BTreeSet<SampleNumber>,
+}
+
+/// The number that a sample has.
+fn number_of(key: &SampleKey) -> SampleNumber
+    ensures { result ≡ number_of_lem key.now }
+{
+    SampleNumber {
+        writer: key.writer,
+        number: key.number,
+    }
+}
+
+/// Fragments come. It says whether their sample can be put together now. After `Memory` what is kept is of no use.
+fn take_sent<'a>(
+    kept: &mut BTreeMap<SampleKey, Came<'a>>,
+    alloc: Global,
+    sent: &SentFragments<'a>,
+) -> Result<bool, Memory>
+    requires { IsSent sent.now }
+    ensures here { OnOk result ((came : List (ℕ × List ℕ)) → HasCame (last_fragment (shape_of sent.now.key)) came (get sample_cmp kept.old sent.now.key)
+        → HasCame (last_fragment (shape_of sent.now.key)) (came ++ (sent_value sent.now).came) (get sample_cmp kept.new sent.now.key)) }
+    ensures others { OnOk result ((other : SampleKeyValue) → is_eq (sample_cmp sent.now.key other) ≡ false
+        → get sample_cmp kept.new other ≡ get sample_cmp kept.old other) }
+    ensures whole { IfOk result (λ whole. (came : List (ℕ × List ℕ)) → HasCame (last_fragment (shape_of sent.now.key)) came (get sample_cmp kept.old sent.now.key)
+        → whole ≡ has_sample (last_fragment (shape_of sent.now.key)) (came ++ (sent_value sent.now).came)) }
+{
+    if let Some(came) = kept.get_mut(&sent.key) {
+        return came.take_sent(sent);
+    }
+    let mut came = Came::new(alloc);
+    let whole = came.take_sent(sent)?;
+    kept.insert(sent.key, came)?;
+    Ok(whole)
+}
+
+impl<'a> Tracking<'a> {
+    /// Nothing came.
+    fn new(alloc: Global) -> Tracking<'a>
+        ensures { AreTracked [] result.came result.numbers }
+    {
+        Tracking {
+            came: BTreeMap::new(alloc),
+            numbers: BTreeSet::new(alloc),
+            alloc,
+        }
+    }
+
+    /// Fragments come. After `Memory` it is of no use.
+    fn take(&mut self, sent: &SentFragments<'a>) -> Result<(), Memory>
+        requires { IsSent sent.now }
+        ensures { OnOk result ((before : List SentValue) → AreTracked before self.old.came self.old.numbers
+            → AreTracked (before ++ sent_value sent.now ∷ []) self.new.came self.new.numbers) }
+    {
+        if take_sent(&mut self.came, self.alloc, sent)? {
+            let _ = self.came.remove(&sent.key);
+            self.numbers.insert(number_of(&sent.key))?;
+        }
+        Ok(())
+    }
+
+    /// Fragments come, one act after another. After `Memory` it is of no use.
+    fn take_all(&mut self, sents: &[SentFragments<'a>]) -> Result<(), Memory>
+        requires { All IsSent sents.now }
+        ensures { OnOk result ((before : List SentValue) → AreTracked before self.old.came self.old.numbers
+            → AreTracked (before ++ map sent_value sents.now) self.new.came self.new.numbers) }
+    {
+        for sent in sents {
+            self.take(sent)?;
+        }
+        Ok(())
+    }
+
+    /// The fragments of one datagram more come. After `Memory` it is of no use.
+    fn take_datagram(&mut self, datagram: &'a [u8]) -> Result<(), Memory>
+        ensures { OnOk result ((before : List SentValue) → AreTracked before self.old.came self.old.numbers
+            → AreTracked (before ++ sents_from 0 (piece_acts_of datagram.now)) self.new.came self.new.numbers) }
+    {
+        let sending = Sending::read(self.alloc, datagram)?;
+        self.take_all(&sending.sents)?;
+        Ok(())
+    }
+}
+
+impl WholeNumbers {
+    /// No numbers. It takes no memory.
+    pub(crate) fn none(alloc: Global) -> WholeNumbers
+        ensures { AreWholeOf [] result }
+    {
+        WholeNumbers {
+            numbers: BTreeSet::new(alloc),
+        }
+    }
+
+    /// Those of a recording, any datagrams in the order of sending. `Memory` is answered where there is none for them.
+    pub(crate) fn of(alloc: Global, recording: &[&[u8]]) -> Result<WholeNumbers, Memory>
+        ensures { IfOk result (AreWholeOf (map (λ datagram. datagram.now) recording.now)) }
+    {
+        let mut tracking = Tracking::new(alloc);
+        for datagram in recording {
+            tracking.take_datagram(datagram)?;
+        }
+        let mut numbers = BTreeSet::new(alloc);
+        std::mem::swap(&mut numbers, &mut tracking.numbers);
+        Ok(WholeNumbers { numbers })
+    }
+
+    /// The tally of a datagram with this plain one, which sends this. Its fragments are the DATA_FRAG of no sample.
+    pub(crate) fn tally(&self, plain: Tally, sending: &Sending<'_>) -> Tally
+        requires { sending.now.unread + length sending.now.sents.items < 2 ^ 64 }
+        ensures { (all : List SentValue) → AreWholeIn all self.now
+            → result ≡ tally_with_fragments plain (sending.now.unread + left_among_lem all (map sent_value sending.now.sents.items)) }
+    {
+        Tally {
+            refused: plain.refused,
+            skipped: plain.skipped,
+            fragments: sending.unread + self.left_among(&sending.sents),
+        }
+    }
+
+    /// How many of these fragments that acts send are of a number of which no sample can be put together.
+    pub(crate) fn left_among(&self, sents: &[SentFragments<'_>]) -> u64
+        ensures few { result ≤ length sents.now }
+        ensures left { (all : List SentValue) → AreWholeIn all self.now → result ≡ left_among_lem all (map sent_value sents.now) }
+    {
+        let mut left = 0;
+        for sent in sents {
+            if !self.numbers.contains(&number_of(&sent.key)) {
+                left += 1;
+            }
+        }
+        left
+    }
+}
