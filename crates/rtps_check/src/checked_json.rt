@@ -12,11 +12,12 @@ use crate::parted::parted_of;
 use crate::totals::totals_of;
 use json::Writer;
 use rtps_audit::Watch;
-use rtps_evidence::Explained;
+use rtps_evidence::{Explained, explain_index};
+use rtps_fragments::Samples;
 use rtps_ids::Memory;
 use rtps_text::{
-    Asked, Ending, Recording, datagrams_of, ending_of, facts_of, json_line, push_audit_members,
-    push_text, push_texts,
+    Asked, Ending, Recording, datagrams_of, ending_of, facts_of, index_asked, json_line,
+    push_audit_members, push_text, push_texts,
 };
 use std::alloc::{AllocError, Global};
 
@@ -84,7 +85,10 @@ pub fn check_json<P: Watch>(
     ensures { IfOk result (λ told. IsCheckedJsonAs (asked_value asked.now) recording.now (string_bytes told.0) told.1) }
 {
     let datagrams = datagrams_of(alloc, recording)?;
-    let parted = parted_of(alloc, &datagrams, asked, watch)?;
+    let mut samples = Samples::none(alloc);
+    let index = index_asked(alloc, recording, asked, &mut samples)?;
+    let whole = explain_index(alloc, &index, asked.from, watch)?;
+    let parted = parted_of(alloc, whole, asked, &datagrams)?;
     let ending = ending_of(asked, &facts_of(&parted.explained, recording));
     let totals = totals_of(&parted.explained.rows, first_asked(asked));
     let causes = causes_of(alloc, &totals, &ending)?;

@@ -1,7 +1,8 @@
-use Rattle.std.proofs.Common.{◌∙◌, ℕ, Bor, List, ap, ap₂, map, subst}
+use Rattle.std.proofs.Common.{◌∙◌, ℕ, Bor, List, ap, ap₂, map, subst, sym}
 use Rattle.std.specs.String.{string_bytes}
-use Rattle.rtps_evidence.specs.Explanation.{explanation_value}
+use Rattle.rtps_evidence.specs.Explanation.{IsExplainedBy, explanation_value}
 use Rattle.rtps_evidence.specs.declared.explanation.Explanation.{Explanation}
+use Rattle.rtps_fragments.specs.RecordedSamples.{intake_as}
 use Rattle.rtps_text.specs.Asked.{asked_value}
 use Rattle.rtps_text.specs.Findings.{ending_as}
 use Rattle.rtps_text.specs.JsonText.{IsJsonLine}
@@ -17,6 +18,9 @@ returns g c =
     let view : Bor (List ℕ) → List ℕ = λ datagram. datagram.now in
     let asked = asked_value c.args.asked.now in
     let parted = c.in_ok-parted.parted in
+    let same = ap (map view) c.deref.ensures.value ∙ c.in_ok-datagrams.ensures in
+    let whole = c.in_ok-whole.ensures _ c.in_ok-index.ensures in
+    let explains = subst (λ all. IsExplainedBy asked.from (intake_as asked.fragments all) c.in_ok-whole.whole) (sym same) whole in
     let ending = c.ending_of-ending.result in
     let explained = parted.explained in
     let rows = map explanation_value explained.rows.items in
@@ -25,7 +29,7 @@ returns g c =
     let causes = ap (map string_bytes) c.deref-3.ensures.value ∙ c.in_ok-causes.ensures ∙ ap (λ (all : Totals). causes_of all (findings_in ending)) totals in
     record {
       parted = parted;
-      parts = subst (λ all. IsPartedAs asked all parted) (ap (map view) c.deref.ensures.value ∙ c.in_ok-datagrams.ensures) c.in_ok-parted.ensures;
+      parts = subst (λ all. IsPartedAs asked all parted) same (c.in_ok-parted.ensures explains);
       is_line = subst (λ all. IsJsonLine (status_json ending all rows explained.counts recording) (string_bytes c.in_ok-text.text)) causes c.in_ok-text.ensures;
       ends = c.ending_of-ending.ensures ∙ ap (ending_as asked) c.facts_of.ensures;
     }
