@@ -6,4 +6,5 @@ pub mod DigitLemmas
 pub mod JsonLemmas
 pub mod PartLemmas
 mod AskedLemmas
+mod StayLemmas
 pub mod Offered

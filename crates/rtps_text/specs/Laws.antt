@@ -8,6 +8,7 @@ use Rattle.rtps_audit.specs.declared.report.Row.{Row}
 use Rattle.rtps_evidence.specs.Explanation.{row_of}
 use Rattle.rtps_evidence.specs.declared.explanation.Explained.{Explained}
 use Rattle.rtps_fragments.specs.FragmentVerdict.{IsFragmentVerdictFrom}
+use Rattle.rtps_fragments.specs.RecordedSamples.{IsWithoutFragments}
 use Rattle.rtps_fragments.specs.SampleActs.{fragment_speech_of}
 use Rattle.rtps_fragments.specs.Sending.{sending_of}
 use Rattle.rtps_text.specs.Asked.{AskedValue}
@@ -51,3 +52,9 @@ abbrev pub ExplainedRowsAreByFragments : Type 0
 ExplainedRowsAreByFragments =
     (asked : AskedValue) (recording : List (List ℕ)) (explained : Explained)
     → asked.fragments ≡ fragments.Read → IsExplainedAs asked recording explained → All (λ row. IsFragmentRow asked.from recording (row_of row)) explained.rows.items
+
+-- of a recording of which no submessage belongs to fragments the texts and endings are the same, whether fragments are read or not
+abbrev pub StaysWithoutFragments : (AskedValue → RecordingValue → List ℕ → Ending → Type 0) → Type 0
+StaysWithoutFragments IsText =
+    (asked : AskedValue) (recording : RecordingValue) (text : List ℕ) (ending : Ending) → IsWithoutFragments recording.datagrams
+    → IsText (record asked { fragments = fragments.Read }) recording text ending ↔ IsText (record asked { fragments = fragments.Skipped }) recording text ending

@@ -4,7 +4,7 @@ ghost use Rattle.std.specs.Prelude.{ℕ};
 ghost use Rattle.rtps_text.specs.Asked.{AskedValue, plainly};
 ghost use Rattle.rtps_text.specs.AuditText.{IsAuditedAs, IsAuditedFrom};
 ghost use Rattle.rtps_text.specs.JsonText.{IsJsonTextAs, IsJsonTextFrom};
-ghost use Rattle.rtps_text.specs.Laws.{ExplainedRowsAreByFragments, HasOneText, HaveOneText, RowsAreByFragments, ShowsTheSameWithoutFragments};
+ghost use Rattle.rtps_text.specs.Laws.{ExplainedRowsAreByFragments, HasOneText, HaveOneText, RowsAreByFragments, ShowsTheSameWithoutFragments, StaysWithoutFragments};
 ghost use Rattle.rtps_text.specs.ListText.{IsListed};
 ghost use Rattle.rtps_text.specs.ShowText.{IsShown, IsShownWith};
 ghost use Rattle.rtps_text.specs.WhyText.{IsExplainedTextAs, IsExplainedTextFrom};
@@ -13,7 +13,7 @@ ghost use Rattle.rtps_fragments.specs.declared.fragments.Fragments.{Fragments};
 use rtps_audit::laws::one_report;
 use rtps_discovery::laws::one_map;
 use rtps_evidence::laws::one_explanation;
-use rtps_fragments::laws::recorded_verdict_is_of_runs;
+use rtps_fragments::laws::{intake_stays_without_fragments, recorded_verdict_is_of_runs};
 
 /// What is printed of a recording, and how a run on it ends, is decided by its datagrams alone; by `audit`, as JSON too,
 /// and `why`, also by how many frames of a capture were ignored and for which reasons, and by what is
@@ -55,4 +55,14 @@ pub fn rows_are_by_fragments()
     ensures explained { ExplainedRowsAreByFragments }
 {
     recorded_verdict_is_of_runs();
+}
+
+/// Where no submessage of a recording belongs to fragments, `audit`, as JSON too, and `why` print the same, and end in the same way,
+/// whether fragments are read or not.
+pub fn texts_stay_without_fragments()
+    ensures audited { StaysWithoutFragments IsAuditedAs }
+    ensures explained { StaysWithoutFragments IsExplainedTextAs }
+    ensures json { StaysWithoutFragments IsJsonTextAs }
+{
+    intake_stays_without_fragments();
 }
