@@ -20,16 +20,16 @@ use Rattle.rtps_fragments.specs.Laws.{FragmentsAreCounted, NoMoreFragmentsAreCou
 use Rattle.rtps_fragments.specs.RecordedSamples.{tally_with}
 use Rattle.rtps_fragments.specs.SampleActs.{PieceAct, piece_acts_in}
 use Rattle.rtps_fragments.specs.SamplesSent.{is_left, pieces_left}
-use Rattle.rtps_fragments.specs.Sending.{fragment_acts, fragments_at, is_data_frag, one_unread, piece_acts_of, piece_acts_of_item, piece_acts_with, sending_of, unread_among, unread_in}
+use Rattle.rtps_fragments.specs.Sending.{fragment_acts, fragments_at, is_skipped_data_frag, one_unread, piece_acts_of, piece_acts_of_item, piece_acts_with, sending_of, unread_among, unread_in}
 use Rattle.rtps_fragments.specs.declared.layout.TheConstants.{DATA_FRAG}
 use Rattle.rtps_fragments.proofs.SendingLemmas.{at_most_one, one_of, unread-item, unread_act, unread_some}
 
 -- ---- one item
 
-frag_is_fragment : (body : BodyValue) → one_of (is_data_frag body) ≤ one_of (is_fragment body)
-frag_is_fragment (Skipped id) = by (is_data_frag (Skipped id)) refl
+frag_is_fragment : (body : BodyValue) → one_of (is_skipped_data_frag body) ≤ one_of (is_fragment body)
+frag_is_fragment (Skipped id) = by (is_skipped_data_frag (Skipped id)) refl
   where
-    by : (b : Bool) → is_data_frag (Skipped id) ≡ b → one_of b ≤ one_of (is_fragment (Skipped id))
+    by : (b : Bool) → is_skipped_data_frag (Skipped id) ≡ b → one_of b ≤ one_of (is_fragment (Skipped id))
     by false e = omega arith
     by true e = subst (λ n. 1 ≤ one_of (is_fragment (Skipped n))) (sym ((Decides-eqb id DATA_FRAG).0 e)) (omega arith)
 frag_is_fragment (Data value) = omega arith
@@ -41,7 +41,7 @@ frag_is_fragment (InfoDst prefix) = omega arith
 frag_is_fragment (InfoSrc version vendor prefix) = omega arith
 
 unread_is_fragment : (octets : List ℕ) (item : ItemValue) → one_unread octets item ≤ one_of (is_fragment item.body)
-unread_is_fragment octets item = let frag = frag_is_fragment item.body in let less = both (is_data_frag item.body) (is_none (fragments_at octets item)) in omega arith
+unread_is_fragment octets item = let frag = frag_is_fragment item.body in let less = both (is_skipped_data_frag item.body) (is_none (fragments_at octets item)) in omega arith
   where
     both : (a b : Bool) → one_of (a && b) ≤ one_of a
     both true b = at_most_one b
@@ -112,5 +112,5 @@ counted recording = each (piece_acts_in (sending_of recording)) recording
 pub only_data_frags : OnlyDataFragsHaveFragments
 only_data_frags datagram =
     All-weaker (λ (item : ItemValue). (value : DataFragValue) → data_frag_at (drop item.at datagram) ≡ Some value → item.body ≡ Skipped DATA_FRAG)
-    (λ (item : ItemValue). (value : DataFragValue) → data_frag_at (drop item.at datagram) ≡ Some value → is_data_frag item.body ≡ true)
-    (λ item is value e. ap is_data_frag (is value e)) (reading_of datagram).items (only_data_frags_have_fragments datagram)
+    (λ (item : ItemValue). (value : DataFragValue) → data_frag_at (drop item.at datagram) ≡ Some value → is_skipped_data_frag item.body ≡ true)
+    (λ item is value e. ap is_skipped_data_frag (is value e)) (reading_of datagram).items (only_data_frags_have_fragments datagram)

@@ -15,7 +15,7 @@ use Rattle.rtps_receiver.specs.declared.state.State.{State}
 use Rattle.rtps_receiver.proofs.Offered.{gathered-one}
 use Rattle.rtps_fragments.specs.Merging.{sent_in, sents_from}
 use Rattle.rtps_fragments.specs.SampleActs.{PieceAct}
-use Rattle.rtps_fragments.specs.Sending.{AddsActs, IsSending, fragment_acts, fragments_at, is_data_frag, is_unread, one_unread, piece_acts_behind, piece_acts_of, piece_acts_of_item, piece_acts_with, unread_among, unread_in}
+use Rattle.rtps_fragments.specs.Sending.{AddsActs, IsSending, fragment_acts, fragments_at, is_skipped_data_frag, is_unread, one_unread, piece_acts_behind, piece_acts_of, piece_acts_of_item, piece_acts_with, unread_among, unread_in}
 use Rattle.rtps_fragments.specs.Telling.{IsSent, sent_value}
 use Rattle.rtps_fragments.specs.declared.sending.Sending.{Sending}
 
@@ -38,7 +38,7 @@ sents-append i (one ∷ ones) more =
 abbrev pub one_of : Bool → ℕ
 one_of b = cond b 1 0
 
-not_frag : (body : BodyValue) (act : ActBodyValue) → act_body body ≡ Some act → is_data_frag body ≡ false
+not_frag : (body : BodyValue) (act : ActBodyValue) → act_body body ≡ Some act → is_skipped_data_frag body ≡ false
 not_frag (Skipped id) act e = cc
 not_frag (Data value) act e = refl
 not_frag (Heartbeat value) act e = refl
@@ -53,14 +53,14 @@ pub unread_act : (octets : List ℕ) (item : ItemValue) (act : ActBodyValue) →
 unread_act octets item act e = ap (λ b. one_of (b && is_none (fragments_at octets item))) (not_frag item.body act e)
 
 pub unread_some : (octets : List ℕ) (item : ItemValue) (value : DataFragValue) → fragments_at octets item ≡ Some value → one_unread octets item ≡ 0
-unread_some octets item value e = ap (λ (o : Option DataFragValue). one_of (is_data_frag item.body && is_none o)) e ∙ by (is_data_frag item.body)
+unread_some octets item value e = ap (λ (o : Option DataFragValue). one_of (is_skipped_data_frag item.body && is_none o)) e ∙ by (is_skipped_data_frag item.body)
   where
     by : (b : Bool) → one_of (b && false) ≡ 0
     by true = refl
     by false = refl
 
-pub unread_none : (octets : List ℕ) (item : ItemValue) → fragments_at octets item ≡ None → one_unread octets item ≡ one_of (is_data_frag item.body)
-unread_none octets item e = ap (λ (o : Option DataFragValue). one_of (is_data_frag item.body && is_none o)) e ∙ by (is_data_frag item.body)
+pub unread_none : (octets : List ℕ) (item : ItemValue) → fragments_at octets item ≡ None → one_unread octets item ≡ one_of (is_skipped_data_frag item.body)
+unread_none octets item e = ap (λ (o : Option DataFragValue). one_of (is_skipped_data_frag item.body && is_none o)) e ∙ by (is_skipped_data_frag item.body)
   where
     by : (b : Bool) → one_of (b && true) ≡ one_of b
     by true = refl

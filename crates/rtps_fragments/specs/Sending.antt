@@ -35,14 +35,14 @@ fragment_acts state item None = []
 abbrev pub fragments_at : List ℕ → ItemValue → Option DataFragValue
 fragments_at octets item = if is_fragment item.body then data_frag_at (drop item.at octets) else None
 
--- the submessage is a DATA_FRAG
-abbrev pub is_data_frag : BodyValue → Bool
-is_data_frag (Skipped id) = id == DATA_FRAG
-is_data_frag _ = false
+-- the submessage is skipped as a DATA_FRAG
+abbrev pub is_skipped_data_frag : BodyValue → Bool
+is_skipped_data_frag (Skipped id) = id == DATA_FRAG
+is_skipped_data_frag _ = false
 
 -- the item of these octets is a DATA_FRAG, and has no fragments that can be used
 abbrev pub is_unread : List ℕ → ItemValue → Bool
-is_unread octets item = is_data_frag item.body && is_none (fragments_at octets item)
+is_unread octets item = is_skipped_data_frag item.body && is_none (fragments_at octets item)
 
 -- 1 for such an item, and 0 for another
 abbrev pub one_unread : List ℕ → ItemValue → ℕ

@@ -7,7 +7,7 @@ ghost use Rattle.rtps_wire.specs.DataFrag.{IsDataFrag, data_frag_value, parts_of
 ghost use Rattle.rtps_wire.specs.Reading.{items_among, outcomes_left};
 ghost use Rattle.rtps_wire.specs.Values.{body_value, item_value};
 ghost use Rattle.rtps_fragments.specs.Came.{came_from};
-ghost use Rattle.rtps_fragments.specs.Sending.{AddsActs, IsSending, fragment_acts, fragments_at as fragments_at_lem, is_data_frag as is_data_frag_lem, one_unread, piece_acts_behind, piece_acts_of, piece_acts_of_item, unread_among, unread_in};
+ghost use Rattle.rtps_fragments.specs.Sending.{AddsActs, IsSending, fragment_acts, fragments_at as fragments_at_lem, is_skipped_data_frag as is_skipped_data_frag_lem, one_unread, piece_acts_behind, piece_acts_of, piece_acts_of_item, unread_among, unread_in};
 ghost use Rattle.rtps_fragments.specs.Telling.{IsSent, sent_value};
 
 use crate::layout::DATA_FRAG;
@@ -37,9 +37,9 @@ fn octets_from(octets: &[u8], at: usize) -> &[u8]
     }
 }
 
-/// Whether a submessage is a DATA_FRAG.
-fn is_data_frag(body: &Body<'_>) -> bool
-    ensures { result ≡ is_data_frag_lem (body_value body.now) }
+/// Whether a submessage is skipped as a DATA_FRAG.
+fn is_skipped_data_frag(body: &Body<'_>) -> bool
+    ensures { result ≡ is_skipped_data_frag_lem (body_value body.now) }
 {
     match body {
         Body::Skipped { id } => *id == DATA_FRAG,
@@ -164,7 +164,7 @@ impl<'a> Sending<'a> {
             self.acts.extend_from_slice(slice::from_ref(&act))?;
         } else if let Some(fragments) = fragments_at(item, datagram) {
             self.add_fragments(state, item, &fragments)?;
-        } else if is_data_frag(&item.body) {
+        } else if is_skipped_data_frag(&item.body) {
             self.unread += 1;
         }
         state.interpret(item);

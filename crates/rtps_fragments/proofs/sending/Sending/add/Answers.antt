@@ -11,7 +11,7 @@ use Rattle.rtps_wire.specs.DataFrag.{DataFragValue, data_frag_value}
 use Rattle.rtps_wire.specs.Values.{item_value}
 use Rattle.rtps_fragments.proofs.SendingLemmas.{one_of, unread_act, unread_none, unread_some}
 use Rattle.rtps_fragments.proofs.sending.Sending.add.Goals as goal
-use Rattle.rtps_fragments.proofs.sending.Sending.add.Goals.{in_default+in_default-fragments_at+else-is_data_frag, in_default+in_default-fragments_at+then-is_data_frag, in_default+in-Some-fragments_at+in_ok-add_fragments, in-Some+in_ok-extend_from_slice}
+use Rattle.rtps_fragments.proofs.sending.Sending.add.Goals.{in_default+in_default-fragments_at+else-is_skipped_data_frag, in_default+in_default-fragments_at+then-is_skipped_data_frag, in_default+in-Some-fragments_at+in_ok-add_fragments, in-Some+in_ok-extend_from_slice}
 
 pub returns-clause-acts : goal.returns-clause-acts
 returns-clause-acts c =
@@ -35,16 +35,16 @@ returns-clause-acts c =
           let one : AddsActs old w.add_fragments.new.self (fragment_acts state item (Some value)) unread = subst (AddsActs old w.add_fragments.new.self (fragment_acts state item (Some value))) (sym (unread_some octets item value (sym read))) w.in_ok-add_fragments.ensures in
           let added : At None w.add_fragments.new.self = subst (λ (o : Option DataFragValue). AddsActs old w.add_fragments.new.self (fragment_acts state item o) unread) read one in
           subst (λ s. At (act_body item.body) s) (sym w.self-is) (subst (λ o. At o w.add_fragments.new.self) (sym w.in_default.ensures) added)
-      | in_default+in_default-fragments_at+then-is_data_frag w ↦
+      | in_default+in_default-fragments_at+then-is_skipped_data_frag w ↦
           let read : None ≡ fragments_at octets item = ap (option_map data_frag_value) (sym w.in_default-fragments_at.is) ∙ w.fragments_at.ensures.value in
           let new : Sending = record { acts = old.acts; sents = old.sents; unread = old.unread + 1 } in
-          let counted : unread ≡ 1 = unread_none octets item (sym read) ∙ ap one_of (sym w.is_data_frag.ensures ∙ w.if-is_data_frag.true) in
+          let counted : unread ≡ 1 = unread_none octets item (sym read) ∙ ap one_of (sym w.is_skipped_data_frag.ensures ∙ w.if-is_skipped_data_frag.true) in
           let added : AddsActs old new [] unread = record { acts = sym (append-nil (map act_value old.acts.items)); sents = sym (append-nil (map sent_value old.sents.items)); well = λ kept. kept; unread = omega arith } in
           let none : At None new = subst (λ (o : Option DataFragValue). AddsActs old new (fragment_acts state item o) unread) read added in
           subst (λ s. At (act_body item.body) s) (sym w.self-is) (subst (λ o. At o new) (sym w.in_default.ensures) none)
-      | in_default+in_default-fragments_at+else-is_data_frag w ↦
+      | in_default+in_default-fragments_at+else-is_skipped_data_frag w ↦
           let read : None ≡ fragments_at octets item = ap (option_map data_frag_value) (sym w.in_default-fragments_at.is) ∙ w.fragments_at.ensures.value in
-          let counted : unread ≡ 0 = unread_none octets item (sym read) ∙ ap one_of (sym w.is_data_frag.ensures ∙ w.if-is_data_frag.false) in
+          let counted : unread ≡ 0 = unread_none octets item (sym read) ∙ ap one_of (sym w.is_skipped_data_frag.ensures ∙ w.if-is_skipped_data_frag.false) in
           let added : AddsActs old old [] unread = record { acts = sym (append-nil (map act_value old.acts.items)); sents = sym (append-nil (map sent_value old.sents.items)); well = λ kept. kept; unread = omega arith } in
           let none : At None old = subst (λ (o : Option DataFragValue). AddsActs old old (fragment_acts state item o) unread) read added in
           subst (λ s. At (act_body item.body) s) (sym w.self-is) (subst (λ o. At o old) (sym w.in_default.ensures) none)
