@@ -22,7 +22,7 @@ use Rattle.rtps_fragments.specs.FragmentDelivery.{Fragment, FragmentSpeech, Give
 use Rattle.rtps_fragments.specs.FragmentVerdict.{IsPayloadBefore, IsWordBefore, IsFragmentVerdictFrom}
 use Rattle.rtps_fragments.specs.RecordedSamples.{IsWithoutFragments, fragments_left, intake_with}
 use Rattle.rtps_fragments.specs.Samples.{payloads_of, told_in}
-use Rattle.rtps_fragments.specs.Sending.{is_skipped_data_frag, sending_of, unread_in}
+use Rattle.rtps_fragments.specs.Sending.{is_skipped_data_frag, sending_of, unusable_in}
 use Rattle.rtps_fragments.specs.SampleActs.{PieceAct, acts_with_samples, fragment_speech_of, piece_acts_in, acts_of_sample, samples_told}
 use Rattle.rtps_fragments.specs.SamplesSent.{acts_to_note, is_left, noted_act, pieces_left, samples_sent, sent_by}
 
@@ -166,7 +166,7 @@ IntakeStaysWithoutFragments = (recording : List (List ℕ)) → IsWithoutFragmen
 abbrev pub FragmentsAreCounted : Type 0
 FragmentsAreCounted =
     (recording : List (List ℕ)) → sum_by (λ tally. tally.fragments) (intake_with recording).tallies
-    ≡ sum_by unread_in recording + pieces_left (piece_acts_in (sending_of recording)) (piece_acts_in (sending_of recording))
+    ≡ sum_by unusable_in recording + pieces_left (piece_acts_in (sending_of recording)) (piece_acts_in (sending_of recording))
 
 -- of a datagram, no more are counted than without samples, whatever acts the recording has
 abbrev pub NoMoreFragmentsAreCounted : Type 0
