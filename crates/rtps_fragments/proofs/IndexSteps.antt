@@ -25,7 +25,7 @@ use Rattle.rtps_fragments.specs.Merging.{IsFragmentAct, merged_from, sents_from,
 use Rattle.rtps_fragments.specs.Overheard.{overheard_by_datagram, overheard_in_turn}
 use Rattle.rtps_fragments.specs.RecordedSamples.{tally_with, told_by_datagram}
 use Rattle.rtps_fragments.specs.SampleActs.{PieceAct, acts_and_samples, datagrams_and_samples, piece_acts_in}
-use Rattle.rtps_fragments.specs.Sending.{fragment_acts, fragments_at, piece_acts_of, piece_acts_of_item, piece_acts_with, piece_of, sending_of, unread_in}
+use Rattle.rtps_fragments.specs.Sending.{fragment_acts, fragments_at, piece_acts_of, piece_acts_of_item, piece_acts_with, piece_of, sending_of, unusable_in}
 use Rattle.rtps_fragments.specs.Telling.{SentValue, ToldValue, told_in_turn}
 use Rattle.rtps_fragments.specs.declared.merging.SampleForm.TheVariants.{ForAudience, ForEveryone}
 use Rattle.rtps_fragments.specs.Whole.{tally_left, tally_with_fragments}
@@ -200,7 +200,7 @@ module _ (xs : List (Bor (List ℕ))) (i : ℕ) (d : Bor (List ℕ)) (lt : i < l
   tallied_here =
       let frags = fragments_of_recording (octets_of xs) in
       let overhears = overhears_all sending frags in
-      ap (λ n. tally_with_fragments (tally_of (reading_of octets)) (unread_in octets + n))
+      ap (λ n. tally_with_fragments (tally_of (reading_of octets)) (unusable_in octets + n))
       (left_alike (piece_acts_in sending) (sents_in sending) overhears (λ number. all_alike (piece_acts_in sending) (sents_in sending) overhears number sending frags) 0 (piece_acts_of octets))
 
   read_next : {Y : Type 0} (f : List ℕ → Y) → map f (octets_of (take (i + 1) xs)) ≡ map f (octets_of (take i xs)) ++ f (get_or xs i d).now ∷ []

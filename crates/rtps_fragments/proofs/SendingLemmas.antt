@@ -15,7 +15,7 @@ use Rattle.rtps_receiver.specs.declared.state.State.{State}
 use Rattle.rtps_receiver.proofs.Offered.{gathered-one}
 use Rattle.rtps_fragments.specs.Merging.{sent_in, sents_from}
 use Rattle.rtps_fragments.specs.SampleActs.{PieceAct}
-use Rattle.rtps_fragments.specs.Sending.{AddsActs, IsSending, fragment_acts, fragments_at, is_data_frag, is_unread, one_unread, piece_acts_behind, piece_acts_of, piece_acts_of_item, piece_acts_with, unread_among, unread_in}
+use Rattle.rtps_fragments.specs.Sending.{AddsActs, IsSending, fragment_acts, fragments_at, is_skipped_data_frag, is_unusable, one_unusable, piece_acts_behind, piece_acts_of, piece_acts_of_item, piece_acts_with, unusable_among, unusable_in}
 use Rattle.rtps_fragments.specs.Telling.{IsSent, sent_value}
 use Rattle.rtps_fragments.specs.declared.sending.Sending.{Sending}
 
@@ -38,7 +38,7 @@ sents-append i (one ∷ ones) more =
 abbrev pub one_of : Bool → ℕ
 one_of b = cond b 1 0
 
-not_frag : (body : BodyValue) (act : ActBodyValue) → act_body body ≡ Some act → is_data_frag body ≡ false
+not_frag : (body : BodyValue) (act : ActBodyValue) → act_body body ≡ Some act → is_skipped_data_frag body ≡ false
 not_frag (Skipped id) act e = cc
 not_frag (Data value) act e = refl
 not_frag (Heartbeat value) act e = refl
@@ -49,18 +49,18 @@ not_frag (InfoDst prefix) act e = refl
 not_frag (InfoSrc version vendor prefix) act e = refl
 
 -- whether an item counts as one, by the act that it is and the fragments that it has
-pub unread_act : (octets : List ℕ) (item : ItemValue) (act : ActBodyValue) → act_body item.body ≡ Some act → one_unread octets item ≡ 0
-unread_act octets item act e = ap (λ b. one_of (b && is_none (fragments_at octets item))) (not_frag item.body act e)
+pub unusable_act : (octets : List ℕ) (item : ItemValue) (act : ActBodyValue) → act_body item.body ≡ Some act → one_unusable octets item ≡ 0
+unusable_act octets item act e = ap (λ b. one_of (b && is_none (fragments_at octets item))) (not_frag item.body act e)
 
-pub unread_some : (octets : List ℕ) (item : ItemValue) (value : DataFragValue) → fragments_at octets item ≡ Some value → one_unread octets item ≡ 0
-unread_some octets item value e = ap (λ (o : Option DataFragValue). one_of (is_data_frag item.body && is_none o)) e ∙ by (is_data_frag item.body)
+pub unusable_some : (octets : List ℕ) (item : ItemValue) (value : DataFragValue) → fragments_at octets item ≡ Some value → one_unusable octets item ≡ 0
+unusable_some octets item value e = ap (λ (o : Option DataFragValue). one_of (is_skipped_data_frag item.body && is_none o)) e ∙ by (is_skipped_data_frag item.body)
   where
     by : (b : Bool) → one_of (b && false) ≡ 0
     by true = refl
     by false = refl
 
-pub unread_none : (octets : List ℕ) (item : ItemValue) → fragments_at octets item ≡ None → one_unread octets item ≡ one_of (is_data_frag item.body)
-unread_none octets item e = ap (λ (o : Option DataFragValue). one_of (is_data_frag item.body && is_none o)) e ∙ by (is_data_frag item.body)
+pub unusable_none : (octets : List ℕ) (item : ItemValue) → fragments_at octets item ≡ None → one_unusable octets item ≡ one_of (is_skipped_data_frag item.body)
+unusable_none octets item e = ap (λ (o : Option DataFragValue). one_of (is_skipped_data_frag item.body && is_none o)) e ∙ by (is_skipped_data_frag item.body)
   where
     by : (b : Bool) → one_of (b && true) ≡ one_of b
     by true = refl
@@ -71,41 +71,41 @@ at_most_one true = omega arith
 at_most_one false = omega arith
 
 -- of an item, one at most
-pub one_at_most : (octets : List ℕ) (state : State) (item : ItemValue) (n : ℕ) → one_unread octets item + length (sents_from n (piece_acts_of_item octets state item (act_body item.body))) ≤ 1
+pub one_at_most : (octets : List ℕ) (state : State) (item : ItemValue) (n : ℕ) → one_unusable octets item + length (sents_from n (piece_acts_of_item octets state item (act_body item.body))) ≤ 1
 one_at_most octets state item n = by (act_body item.body)
   where
-    of : (o : Option DataFragValue) → fragments_at octets item ≡ o → one_unread octets item + length (sents_from n (fragment_acts state item o)) ≤ 1
-    of None e = let few = at_most_one (is_unread octets item) in omega arith
-    of (Some value) e = let none = unread_some octets item value e in omega arith
+    of : (o : Option DataFragValue) → fragments_at octets item ≡ o → one_unusable octets item + length (sents_from n (fragment_acts state item o)) ≤ 1
+    of None e = let few = at_most_one (is_unusable octets item) in omega arith
+    of (Some value) e = let none = unusable_some octets item value e in omega arith
 
-    by : (body : Option ActBodyValue) → one_unread octets item + length (sents_from n (piece_acts_of_item octets state item body)) ≤ 1
+    by : (body : Option ActBodyValue) → one_unusable octets item + length (sents_from n (piece_acts_of_item octets state item body)) ≤ 1
     by None = of (fragments_at octets item) refl
-    by (Some body) = let few = at_most_one (is_unread octets item) in omega arith
+    by (Some body) = let few = at_most_one (is_unusable octets item) in omega arith
 
-pub unread-item : (octets : List ℕ) (item : ItemValue) (items : List ItemValue) → unread_among octets (item ∷ items) ≡ one_unread octets item + unread_among octets items
-unread-item octets item items = sum_by-cons (one_unread octets) item items
+pub unusable-item : (octets : List ℕ) (item : ItemValue) (items : List ItemValue) → unusable_among octets (item ∷ items) ≡ one_unusable octets item + unusable_among octets items
+unusable-item octets item items = sum_by-cons (one_unusable octets) item items
 
 -- ---- what is kept
 
 -- What is kept, with what these acts are and so many DATA_FRAG that are no act, is all that there is.
-pub record IsReading (left all : List PieceAct) (unread_left unread : ℕ) (sending : Sending) : Type 0 where
+pub record IsReading (left all : List PieceAct) (unusable_left unusable : ℕ) (sending : Sending) : Type 0 where
   pub acts : map act_value sending.acts.items ++ map (λ one. one.act) left ≡ map (λ one. one.act) all
   pub sents : map sent_value sending.sents.items ++ sents_from (length sending.acts.items) left ≡ sents_from 0 all
   pub well : All IsSent sending.sents.items
-  pub counted : sending.unread + unread_left ≡ unread
+  pub counted : sending.unusable + unusable_left ≡ unusable
 
-pub reading_begun : (all : List PieceAct) (unread : ℕ) (sending : Sending) → IsSending [] 0 sending → IsReading all all unread unread sending
-reading_begun all unread sending none =
+pub reading_begun : (all : List PieceAct) (unusable : ℕ) (sending : Sending) → IsSending [] 0 sending → IsReading all all unusable unusable sending
+reading_begun all unusable sending none =
     let count : length sending.acts.items ≡ 0 = sym (length-map sending.acts.items act_value) ∙ ap length none.acts in
     record {
       acts = ap (λ xs. xs ++ map (λ (one : PieceAct). one.act) all) none.acts;
       sents = ap (λ xs. xs ++ sents_from (length sending.acts.items) all) none.sents ∙ ap (λ n. sents_from n all) count;
       well = none.well;
-      counted = (let zero = none.unread in omega arith);
+      counted = (let zero = none.unusable in omega arith);
     }
 
-pub reading_step : (gives left all : List PieceAct) (one unread_left unread : ℕ) (old new : Sending) → AddsActs old new gives one → IsReading (gives ++ left) all (one + unread_left) unread old → IsReading left all unread_left unread new
-reading_step gives left all one unread_left unread old new adds reading =
+pub reading_step : (gives left all : List PieceAct) (one unusable_left unusable : ℕ) (old new : Sending) → AddsActs old new gives one → IsReading (gives ++ left) all (one + unusable_left) unusable old → IsReading left all unusable_left unusable new
+reading_step gives left all one unusable_left unusable old new adds reading =
     let acts = λ (ones : List PieceAct). map (λ (one : PieceAct). one.act) ones in
     let count : length new.acts.items ≡ length old.acts.items + length gives =
     sym (length-map new.acts.items act_value) ∙ ap length adds.acts ∙ length-append (map act_value old.acts.items) (acts gives) ∙ omega (arith, length-map old.acts.items act_value, length-map gives (λ (one : PieceAct). one.act)) in
@@ -116,27 +116,27 @@ reading_step gives left all one unread_left unread old new adds reading =
           ∙ ap (λ n. map sent_value old.sents.items ++ (sents_from (length old.acts.items) gives ++ sents_from n left)) count
           ∙ ap (λ xs. map sent_value old.sents.items ++ xs) (sym (sents-append (length old.acts.items) gives left)) ∙ reading.sents;
       well = adds.well reading.well;
-      counted = (let more = adds.unread in let so_far = reading.counted in omega arith);
+      counted = (let more = adds.unusable in let so_far = reading.counted in omega arith);
     }
 
 -- few items more
-pub few_more : (octets : List ℕ) (state : State) (item : ItemValue) (left : ℕ) (old new : Sending) → AddsActs old new (piece_acts_of_item octets state item (act_body item.body)) (one_unread octets item)
-    → old.unread + length old.sents.items + suc left < 2 ^ 64 → new.unread + length new.sents.items + left < 2 ^ 64
+pub few_more : (octets : List ℕ) (state : State) (item : ItemValue) (left : ℕ) (old new : Sending) → AddsActs old new (piece_acts_of_item octets state item (act_body item.body)) (one_unusable octets item)
+    → old.unusable + length old.sents.items + suc left < 2 ^ 64 → new.unusable + length new.sents.items + left < 2 ^ 64
 few_more octets state item left old new adds few =
     let gives = piece_acts_of_item octets state item (act_body item.body) in
     let sents : length new.sents.items ≡ length old.sents.items + length (sents_from (length old.acts.items) gives) =
     sym (length-map new.sents.items sent_value) ∙ ap length adds.sents ∙ length-append (map sent_value old.sents.items) (sents_from (length old.acts.items) gives)
     ∙ ap (λ n. n + length (sents_from (length old.acts.items) gives)) (length-map old.sents.items sent_value) in
-    let counted = adds.unread in
+    let counted = adds.unusable in
     let one = one_at_most octets state item (length old.acts.items) in
     omega arith
 
-pub reading_done : (all : List PieceAct) (unread : ℕ) (sending : Sending) → IsReading [] all 0 unread sending → sending.unread + length sending.sents.items < 2 ^ 64 → IsSending all unread sending
-reading_done all unread sending reading few = record {
+pub reading_done : (all : List PieceAct) (unusable : ℕ) (sending : Sending) → IsReading [] all 0 unusable sending → sending.unusable + length sending.sents.items < 2 ^ 64 → IsSending all unusable sending
+reading_done all unusable sending reading few = record {
   acts = sym (append-nil (map act_value sending.acts.items)) ∙ reading.acts;
   sents = sym (append-nil (map sent_value sending.sents.items)) ∙ reading.sents;
   well = reading.well;
-  unread = (let counted = reading.counted in omega arith);
+  unusable = (let counted = reading.counted in omega arith);
   few = few;
 }
 
@@ -145,11 +145,11 @@ pub acts_read : (octets : List ℕ) (header : Header) (outcomes : List Outcome) 
 unfolding piece_acts_of
 acts_read octets header outcomes start is begins = ap (λ r. piece_acts_with octets r.header r.items) is ∙ ap (λ s. piece_acts_behind octets s (items_among outcomes)) (sym begins)
 
-pub unread_read : (octets : List ℕ) (header : Header) (outcomes : List Outcome) → reading_of octets ≡ read_as header outcomes → unread_in octets ≡ unread_among octets (items_among outcomes)
-unread_read octets header outcomes is = ap (λ r. unread_among octets r.items) is
+pub unusable_read : (octets : List ℕ) (header : Header) (outcomes : List Outcome) → reading_of octets ≡ read_as header outcomes → unusable_in octets ≡ unusable_among octets (items_among outcomes)
+unusable_read octets header outcomes is = ap (λ r. unusable_among octets r.items) is
 
-pub unread_refused : (octets : List ℕ) (fault : WireFault) → reading_of octets ≡ refused_with fault → unread_in octets ≡ 0
-unread_refused octets fault is = ap (λ r. unread_among octets r.items) is
+pub unusable_refused : (octets : List ℕ) (fault : WireFault) → reading_of octets ≡ refused_with fault → unusable_in octets ≡ 0
+unusable_refused octets fault is = ap (λ r. unusable_among octets r.items) is
 
 pub acts_refused : (octets : List ℕ) (fault : WireFault) → reading_of octets ≡ refused_with fault → piece_acts_of octets ≡ []
 unfolding piece_acts_of

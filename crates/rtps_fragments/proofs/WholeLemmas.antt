@@ -23,7 +23,7 @@ use Rattle.rtps_fragments.specs.Samples.{came_of, has_sample, payloads_of, sampl
 use Rattle.rtps_fragments.specs.SampleActs.{PieceAct, piece_acts_in}
 use Rattle.rtps_fragments.specs.SamplesSent.{is_left, is_some_payload, is_whole, pieces_left, sent_by}
 use Rattle.rtps_fragments.specs.Telling.{HasCame, SentValue, is_sample, sample_cmp, shape_of}
-use Rattle.rtps_fragments.specs.Whole.{AreTracked, has_whole, is_number, is_put, left_among, number_cmp, number_of}
+use Rattle.rtps_fragments.specs.Whole.{AreTracked, has_whole, is_number, is_put, left_among, number_cmp, key_number}
 use Rattle.rtps_fragments.specs.declared.came.Came.{Came}
 use Rattle.rtps_fragments.specs.declared.piece.SampleKey.{SampleKey}
 use Rattle.rtps_fragments.specs.declared.whole.SampleNumber.{SampleNumber}
@@ -81,25 +81,25 @@ put_stays before sent key e =
 module _ (before : List SentValue) (sent : SentValue) (number : SampleNumber) where
   -- the test by all fragments
   abbrev passes : SentValue → Bool
-  passes one = is_number number (number_of one.key) && is_put (before ++ sent ∷ []) one.key
+  passes one = is_number number (key_number one.key) && is_put (before ++ sent ∷ []) one.key
 
   whole_stays : has_whole before number ≡ true → has_whole (before ++ sent ∷ []) number ≡ true
   whole_stays e =
-      let (one, among, has) = any_has (λ (s : SentValue). is_number number (number_of s.key) && is_put before s.key) before e in
-      let (same, put) = and_parts (is_number number (number_of one.key)) (is_put before one.key) has in
+      let (one, among, has) = any_has (λ (s : SentValue). is_number number (key_number s.key) && is_put before s.key) before e in
+      let (same, put) = and_parts (is_number number (key_number one.key)) (is_put before one.key) has in
       any_from passes (before ++ sent ∷ []) one (Contains-append_left before (sent ∷ []) one among) (and_true _ _ same (put_stays before sent one.key put))
 
   -- a sample that can be put together now is the one of these fragments, or could be before
-  whole_from : has_whole (before ++ sent ∷ []) number ≡ true → ((is_number number (number_of sent.key) ≡ true) × (is_put (before ++ sent ∷ []) sent.key ≡ true)) ⊎ (has_whole before number ≡ true)
+  whole_from : has_whole (before ++ sent ∷ []) number ≡ true → ((is_number number (key_number sent.key) ≡ true) × (is_put (before ++ sent ∷ []) sent.key ≡ true)) ⊎ (has_whole before number ≡ true)
   whole_from e =
       let (one, among, has) = any_has passes (before ++ sent ∷ []) e in
-      let (same, put) = and_parts (is_number number (number_of one.key)) (is_put (before ++ sent ∷ []) one.key) has in
+      let (same, put) = and_parts (is_number number (key_number one.key)) (is_put (before ++ sent ∷ []) one.key) has in
       elim (cases_Bool (is_sample one.key sent.key)) [
         | inl is ↦
             let key = sample_is one.key sent.key is in
-            inl (subst (λ k. is_number number (number_of k) ≡ true) key same, subst (λ k. is_put (before ++ sent ∷ []) k ≡ true) key put)
+            inl (subst (λ k. is_number number (key_number k) ≡ true) key same, subst (λ k. is_put (before ++ sent ∷ []) k ≡ true) key put)
         | inr apart ↦ elim (Contains-append_cases before (sent ∷ []) one among) [
-          | inl there ↦ inr (any_from (λ (s : SentValue). is_number number (number_of s.key) && is_put before s.key) before one there (and_true _ _ same (sym (ap (has_sample (last_fragment (shape_of one.key))) (other_sample one.key before sent apart)) ∙ put)))
+          | inl there ↦ inr (any_from (λ (s : SentValue). is_number number (key_number s.key) && is_put before s.key) before one there (and_true _ _ same (sym (ap (has_sample (last_fragment (shape_of one.key))) (other_sample one.key before sent apart)) ∙ put)))
           | inr here ↦ elim (contains_cases sent [] one here) [
             | inl is ↦ absurd (let clash : true ≡ false = sym (own_sample sent.key) ∙ ap (λ (s : SentValue). is_sample s.key sent.key) is ∙ apart in cc)
             | inr none ↦ absurd (contains_none one none)
@@ -108,22 +108,22 @@ module _ (before : List SentValue) (sent : SentValue) (number : SampleNumber) wh
       ]
 
   -- with fragments by which a sample can be put together
-  pub whole_here : is_put (before ++ sent ∷ []) sent.key ≡ true → has_whole (before ++ sent ∷ []) number ≡ cond (is_number (number_of sent.key) number) true (has_whole before number)
-  whole_here put = alike _ _ to (from (is_number (number_of sent.key) number) refl)
+  pub whole_here : is_put (before ++ sent ∷ []) sent.key ≡ true → has_whole (before ++ sent ∷ []) number ≡ cond (is_number (key_number sent.key) number) true (has_whole before number)
+  whole_here put = alike _ _ to (from (is_number (key_number sent.key) number) refl)
     where
-      to : has_whole (before ++ sent ∷ []) number ≡ true → cond (is_number (number_of sent.key) number) true (has_whole before number) ≡ true
+      to : has_whole (before ++ sent ∷ []) number ≡ true → cond (is_number (key_number sent.key) number) true (has_whole before number) ≡ true
       to e = elim (whole_from e) [
-        | inl (same, put) ↦ ap (λ n. cond (is_number (number_of sent.key) n) true (has_whole before number)) (same_number number (number_of sent.key) same) ∙ ap (λ b. cond b true (has_whole before number)) (own_number (number_of sent.key))
-        | inr old ↦ ap (cond (is_number (number_of sent.key) number) true) old ∙ either (is_number (number_of sent.key) number)
+        | inl (same, put) ↦ ap (λ n. cond (is_number (key_number sent.key) n) true (has_whole before number)) (same_number number (key_number sent.key) same) ∙ ap (λ b. cond b true (has_whole before number)) (own_number (key_number sent.key))
+        | inr old ↦ ap (cond (is_number (key_number sent.key) number) true) old ∙ either (is_number (key_number sent.key) number)
       ]
         where
           either : (b : Bool) → cond b true true ≡ true
           either true = refl
           either false = refl
 
-      from : (b : Bool) → is_number (number_of sent.key) number ≡ b → cond b true (has_whole before number) ≡ true → has_whole (before ++ sent ∷ []) number ≡ true
+      from : (b : Bool) → is_number (key_number sent.key) number ≡ b → cond b true (has_whole before number) ≡ true → has_whole (before ++ sent ∷ []) number ≡ true
       from true is e =
-          let same : is_number number (number_of sent.key) ≡ true = ap (λ n. is_number n (number_of sent.key)) (sym (same_number (number_of sent.key) number is)) ∙ own_number (number_of sent.key) in
+          let same : is_number number (key_number sent.key) ≡ true = ap (λ n. is_number n (key_number sent.key)) (sym (same_number (key_number sent.key) number is)) ∙ own_number (key_number sent.key) in
           any_from passes (before ++ sent ∷ []) sent (Contains-append_right before (sent ∷ []) sent (contains_head sent [])) (and_true _ _ same put)
       from false is e = whole_stays e
 
@@ -138,11 +138,11 @@ module _ (before : List SentValue) (sent : SentValue) (number : SampleNumber) wh
       ]
 
   -- of a number of which one could be before
-  pub whole_known : has_whole before (number_of sent.key) ≡ true → has_whole (before ++ sent ∷ []) number ≡ has_whole before number
+  pub whole_known : has_whole before (key_number sent.key) ≡ true → has_whole (before ++ sent ∷ []) number ≡ has_whole before number
   whole_known known = alike _ _ to whole_stays
     where
       to : has_whole (before ++ sent ∷ []) number ≡ true → has_whole before number ≡ true
-      to e = elim (whole_from e) [ inl (same, put) ↦ ap (has_whole before) (same_number number (number_of sent.key) same) ∙ known | inr old ↦ old ]
+      to e = elim (whole_from e) [ inl (same, put) ↦ ap (has_whole before) (same_number number (key_number sent.key) same) ∙ known | inr old ↦ old ]
 
   pub not_before : has_whole (before ++ sent ∷ []) number ≡ false → has_whole before number ≡ false
   not_before none = by (has_whole before number) refl
@@ -152,7 +152,7 @@ module _ (before : List SentValue) (sent : SentValue) (number : SampleNumber) wh
       by true e = let clash : true ≡ false = sym (whole_stays e) ∙ none in cc
 
 -- what is kept of one sample more
-module _ (before : List SentValue) (sent : SentValue) (old new : BTreeMap SampleKey Came) (heard : (key : SampleKey) → has_whole before (number_of key) ≡ false → HasCame (last_fragment (shape_of key)) (overheard key before) (get sample_cmp old key))
+module _ (before : List SentValue) (sent : SentValue) (old new : BTreeMap SampleKey Came) (heard : (key : SampleKey) → has_whole before (key_number key) ≡ false → HasCame (last_fragment (shape_of key)) (overheard key before) (get sample_cmp old key))
     (here : (came : List (ℕ × List ℕ)) → HasCame (last_fragment (shape_of sent.key)) came (get sample_cmp old sent.key) → HasCame (last_fragment (shape_of sent.key)) (came ++ sent.came) (get sample_cmp new sent.key))
     (others : (other : SampleKey) → is_eq (sample_cmp sent.key other) ≡ false → get sample_cmp new other ≡ get sample_cmp old other) (whole : Bool)
     (is : (came : List (ℕ × List ℕ)) → HasCame (last_fragment (shape_of sent.key)) came (get sample_cmp old sent.key) → whole ≡ has_sample (last_fragment (shape_of sent.key)) (came ++ sent.came))
@@ -168,57 +168,57 @@ module _ (before : List SentValue) (sent : SentValue) (old new : BTreeMap Sample
       by true e = let clash : true ≡ false = sym (own_sample sent.key) ∙ ap (is_sample sent.key) (sym (sample_is key sent.key e)) ∙ apart in cc
 
   -- of another sample nothing came
-  elsewhere : (key : SampleKey) → has_whole before (number_of key) ≡ false → is_sample sent.key key ≡ false → HasCame (last_fragment (shape_of key)) (overheard key (before ++ sent ∷ [])) (get sample_cmp new key)
+  elsewhere : (key : SampleKey) → has_whole before (key_number key) ≡ false → is_sample sent.key key ≡ false → HasCame (last_fragment (shape_of key)) (overheard key (before ++ sent ∷ [])) (get sample_cmp new key)
   elsewhere key none apart =
       subst (λ cs. HasCame (last_fragment (shape_of key)) cs (get sample_cmp new key)) (sym (other_sample key before sent (apart_too key apart)))
       (subst (HasCame (last_fragment (shape_of key)) (overheard key before)) (sym (others key apart)) (heard key none))
 
   -- whether the sample can be put together now
-  put_is : has_whole before (number_of sent.key) ≡ false → is_put (before ++ sent ∷ []) sent.key ≡ whole
+  put_is : has_whole before (key_number sent.key) ≡ false → is_put (before ++ sent ∷ []) sent.key ≡ whole
   put_is none = ap (has_sample (last_fragment (shape_of sent.key))) overheard_here ∙ sym (is (overheard sent.key before) (heard sent.key none))
 
   -- it cannot
   pub tracked_not : whole ≡ false → AreTracked (before ++ sent ∷ []) new numbers
   tracked_not fails = record {
     came = λ key none.
-        let was = not_before before sent (number_of key) none in
+        let was = not_before before sent (key_number key) none in
         elim (cases_Bool (is_sample sent.key key)) [
           | inl same ↦
               let key_is = sample_is sent.key key same in
               subst (λ k. HasCame (last_fragment (shape_of k)) (overheard k (before ++ sent ∷ [])) (get sample_cmp new k)) key_is
               (subst (λ cs. HasCame (last_fragment (shape_of sent.key)) cs (get sample_cmp new sent.key)) (sym overheard_here)
-              (here (overheard sent.key before) (heard sent.key (subst (λ k. has_whole before (number_of k) ≡ false) (sym key_is) was))))
+              (here (overheard sent.key before) (heard sent.key (subst (λ k. has_whole before (key_number k) ≡ false) (sym key_is) was))))
           | inr apart ↦ elsewhere key was apart
         ];
-    whole = λ number. were number ∙ sym (elim (cases_Bool (has_whole before (number_of sent.key))) [
+    whole = λ number. were number ∙ sym (elim (cases_Bool (has_whole before (key_number sent.key))) [
       | inl known ↦ whole_known before sent number known
       | inr none ↦ whole_not_here before sent number (put_is none ∙ fails)
     ]);
   }
 
   -- it can
-  now_whole : whole ≡ true → has_whole (before ++ sent ∷ []) (number_of sent.key) ≡ true
-  now_whole holds = elim (cases_Bool (has_whole before (number_of sent.key))) [
-    | inl known ↦ whole_stays before sent (number_of sent.key) known
-    | inr none ↦ whole_here before sent (number_of sent.key) (put_is none ∙ holds) ∙ ap (λ b. cond b true (has_whole before (number_of sent.key))) (own_number (number_of sent.key))
+  now_whole : whole ≡ true → has_whole (before ++ sent ∷ []) (key_number sent.key) ≡ true
+  now_whole holds = elim (cases_Bool (has_whole before (key_number sent.key))) [
+    | inl known ↦ whole_stays before sent (key_number sent.key) known
+    | inr none ↦ whole_here before sent (key_number sent.key) (put_is none ∙ holds) ∙ ap (λ b. cond b true (has_whole before (key_number sent.key))) (own_number (key_number sent.key))
   ]
 
-  known_alike : (number : SampleNumber) → has_whole before (number_of sent.key) ≡ true → cond (is_number (number_of sent.key) number) true (has_whole before number) ≡ has_whole (before ++ sent ∷ []) number
-  known_alike number known = by (is_number (number_of sent.key) number) refl
+  known_alike : (number : SampleNumber) → has_whole before (key_number sent.key) ≡ true → cond (is_number (key_number sent.key) number) true (has_whole before number) ≡ has_whole (before ++ sent ∷ []) number
+  known_alike number known = by (is_number (key_number sent.key) number) refl
     where
-      by : (b : Bool) → is_number (number_of sent.key) number ≡ b → cond b true (has_whole before number) ≡ has_whole (before ++ sent ∷ []) number
-      by true e = sym (whole_stays before sent number (ap (has_whole before) (sym (same_number (number_of sent.key) number e)) ∙ known))
+      by : (b : Bool) → is_number (key_number sent.key) number ≡ b → cond b true (has_whole before number) ≡ has_whole (before ++ sent ∷ []) number
+      by true e = sym (whole_stays before sent number (ap (has_whole before) (sym (same_number (key_number sent.key) number e)) ∙ known))
       by false e = sym (whole_known before sent number known)
 
   pub tracked_whole : (left : BTreeMap SampleKey Came) (after : BTreeSet SampleNumber) → ((other : SampleKey) → is_eq (sample_cmp sent.key other) ≡ false → get sample_cmp left other ≡ get sample_cmp new other)
-      → whole ≡ true → ((number : SampleNumber) → contains number_cmp after number ≡ cond (is_number (number_of sent.key) number) true (contains number_cmp numbers number))
+      → whole ≡ true → ((number : SampleNumber) → contains number_cmp after number ≡ cond (is_number (key_number sent.key) number) true (contains number_cmp numbers number))
       → AreTracked (before ++ sent ∷ []) left after
   tracked_whole left after stay holds added = record {
     came = λ key none. elim (cases_Bool (is_sample sent.key key)) [
-      | inl same ↦ absurd (let clash : true ≡ false = sym (now_whole holds) ∙ ap (λ k. has_whole (before ++ sent ∷ []) (number_of k)) (sample_is sent.key key same) ∙ none in cc)
-      | inr apart ↦ subst (HasCame (last_fragment (shape_of key)) (overheard key (before ++ sent ∷ []))) (sym (stay key apart)) (elsewhere key (not_before before sent (number_of key) none) apart)
+      | inl same ↦ absurd (let clash : true ≡ false = sym (now_whole holds) ∙ ap (λ k. has_whole (before ++ sent ∷ []) (key_number k)) (sample_is sent.key key same) ∙ none in cc)
+      | inr apart ↦ subst (HasCame (last_fragment (shape_of key)) (overheard key (before ++ sent ∷ []))) (sym (stay key apart)) (elsewhere key (not_before before sent (key_number key) none) apart)
     ];
-    whole = λ number. added number ∙ ap (cond (is_number (number_of sent.key) number) true) (were number) ∙ elim (cases_Bool (has_whole before (number_of sent.key))) [
+    whole = λ number. added number ∙ ap (cond (is_number (key_number sent.key) number) true) (were number) ∙ elim (cases_Bool (has_whole before (key_number sent.key))) [
       | inl known ↦ known_alike number known
       | inr none ↦ sym (whole_here before sent number (put_is none ∙ holds))
     ];
@@ -241,20 +241,20 @@ module _ (all : List PieceAct) (sall : List SentValue) (same : Overhears all sal
 
   -- the two tests of an act with a piece
   tests_alike : (one : PieceAct) (piece : Piece) → IsFragmentAct one piece → (number : SampleNumber)
-      → (is_number number (number_of (key_of one.act piece)) && is_put sall (key_of one.act piece)) ≡ (is_spoken_by one.act number.writer && is_whole all number.writer number.number (Some piece))
+      → (is_number number (key_number (key_of one.act piece)) && is_put sall (key_of one.act piece)) ≡ (is_spoken_by one.act number.writer && is_whole all number.writer number.number (Some piece))
   tests_alike one piece frag number = alike _ _ to from
     where
       own : SampleNumber
       own = record { writer = origin_of one.act; number = piece.number }
 
-      to : (is_number number (number_of (key_of one.act piece)) && is_put sall (key_of one.act piece)) ≡ true → (is_spoken_by one.act number.writer && is_whole all number.writer number.number (Some piece)) ≡ true
+      to : (is_number number (key_number (key_of one.act piece)) && is_put sall (key_of one.act piece)) ≡ true → (is_spoken_by one.act number.writer && is_whole all number.writer number.number (Some piece)) ≡ true
       to e =
-          let (is, put) = and_parts (is_number number (number_of (key_of one.act piece))) (is_put sall (key_of one.act piece)) e in
+          let (is, put) = and_parts (is_number number (key_number (key_of one.act piece))) (is_put sall (key_of one.act piece)) e in
           let number_is : own ≡ number = sym (same_number number own is) in
           let whole = and_true (piece.number == piece.number) _ ((Decides-eqb piece.number piece.number).1 refl) (sym (put_alike one piece) ∙ put) in
           subst (λ (n : SampleNumber). (is_spoken_by one.act n.writer && is_whole all n.writer n.number (Some piece)) ≡ true) number_is (and_true _ _ (spoken_by_own one piece frag) whole)
 
-      from : (is_spoken_by one.act number.writer && is_whole all number.writer number.number (Some piece)) ≡ true → (is_number number (number_of (key_of one.act piece)) && is_put sall (key_of one.act piece)) ≡ true
+      from : (is_spoken_by one.act number.writer && is_whole all number.writer number.number (Some piece)) ≡ true → (is_number number (key_number (key_of one.act piece)) && is_put sall (key_of one.act piece)) ≡ true
       from e =
           let (spoken, whole) = and_parts (is_spoken_by one.act number.writer) _ e in
           let writer : origin_of one.act ≡ number.writer = spoken_is_origin one.act number.writer (named one piece frag) spoken in
@@ -269,7 +269,7 @@ module _ (all : List PieceAct) (sall : List SentValue) (same : Overhears all sal
 
   -- the test by what is sent, and the one by acts
   abbrev sent_test : SampleNumber → SentValue → Bool
-  sent_test number sent = is_number number (number_of sent.key) && is_put sall sent.key
+  sent_test number sent = is_number number (key_number sent.key) && is_put sall sent.key
 
   abbrev act_test : SampleNumber → PieceAct → Bool
   act_test number other = is_spoken_by other.act number.writer && is_whole all number.writer number.number other.piece
@@ -307,14 +307,14 @@ module _ (all : List PieceAct) (sall : List SentValue) (same : Overhears all sal
       by : (o : Option Piece) → left_among sall (sents_from (suc i) acts) ≡ pieces_left all acts → left_among sall (sent_in i one.act o ++ sents_from (suc i) acts) ≡ one_of (is_left all one.act o) + pieces_left all acts
       by None rest = omega arith
       by (Some piece) rest =
-          sum_by-cons (λ (sent : SentValue). one_of (not (has_whole sall (number_of sent.key)))) (sent_by_act i one.act piece) (sents_from (suc i) acts)
-          ∙ ap (λ b. one_of (not b) + left_among sall (sents_from (suc i) acts)) (alike_all (number_of (key_of one.act piece)))
+          sum_by-cons (λ (sent : SentValue). one_of (not (has_whole sall (key_number sent.key)))) (sent_by_act i one.act piece) (sents_from (suc i) acts)
+          ∙ ap (λ b. one_of (not b) + left_among sall (sents_from (suc i) acts)) (alike_all (key_number (key_of one.act piece)))
           ∙ ap (λ n. one_of (is_left all one.act (Some piece)) + n) rest
 
 -- one act more
-pub left-more : (all sents : List SentValue) (sent : SentValue) → left_among all (sents ++ sent ∷ []) ≡ left_among all sents + one_of (not (has_whole all (number_of sent.key)))
+pub left-more : (all sents : List SentValue) (sent : SentValue) → left_among all (sents ++ sent ∷ []) ≡ left_among all sents + one_of (not (has_whole all (key_number sent.key)))
 left-more all sents sent =
-    let f : SentValue → ℕ = λ s. one_of (not (has_whole all (number_of s.key))) in
+    let f : SentValue → ℕ = λ s. one_of (not (has_whole all (key_number s.key))) in
     let both = sum_by-append f sents (sent ∷ []) in
     let one = sum_by-cons f sent [] in
     omega arith

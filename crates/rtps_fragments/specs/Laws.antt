@@ -22,7 +22,7 @@ use Rattle.rtps_fragments.specs.FragmentDelivery.{Fragment, FragmentSpeech, Give
 use Rattle.rtps_fragments.specs.FragmentVerdict.{IsPayloadBefore, IsWordBefore, IsFragmentVerdictFrom}
 use Rattle.rtps_fragments.specs.RecordedSamples.{IsWithoutFragments, fragments_left, intake_with}
 use Rattle.rtps_fragments.specs.Samples.{payloads_of, told_in}
-use Rattle.rtps_fragments.specs.Sending.{is_data_frag, sending_of, unread_in}
+use Rattle.rtps_fragments.specs.Sending.{is_skipped_data_frag, sending_of, unusable_in}
 use Rattle.rtps_fragments.specs.SampleActs.{PieceAct, acts_with_samples, fragment_speech_of, piece_acts_in, acts_of_sample, samples_told}
 use Rattle.rtps_fragments.specs.SamplesSent.{acts_to_note, is_left, noted_act, pieces_left, samples_sent, sent_by}
 
@@ -166,13 +166,13 @@ IntakeStaysWithoutFragments = (recording : List (List ℕ)) → IsWithoutFragmen
 abbrev pub FragmentsAreCounted : Type 0
 FragmentsAreCounted =
     (recording : List (List ℕ)) → sum_by (λ tally. tally.fragments) (intake_with recording).tallies
-    ≡ sum_by unread_in recording + pieces_left (piece_acts_in (sending_of recording)) (piece_acts_in (sending_of recording))
+    ≡ sum_by unusable_in recording + pieces_left (piece_acts_in (sending_of recording)) (piece_acts_in (sending_of recording))
 
 -- of a datagram, no more are counted than without samples, whatever acts the recording has
 abbrev pub NoMoreFragmentsAreCounted : Type 0
 NoMoreFragmentsAreCounted = (all : List PieceAct) (datagram : List ℕ) → fragments_left all datagram ≤ (tally_of (reading_of datagram)).fragments
 
--- only what is a DATA_FRAG has fragments
+-- only what is skipped as a DATA_FRAG has fragments
 abbrev pub OnlyDataFragsHaveFragments : Type 0
 OnlyDataFragsHaveFragments =
-    (datagram : List ℕ) → All (λ item. (value : DataFragValue) → data_frag_at (drop item.at datagram) ≡ Some value → is_data_frag item.body ≡ true) (reading_of datagram).items
+    (datagram : List ℕ) → All (λ item. (value : DataFragValue) → data_frag_at (drop item.at datagram) ≡ Some value → is_skipped_data_frag item.body ≡ true) (reading_of datagram).items

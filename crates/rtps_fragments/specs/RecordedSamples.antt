@@ -10,7 +10,7 @@ use Rattle.rtps_fragments.specs.Merging.{sents_from, sents_in}
 use Rattle.rtps_fragments.specs.Overheard.{AreOverheardOf}
 use Rattle.rtps_fragments.specs.SampleActs.{PieceAct, acts_with_samples, piece_acts_in}
 use Rattle.rtps_fragments.specs.SamplesSent.{pieces_left}
-use Rattle.rtps_fragments.specs.Sending.{piece_acts_of, sending_of, unread_in}
+use Rattle.rtps_fragments.specs.Sending.{piece_acts_of, sending_of, unusable_in}
 use Rattle.rtps_fragments.specs.Telling.{SentValue, ToldValue, told_in_turn, told_value}
 use Rattle.rtps_fragments.specs.Whole.{AreWholeOf, tally_with_fragments}
 use Rattle.rtps_fragments.specs.declared.fragments.Fragments.{Fragments}
@@ -31,7 +31,7 @@ pub record AreSamplesOf (recording : List (List ℕ)) (samples : Samples) : Type
 -- how many DATA_FRAG of a datagram are of no sample that is ever whole, among all acts of a recording: those that have no fragments that can
 -- be used, and those of a number of which no sample is whole
 abbrev pub fragments_left : List PieceAct → List ℕ → ℕ
-fragments_left all octets = unread_in octets + pieces_left all (piece_acts_of octets)
+fragments_left all octets = unusable_in octets + pieces_left all (piece_acts_of octets)
 
 -- the tally of a datagram, of which these are counted as fragments
 abbrev pub tally_with : List PieceAct → List ℕ → Tally

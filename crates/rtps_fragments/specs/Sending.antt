@@ -35,26 +35,26 @@ fragment_acts state item None = []
 abbrev pub fragments_at : List ℕ → ItemValue → Option DataFragValue
 fragments_at octets item = if is_fragment item.body then data_frag_at (drop item.at octets) else None
 
--- the submessage is a DATA_FRAG
-abbrev pub is_data_frag : BodyValue → Bool
-is_data_frag (Skipped id) = id == DATA_FRAG
-is_data_frag _ = false
+-- the submessage is skipped as a DATA_FRAG
+abbrev pub is_skipped_data_frag : BodyValue → Bool
+is_skipped_data_frag (Skipped id) = id == DATA_FRAG
+is_skipped_data_frag _ = false
 
 -- the item of these octets is a DATA_FRAG, and has no fragments that can be used
-abbrev pub is_unread : List ℕ → ItemValue → Bool
-is_unread octets item = is_data_frag item.body && is_none (fragments_at octets item)
+abbrev pub is_unusable : List ℕ → ItemValue → Bool
+is_unusable octets item = is_skipped_data_frag item.body && is_none (fragments_at octets item)
 
 -- 1 for such an item, and 0 for another
-abbrev pub one_unread : List ℕ → ItemValue → ℕ
-one_unread octets item = if is_unread octets item then 1 else 0
+abbrev pub one_unusable : List ℕ → ItemValue → ℕ
+one_unusable octets item = if is_unusable octets item then 1 else 0
 
 -- how many of these items are such
-abbrev pub unread_among : List ℕ → List ItemValue → ℕ
-unread_among octets items = count_by (is_unread octets) items
+abbrev pub unusable_among : List ℕ → List ItemValue → ℕ
+unusable_among octets items = count_by (is_unusable octets) items
 
 -- how many of a datagram of these octets are such
-abbrev pub unread_in : List ℕ → ℕ
-unread_in octets = unread_among octets (reading_of octets).items
+abbrev pub unusable_in : List ℕ → ℕ
+unusable_in octets = unusable_among octets (reading_of octets).items
 
 -- the act that an item of these octets is, if it is one
 abbrev pub piece_acts_of_item : List ℕ → State → ItemValue → Option ActBodyValue → List PieceAct
@@ -83,12 +83,12 @@ pub record IsSending (ones : List PieceAct) (count : ℕ) (sending : Sending) : 
   pub acts : map act_value sending.acts.items ≡ map (λ one. one.act) ones
   pub sents : map sent_value sending.sents.items ≡ sents_from 0 ones
   pub well : All IsSent sending.sents.items
-  pub unread : sending.unread ≡ count
-  pub few : sending.unread + length sending.sents.items < 2 ^ 64
+  pub unusable : sending.unusable ≡ count
+  pub few : sending.unusable + length sending.sents.items < 2 ^ 64
 
 -- what is kept grew by these acts, with what they send, and by so many DATA_FRAG that are no act
 pub record AddsActs (old new : Sending) (ones : List PieceAct) (count : ℕ) : Type 0 where
   pub acts : map act_value new.acts.items ≡ map act_value old.acts.items ++ map (λ one. one.act) ones
   pub sents : map sent_value new.sents.items ≡ map sent_value old.sents.items ++ sents_from (length old.acts.items) ones
   pub well : All IsSent old.sents.items → All IsSent new.sents.items
-  pub unread : new.unread ≡ old.unread + count
+  pub unusable : new.unusable ≡ old.unusable + count

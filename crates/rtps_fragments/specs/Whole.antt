@@ -14,7 +14,7 @@ use Rattle.rtps_fragments.specs.FragmentDelivery.{last_fragment}
 use Rattle.rtps_fragments.specs.Merging.{sents_from, sents_in}
 use Rattle.rtps_fragments.specs.Overheard.{overheard}
 use Rattle.rtps_fragments.specs.Samples.{has_sample}
-use Rattle.rtps_fragments.specs.Sending.{piece_acts_of, sending_of, unread_in}
+use Rattle.rtps_fragments.specs.Sending.{piece_acts_of, sending_of, unusable_in}
 use Rattle.rtps_fragments.specs.Telling.{HasCame, SentValue, sample_cmp, shape_of}
 use Rattle.rtps_fragments.specs.declared.came.Came.{Came}
 use Rattle.rtps_fragments.specs.declared.piece.SampleKey.{SampleKey}
@@ -30,8 +30,8 @@ abbrev pub is_number : SampleNumber → SampleNumber → Bool
 is_number a b = is_eq (number_cmp a b)
 
 -- the number that a sample has
-abbrev pub number_of : SampleKey → SampleNumber
-number_of key = record { writer = key.writer; number = key.number }
+abbrev pub key_number : SampleKey → SampleNumber
+key_number key = record { writer = key.writer; number = key.number }
 
 -- of all fragments of it that are sent, a sample can be put together
 abbrev pub is_put : List SentValue → SampleKey → Bool
@@ -39,11 +39,11 @@ is_put sents key = has_sample (last_fragment (shape_of key)) (overheard key sent
 
 -- some sample of the number can
 abbrev pub has_whole : List SentValue → SampleNumber → Bool
-has_whole sents number = list_any (λ sent. is_number number (number_of sent.key) && is_put sents sent.key) sents
+has_whole sents number = list_any (λ sent. is_number number (key_number sent.key) && is_put sents sent.key) sents
 
 -- how many of these are of a number of which no sample can, of all that is sent
 abbrev pub left_among : List SentValue → List SentValue → ℕ
-left_among all sents = count_by (λ sent. not (has_whole all (number_of sent.key))) sents
+left_among all sents = count_by (λ sent. not (has_whole all (key_number sent.key))) sents
 
 -- the tally of a datagram, with so many fragments
 abbrev pub tally_with_fragments : Tally → ℕ → Tally
@@ -51,11 +51,11 @@ tally_with_fragments plain count = record { refused = plain.refused; skipped = p
 
 -- the tally of a datagram of these octets, of which those DATA_FRAG are counted as fragments that are of no sample, of all that is sent
 abbrev pub tally_left : List SentValue → List ℕ → Tally
-tally_left all octets = tally_with_fragments (tally_of (reading_of octets)) (unread_in octets + left_among all (sents_from 0 (piece_acts_of octets)))
+tally_left all octets = tally_with_fragments (tally_of (reading_of octets)) (unusable_in octets + left_among all (sents_from 0 (piece_acts_of octets)))
 
 -- The numbers of which some sample can be put together of these are kept, and what came of each sample of another number.
 pub record AreTracked (before : List SentValue) (kept : BTreeMap SampleKey Came) (numbers : BTreeSet SampleNumber) : Type 0 where
-  pub came : (key : SampleKey) → has_whole before (number_of key) ≡ false → HasCame (last_fragment (shape_of key)) (overheard key before) (get sample_cmp kept key)
+  pub came : (key : SampleKey) → has_whole before (key_number key) ≡ false → HasCame (last_fragment (shape_of key)) (overheard key before) (get sample_cmp kept key)
   pub whole : (number : SampleNumber) → contains number_cmp numbers number ≡ has_whole before number
 
 -- these are the numbers of which some sample can be put together of all that is sent

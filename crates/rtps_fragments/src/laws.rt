@@ -113,7 +113,7 @@ pub fn no_more_fragments_are_counted()
     ensures { NoMoreFragmentsAreCounted }
 {}
 
-/// Only what is a DATA_FRAG has fragments.
+/// Only what is skipped as a DATA_FRAG has fragments.
 pub fn only_data_frags_have_fragments()
     ensures { OnlyDataFragsHaveFragments }
 {}

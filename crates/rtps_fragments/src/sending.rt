@@ -7,7 +7,7 @@ ghost use Rattle.rtps_wire.specs.DataFrag.{IsDataFrag, data_frag_value, parts_of
 ghost use Rattle.rtps_wire.specs.Reading.{items_among, outcomes_left};
 ghost use Rattle.rtps_wire.specs.Values.{body_value, item_value};
 ghost use Rattle.rtps_fragments.specs.Came.{came_from};
-ghost use Rattle.rtps_fragments.specs.Sending.{AddsActs, IsSending, fragment_acts, fragments_at as fragments_at_lem, is_data_frag as is_data_frag_lem, one_unread, piece_acts_behind, piece_acts_of, piece_acts_of_item, unread_among, unread_in};
+ghost use Rattle.rtps_fragments.specs.Sending.{AddsActs, IsSending, fragment_acts, fragments_at as fragments_at_lem, is_skipped_data_frag as is_skipped_data_frag_lem, one_unusable, piece_acts_behind, piece_acts_of, piece_acts_of_item, unusable_among, unusable_in};
 ghost use Rattle.rtps_fragments.specs.Telling.{IsSent, sent_value};
 
 use crate::layout::DATA_FRAG;
@@ -18,12 +18,12 @@ use rtps_wire::{Body, DataFrag, Item, Items};
 use std::alloc::Global;
 use std::slice;
 
-/// The acts of a datagram, the fragments that its DATA_FRAG send, and how many of these have none that can be used.
+/// The acts of a datagram, the fragments that its DATA_FRAG send, and how many of these have no fragments that can be used.
 #[derive(Drop)]
 pub(crate) struct Sending<'a> {
     pub(crate) acts: Vec<Act<'a>>,
     pub(crate) sents: Vec<SentFragments<'a>>,
-    pub(crate) unread: u64,
+    pub(crate) unusable: u64,
 }
 
 /// The octets from this place on; none where it is past the end.
@@ -37,9 +37,9 @@ fn octets_from(octets: &[u8], at: usize) -> &[u8]
     }
 }
 
-/// Whether a submessage is a DATA_FRAG.
-fn is_data_frag(body: &Body<'_>) -> bool
-    ensures { result ≡ is_data_frag_lem (body_value body.now) }
+/// Whether a submessage is skipped as a DATA_FRAG.
+fn is_skipped_data_frag(body: &Body<'_>) -> bool
+    ensures { result ≡ is_skipped_data_frag_lem (body_value body.now) }
 {
     match body {
         Body::Skipped { id } => *id == DATA_FRAG,
@@ -130,7 +130,7 @@ impl<'a> Sending<'a> {
         Sending {
             acts: Vec::new(alloc),
             sents: Vec::new(alloc),
-            unread: 0,
+            unusable: 0,
         }
     }
 
@@ -155,17 +155,17 @@ impl<'a> Sending<'a> {
     /// Adds the act that an item of a datagram is, if it is one, and changes the state as the item says. A DATA_FRAG that is no act
     /// is counted. After `Memory` it is of no use.
     fn add(&mut self, state: &mut State, item: &Item<'a>, datagram: &'a [u8]) -> Result<(), Memory>
-        requires { self.old.unread + 1 < 2 ^ 64 }
+        requires { self.old.unusable + 1 < 2 ^ 64 }
         ensures acts { OnOk result (AddsActs self.old self.new (piece_acts_of_item datagram.now state.old (item_value item.now) (act_body (item_value item.now).body))
-            (one_unread datagram.now (item_value item.now))) }
+            (one_unusable datagram.now (item_value item.now))) }
         ensures state { OnOk result (state.new ≡ state_behind state.old (item_value item.now ∷ [])) }
     {
         if let Some(act) = state.act(item) {
             self.acts.extend_from_slice(slice::from_ref(&act))?;
         } else if let Some(fragments) = fragments_at(item, datagram) {
             self.add_fragments(state, item, &fragments)?;
-        } else if is_data_frag(&item.body) {
-            self.unread += 1;
+        } else if is_skipped_data_frag(&item.body) {
+            self.unusable += 1;
         }
         state.interpret(item);
         Ok(())
@@ -178,9 +178,9 @@ impl<'a> Sending<'a> {
         items: Items<'a>,
         datagram: &'a [u8],
     ) -> Result<(), Memory>
-        requires few { self.old.unread + length self.old.sents.items + length (outcomes_left items) < 2 ^ 64 }
+        requires few { self.old.unusable + length self.old.sents.items + length (outcomes_left items) < 2 ^ 64 }
         ensures { OnOk result (IsSending [] 0 self.old → IsSending (piece_acts_behind datagram.now start (items_among (outcomes_left items.entry)))
-            (unread_among datagram.now (items_among (outcomes_left items.entry))) self.new) }
+            (unusable_among datagram.now (items_among (outcomes_left items.entry))) self.new) }
     {
         let mut state = start;
         let mut items = items;
@@ -195,7 +195,7 @@ impl<'a> Sending<'a> {
 
     /// The acts of a datagram of any length, and the fragments that its DATA_FRAG send, up to its refusal, if it has one.
     pub(crate) fn read(alloc: Global, datagram: &'a [u8]) -> Result<Sending<'a>, Memory>
-        ensures { IfOk result (IsSending (piece_acts_of datagram.now) (unread_in datagram.now)) }
+        ensures { IfOk result (IsSending (piece_acts_of datagram.now) (unusable_in datagram.now)) }
     {
         let mut sending = Sending::new(alloc);
         match Items::open(datagram) {

@@ -6,7 +6,7 @@ ghost use Rattle.rtps_fragments.specs.Merging.{sents_from};
 ghost use Rattle.rtps_fragments.specs.Samples.{has_sample};
 ghost use Rattle.rtps_fragments.specs.Sending.{piece_acts_of};
 ghost use Rattle.rtps_fragments.specs.Telling.{HasCame, IsSent, SentValue, sample_cmp, sent_value, shape_of};
-ghost use Rattle.rtps_fragments.specs.Whole.{AreTracked, AreWholeIn, AreWholeOf, left_among as left_among_lem, number_of as number_of_lem, tally_with_fragments};
+ghost use Rattle.rtps_fragments.specs.Whole.{AreTracked, AreWholeIn, AreWholeOf, key_number as key_number_lem, left_among as left_among_lem, tally_with_fragments};
 ghost use Rattle.rtps_fragments.specs.declared.piece.SampleKey.{SampleKey as SampleKeyValue};
 
 use crate::came::Came;
@@ -39,8 +39,8 @@ pub(crate) struct WholeNumbers {
 }
 
 /// The number that a sample has.
-fn number_of(key: &SampleKey) -> SampleNumber
-    ensures { result ≡ number_of_lem key.now }
+fn key_number(key: &SampleKey) -> SampleNumber
+    ensures { result ≡ key_number_lem key.now }
 {
     SampleNumber {
         writer: key.writer,
@@ -91,7 +91,7 @@ impl<'a> Tracking<'a> {
     {
         if take_sent(&mut self.came, self.alloc, sent)? {
             let _ = self.came.remove(&sent.key);
-            self.numbers.insert(number_of(&sent.key))?;
+            self.numbers.insert(key_number(&sent.key))?;
         }
         Ok(())
     }
@@ -144,14 +144,14 @@ impl WholeNumbers {
 
     /// The tally of a datagram with this plain one, which sends this. Its fragments are the DATA_FRAG of no sample.
     pub(crate) fn tally(&self, plain: Tally, sending: &Sending<'_>) -> Tally
-        requires { sending.now.unread + length sending.now.sents.items < 2 ^ 64 }
+        requires { sending.now.unusable + length sending.now.sents.items < 2 ^ 64 }
         ensures { (all : List SentValue) → AreWholeIn all self.now
-            → result ≡ tally_with_fragments plain (sending.now.unread + left_among_lem all (map sent_value sending.now.sents.items)) }
+            → result ≡ tally_with_fragments plain (sending.now.unusable + left_among_lem all (map sent_value sending.now.sents.items)) }
     {
         Tally {
             refused: plain.refused,
             skipped: plain.skipped,
-            fragments: sending.unread + self.left_among(&sending.sents),
+            fragments: sending.unusable + self.left_among(&sending.sents),
         }
     }
 
@@ -162,7 +162,7 @@ impl WholeNumbers {
     {
         let mut left = 0;
         for sent in sents {
-            if !self.numbers.contains(&number_of(&sent.key)) {
+            if !self.numbers.contains(&key_number(&sent.key)) {
                 left += 1;
             }
         }

@@ -7,7 +7,7 @@ use Rattle.rtps_audit.specs.Index.{IsIndexBy}
 use Rattle.rtps_audit.specs.Intake.{intake_more}
 use Rattle.rtps_fragments.specs.Merging.{merged_from}
 use Rattle.rtps_fragments.specs.SampleActs.{PieceAct}
-use Rattle.rtps_fragments.specs.Sending.{piece_acts_of, unread_in}
+use Rattle.rtps_fragments.specs.Sending.{piece_acts_of, unusable_in}
 use Rattle.rtps_fragments.specs.Telling.{SentValue, sent_value, told_value}
 use Rattle.rtps_fragments.specs.Whole.{left_among, tally_left, tally_with_fragments}
 use Rattle.rtps_fragments.specs.declared.merging.SampleForm.TheVariants.{ForAudience, ForEveryone}
@@ -20,8 +20,8 @@ returns c = λ intake all whole is.
     let sent = c.in_ok-sending.ensures in
     let plain = tally_of (reading_of octets) in
     let tally : c.tally-tally.result ≡ tally_left all octets =
-    c.tally-tally.ensures all whole ∙ ap (λ (t : Tally). tally_with_fragments t (sending.unread + left_among all (map sent_value sending.sents.items))) c.tally.ensures
-    ∙ ap (λ n. tally_with_fragments plain (n + left_among all (map sent_value sending.sents.items))) sent.unread ∙ ap (λ (ss : List SentValue). tally_with_fragments plain (unread_in octets + left_among all ss)) sent.sents in
+    c.tally-tally.ensures all whole ∙ ap (λ (t : Tally). tally_with_fragments t (sending.unusable + left_among all (map sent_value sending.sents.items))) c.tally.ensures
+    ∙ ap (λ n. tally_with_fragments plain (n + left_among all (map sent_value sending.sents.items))) sent.unusable ∙ ap (λ (ss : List SentValue). tally_with_fragments plain (unusable_in octets + left_among all ss)) sent.sents in
     let told = map told_value c.args.samples.now.told.now in
     let noted = map told_value c.args.samples.now.overheard.now in
     let own = map (λ (one : PieceAct). one.act) (piece_acts_of octets) in

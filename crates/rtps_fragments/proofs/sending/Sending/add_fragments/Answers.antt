@@ -24,5 +24,5 @@ returns c =
           ∙ ap (λ s. map sent_value sents ++ s ∷ []) c.sent_of-sent.ensures.value ∙ ap (λ n. map sent_value sents ++ sents_from n ones) place;
       well = λ old.
           subst (All IsSent) (sym (c.in_ok-extend_from_slice-2.ensures.items ∙ ap (λ xs. sents ++ xs) c.from_ref-2.ensures.value)) (All-push IsSent sents c.sent_of-sent.result old c.sent_of-sent.ensures.well);
-      unread = omega arith;
+      unusable = omega arith;
     }

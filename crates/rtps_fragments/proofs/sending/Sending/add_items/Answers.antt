@@ -3,8 +3,8 @@ use Rattle.rtps_wire.specs.Reading.{Outcome, items_among, outcome_value, outcome
 use Rattle.rtps_wire.specs.Values.{item_value}
 use Rattle.rtps_receiver.specs.Acts.{act_body}
 use Rattle.rtps_fragments.specs.SampleActs.{PieceAct}
-use Rattle.rtps_fragments.specs.Sending.{one_unread, piece_acts_behind, piece_acts_of_item, unread_among}
-use Rattle.rtps_fragments.proofs.SendingLemmas.{IsReading, behind-item, few_more, reading_step, unread-item}
+use Rattle.rtps_fragments.specs.Sending.{one_unusable, piece_acts_behind, piece_acts_of_item, unusable_among}
+use Rattle.rtps_fragments.proofs.SendingLemmas.{IsReading, behind-item, few_more, reading_step, unusable-item}
 use Rattle.rtps_fragments.proofs.sending.Sending.add_items.Goals as goal
 
 pub add-requires : goal.add-requires
@@ -20,15 +20,15 @@ items-preserved-in-Continue-1 c =
     let later = outcomes_left c.next.new.self in
     let all = piece_acts_behind octets c.args.start (items_among (outcomes_left c.args.items)) in
     let next : outcomes_left c.items.items ≡ Ok item ∷ later = c.in-Some-Ok.ensures.steps ∙ ap (λ o. outcome_value o ∷ outcomes_left c.next.new.self) c.in-Some-Ok.field-0-is in
-    let one = one_unread octets item in
+    let one = one_unusable octets item in
     let adds = c.in_ok-add-in-Some-Ok.ensures.acts in
     let step = ap (λ (o : List Outcome). piece_acts_behind octets state (items_among o)) next ∙ behind-item octets state item (items_among later) ∙ ap (λ s. piece_acts_of_item octets state item (act_body item.body) ++ piece_acts_behind octets s (items_among later)) (sym c.in_ok-add-in-Some-Ok.ensures.state) in
-    let counted = ap (λ (o : List Outcome). unread_among octets (items_among o)) next ∙ unread-item octets item (items_among later) in
-    let unread = unread_among octets (items_among (outcomes_left c.args.items)) in
+    let counted = ap (λ (o : List Outcome). unusable_among octets (items_among o)) next ∙ unusable-item octets item (items_among later) in
+    let unusable = unusable_among octets (items_among (outcomes_left c.args.items)) in
     record {
-      few = few_more octets state item (length later) c.items.self c.add.new.self adds (subst (λ n. c.items.self.unread + length c.items.self.sents.items + n < 2 ^ 64) (ap length next) c.items.invariant.few);
+      few = few_more octets state item (length later) c.items.self c.add.new.self adds (subst (λ n. c.items.self.unusable + length c.items.self.sents.items + n < 2 ^ 64) (ap length next) c.items.invariant.few);
       reading = λ none.
-          reading_step (piece_acts_of_item octets state item (act_body item.body)) (piece_acts_behind octets c.add.new.state (items_among later)) all one (unread_among octets (items_among later)) unread c.items.self c.add.new.self adds
-          (subst (λ n. IsReading (piece_acts_of_item octets state item (act_body item.body) ++ piece_acts_behind octets c.add.new.state (items_among later)) all n unread c.items.self) counted
-          (subst (λ (left : List PieceAct). IsReading left all (unread_among octets (items_among (outcomes_left c.items.items))) unread c.items.self) step (c.items.invariant.reading none)));
+          reading_step (piece_acts_of_item octets state item (act_body item.body)) (piece_acts_behind octets c.add.new.state (items_among later)) all one (unusable_among octets (items_among later)) unusable c.items.self c.add.new.self adds
+          (subst (λ n. IsReading (piece_acts_of_item octets state item (act_body item.body) ++ piece_acts_behind octets c.add.new.state (items_among later)) all n unusable c.items.self) counted
+          (subst (λ (left : List PieceAct). IsReading left all (unusable_among octets (items_among (outcomes_left c.items.items))) unusable c.items.self) step (c.items.invariant.reading none)));
     }

@@ -1,6 +1,6 @@
 use Rattle.std.proofs.Common.{[], ◌+◌, ◌<◌, ◌^◌, length}
 use Rattle.rtps_wire.specs.Reading.{items_among, outcomes_left}
-use Rattle.rtps_fragments.specs.Sending.{IsSending, piece_acts_behind, unread_among}
+use Rattle.rtps_fragments.specs.Sending.{IsSending, piece_acts_behind, unusable_among}
 use Rattle.rtps_fragments.proofs.SendingLemmas.{IsReading}
 use Rattle.rtps_fragments.proofs.sending.Sending.add_items.Given as goal
 
@@ -8,10 +8,10 @@ use Rattle.rtps_fragments.proofs.sending.Sending.add_items.Given as goal
 abbrev pub invariant-items : goal.invariant-items
 invariant-items l =
     record {
-      few : l.self.unread + length l.self.sents.items + length (outcomes_left l.items) < 2 ^ 64;
+      few : l.self.unusable + length l.self.sents.items + length (outcomes_left l.items) < 2 ^ 64;
       reading : IsSending [] 0 l.fn.self
           → IsReading (piece_acts_behind l.datagram l.state (items_among (outcomes_left l.items))) (piece_acts_behind l.datagram l.fn.start (items_among (outcomes_left l.fn.items)))
-          (unread_among l.datagram (items_among (outcomes_left l.items))) (unread_among l.datagram (items_among (outcomes_left l.fn.items))) l.self;
+          (unusable_among l.datagram (items_among (outcomes_left l.items))) (unusable_among l.datagram (items_among (outcomes_left l.fn.items))) l.self;
     }
 
 abbrev pub decreases-items : goal.decreases-items

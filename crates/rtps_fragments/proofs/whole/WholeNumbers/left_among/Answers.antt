@@ -1,6 +1,6 @@
 use Rattle.std.proofs.Common.{◌≡◌, ◌+◌, Bool, not, [], ◌∷◌, ◌++◌, ◌∙◌, ap, arith, map, sym, take}
 use Rattle.rtps_fragments.specs.Telling.{sent_value}
-use Rattle.rtps_fragments.specs.Whole.{has_whole, left_among, number_of}
+use Rattle.rtps_fragments.specs.Whole.{has_whole, left_among, key_number}
 use Rattle.rtps_fragments.specs.declared.piece.SentFragments.{SentFragments}
 use Rattle.rtps_fragments.proofs.SendingLemmas.{at_most_one, one_of}
 use Rattle.rtps_fragments.proofs.ToldSoFar.{sents-more}
@@ -22,7 +22,7 @@ loop-sent-preserved c =
     record {
       few = omega (arith, counted, one, c.loop-sent.invariant.few);
       left = λ all are.
-          let is : c.contains.result ≡ has_whole all (number_of item.key) = c.contains.ensures ∙ are c.number_of.result ∙ ap (has_whole all) c.number_of.ensures in
+          let is : c.contains.result ≡ has_whole all (key_number item.key) = c.contains.ensures ∙ are c.key_number.result ∙ ap (has_whole all) c.key_number.ensures in
           counted ∙ ap (λ n. n + one_of (not c.contains.result)) (c.loop-sent.invariant.left all are) ∙ ap (λ (b : Bool). left_among all (map sent_value (take i sents)) + one_of (not b)) is
           ∙ sym (ap (left_among all) sents_are ∙ left-more all (map sent_value (take i sents)) (sent_value item));
     }
