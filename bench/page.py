@@ -33,7 +33,7 @@ def audience(act):
 def entries_of(datagram, act):
     """what an act of a writer says, each behind its place"""
     place, to = [datagram, act['at']], audience(act)
-    if act['kind'] == 'data':
+    if act['kind'] in ('data', 'data_frag'):
         return [place + ['data', act['number']] + to]
     if act['kind'] == 'heartbeat':
         gone = [place + ['gone', 1, act['first'] - 1] + to] if act['first'] > 1 else []
@@ -90,7 +90,7 @@ def endpoint_values(endpoint):
 
 
 def option_values(asked, any_capture):
-    return {'from': asked.first, 'any': any_capture, 'fragments': False, 'observed': asked.observed, 'strict': asked.strict,
+    return {'from': asked.first, 'any': any_capture, 'fragments': asked.fragments, 'observed': asked.observed, 'strict': asked.strict,
             'topics': asked.topics, 'expect': asked.expect}
 
 
@@ -98,8 +98,8 @@ def page_values(datagrams, asked=PLAIN, ignored=None):
     """the data of a page as Python has it; where any capture was read, the ignored frames are told by their reasons"""
     by_reason = isinstance(ignored, dict)
     report = reference.report_values(datagrams, asked) | (ignored if by_reason else {} if ignored is None else {'ignored': ignored})
-    participants, endpoints, _, _, _ = reference.discovery(datagrams)
-    traffic = Traffic([reference.acts_of(d) for d in datagrams], report['pairs'])
+    participants, endpoints, _, _, _ = reference.discovery(datagrams, asked.fragments)
+    traffic = Traffic([reference.acts_of(d, asked.fragments) for d in datagrams], report['pairs'])
     pairs = {(row['writer'], row['reader']) for row in traffic.charted(report['pairs'])}
     shown = [row for row in report['pairs'] if (row['writer'], row['reader']) in pairs]
     writers = list(dict.fromkeys(row['writer'] for row in shown))

@@ -9,7 +9,9 @@
                                            the same, of the rows that are asked for; standard error and the status say what
                                            else is not so
     reference.py show|list|audit|why|json --any FILE
-                                           the same, of a capture of either form, with fragments put together
+                                           the same, of a capture of either form, with fragments of IP put together
+    reference.py show|audit|why|json --fragments FILE
+                                           the same, where samples that came in DATA_FRAG submessages count
     reference.py check [--json] [--from N] [--topic PATTERN].. [--expect N] FILE
                                            prints what `rtps-audit check` should print
     reference.py compare PROGRAM [COUNT [SEED]]
@@ -33,6 +35,7 @@ import tempfile
 import any_capture
 from asked import PLAIN, Asked, asked_by
 from check import because, check_lines
+from fragments import by_writer, payloads_told, placed_samples, without_sample
 
 READ = {0x06, 0x07, 0x08, 0x09, 0x0c, 0x0e, 0x15}
 FRAGMENTS = {0x12, 0x13, 0x16}
@@ -168,8 +171,31 @@ def read_body(sid, flags, order, b):
     return {'kind': 'skipped', 'id': sid}
 
 
-def read(d):
-    """header, items and refusal of a datagram"""
+def piece_of(flags, order, b):
+    """the fields of a DATA_FRAG, or None for one that is skipped"""
+    if len(b) < 32:
+        return None
+    offset, n, start = number(b[2:4], order), sequence_number(b[12:20], order), number(b[20:24], order)
+    count, size, sample = number(b[24:26], order), number(b[26:28], order), number(b[28:32], order)
+    if offset < 28 or 4 + offset > len(b) or n < 1 or min(start, count, size, sample) < 1:
+        return None
+    rest, qos = b[4 + offset:], 0
+    if flags & 2:
+        found = read_list(rest, order)
+        if isinstance(found, str):
+            return None
+        qos = found[1]
+        rest = rest[qos:]
+    last = start + count - 1
+    octets = min(sample, last * size) - (start - 1) * size
+    if last > (sample + size - 1) // size or len(rest) < octets:
+        return None
+    return {'kind': 'data_frag', 'reader': b[4:8], 'writer': b[8:12], 'number': n, 'start': start, 'count': count, 'size': size,
+            'sample': sample, 'qos': qos, 'key': int(bool(flags & 4)), 'octets': rest[:octets]}
+
+
+def read(d, fragments=False):
+    """header, items and refusal of a datagram; DATA_FRAG are read where `fragments` says so"""
     try:
         header = header_of(d)
     except Refused as refusal:
@@ -184,7 +210,9 @@ def read(d):
         if declared > rest:
             return header, items, Refused(at, 'Overrun')
         length = declared if declared else 0 if sid in (1, 9) else rest
-        body = read_body(sid, flags, order, d[at + 4:at + 4 + length])
+        octets = d[at + 4:at + 4 + length]
+        body = piece_of(flags, order, octets) if fragments and sid == 0x16 else None
+        body = body or read_body(sid, flags, order, octets)
         if isinstance(body, str):
             return header, items, Refused(at, body)
         items.append({'at': at, 'order': order, **body})
@@ -192,12 +220,12 @@ def read(d):
     return header, items, None
 
 
-def acts_of(d):
+def acts_of(d, fragments=False):
     """items that are acts, each with the last INFO before it"""
-    header, items, refusal = read(d)
+    header, items, refusal = read(d, fragments)
     acts = []
     for k, item in enumerate(items):
-        if item['kind'] not in ('data', 'heartbeat', 'acknack', 'gap'):
+        if item['kind'] not in ('data', 'data_frag', 'heartbeat', 'acknack', 'gap'):
             continue
         before = items[:k]
         sources = [i for i in before if i['kind'] == 'info_src']
@@ -296,16 +324,16 @@ def input_of(octets, limits=USUAL, any_form=False):
     return datagrams if isinstance(datagrams, str) else (datagrams, None)
 
 
-def show(datagrams):
+def show(datagrams, fragments=False):
     out = []
     for i, d in enumerate(datagrams, 1):
-        header, items, refusal = read(d)
+        header, items, refusal = read(d, fragments)
         if header is None:
             out.append(f'datagram {i} unread')
         else:
             major, minor = header['version']
             out.append(f"datagram {i} version {major}.{minor} vendor {header['vendor'].hex()} prefix {header['prefix'].hex()}")
-        acts = {act['at']: act for act in acts_of(d)}
+        acts = {act['at']: act for act in acts_of(d, fragments)}
         for item in items:
             out.append(line_of(item, acts.get(item['at'])))
         if refusal:
@@ -323,6 +351,9 @@ def line_of(i, act):
         form, octets = i['payload']
         payload = form if form == 'absent' else f'{form} {len(octets)}'
         return f"{head} number {i['number']} qos {i['qos']} payload {payload}{ending}"
+    if kind == 'data_frag':
+        shape = f"start {i['start']} count {i['count']} size {i['size']} sample {i['sample']}"
+        return f"{head} number {i['number']} {shape} qos {i['qos']} key {i['key']} octets {len(i['octets'])}{ending}"
     if kind == 'heartbeat':
         return f"{head} first {i['first']} last {i['last']} count {i['count']} final {i['final']} live {i['live']}{ending}"
     if kind in ('acknack', 'gap'):
@@ -404,20 +435,32 @@ def announcement(payload, what):
     return (guid, what, topic, kind, reliability, durability)
 
 
-def discovery(datagrams):
+def payloads_sent(recording):
+    """the payloads of a recording, each with the entity id of its writer, whoever hears them: those of DATA, and of samples in
+    pieces those that a reader which hears everything is told"""
+    for acts in recording:
+        for act in acts:
+            if act['kind'] == 'data':
+                yield act['writer'], act['payload']
+    for (_, writer), pieces in by_writer(recording).items():
+        for told in payloads_told(pieces):
+            for payload in told:
+                yield writer, payload
+
+
+def discovery(datagrams, fragments=False):
     participants, endpoints, faults = set(), {}, 0
-    for d in datagrams:
-        for act in acts_of(d):
-            if act['kind'] != 'data' or act['payload'][0] != 'whole' or act['writer'] not in BUILTIN:
-                continue
-            what = BUILTIN[act['writer']]
-            said = announcement(act['payload'][1], what)
-            if isinstance(said, str):
-                faults += 1
-            elif what == 'participant':
-                participants.add(said[0])
-            else:
-                endpoints.setdefault(said[0], set()).add(said)
+    for writer, (form, octets) in payloads_sent([acts_of(d, fragments) for d in datagrams]):
+        if form != 'whole' or writer not in BUILTIN:
+            continue
+        what = BUILTIN[writer]
+        said = announcement(octets, what)
+        if isinstance(said, str):
+            faults += 1
+        elif what == 'participant':
+            participants.add(said[0])
+        else:
+            endpoints.setdefault(said[0], set()).add(said)
     settled = sorted(next(iter(v)) for v in endpoints.values() if len(v) == 1)
     unsettled = sum(len(v) > 1 for v in endpoints.values())
     matched = [(w, r) for w in settled if w[1] == 'writer' for r in settled if r[1] == 'reader'
@@ -474,22 +517,29 @@ class Words:
             self.spans = [(1, act['first'])]
 
 
+def last_number(act):
+    """the number that an act of a writer announces"""
+    return act['number'] if act['kind'] in ('data', 'data_frag') else act['last'] if act['kind'] == 'heartbeat' else 0
+
+
+def told_to(recording, w, r):
+    """what r is told by w, in order: datagram, act and its words. A piece is there once for each payload that it tells"""
+    hears = [(i, act) for i, acts in enumerate(recording, 1) for act in acts if spoken(act, w) and heard(act, r)]
+    payloads = iter(payloads_told([act for _, act in hears if act['kind'] == 'data_frag']))
+    for i, act in hears:
+        if act['kind'] != 'data_frag':
+            yield i, act, Words(act)
+            continue
+        for payload in next(payloads):
+            yield i, act, Words({'kind': 'data', 'number': act['number'], 'payload': payload})
+
+
 def speech(recording, w, r):
-    """for each datagram the words that r hears from w, and the bases that r answers; and the last number"""
-    last, said = 0, []
-    for acts in recording:
-        words, bases = [], []
-        for act in acts:
-            if spoken(act, w):
-                if act['kind'] == 'data':
-                    last = max(last, act['number'])
-                elif act['kind'] == 'heartbeat':
-                    last = max(last, act['last'])
-                if heard(act, r):
-                    words.append(Words(act))
-            elif answered(act, w, r):
-                bases.append(act['set'][0])
-        said.append((words, bases))
+    """for each datagram the words that r is told by w, and the bases that r answers; and the last number"""
+    last = max([0] + [last_number(act) for acts in recording for act in acts if spoken(act, w)])
+    said = [([], [act['set'][0] for act in acts if answered(act, w, r)]) for acts in recording]
+    for i, _, words in told_to(recording, w, r):
+        said[i - 1][0].append(words)
     return said, last
 
 
@@ -575,18 +625,20 @@ def received_by_runs(recording, w, r, bound, first=1):
 
 
 def audit(datagrams, asked=PLAIN):
-    _, _, matched, unsettled, _ = discovery(datagrams)
-    recording = [acts_of(d) for d in datagrams]
+    _, _, matched, unsettled, _ = discovery(datagrams, asked.fragments)
+    recording = [acts_of(d, asked.fragments) for d in datagrams]
     pairs = [(w[0], r[0]) for w, r in matched if w[4] == 1 and r[4] == 1 and asked.keeps(w[2], w[0], r[0], recording)]
     out = [f'pairs {len(pairs)}']
     for w, r in pairs:
         out.append(f'{guid_text(w)} {guid_text(r)} {judge(recording, w, r, asked.first)}')
-    refused = skipped = fragments = undirected = 0
+    refused = skipped = undirected = 0
+    unread = {0x16} if asked.fragments else FRAGMENTS
+    fragments = without_sample(recording)
     for d, acts in zip(datagrams, recording):
-        _, items, refusal = read(d)
+        _, items, refusal = read(d, asked.fragments)
         refused += refusal is not None
         skipped += sum(i['kind'] == 'skipped' and i['id'] not in FRAGMENTS for i in items)
-        fragments += sum(i['kind'] == 'skipped' and i['id'] in FRAGMENTS for i in items)
+        fragments += sum(i['kind'] == 'skipped' and i['id'] in unread for i in items)
         undirected += sum(a['kind'] == 'acknack' and a['dest'] is None for a in acts)
     out.append(f'datagrams {len(datagrams)} refused {refused} skipped {skipped} fragments {fragments} '
                f'undirected {undirected} unsettled {unsettled}')
@@ -605,20 +657,22 @@ def covered(spans, lo, hi):
     return count
 
 
-def last_number(act):
-    """the number that an act of a writer announces"""
-    return act['number'] if act['kind'] == 'data' else act['last'] if act['kind'] == 'heartbeat' else 0
-
-
 def payload_words(payload):
     return 'absent' if payload[0] == 'absent' else f'{payload[0]} {len(payload[1])}'
 
 
-def announces(act, guid):
-    """whether an act announces the endpoint of this GUID, as a writer or a reader"""
-    what = BUILTIN.get(act['writer']) if act['kind'] == 'data' and act['payload'][0] == 'whole' else None
-    said = announcement(act['payload'][1], what) if what in ('writer', 'reader') else 'no announcement'
+def announces(writer, payload, guid):
+    """whether a payload of a writer announces the endpoint of this GUID, as a writer or a reader"""
+    what = BUILTIN.get(writer) if payload[0] == 'whole' else None
+    said = announcement(payload[1], what) if what in ('writer', 'reader') else 'no announcement'
     return not isinstance(said, str) and said[0] == guid
+
+
+def first_announced(recording, guid):
+    """the place of the first act by which a reader that hears everything is told a payload that announces the endpoint of this
+    GUID"""
+    whole = [((i, act['at']), act['writer'], act['payload']) for i, acts in enumerate(recording, 1) for act in acts if act['kind'] == 'data']
+    return min((place for place, writer, payload in whole + list(placed_samples(recording)) if announces(writer, payload, guid)), default=(0, 0))
 
 
 class Delivery:
@@ -628,17 +682,18 @@ class Delivery:
         self.first = first
         self.placed = [((i, act['at']), act) for i, acts in enumerate(recording, 1) for act in acts]
         self.said = [(place, act) for place, act in self.placed if spoken(act, w)]
-        self.told = [(place, act, Words(act)) for place, act in self.said if heard(act, r)]
+        self.told = [((i, act['at']), act, words) for i, act, words in told_to(recording, w, r)]
         self.answers = [(place, act['set']) for place, act in self.placed if answered(act, w, r)]
         self.last = max([first - 1] + [last_number(act) for _, act in self.said])
-        self.announced = next((place for place, act in self.placed if announces(act, r)), (0, 0))
+        self.announced = first_announced(recording, r)
         self.received = {n for n in self.sent() if self.is_received(n)}
         asked = {n for _, found in self.answers for n in members(*found[:3])}
         self.missed = sorted(n for n in self.sent(self.announced) if n in asked and n not in self.received)
 
     def sent(self, behind=(0, 0)):
         """the numbers with a payload behind a place"""
-        return {act['number'] for place, act, _ in self.told if act['kind'] == 'data' and place > behind and self.first <= act['number'] <= self.last}
+        return {act['number'] for place, act, words in self.told
+                if words.payload is not None and place > behind and self.first <= act['number'] <= self.last}
 
     def words_for(self, n):
         """the acts with a word for a number, and whether that is that it will not come"""
@@ -719,9 +774,9 @@ def verdict_lines(delivery, verdict):
         return [teller(int(numbers[0])), asked_line(delivery)]
     if kind == 'conflict':
         n = int(numbers[0])
-        sent = [(place, act) for place, act, _ in delivery.told if act['kind'] == 'data' and act['number'] == n]
-        other = next(one for one in sent if one[1]['payload'] != sent[0][1]['payload'])
-        return [f'number {n} payload {payload_words(act["payload"])} {standing(place)}' for place, act in (sent[0], other)]
+        sent = [(place, words.payload) for place, act, words in delivery.told if words.payload is not None and act['number'] == n]
+        other = next(one for one in sent if one[1] != sent[0][1])
+        return [f'number {n} payload {payload_words(payload)} {standing(place)}' for place, payload in (sent[0], other)]
     if kind == 'unfounded':
         datagram, n = map(int, numbers)
         place, base = next((place, found[0]) for place, found in delivery.answers if place[0] == datagram and found[0] > n)
@@ -754,8 +809,8 @@ def evidence(recording, w, r, first=1):
 def why(datagrams, asked=PLAIN):
     """the report, with what each row rests on"""
     report = audit(datagrams, asked)
-    named = {guid: (topic, kind) for guid, _, topic, kind, _, _ in discovery(datagrams)[1]}
-    recording = [acts_of(d) for d in datagrams]
+    named = {guid: (topic, kind) for guid, _, topic, kind, _, _ in discovery(datagrams, asked.fragments)[1]}
+    recording = [acts_of(d, asked.fragments) for d in datagrams]
     out = report[:1]
     for row in report[1:-1]:
         w, r = (bytes.fromhex(guid.replace('.', '')) for guid in row.split()[:2])
@@ -848,8 +903,8 @@ def evidence_values(verdict, lines):
 def report_values(datagrams, asked=PLAIN):
     """the report as Python has it"""
     rows = audit(datagrams, asked)
-    named = {guid: (topic, kind) for guid, _, topic, kind, _, _ in discovery(datagrams)[1]}
-    recording = [acts_of(d) for d in datagrams]
+    named = {guid: (topic, kind) for guid, _, topic, kind, _, _ in discovery(datagrams, asked.fragments)[1]}
+    recording = [acts_of(d, asked.fragments) for d in datagrams]
     pairs = []
     for row in rows[1:-1]:
         writer, reader, *verdict = row.split()
@@ -869,6 +924,8 @@ def json_lines(datagrams, asked=PLAIN, ignored=None):
 VIEWS = {'show': show, 'list': list_text, 'audit': audit, 'why': why, 'json': json_lines}
 # those that take the number from which on numbers are asked for
 REPORTS = 'audit', 'why', 'json'
+# those in which samples in DATA_FRAG can count
+WITH_FRAGMENTS = 'show', *REPORTS
 
 
 def words_of(view):
@@ -879,7 +936,7 @@ def words_of(view):
 def findings(datagrams, asked, reasons):
     """what a report has or lacks against what is asked, beside complete rows, a line for each"""
     rows = audit(datagrams, asked)
-    recording = [acts_of(d) for d in datagrams]
+    recording = [acts_of(d, asked.fragments) for d in datagrams]
     missed = 0
     for row in rows[1:-1] if asked.strict else []:
         w, r = (bytes.fromhex(guid.replace('.', '')) for guid in row.split()[:2])
@@ -889,14 +946,16 @@ def findings(datagrams, asked, reasons):
 
 
 def answer_as(view, text, asked, limits=USUAL, any_form=False):
-    """text, lines on standard error and status of the program; what is asked is for reports alone"""
+    """text, lines on standard error and status of the program; what is asked is for reports alone, but for fragments, which
+    `show` has too"""
     any_form = any_form or asked.strict
     read = input_of(text, limits, any_form)
     if isinstance(read, str):
         return '', [f'rtps-audit: {read}'], 2
     datagrams, ignored = read
     if view not in REPORTS:
-        return ''.join(line + '\n' for line in VIEWS[view](datagrams)), [], 0
+        lines = show(datagrams, asked.fragments) if view == 'show' else list_text(datagrams)
+        return ''.join(line + '\n' for line in lines), [], 0
     lines = json_lines(datagrams, asked, ignored) if view == 'json' else VIEWS[view](datagrams, asked)
     if view != 'json' and ignored is not None:
         lines[-1] += f" ignored {ignored['ignored'] if any_form else ignored}"
@@ -906,15 +965,15 @@ def answer_as(view, text, asked, limits=USUAL, any_form=False):
 
 
 def answer(view, text, first=1, limits=USUAL, any_form=False):
-    """text and status of the program; `first` is for reports alone"""
+    """text and status of the program without fragments; `first` is for reports alone"""
     text, _, status = answer_as(view, text, Asked(first), limits, any_form)
     return text, status
 
 
 def checked_rows(datagrams, asked):
     """the rows of what is asked, with what `check` tells of them"""
-    named = {guid_text(guid): (topic, kind) for guid, _, topic, kind, _, _ in discovery(datagrams)[1]}
-    recording = [acts_of(d) for d in datagrams]
+    named = {guid_text(guid): (topic, kind) for guid, _, topic, kind, _, _ in discovery(datagrams, asked.fragments)[1]}
+    recording = [acts_of(d, asked.fragments) for d in datagrams]
     rows = []
     for values in report_values(datagrams, asked)['pairs']:
         w, r = (bytes.fromhex(values[guid].replace('.', '')) for guid in ('writer', 'reader'))
@@ -929,8 +988,8 @@ def check(octets, asked, as_json=False, limits=USUAL):
     if isinstance(read, str):
         return '', 2
     datagrams, ignored = read
-    observed = Asked(asked.first, asked.topics, True, asked.expect, True)
-    rows, all_rows = checked_rows(datagrams, observed), checked_rows(datagrams, Asked(asked.first, asked.topics))
+    observed = Asked(asked.first, asked.topics, True, asked.expect, True, True)
+    rows, all_rows = checked_rows(datagrams, observed), checked_rows(datagrams, Asked(asked.first, asked.topics, fragments=True))
     report = report_values(datagrams, observed) | (ignored or {})
     # A datagram of one octet is refused, and is no reason to look at it.
     counts = report | {'refused': report['refused'] - sum(len(d) < 2 for d in datagrams)}
