@@ -2,6 +2,9 @@
 DATA_FRAG count."""
 import re
 
+# the greatest number of a sample, and of what may be asked
+GREATEST = 2 ** 63 - 1
+
 
 def fits(pattern, topic):
     """whether a topic is the pattern with some octets in the place of each `*`"""

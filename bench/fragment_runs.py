@@ -5,9 +5,6 @@
                                            submessages are pieces
     fragment_runs.py runs [COUNT [SEED]]   the same on COUNT small random recordings, from some numbers on, and the numbers that
                                            are received
-    fragment_runs.py compare PROGRAM [COUNT [SEED]]
-                                           runs PROGRAM with --fragments on COUNT random recordings, and says where it differs
-                                           from reference.py
 
 What a submessage says, who speaks it and who hears it is read by reference.py. What a reader may take and hold, which
 payloads it can put together, and which verdict follows are worked out here, from these definitions:
@@ -27,13 +24,13 @@ payloads it can put together, and which verdict follows are worked out here, fro
 """
 import itertools
 import random
-import subprocess
 import sys
 
 import reference
-from asked import Asked
+from asked import GREATEST, Asked
 from fragments import payloads_told
-from reference import A, B, C, GREATEST, START, answered, heard, kept, sn, spoken, u
+from random_recordings import A, B, READERS, START, some_delivery, some_pieces, text_of_datagrams
+from reference import answered, heard, kept, spoken
 
 GONE = ('gone',)
 # Recordings that tell a reader more things than this are not tried: each set of things is a state.
@@ -361,7 +358,7 @@ PIECE_ROWS = [
     ('13' + piece(1, 1, 2, 4, 8, EIGHT)[2:], None),
 ]
 
-W, R = A + b'\0\0\1\3', B + b'\0\0\1\4'
+W, R = A + b'\0\0\1\3', READERS[0]
 
 
 def piece_line(octets, wanted):
@@ -396,164 +393,6 @@ def rows():
     return int(differing > 0)
 
 
-# ---- random recordings
-
-READERS = R, B + b'\0\0\1\5', C + b'\0\0\1\4'
-SHAPES = [(8, 4), (8, 4), (8, 8), (8, 3), (7, 4), (7, 7), (5, 2), (4, 4), (4, 9), (3, 1), (1, 1), (2, 1)]
-
-
-def true_sample(n, size):
-    """what the writer sends for n, where nothing is changed: equal in every shape of this size"""
-    return bytes(7 * [0] + [n])[-size:] if size < 8 else bytes(7) + bytes([n])
-
-
-def put(order, sid, flags, body):
-    return bytes([sid, flags | (order == 'le')]) + u(order, 2, len(body)) + body
-
-
-class Some:
-    """submessages by chance, of few numbers and few shapes"""
-
-    def __init__(self, rng):
-        self.rng = rng
-        self.shapes = rng.choices(SHAPES, k=rng.choice([1, 1, 1, 2, 2, 3]))
-        self.numbers = rng.choice([[1], [1], [1, 2], [1, 2], [1, 2, 3]])
-        self.key = rng.choice([0, 0, 0, 0, 0, 4])
-
-    def order(self):
-        return self.rng.choice(['be', 'be', 'be', 'le'])
-
-    def entity(self):
-        return self.rng.choice([bytes(4)] * 6 + [b'\0\0\1\4', b'\0\0\1\4', b'\0\0\1\5'])
-
-    def writer(self):
-        return self.rng.choice([b'\0\0\1\3'] * 30 + [b'\0\0\1\2'])
-
-    def changed(self, octets):
-        """mostly as they are, sometimes with another octet"""
-        if self.rng.random() < 0.88 or not octets:
-            return octets
-        at = self.rng.randrange(len(octets))
-        return octets[:at] + bytes([octets[at] ^ self.rng.choice([1, 1, 2])]) + octets[at + 1:]
-
-    def piece(self):
-        rng, order = self.rng, self.order()
-        sample, size = rng.choice(self.shapes)
-        last = (sample + size - 1) // size
-        start = rng.randint(1, last)
-        count = rng.randint(1, last + 1 - start) if rng.random() < 0.4 else 1
-        n = rng.choice(self.numbers)
-        octets = self.changed(true_sample(n, sample)[(start - 1) * size:(start + count - 1) * size])
-        key = self.key if rng.random() < 0.9 else rng.choice([0, 4])
-        return self.data_frag(order, key, n, start, count, size, sample, octets + bytes(rng.choice([0] * 9 + [1])), self.writer())
-
-    def data_frag(self, order, key, n, start, count, size, sample, octets, writer):
-        """mostly a piece as these say; sometimes one field is another or the submessage is cut"""
-        rng, offset, qos = self.rng, 28, b''
-        if rng.random() < 0.06:
-            fault = rng.randrange(9)
-            n = rng.choice([0, -1]) if fault == 0 else n
-            start = rng.choice([0, start + 1, 2 ** 32 - 1]) if fault == 1 else start
-            count = rng.choice([0, count + 1, 2 ** 16 - 1]) if fault == 2 else count
-            size = rng.choice([0, size + 1, 2 ** 16 - 1]) if fault == 3 else size
-            sample = rng.choice([0, sample + 1, max(1, sample - 1), 2 ** 32 - 1]) if fault == 4 else sample
-            offset = rng.choice([0, 16, 27, 29, 32, 60]) if fault == 5 else offset
-            octets = octets[:-1] if fault == 6 else octets
-            qos = rng.choice([b'\0', bytes(4), b'\0\5\0\4']) if fault == 7 else qos
-        elif rng.random() < 0.08:
-            qos = reference.parameter(order, 0x71, bytes(rng.randrange(5))) + reference.parameter(order, 1, b'')
-        gap = bytes(4) if offset == 28 and rng.random() < 0.03 else b''
-        body = u(order, 2, 0) + u(order, 2, offset + len(gap)) + self.entity() + writer + sn(order, n)
-        body += u(order, 4, start) + u(order, 2, count) + u(order, 2, size) + u(order, 4, sample) + gap + qos + octets
-        body = body[:rng.randrange(36)] if rng.random() < 0.005 else body
-        return put(order, 0x16, key | (2 if qos else 0) | rng.choice([0, 0, 0, 8]), body)
-
-    def data(self):
-        order, n = self.order(), self.rng.choice(self.numbers)
-        payload = self.changed(true_sample(n, self.rng.choice(self.shapes)[0]))
-        flags = self.rng.choice([4] * 12 + [8, 0])
-        return put(order, 0x15, flags, u(order, 2, 0) + u(order, 2, 16) + self.entity() + self.writer() + sn(order, n) + payload)
-
-    def heartbeat(self):
-        order, first = self.order(), self.rng.choice([1, 1, 1, 1, 2, 3])
-        last = max(0, first - 1 + self.rng.choice([0, 1, 1, 2, 3]))
-        return put(order, 7, 0, self.entity() + self.writer() + sn(order, first) + sn(order, last) + u(order, 4, 1))
-
-    def gap(self):
-        order, start = self.order(), self.rng.choice([1, 2, 3])
-        base = start + self.rng.choice([0, 0, 1])
-        bits = self.rng.choice([0, 0, 1 << 31, 1 << 30])
-        numbers = sn(order, start) + sn(order, base) + u(order, 4, 2) + u(order, 4, bits)
-        return put(order, 8, 0, self.entity() + self.writer() + numbers)
-
-    def to(self):
-        return put(self.order(), 0x0e, 0, self.rng.choice([B, B, C, bytes(12)]))
-
-    def other(self):
-        return put('be', self.rng.choice([0x12, 0x13, 0x80]), 0, bytes(self.rng.choice([4, 8])))
-
-    def by_writer(self):
-        kinds = [self.piece] * 26 + [self.data] * 3 + [self.heartbeat, self.gap] + [self.to] * 5 + [self.other]
-        parts = [self.rng.choice(kinds)() for _ in range(self.rng.choice([1, 1, 2, 2, 3, 4]))]
-        return b'RTPS\2\5\0\0' + A + b''.join(parts)
-
-    def whole(self):
-        """each fragment of one sample, in some order, in a datagram or two"""
-        rng, order = self.rng, self.order()
-        sample, size = rng.choice(self.shapes)
-        last, n = (sample + size - 1) // size, rng.choice(self.numbers)
-        parts = []
-        for start in range(1, last + 1):
-            octets = self.changed(true_sample(n, sample)[(start - 1) * size:start * size])
-            parts.append(self.data_frag(order, self.key, n, start, 1, size, sample, octets, b'\0\0\1\3'))
-        rng.shuffle(parts)
-        cut = rng.choice([0, 0, rng.randrange(last)])
-        to = put('be', 0x0e, 0, rng.choice([B, B, C])) if rng.random() < 0.25 else b''
-        sent = [b'RTPS\2\5\0\0' + A + b''.join(parts[:cut]), b'RTPS\2\5\0\0' + A + to + b''.join(parts[cut:])]
-        return sent if cut else sent[1:]
-
-    def by_reader(self):
-        reader, order = self.rng.choice([R, R, R, R, *READERS]), self.order()
-        base = self.rng.choice([0, 1, 2, 2, 2, 3, 3, 4])
-        answer = put(order, 6, 0, reader[12:] + b'\0\0\1\3' + sn(order, base) + u(order, 4, 0) + u(order, 4, 1))
-        return b'RTPS\2\5\0\0' + reader[:12] + put(order, 0x0e, 0, A) + answer
-
-    def announced(self, d):
-        """a datagram with an announcement in a DATA, sometimes with its payload in pieces"""
-        rng = self.rng
-        if rng.random() < 0.6:
-            return [d]
-        payload, writer = d[44:], d[32:36]
-        size = rng.choice([len(payload), 16, 40, 60])
-        last = (len(payload) + size - 1) // size
-        parts = []
-        for start in range(1, last + 1):
-            octets = payload[(start - 1) * size:start * size]
-            if rng.random() < 0.04:
-                parts.append((1, start, 1, size, len(payload), self.changed(octets[:-1] + bytes([octets[-1] ^ 1]))))
-            if rng.random() < 0.98:
-                parts.append((1, start, 1, size, len(payload), octets))
-        rng.shuffle(parts)
-        pieces = [self.data_frag('be', rng.choice([0] * 30 + [4]), *part, writer) for part in parts]
-        return [d[:20] + b''.join(pieces)]
-
-
-def some_datagrams(rng):
-    some, datagrams = Some(rng), []
-    for _ in range(rng.randint(1, 6)):
-        kind = rng.random()
-        datagrams += some.whole() if kind < 0.3 else [some.by_writer() if kind < 0.65 else some.by_reader()]
-    for at in range(len(datagrams) - 1, 0, -1):
-        if rng.random() < 0.15:  # both in one datagram, the second by INFO_SRC
-            d = datagrams.pop(at)
-            source = put('be', 0x0c, 0, bytes(4) + b'\2\5\0\0' + d[8:20])
-            datagrams[at - 1] += source + rng.choice([b'', put('be', 0x0e, 0, bytes(12))]) + d[20:]
-    for d in reversed(START) if rng.random() < 0.95 else []:
-        at = 0 if rng.random() < 0.8 else rng.randrange(len(datagrams) + 1)
-        datagrams[at:at] = some.announced(d)
-    return datagrams
-
-
 # ---- the comparison
 
 BOUND = 6
@@ -567,7 +406,7 @@ class Comparison:
 
     def differs(self, what, datagrams):
         self.differing += 1
-        print(f'{what}, kept in {kept("".join(d.hex() + chr(10) for d in datagrams).encode())}')
+        print(f'{what}, kept in {kept(text_of_datagrams(datagrams))}')
 
     def of_pair(self, k, datagrams, recording, reader, first):
         told = Told(recording, W, reader, first, BOUND)
@@ -603,7 +442,7 @@ class Comparison:
         if not announces_fitly(recording):
             self.differs(f'recording {k}: other payloads of a writer', datagrams)
         ids = {item['id'] for d in datagrams for item in reference.read(d)[1] if item['kind'] == 'skipped'}
-        text = ''.join(d.hex() + '\n' for d in datagrams).encode()
+        text = text_of_datagrams(datagrams)
         for view in reference.WITH_FRAGMENTS:
             with_option = reference.answer_as(view, text, Asked(first, fragments=True))
             if not ids & reference.FRAGMENTS and with_option != reference.answer_as(view, text, Asked(first)):
@@ -613,7 +452,7 @@ class Comparison:
 def runs(count, seed):
     rng, comparison, tried, passed_over = random.Random(seed), Comparison(), 0, 0
     while tried < count:
-        datagrams = some_datagrams(rng)
+        datagrams = some_pieces(rng) if rng.random() < 0.7 else some_delivery(rng, True)
         recording = [reference.acts_of(d, True) for d in datagrams]
         asked = {1, rng.randint(2, 5)}
         if not all([comparison.of_pair(tried, datagrams, recording, reader, first) for first in asked for reader in READERS]):
@@ -627,31 +466,12 @@ def runs(count, seed):
     return int(comparison.differing > 0)
 
 
-def compare(program, count, seed):
-    rng, differing = random.Random(seed), 0
-    for k in range(count):
-        text = ''.join(d.hex() + '\n' for d in some_datagrams(rng)).encode()
-        first = rng.randint(1, 5)
-        for view in reference.WITH_FRAGMENTS:
-            words = [*reference.words_of(view), '--fragments']
-            if view in reference.REPORTS:
-                words += ['--from', str(first)]
-            want, status = reference.answer(view, text, first, fragments=True)
-            got = subprocess.run(program.split() + [*words, '-'], input=text, capture_output=True)
-            if (got.stdout.decode(), got.returncode) != (want, status):
-                differing += 1
-                print(f'{" ".join(words)} differs on recording {k}, kept in {kept(text)}')
-    print(f'{count} recordings, {differing} differences')
-    return int(differing > 0)
-
-
 def main():
     command, *words = sys.argv[1:]
     if command == 'rows':
         return rows()
-    program = words[:1] if command == 'compare' else []
-    count, seed = (*map(int, words[len(program):]), *(1000, 1)[len(words) - len(program):])
-    return compare(program[0], count, seed) if program else runs(count, seed)
+    count, seed = (int(word) for word in words + ['1000', '1'][len(words):])
+    return runs(count, seed)
 
 
 if __name__ == '__main__':

@@ -33,13 +33,13 @@ import sys
 import tempfile
 
 import any_capture
-from asked import PLAIN, Asked, asked_by
+from asked import GREATEST, PLAIN, Asked, asked_by
 from check import because, check_lines
 from fragments import by_writer, payloads_told, placed_samples, without_sample
+from random_recordings import A, B, START, some_asked, some_checked, some_delivery, some_input, text_of_datagrams
 
 READ = {0x06, 0x07, 0x08, 0x09, 0x0c, 0x0e, 0x15}
 FRAGMENTS = {0x12, 0x13, 0x16}
-GREATEST = 2 ** 63 - 1
 
 
 class Refused(Exception):
@@ -1003,293 +1003,6 @@ def check(octets, asked, as_json=False, limits=USUAL):
     return ''.join(line + '\n' for line in lines), int(bool(reasons))
 
 
-# ---- random recordings
-
-A, B, C = b'\xaa' * 12, b'\xbb' * 12, b'\xcc' * 12
-
-
-def u(order, width, value):
-    return (value % 2 ** (8 * width)).to_bytes(width, 'big' if order == 'be' else 'little')
-
-
-def sn(order, value):
-    value %= 2 ** 64
-    return u(order, 4, value >> 32) + u(order, 4, value)
-
-
-def submessage(rng, sid, flags, body, order):
-    length = len(body)
-    if rng.random() < 0.03:
-        length = rng.choice([0, length - 1, length + 1, rng.randrange(70)]) % 65536
-    return bytes([sid, flags | (order == 'le')]) + u(order, 2, length) + body
-
-
-def parameter(order, pid, value):
-    return u(order, 2, pid) + u(order, 2, len(value)) + value
-
-
-def some_text(rng, order):
-    name = rng.choice([b'pose', b'pose', b'pose', b'Pose', b'a"\\\x01\xff', b''])
-    text = u(order, 4, len(name) + 1) + name + b'\0'
-    text += bytes(-len(text) % 4)
-    return rng.choice([text] * 30 + [text[:3], u(order, 4, 0), u(order, 4, 99) + name, u(order, 4, len(name) + 1) + name + b'x'])
-
-
-def some_announcement(rng, order):
-    inner = rng.choice(['be', 'le'])
-    what = rng.choice(['participant', 'writer', 'reader'])
-    guid = rng.choice([A, B]) + {'participant': b'\0\0\x01\xc1', 'writer': b'\0\0\x01\x03', 'reader': b'\0\0\x01\x04'}[what]
-    if rng.random() < 0.1:
-        guid = rng.choice([A, B, C]) + rng.choice([b'\0\0\x01\x03', b'\0\0\x01\x04'])
-    params = [parameter(inner, 0x50 if what == 'participant' else 0x5a, guid[:rng.choice([16] * 20 + [15])])]
-    if what != 'participant':
-        params += [parameter(inner, 5, some_text(rng, inner)), parameter(inner, 7, some_text(rng, inner))]
-        if rng.random() < 0.8:
-            params.append(parameter(inner, 0x1a, u(inner, 4, rng.choice([1, 2, 2, 2, 2, 2, 3])) + bytes(8)))
-        if rng.random() < 0.4:
-            params.append(parameter(inner, 0x1d, u(inner, 4, rng.choice([0, 0, 0, 1, 2, 3, 4]))))
-    if rng.random() < 0.2:
-        params.insert(rng.randrange(len(params) + 1), parameter(inner, rng.choice([0, 0x70, 0x5a, 5]), bytes(rng.randrange(9))))
-    if rng.random() < 0.1:
-        params.pop(rng.randrange(len(params)))
-    tail = rng.choice([parameter(inner, 1, b'')] * 20 + [b'', b'\0\1'])
-    kind = rng.choice([b'\0\2' if inner == 'be' else b'\0\3'] * 20 + [b'\0\0', b'\0'])
-    payload = kind + bytes(2) + b''.join(params) + tail if len(kind) == 2 else kind
-    entity = {'participant': b'\0\1\0\xc2', 'writer': b'\0\0\3\xc2', 'reader': b'\0\0\4\xc2'}[what]
-    body = u(order, 2, 0) + u(order, 2, 16) + bytes(4) + entity + sn(order, 1) + payload
-    return submessage(rng, 0x15, rng.choice([4, 4, 4, 4, 8]), body, order)
-
-
-def some_set(rng, order, base):
-    count = rng.choice([0, 0, 1, 2, 5, 33, 256, 257]) if base else rng.choice([0, 0, 0, 1])
-    words = (count + 31) // 32
-    return sn(order, base) + u(order, 4, count) + b''.join(u(order, 4, rng.getrandbits(32) & rng.getrandbits(32)) for _ in range(words))
-
-
-def some_number(rng):
-    return rng.choice([1, 1, 2, 2, 3, 3, 4, 5, 6]) if rng.random() < 0.97 else rng.choice([0, -1, GREATEST, GREATEST - 1, 2 ** 32])
-
-
-def some_submessage(rng):
-    order = rng.choice(['be', 'le'])
-    reader = rng.choice([bytes(4), bytes(4), b'\0\0\1\4', b'\0\0\1\5'])
-    writer = rng.choice([b'\0\0\1\3'] * 5 + [b'\0\0\1\2'])
-    kind = rng.randrange(20)
-    if kind < 6:
-        flags = rng.choice([4, 4, 4, 4, 4, 0, 8, 6, 12])
-        qos = b''
-        if flags & 2:
-            qos = parameter(order, 0x8001, bytes(rng.randrange(5))) + rng.choice([parameter(order, 1, b'')] * 5 + [b''])
-        payload = bytes([rng.randrange(2)]) * rng.choice([8, 8, 8, 0, 3])
-        body = u(order, 2, 0) + u(order, 2, rng.choice([16] * 30 + [15, 20, 40])) + reader + writer + sn(order, some_number(rng)) + qos + payload
-        return submessage(rng, 0x15, flags, body, order)
-    if kind < 9:
-        first = some_number(rng)
-        body = reader + writer + sn(order, first) + sn(order, first + rng.choice([-2, -1, 0, 0, 1, 2, 3])) + u(order, 4, rng.getrandbits(32))
-        return submessage(rng, 0x07, rng.choice([0, 2, 4, 6]), body, order)
-    if kind < 11:
-        body = reader + writer + sn(order, some_number(rng)) + some_set(rng, order, max(0, some_number(rng)))
-        return submessage(rng, 0x08, 0, body, order)
-    if kind < 15:
-        reader = rng.choice([b'\0\0\1\4'] * 6 + [b'\0\0\1\5'])
-        body = reader + writer + some_set(rng, order, rng.choice([0, 1, 2, 2, 3, 3, 4, 5, 7])) + u(order, 4, rng.getrandbits(32))
-        return submessage(rng, 0x06, rng.choice([0, 2]), body, order)
-    if kind == 15:
-        return submessage(rng, 0x09, rng.choice([0, 0, 2]), rng.choice([bytes(8), b'\0\0\0\5\x80\0\0\0', b'']), order)
-    if kind == 16:
-        return submessage(rng, 0x0e, 0, rng.choice([A, A, B, C, bytes(12), bytes(11)]), order)
-    if kind == 17:
-        return submessage(rng, 0x0c, 0, bytes(4) + b'\2\5\1\2' + rng.choice([A, B, C]), order)
-    return submessage(rng, rng.choice([0x01, 0x80, 0x16, 0x12, 0x13, 0x0d, 0x0f, 0x00]), 0, bytes(rng.choice([0, 4, 8])), order)
-
-
-def from_header(rng, prefix):
-    header = b'RTPS\2\5\0\0' + prefix
-    if rng.random() < 0.02:
-        header = rng.choice([header[:19], b'RTPX' + header[4:], header[:4] + b'\1' + header[5:]])
-    return header
-
-
-def some_datagram(rng):
-    kind = rng.random()
-    if kind < 0.2:
-        return from_header(rng, rng.choice([A, B])) + some_announcement(rng, rng.choice(['be', 'le']))
-    if kind < 0.5:
-        answers = b'\x0e\0\0\x0c' + A if rng.random() < 0.9 else b''
-        return from_header(rng, B) + answers + b''.join(some_submessage(rng) for _ in range(rng.randrange(1, 3)))
-    d = from_header(rng, A) + b''.join(some_submessage(rng) for _ in range(rng.randrange(1, 4)))
-    return d[:rng.randrange(len(d))] if rng.random() < 0.03 else d
-
-
-NAMES = b'\0\5\0\x0c\0\0\0\5pose\0\0\0\0\0\7\0\x0c\0\0\0\5Pose\0\0\0\0'
-
-
-def announced(writer, prefix, entity, more, names=NAMES):
-    value = b'\0\2\0\0' + b'\0\x5a\0\x10' + prefix + entity + names + more + b'\0\1\0\0'
-    body = b'\0\0\0\x10' + bytes(4) + writer + bytes(7) + b'\1' + value
-    return b'RTPS\2\5\0\0' + prefix + b'\x15\4' + len(body).to_bytes(2, 'big') + body
-
-
-START = [announced(b'\0\0\3\xc2', A, b'\0\0\1\3', b''), announced(b'\0\0\4\xc2', B, b'\0\0\1\4', b'\0\x1a\0\x0c\0\0\0\2' + bytes(8))]
-
-
-def some_recording(rng):
-    datagrams = [some_datagram(rng) for _ in range(rng.randrange(8))]
-    for d in reversed(START) if rng.random() < 0.9 else []:
-        # Mostly the two are announced first, and sometimes behind what they say.
-        datagrams.insert(0 if rng.random() < 0.6 else rng.randrange(len(datagrams) + 1), d)
-    lines = []
-    for d in datagrams:
-        line = d.hex().encode()
-        if rng.random() < 0.1:
-            line = line.upper()
-        if rng.random() < 0.004:
-            line = rng.choice([line[:-1], line + b'g0', b'\r' + line, line + b'\r\r'])
-        lines.append(line + rng.choice([b'\n', b'\n', b'\r\n']))
-        if rng.random() < 0.1:
-            lines.append(rng.choice([b'\n', b'# a comment\n', b'\r\n']))
-    text = b''.join(lines)
-    return text[:-1] if text and rng.random() < 0.1 else text
-
-
-class Told:
-    """a writer and a reader that speak of few numbers, as a random recording has it. What the reader answers is mostly true,
-    and what is lost on the way is as if it never came"""
-    def __init__(self, rng, writer=b'\0\0\1\3', reader=b'\0\0\1\4'):
-        self.rng, self.first, self.last, self.held = rng, 1, 0, set()
-        self.writer, self.reader = writer, reader
-
-    def submessage(self, sid, flags, *parts):
-        reader = self.rng.choice([bytes(4), bytes(4), self.reader] if sid != 0x06 else [self.reader])
-        body = (b'\0\0\0\x10' if sid == 0x15 else b'') + reader + self.writer + b''.join(parts)
-        return bytes([sid, flags]) + u('be', 2, len(body)) + body
-
-    def take(self, numbers):
-        if self.rng.random() < 0.7:
-            self.held |= set(numbers)
-
-    def data(self, n):
-        self.take([n])
-        flags, payload = (4, b'\0\0\0\0abcd') if self.rng.random() < 0.97 else (self.rng.choice([0, 4, 8]), b'\0\0\0\0ef')
-        return self.submessage(0x15, flags, sn('be', n), payload if flags else b'')
-
-    def heartbeat(self):
-        self.take(range(1, self.first))
-        return self.submessage(0x07, self.rng.choice([0, 0, 0, 2]), sn('be', self.first), sn('be', max(self.last, self.first - 1)), bytes(4))
-
-    def gap(self):
-        start, base = sorted(self.rng.randrange(1, 5) for _ in range(2))
-        listed = {base + i for i in range(2) if self.rng.random() < 0.3}
-        self.take({*range(start, base), *listed})
-        return self.submessage(0x08, 0, sn('be', start), self.set_of(base, listed))
-
-    @staticmethod
-    def set_of(base, numbers):
-        bits = sum(1 << 31 - (n - base) for n in numbers)
-        return sn('be', base) + (u('be', 4, 8) + u('be', 4, bits) if numbers else u('be', 4, 0))
-
-    def answer(self):
-        base = 1
-        while base in self.held:
-            base += 1
-        if self.rng.random() < 0.1:
-            base = self.rng.randrange(1, 6)
-        lacked = {n for n in range(base, max(self.last + 1, base)) if n not in self.held and self.rng.random() < 0.8}
-        if self.rng.random() < 0.05:
-            lacked = {n for n in range(base, base + 3) if self.rng.random() < 0.5}
-        return self.submessage(0x06, self.rng.choice([0, 2]), self.set_of(base, lacked), bytes(4))
-
-    def next(self):
-        """the next submessage, and whether the writer says it"""
-        kind = self.rng.random()
-        if kind < 0.3 and self.last < 4:
-            self.last += 1
-            if self.rng.random() < 0.1:
-                return self.heartbeat(), True
-            return self.data(self.last), True
-        if kind < 0.5 and self.first <= self.last:
-            return self.data(self.rng.randrange(self.first, self.last + 1)), True
-        if kind < 0.62:
-            if self.rng.random() < 0.5 and self.first <= self.last:
-                self.first += 1
-            return self.heartbeat(), True
-        return (self.gap(), True) if kind < 0.67 else (self.answer(), False)
-
-
-def some_delivery(rng):
-    """what a writer and a reader say of the numbers 1 to 4, with resends, first numbers that move on, GAPs and what is asked
-    for"""
-    told, datagrams = Told(rng), []
-    for _ in range(rng.randrange(3, 18)):
-        octets, by_writer = told.next()
-        prefix, dest = (A, rng.choice([b'', b'', b'\x0e\0\0\x0c' + B])) if by_writer else (B, b'\x0e\0\0\x0c' + A)
-        if datagrams and rng.random() < 0.25 and datagrams[-1][8:20] == prefix:
-            datagrams[-1] += dest + octets
-        else:
-            datagrams.append(b'RTPS\2\5\0\0' + prefix + dest + octets)
-    for d in START if rng.random() < 0.5 else START[:1]:
-        datagrams.insert(0 if rng.random() < 0.7 else rng.randrange(len(datagrams) + 1), d)
-    if START[1] not in datagrams:
-        datagrams.insert(rng.randrange(len(datagrams) + 1), START[1])
-    return datagrams
-
-
-TOPICS = b'pose', b'rt/odom', b'rt/scan', b'odom', b'a*b', b'aXbYbZc', b'', b'rt/\xff\x0a'
-PATTERNS = '*', '**', 'rt/*', '*/odom', '*odom', 'a*b', 'a*b*c', 'pose', 'p*e', '', 'rt', '*o*o*', 'rt/*\n', 'a*bc'
-
-
-def names_of(topic):
-    """the parameters of a topic, and of its type"""
-    text = (len(topic) + 1).to_bytes(4, 'big') + topic + b'\0'
-    text += bytes(-len(text) % 4)
-    return b'\0\5' + len(text).to_bytes(2, 'big') + text + NAMES[16:]
-
-
-def some_network(rng):
-    """some writers and readers of several topics in up to three participants, what they announce, and what they say of the
-    numbers 1 to 4. Some name the participant that they speak to, and some do not"""
-    datagrams, ends = [], []
-    topics = [rng.choice(TOPICS) for _ in range(rng.randrange(1, 4))]
-    for k in range(rng.randrange(2, 7)):
-        prefix, topic, reads = rng.choice([A, B, B, C]), rng.choice(topics), rng.random() < 0.5
-        entity = bytes([0, 0, k + 1, 4 if reads else 3])
-        more = b'\0\x1a\0\x0c\0\0\0\2' + bytes(8) if reads else b''
-        ends.append((prefix, entity, topic, reads))
-        datagrams.append(announced(b'\0\0\4\xc2' if reads else b'\0\0\3\xc2', prefix, entity, more, names_of(topic)))
-        if rng.random() < 0.03:
-            datagrams.append(announced(b'\0\0\4\xc2', prefix, entity, more, names_of(rng.choice(TOPICS))))
-    for w in ends:
-        for r in ends:
-            if w[3] or not r[3] or w[2] != r[2] or rng.random() < 0.2:
-                continue
-            told, named = Told(rng, w[1], r[1]), rng.random() < 0.7
-            for _ in range(rng.randrange(1, 12)):
-                octets, by_writer = told.next()
-                source, dest = (w[0], r[0]) if by_writer else (r[0], w[0])
-                names = b'\x0e\0\0\x0c' + dest if named and (not by_writer or rng.random() < 0.5) else b''
-                datagrams.insert(rng.randrange(len(datagrams) + 1) if rng.random() < 0.05 else len(datagrams), b'RTPS\2\5\0\0' + source + names + octets)
-    if rng.random() < 0.1:
-        datagrams.append(b'RTPS\2\5\0\0' + rng.choice([A, B]) + bytes([rng.choice([0x16, 0x12, 0x80]), 0, 0, 4]) + bytes(4))
-    return datagrams
-
-
-def some_asked(rng):
-    topics = [rng.choice(PATTERNS) for _ in range(rng.choice([0, 0, 1, 1, 2, 3]))]
-    return Asked(rng.choice([1, 1, 2, 3, 5]), topics, rng.random() < 0.4, rng.choice([None, None, 0, 1, 2, 3, GREATEST]), rng.random() < 0.4)
-
-
-def some_input(rng):
-    """a recording text of one of three kinds"""
-    kind = rng.random()
-    if kind < 0.35:
-        return some_recording(rng)
-    return text_of_datagrams(some_delivery(rng) if kind < 0.65 else some_network(rng))
-
-
-def text_of_datagrams(datagrams):
-    return b''.join(d.hex().encode() + b'\n' for d in datagrams)
-
-
 def differing_from_runs(recording, w, r, bound, first):
     """where what is found by conditions is not what the runs say, of a recording whose numbers are all below `bound`"""
     found = []
@@ -1326,33 +1039,63 @@ def kept(text):
     return f.name
 
 
+def questions(rng):
+    """views of a recording, each with what is asked"""
+    firsts = [rng.choice([1, 2, 3, 4, 5, 6, GREATEST]) for _ in range(2)]
+    of_all = [(view, PLAIN) for view in VIEWS] + [('show', Asked(fragments=True))]
+    of_reports = [lambda: Asked(firsts[0]), lambda: Asked(firsts[1], fragments=True), lambda: some_asked(rng)]
+    return of_all + [(view, asked()) for asked in of_reports for view in REPORTS]
+
+
+def answers(rng, text):
+    """command lines without their FILE, each with what the program should print of a recording, on standard output and on standard
+    error, and its status"""
+    for view, asked in questions(rng):
+        yield words_of(view) + asked.words(), answer_as(view, text, asked)
+    for flag in [], ['--json']:
+        asked = some_checked(rng)
+        printed, status = check(text, asked, bool(flag))
+        yield ['check', *flag, *asked.words()], (printed, [], status)
+
+
+def differing_in_answers(rng, program, text):
+    """the command lines whose answers differ from those of the program"""
+    for words, (want, told, status) in answers(rng, text):
+        got = subprocess.run(program.split() + words + ['-'], input=text, capture_output=True)
+        if got.stdout.decode() != want or got.returncode != status or status < 2 and got.stderr.decode().splitlines() != told:
+            yield ' '.join(words)
+
+
+def differing_in_runs(recording, w, r):
+    """what is found by conditions and not by the runs, where these are not too many"""
+    said, _ = speech(recording, w, r)
+    spans = [(word.payload, span) for words, _ in said for word in words for span in word.spans]
+    told = {(n, payload) for payload, (lo, hi) in spans for n in range(lo, min(hi, 12))}
+    if len(told) > 8 or any(hi >= 12 for _, (_, hi) in spans):
+        return
+    for first in range(1, 7):
+        for what in differing_from_runs(recording, w, r, 12, first):
+            yield f'the {what} by runs from {first} on'
+
+
 def compare(program, count, seed):
-    rng, differing, verdicts = random.Random(seed), 0, {}
+    rng, differing, verdicts, fragmented = random.Random(seed), 0, {}, 0
+    w, r = A + b'\0\0\1\3', B + b'\0\0\1\4'
     for k in range(count):
         text = some_input(rng)
-        first = Asked(rng.choice([1, 2, 3, 4, 5, 6, GREATEST]))
-        for view, asked in [*((view, PLAIN) for view in VIEWS), *((view, first) for view in REPORTS), *((view, some_asked(rng)) for view in REPORTS)]:
-            words = words_of(view) + asked.words()
-            want, told, status = answer_as(view, text, asked)
-            got = subprocess.run(program.split() + words + ['-'], input=text, capture_output=True)
-            if got.stdout.decode() != want or got.returncode != status or status < 2 and got.stderr.decode().splitlines() != told:
-                differing += 1
-                print(f'{" ".join(words)} differs on recording {k}, kept in {kept(text)}')
+        found = list(differing_in_answers(rng, program, text))
         datagrams = recording_of(text)
         if not isinstance(datagrams, str):
             recording = [acts_of(d) for d in datagrams]
-            w, r = A + b'\0\0\1\3', B + b'\0\0\1\4'
             plain = judge(recording, w, r)
             kind = plain.split()[0]
             verdicts[kind] = verdicts.get(kind, 0) + 1
-            said, _ = speech(recording, w, r)
-            few = len({(n, x.payload) for words, _ in said for x in words for lo, hi in x.spans for n in range(lo, min(hi, 12))}) <= 8
-            for first in range(1, 7):
-                if few and all(hi < 12 for words, _ in said for x in words for _, hi in x.spans):
-                    for what in differing_from_runs(recording, w, r, 12, first):
-                        differing += 1
-                        print(f'the {what} by runs from {first} on differ on recording {k}, kept in {kept(text)}')
-    print(f'{count} recordings, {differing} differences; verdicts {verdicts}')
+            fragmented += plain != judge([acts_of(d, True) for d in datagrams], w, r)
+            found += differing_in_runs(recording, w, r)
+        differing += len(found)
+        for what in found:
+            print(f'{what} differs on recording {k}, kept in {kept(text)}')
+    print(f'{count} recordings, {differing} differences; verdicts {verdicts}, of which {fragmented} are others with fragments')
     return int(differing > 0)
 
 
