@@ -34,12 +34,13 @@ class Sample:
         self.first = {}  # by the number of a fragment: the octets that came first
         self.other = None  # the first fragment that came with other octets, and these
 
+    def told(self):
+        """how many payloads can be put together"""
+        return 0 if len(self.first) < last_fragment(self.shape) else 1 if self.other is None else 2
+
     def payloads(self):
-        """the payloads that can be put together"""
-        last = last_fragment(self.shape)
-        if len(self.first) < last:
-            return []
-        variants = [self.first]
+        """the payloads that can be put together, of a sample that is whole"""
+        last, variants = last_fragment(self.shape), [self.first]
         if self.other is not None:
             number, octets = self.other
             variants.append(self.first | {number: octets})
@@ -48,11 +49,11 @@ class Sample:
 
     def add(self, piece):
         """takes a piece of this shape, and answers the payloads that could not be put together before"""
-        before = len(self.payloads())
+        before = self.told()
         for number, octets in fragments_of(piece):
             if self.first.setdefault(number, octets) != octets and self.other is None:
                 self.other = number, octets
-        return self.payloads()[before:]
+        return self.payloads()[before:] if self.told() > before else []
 
 
 def payloads_told(pieces):
