@@ -1,5 +1,9 @@
-"""What is asked of a report: from which number on, which rows, how many, and whether anything may weaken it."""
+"""What is asked of a report: from which number on, which rows, how many, whether anything may weaken it, and whether samples in
+DATA_FRAG count."""
 import re
+
+# the greatest number of a sample, and of what may be asked
+GREATEST = 2 ** 63 - 1
 
 
 def fits(pattern, topic):
@@ -9,8 +13,9 @@ def fits(pattern, topic):
 
 
 class Asked:
-    def __init__(self, first=1, topics=(), observed=False, expect=None, strict=False):
+    def __init__(self, first=1, topics=(), observed=False, expect=None, strict=False, fragments=False):
         self.first, self.topics, self.observed, self.expect, self.strict = first, list(topics), observed, expect, strict
+        self.fragments = fragments
 
     def words(self):
         """the words of the command line that ask so"""
@@ -19,13 +24,16 @@ class Asked:
             words += ['--topic', topic]
         words += ['--observed'] if self.observed else []
         words += ['--expect', str(self.expect)] if self.expect is not None else []
-        return words + (['--strict'] if self.strict else [])
+        words += ['--strict'] if self.strict else []
+        return words + (['--fragments'] if self.fragments else [])
 
     def keeps(self, topic, w, r, recording):
         """whether the row of a writer and a reader of a topic is asked for; `recording` has the acts of each datagram"""
         if self.topics and not any(fits(pattern.encode(), topic) for pattern in self.topics):
             return False
-        return not self.observed or any(act['source'] == r[:12] and act['dest'] == w[:12] for acts in recording for act in acts)
+        # It goes by the acts without DATA_FRAG, also where these are read.
+        sent = (act for acts in recording for act in acts if act['kind'] != 'data_frag')
+        return not self.observed or any(act['source'] == r[:12] and act['dest'] == w[:12] for act in sent)
 
     def findings(self, rows, missed, counts, reasons):
         """what a report has or lacks against what is asked, beside complete rows, a line for each: of so many rows, of which
@@ -48,4 +56,5 @@ def asked_by(words):
         return [words[i + 1] for i in range(len(words) - 1) if words[i] == name]
 
     return Asked(first=int((values('--from') + ['1'])[0]), topics=values('--topic'), observed='--observed' in words,
-                 expect=int(values('--expect')[0]) if '--expect' in words else None, strict='--strict' in words)
+                 expect=int(values('--expect')[0]) if '--expect' in words else None, strict='--strict' in words,
+                 fragments='--fragments' in words)

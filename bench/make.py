@@ -41,6 +41,20 @@ def data(writer, number, payload, reader=bytes(4), flags=4):
     return b'\x15' + bytes([flags]) + len(body).to_bytes(2, 'big') + body
 
 
+def data_frag(writer, number, first, octets, size, total, reader=bytes(4), flags=0):
+    """The fragments from `first` on that these octets have, each of `size` octets, of a sample of `total` octets."""
+    count = (len(octets) + size - 1) // size
+    shape = first.to_bytes(4, 'big') + count.to_bytes(2, 'big') + size.to_bytes(2, 'big') + total.to_bytes(4, 'big')
+    body = b'\0\0\0\x1c' + reader + writer + number.to_bytes(8, 'big') + shape + octets
+    return b'\x16' + bytes([flags]) + len(body).to_bytes(2, 'big') + body
+
+
+def data_frags(writer, number, sample, size, reader=bytes(4), flags=0):
+    """Each fragment of a sample, in a submessage of its own."""
+    places = range(0, len(sample), size)
+    return [data_frag(writer, number, at // size + 1, sample[at:at + size], size, len(sample), reader, flags) for at in places]
+
+
 def heartbeat(writer, first, last, reader=bytes(4)):
     return b'\x07\0\0\x1c' + reader + writer + first.to_bytes(8, 'big') + last.to_bytes(8, 'big') + b'\0\0\0\1'
 

@@ -4,11 +4,15 @@
     page.py [OPTION ..] FILE > report.html
     page.py data [OPTION ..] FILE        the data of the page alone: one object of JSON on one line
     page.py stored [OPTION ..] FILE      the page of the working copy, page.html, with this recording in it
+    page.py compare PROGRAM [COUNT [SEED]]
+                                         runs PROGRAM on COUNT random recordings, and says where its page differs
 
 An OPTION is one of `audit`, but for limits and --json.
 """
 import json
 import os
+import random
+import subprocess
 import sys
 
 sys.dont_write_bytecode = True
@@ -17,6 +21,7 @@ sys.path[:0] = [os.path.join(ROOT, 'bench'), os.path.join(ROOT, 'crates', 'rtps_
 import parts
 import reference
 from asked import PLAIN, asked_by
+from random_recordings import some_asked, some_input
 
 # So many entries of acts and answers a page has room for, and so many rows without scripts of each of two kinds.
 ENTRIES = 200000
@@ -33,7 +38,7 @@ def audience(act):
 def entries_of(datagram, act):
     """what an act of a writer says, each behind its place"""
     place, to = [datagram, act['at']], audience(act)
-    if act['kind'] == 'data':
+    if act['kind'] in ('data', 'data_frag'):
         return [place + ['data', act['number']] + to]
     if act['kind'] == 'heartbeat':
         gone = [place + ['gone', 1, act['first'] - 1] + to] if act['first'] > 1 else []
@@ -90,7 +95,7 @@ def endpoint_values(endpoint):
 
 
 def option_values(asked, any_capture):
-    return {'from': asked.first, 'any': any_capture, 'fragments': False, 'observed': asked.observed, 'strict': asked.strict,
+    return {'from': asked.first, 'any': any_capture, 'fragments': asked.fragments, 'observed': asked.observed, 'strict': asked.strict,
             'topics': asked.topics, 'expect': asked.expect}
 
 
@@ -98,8 +103,8 @@ def page_values(datagrams, asked=PLAIN, ignored=None):
     """the data of a page as Python has it; where any capture was read, the ignored frames are told by their reasons"""
     by_reason = isinstance(ignored, dict)
     report = reference.report_values(datagrams, asked) | (ignored if by_reason else {} if ignored is None else {'ignored': ignored})
-    participants, endpoints, _, _, _ = reference.discovery(datagrams)
-    traffic = Traffic([reference.acts_of(d) for d in datagrams], report['pairs'])
+    participants, endpoints, _, _, _ = reference.discovery(datagrams, asked.fragments)
+    traffic = Traffic([reference.acts_of(d, asked.fragments) for d in datagrams], report['pairs'])
     pairs = {(row['writer'], row['reader']) for row in traffic.charted(report['pairs'])}
     shown = [row for row in report['pairs'] if (row['writer'], row['reader']) in pairs]
     writers = list(dict.fromkeys(row['writer'] for row in shown))
@@ -149,8 +154,31 @@ def values_of(octets, asked=PLAIN, any_form=False):
     return found if isinstance(found, str) else page_values(found[0], asked, found[1])
 
 
+def answer_as(octets, asked):
+    """text, lines on standard error and status of `page`; the latter two are those of `audit`"""
+    _, told, status = reference.answer_as('audit', octets, asked)
+    values = values_of(octets, asked)
+    return '' if isinstance(values, str) else page_text(values), told, status
+
+
+def compare(program, count, seed):
+    rng, differing = random.Random(seed), 0
+    for k in range(count):
+        text, asked = some_input(rng), some_asked(rng)
+        want, told, status = answer_as(text, asked)
+        got = subprocess.run(program.split() + ['page', *asked.words(), '-'], input=text, capture_output=True)
+        if got.stdout.decode() != want or got.returncode != status or status < 2 and got.stderr.decode().splitlines() != told:
+            differing += 1
+            print(f'page {" ".join(asked.words())} differs on recording {k}, kept in {reference.kept(text)}')
+    print(f'{count} recordings, {differing} differences')
+    return int(differing > 0)
+
+
 def main():
     words = sys.argv[1:]
+    if words[0] == 'compare':
+        count, seed = (int(word) for word in words[2:] + ['1000', '1'][len(words) - 2:])
+        return compare(words[1], count, seed)
     view = words.pop(0) if words[0] in ('data', 'stored') else 'page'
     with open(words[-1], 'rb') as f:
         values = values_of(f.read(), asked_by(words[:-1]), '--any' in words)

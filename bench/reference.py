@@ -9,7 +9,9 @@
                                            the same, of the rows that are asked for; standard error and the status say what
                                            else is not so
     reference.py show|list|audit|why|json --any FILE
-                                           the same, of a capture of either form, with fragments put together
+                                           the same, of a capture of either form, with fragments of IP put together
+    reference.py show|audit|why|json --fragments FILE
+                                           the same, where samples that came in DATA_FRAG submessages count
     reference.py check [--json] [--from N] [--topic PATTERN].. [--expect N] FILE
                                            prints what `rtps-audit check` should print
     reference.py compare PROGRAM [COUNT [SEED]]
@@ -31,12 +33,13 @@ import sys
 import tempfile
 
 import any_capture
-from asked import PLAIN, Asked, asked_by
+from asked import GREATEST, PLAIN, Asked, asked_by
 from check import because, check_lines
+from fragments import by_writer, payloads_told, placed_samples, without_sample
+from random_recordings import A, B, START, some_asked, some_checked, some_delivery, some_input, text_of_datagrams
 
 READ = {0x06, 0x07, 0x08, 0x09, 0x0c, 0x0e, 0x15}
 FRAGMENTS = {0x12, 0x13, 0x16}
-GREATEST = 2 ** 63 - 1
 
 
 class Refused(Exception):
@@ -168,8 +171,31 @@ def read_body(sid, flags, order, b):
     return {'kind': 'skipped', 'id': sid}
 
 
-def read(d):
-    """header, items and refusal of a datagram"""
+def piece_of(flags, order, b):
+    """the fields of a DATA_FRAG, or None for one that is skipped"""
+    if len(b) < 32:
+        return None
+    offset, n, start = number(b[2:4], order), sequence_number(b[12:20], order), number(b[20:24], order)
+    count, size, sample = number(b[24:26], order), number(b[26:28], order), number(b[28:32], order)
+    if offset < 28 or 4 + offset > len(b) or n < 1 or min(start, count, size, sample) < 1:
+        return None
+    rest, qos = b[4 + offset:], 0
+    if flags & 2:
+        found = read_list(rest, order)
+        if isinstance(found, str):
+            return None
+        qos = found[1]
+        rest = rest[qos:]
+    last = start + count - 1
+    octets = min(sample, last * size) - (start - 1) * size
+    if last > (sample + size - 1) // size or len(rest) < octets:
+        return None
+    return {'kind': 'data_frag', 'reader': b[4:8], 'writer': b[8:12], 'number': n, 'start': start, 'count': count, 'size': size,
+            'sample': sample, 'qos': qos, 'key': int(bool(flags & 4)), 'octets': rest[:octets]}
+
+
+def read(d, fragments=False):
+    """header, items and refusal of a datagram; DATA_FRAG are read where `fragments` says so"""
     try:
         header = header_of(d)
     except Refused as refusal:
@@ -184,7 +210,9 @@ def read(d):
         if declared > rest:
             return header, items, Refused(at, 'Overrun')
         length = declared if declared else 0 if sid in (1, 9) else rest
-        body = read_body(sid, flags, order, d[at + 4:at + 4 + length])
+        octets = d[at + 4:at + 4 + length]
+        body = piece_of(flags, order, octets) if fragments and sid == 0x16 else None
+        body = body or read_body(sid, flags, order, octets)
         if isinstance(body, str):
             return header, items, Refused(at, body)
         items.append({'at': at, 'order': order, **body})
@@ -192,12 +220,12 @@ def read(d):
     return header, items, None
 
 
-def acts_of(d):
+def acts_of(d, fragments=False):
     """items that are acts, each with the last INFO before it"""
-    header, items, refusal = read(d)
+    header, items, refusal = read(d, fragments)
     acts = []
     for k, item in enumerate(items):
-        if item['kind'] not in ('data', 'heartbeat', 'acknack', 'gap'):
+        if item['kind'] not in ('data', 'data_frag', 'heartbeat', 'acknack', 'gap'):
             continue
         before = items[:k]
         sources = [i for i in before if i['kind'] == 'info_src']
@@ -296,16 +324,16 @@ def input_of(octets, limits=USUAL, any_form=False):
     return datagrams if isinstance(datagrams, str) else (datagrams, None)
 
 
-def show(datagrams):
+def show(datagrams, fragments=False):
     out = []
     for i, d in enumerate(datagrams, 1):
-        header, items, refusal = read(d)
+        header, items, refusal = read(d, fragments)
         if header is None:
             out.append(f'datagram {i} unread')
         else:
             major, minor = header['version']
             out.append(f"datagram {i} version {major}.{minor} vendor {header['vendor'].hex()} prefix {header['prefix'].hex()}")
-        acts = {act['at']: act for act in acts_of(d)}
+        acts = {act['at']: act for act in acts_of(d, fragments)}
         for item in items:
             out.append(line_of(item, acts.get(item['at'])))
         if refusal:
@@ -323,6 +351,9 @@ def line_of(i, act):
         form, octets = i['payload']
         payload = form if form == 'absent' else f'{form} {len(octets)}'
         return f"{head} number {i['number']} qos {i['qos']} payload {payload}{ending}"
+    if kind == 'data_frag':
+        shape = f"start {i['start']} count {i['count']} size {i['size']} sample {i['sample']}"
+        return f"{head} number {i['number']} {shape} qos {i['qos']} key {i['key']} octets {len(i['octets'])}{ending}"
     if kind == 'heartbeat':
         return f"{head} first {i['first']} last {i['last']} count {i['count']} final {i['final']} live {i['live']}{ending}"
     if kind in ('acknack', 'gap'):
@@ -404,20 +435,32 @@ def announcement(payload, what):
     return (guid, what, topic, kind, reliability, durability)
 
 
-def discovery(datagrams):
+def payloads_sent(recording):
+    """the payloads of a recording, each with the entity id of its writer, whoever hears them: those of DATA, and of samples in
+    pieces those that a reader which hears everything is told"""
+    for acts in recording:
+        for act in acts:
+            if act['kind'] == 'data':
+                yield act['writer'], act['payload']
+    for (_, writer), pieces in by_writer(recording).items():
+        for told in payloads_told(pieces):
+            for payload in told:
+                yield writer, payload
+
+
+def discovery(datagrams, fragments=False):
     participants, endpoints, faults = set(), {}, 0
-    for d in datagrams:
-        for act in acts_of(d):
-            if act['kind'] != 'data' or act['payload'][0] != 'whole' or act['writer'] not in BUILTIN:
-                continue
-            what = BUILTIN[act['writer']]
-            said = announcement(act['payload'][1], what)
-            if isinstance(said, str):
-                faults += 1
-            elif what == 'participant':
-                participants.add(said[0])
-            else:
-                endpoints.setdefault(said[0], set()).add(said)
+    for writer, (form, octets) in payloads_sent([acts_of(d, fragments) for d in datagrams]):
+        if form != 'whole' or writer not in BUILTIN:
+            continue
+        what = BUILTIN[writer]
+        said = announcement(octets, what)
+        if isinstance(said, str):
+            faults += 1
+        elif what == 'participant':
+            participants.add(said[0])
+        else:
+            endpoints.setdefault(said[0], set()).add(said)
     settled = sorted(next(iter(v)) for v in endpoints.values() if len(v) == 1)
     unsettled = sum(len(v) > 1 for v in endpoints.values())
     matched = [(w, r) for w in settled if w[1] == 'writer' for r in settled if r[1] == 'reader'
@@ -474,22 +517,29 @@ class Words:
             self.spans = [(1, act['first'])]
 
 
+def last_number(act):
+    """the number that an act of a writer announces"""
+    return act['number'] if act['kind'] in ('data', 'data_frag') else act['last'] if act['kind'] == 'heartbeat' else 0
+
+
+def told_to(recording, w, r):
+    """what r is told by w, in order: datagram, act and its words. A piece is there once for each payload that it tells"""
+    hears = [(i, act) for i, acts in enumerate(recording, 1) for act in acts if spoken(act, w) and heard(act, r)]
+    payloads = iter(payloads_told([act for _, act in hears if act['kind'] == 'data_frag']))
+    for i, act in hears:
+        if act['kind'] != 'data_frag':
+            yield i, act, Words(act)
+            continue
+        for payload in next(payloads):
+            yield i, act, Words({'kind': 'data', 'number': act['number'], 'payload': payload})
+
+
 def speech(recording, w, r):
-    """for each datagram the words that r hears from w, and the bases that r answers; and the last number"""
-    last, said = 0, []
-    for acts in recording:
-        words, bases = [], []
-        for act in acts:
-            if spoken(act, w):
-                if act['kind'] == 'data':
-                    last = max(last, act['number'])
-                elif act['kind'] == 'heartbeat':
-                    last = max(last, act['last'])
-                if heard(act, r):
-                    words.append(Words(act))
-            elif answered(act, w, r):
-                bases.append(act['set'][0])
-        said.append((words, bases))
+    """for each datagram the words that r is told by w, and the bases that r answers; and the last number"""
+    last = max([0] + [last_number(act) for acts in recording for act in acts if spoken(act, w)])
+    said = [([], [act['set'][0] for act in acts if answered(act, w, r)]) for acts in recording]
+    for i, _, words in told_to(recording, w, r):
+        said[i - 1][0].append(words)
     return said, last
 
 
@@ -575,18 +625,20 @@ def received_by_runs(recording, w, r, bound, first=1):
 
 
 def audit(datagrams, asked=PLAIN):
-    _, _, matched, unsettled, _ = discovery(datagrams)
-    recording = [acts_of(d) for d in datagrams]
+    _, _, matched, unsettled, _ = discovery(datagrams, asked.fragments)
+    recording = [acts_of(d, asked.fragments) for d in datagrams]
     pairs = [(w[0], r[0]) for w, r in matched if w[4] == 1 and r[4] == 1 and asked.keeps(w[2], w[0], r[0], recording)]
     out = [f'pairs {len(pairs)}']
     for w, r in pairs:
         out.append(f'{guid_text(w)} {guid_text(r)} {judge(recording, w, r, asked.first)}')
-    refused = skipped = fragments = undirected = 0
+    refused = skipped = undirected = 0
+    unread = {0x16} if asked.fragments else FRAGMENTS
+    fragments = without_sample(recording)
     for d, acts in zip(datagrams, recording):
-        _, items, refusal = read(d)
+        _, items, refusal = read(d, asked.fragments)
         refused += refusal is not None
         skipped += sum(i['kind'] == 'skipped' and i['id'] not in FRAGMENTS for i in items)
-        fragments += sum(i['kind'] == 'skipped' and i['id'] in FRAGMENTS for i in items)
+        fragments += sum(i['kind'] == 'skipped' and i['id'] in unread for i in items)
         undirected += sum(a['kind'] == 'acknack' and a['dest'] is None for a in acts)
     out.append(f'datagrams {len(datagrams)} refused {refused} skipped {skipped} fragments {fragments} '
                f'undirected {undirected} unsettled {unsettled}')
@@ -605,20 +657,22 @@ def covered(spans, lo, hi):
     return count
 
 
-def last_number(act):
-    """the number that an act of a writer announces"""
-    return act['number'] if act['kind'] == 'data' else act['last'] if act['kind'] == 'heartbeat' else 0
-
-
 def payload_words(payload):
     return 'absent' if payload[0] == 'absent' else f'{payload[0]} {len(payload[1])}'
 
 
-def announces(act, guid):
-    """whether an act announces the endpoint of this GUID, as a writer or a reader"""
-    what = BUILTIN.get(act['writer']) if act['kind'] == 'data' and act['payload'][0] == 'whole' else None
-    said = announcement(act['payload'][1], what) if what in ('writer', 'reader') else 'no announcement'
+def announces(writer, payload, guid):
+    """whether a payload of a writer announces the endpoint of this GUID, as a writer or a reader"""
+    what = BUILTIN.get(writer) if payload[0] == 'whole' else None
+    said = announcement(payload[1], what) if what in ('writer', 'reader') else 'no announcement'
     return not isinstance(said, str) and said[0] == guid
+
+
+def first_announced(recording, guid):
+    """the place of the first act by which a reader that hears everything is told a payload that announces the endpoint of this
+    GUID"""
+    whole = [((i, act['at']), act['writer'], act['payload']) for i, acts in enumerate(recording, 1) for act in acts if act['kind'] == 'data']
+    return min((place for place, writer, payload in whole + list(placed_samples(recording)) if announces(writer, payload, guid)), default=(0, 0))
 
 
 class Delivery:
@@ -628,17 +682,18 @@ class Delivery:
         self.first = first
         self.placed = [((i, act['at']), act) for i, acts in enumerate(recording, 1) for act in acts]
         self.said = [(place, act) for place, act in self.placed if spoken(act, w)]
-        self.told = [(place, act, Words(act)) for place, act in self.said if heard(act, r)]
+        self.told = [((i, act['at']), act, words) for i, act, words in told_to(recording, w, r)]
         self.answers = [(place, act['set']) for place, act in self.placed if answered(act, w, r)]
         self.last = max([first - 1] + [last_number(act) for _, act in self.said])
-        self.announced = next((place for place, act in self.placed if announces(act, r)), (0, 0))
+        self.announced = first_announced(recording, r)
         self.received = {n for n in self.sent() if self.is_received(n)}
         asked = {n for _, found in self.answers for n in members(*found[:3])}
         self.missed = sorted(n for n in self.sent(self.announced) if n in asked and n not in self.received)
 
     def sent(self, behind=(0, 0)):
         """the numbers with a payload behind a place"""
-        return {act['number'] for place, act, _ in self.told if act['kind'] == 'data' and place > behind and self.first <= act['number'] <= self.last}
+        return {act['number'] for place, act, words in self.told
+                if words.payload is not None and place > behind and self.first <= act['number'] <= self.last}
 
     def words_for(self, n):
         """the acts with a word for a number, and whether that is that it will not come"""
@@ -719,9 +774,9 @@ def verdict_lines(delivery, verdict):
         return [teller(int(numbers[0])), asked_line(delivery)]
     if kind == 'conflict':
         n = int(numbers[0])
-        sent = [(place, act) for place, act, _ in delivery.told if act['kind'] == 'data' and act['number'] == n]
-        other = next(one for one in sent if one[1]['payload'] != sent[0][1]['payload'])
-        return [f'number {n} payload {payload_words(act["payload"])} {standing(place)}' for place, act in (sent[0], other)]
+        sent = [(place, words.payload) for place, act, words in delivery.told if words.payload is not None and act['number'] == n]
+        other = next(one for one in sent if one[1] != sent[0][1])
+        return [f'number {n} payload {payload_words(payload)} {standing(place)}' for place, payload in (sent[0], other)]
     if kind == 'unfounded':
         datagram, n = map(int, numbers)
         place, base = next((place, found[0]) for place, found in delivery.answers if place[0] == datagram and found[0] > n)
@@ -754,8 +809,8 @@ def evidence(recording, w, r, first=1):
 def why(datagrams, asked=PLAIN):
     """the report, with what each row rests on"""
     report = audit(datagrams, asked)
-    named = {guid: (topic, kind) for guid, _, topic, kind, _, _ in discovery(datagrams)[1]}
-    recording = [acts_of(d) for d in datagrams]
+    named = {guid: (topic, kind) for guid, _, topic, kind, _, _ in discovery(datagrams, asked.fragments)[1]}
+    recording = [acts_of(d, asked.fragments) for d in datagrams]
     out = report[:1]
     for row in report[1:-1]:
         w, r = (bytes.fromhex(guid.replace('.', '')) for guid in row.split()[:2])
@@ -848,8 +903,8 @@ def evidence_values(verdict, lines):
 def report_values(datagrams, asked=PLAIN):
     """the report as Python has it"""
     rows = audit(datagrams, asked)
-    named = {guid: (topic, kind) for guid, _, topic, kind, _, _ in discovery(datagrams)[1]}
-    recording = [acts_of(d) for d in datagrams]
+    named = {guid: (topic, kind) for guid, _, topic, kind, _, _ in discovery(datagrams, asked.fragments)[1]}
+    recording = [acts_of(d, asked.fragments) for d in datagrams]
     pairs = []
     for row in rows[1:-1]:
         writer, reader, *verdict = row.split()
@@ -869,6 +924,8 @@ def json_lines(datagrams, asked=PLAIN, ignored=None):
 VIEWS = {'show': show, 'list': list_text, 'audit': audit, 'why': why, 'json': json_lines}
 # those that take the number from which on numbers are asked for
 REPORTS = 'audit', 'why', 'json'
+# those in which samples in DATA_FRAG can count
+WITH_FRAGMENTS = 'show', *REPORTS
 
 
 def words_of(view):
@@ -879,7 +936,7 @@ def words_of(view):
 def findings(datagrams, asked, reasons):
     """what a report has or lacks against what is asked, beside complete rows, a line for each"""
     rows = audit(datagrams, asked)
-    recording = [acts_of(d) for d in datagrams]
+    recording = [acts_of(d, asked.fragments) for d in datagrams]
     missed = 0
     for row in rows[1:-1] if asked.strict else []:
         w, r = (bytes.fromhex(guid.replace('.', '')) for guid in row.split()[:2])
@@ -889,14 +946,16 @@ def findings(datagrams, asked, reasons):
 
 
 def answer_as(view, text, asked, limits=USUAL, any_form=False):
-    """text, lines on standard error and status of the program; what is asked is for reports alone"""
+    """text, lines on standard error and status of the program; what is asked is for reports alone, but for fragments, which
+    `show` has too"""
     any_form = any_form or asked.strict
     read = input_of(text, limits, any_form)
     if isinstance(read, str):
         return '', [f'rtps-audit: {read}'], 2
     datagrams, ignored = read
     if view not in REPORTS:
-        return ''.join(line + '\n' for line in VIEWS[view](datagrams)), [], 0
+        lines = show(datagrams, asked.fragments) if view == 'show' else list_text(datagrams)
+        return ''.join(line + '\n' for line in lines), [], 0
     lines = json_lines(datagrams, asked, ignored) if view == 'json' else VIEWS[view](datagrams, asked)
     if view != 'json' and ignored is not None:
         lines[-1] += f" ignored {ignored['ignored'] if any_form else ignored}"
@@ -906,15 +965,15 @@ def answer_as(view, text, asked, limits=USUAL, any_form=False):
 
 
 def answer(view, text, first=1, limits=USUAL, any_form=False):
-    """text and status of the program; `first` is for reports alone"""
+    """text and status of the program without fragments; `first` is for reports alone"""
     text, _, status = answer_as(view, text, Asked(first), limits, any_form)
     return text, status
 
 
 def checked_rows(datagrams, asked):
     """the rows of what is asked, with what `check` tells of them"""
-    named = {guid_text(guid): (topic, kind) for guid, _, topic, kind, _, _ in discovery(datagrams)[1]}
-    recording = [acts_of(d) for d in datagrams]
+    named = {guid_text(guid): (topic, kind) for guid, _, topic, kind, _, _ in discovery(datagrams, asked.fragments)[1]}
+    recording = [acts_of(d, asked.fragments) for d in datagrams]
     rows = []
     for values in report_values(datagrams, asked)['pairs']:
         w, r = (bytes.fromhex(values[guid].replace('.', '')) for guid in ('writer', 'reader'))
@@ -929,8 +988,8 @@ def check(octets, asked, as_json=False, limits=USUAL):
     if isinstance(read, str):
         return '', 2
     datagrams, ignored = read
-    observed = Asked(asked.first, asked.topics, True, asked.expect, True)
-    rows, all_rows = checked_rows(datagrams, observed), checked_rows(datagrams, Asked(asked.first, asked.topics))
+    observed = Asked(asked.first, asked.topics, True, asked.expect, True, True)
+    rows, all_rows = checked_rows(datagrams, observed), checked_rows(datagrams, Asked(asked.first, asked.topics, fragments=True))
     report = report_values(datagrams, observed) | (ignored or {})
     # A datagram of one octet is refused, and is no reason to look at it.
     counts = report | {'refused': report['refused'] - sum(len(d) < 2 for d in datagrams)}
@@ -942,293 +1001,6 @@ def check(octets, asked, as_json=False, limits=USUAL):
         left_out = [row for row in all_rows if row not in rows]
         lines = check_lines(rows, left_out, counts, asked.first, asked.expect or 0)
     return ''.join(line + '\n' for line in lines), int(bool(reasons))
-
-
-# ---- random recordings
-
-A, B, C = b'\xaa' * 12, b'\xbb' * 12, b'\xcc' * 12
-
-
-def u(order, width, value):
-    return (value % 2 ** (8 * width)).to_bytes(width, 'big' if order == 'be' else 'little')
-
-
-def sn(order, value):
-    value %= 2 ** 64
-    return u(order, 4, value >> 32) + u(order, 4, value)
-
-
-def submessage(rng, sid, flags, body, order):
-    length = len(body)
-    if rng.random() < 0.03:
-        length = rng.choice([0, length - 1, length + 1, rng.randrange(70)]) % 65536
-    return bytes([sid, flags | (order == 'le')]) + u(order, 2, length) + body
-
-
-def parameter(order, pid, value):
-    return u(order, 2, pid) + u(order, 2, len(value)) + value
-
-
-def some_text(rng, order):
-    name = rng.choice([b'pose', b'pose', b'pose', b'Pose', b'a"\\\x01\xff', b''])
-    text = u(order, 4, len(name) + 1) + name + b'\0'
-    text += bytes(-len(text) % 4)
-    return rng.choice([text] * 30 + [text[:3], u(order, 4, 0), u(order, 4, 99) + name, u(order, 4, len(name) + 1) + name + b'x'])
-
-
-def some_announcement(rng, order):
-    inner = rng.choice(['be', 'le'])
-    what = rng.choice(['participant', 'writer', 'reader'])
-    guid = rng.choice([A, B]) + {'participant': b'\0\0\x01\xc1', 'writer': b'\0\0\x01\x03', 'reader': b'\0\0\x01\x04'}[what]
-    if rng.random() < 0.1:
-        guid = rng.choice([A, B, C]) + rng.choice([b'\0\0\x01\x03', b'\0\0\x01\x04'])
-    params = [parameter(inner, 0x50 if what == 'participant' else 0x5a, guid[:rng.choice([16] * 20 + [15])])]
-    if what != 'participant':
-        params += [parameter(inner, 5, some_text(rng, inner)), parameter(inner, 7, some_text(rng, inner))]
-        if rng.random() < 0.8:
-            params.append(parameter(inner, 0x1a, u(inner, 4, rng.choice([1, 2, 2, 2, 2, 2, 3])) + bytes(8)))
-        if rng.random() < 0.4:
-            params.append(parameter(inner, 0x1d, u(inner, 4, rng.choice([0, 0, 0, 1, 2, 3, 4]))))
-    if rng.random() < 0.2:
-        params.insert(rng.randrange(len(params) + 1), parameter(inner, rng.choice([0, 0x70, 0x5a, 5]), bytes(rng.randrange(9))))
-    if rng.random() < 0.1:
-        params.pop(rng.randrange(len(params)))
-    tail = rng.choice([parameter(inner, 1, b'')] * 20 + [b'', b'\0\1'])
-    kind = rng.choice([b'\0\2' if inner == 'be' else b'\0\3'] * 20 + [b'\0\0', b'\0'])
-    payload = kind + bytes(2) + b''.join(params) + tail if len(kind) == 2 else kind
-    entity = {'participant': b'\0\1\0\xc2', 'writer': b'\0\0\3\xc2', 'reader': b'\0\0\4\xc2'}[what]
-    body = u(order, 2, 0) + u(order, 2, 16) + bytes(4) + entity + sn(order, 1) + payload
-    return submessage(rng, 0x15, rng.choice([4, 4, 4, 4, 8]), body, order)
-
-
-def some_set(rng, order, base):
-    count = rng.choice([0, 0, 1, 2, 5, 33, 256, 257]) if base else rng.choice([0, 0, 0, 1])
-    words = (count + 31) // 32
-    return sn(order, base) + u(order, 4, count) + b''.join(u(order, 4, rng.getrandbits(32) & rng.getrandbits(32)) for _ in range(words))
-
-
-def some_number(rng):
-    return rng.choice([1, 1, 2, 2, 3, 3, 4, 5, 6]) if rng.random() < 0.97 else rng.choice([0, -1, GREATEST, GREATEST - 1, 2 ** 32])
-
-
-def some_submessage(rng):
-    order = rng.choice(['be', 'le'])
-    reader = rng.choice([bytes(4), bytes(4), b'\0\0\1\4', b'\0\0\1\5'])
-    writer = rng.choice([b'\0\0\1\3'] * 5 + [b'\0\0\1\2'])
-    kind = rng.randrange(20)
-    if kind < 6:
-        flags = rng.choice([4, 4, 4, 4, 4, 0, 8, 6, 12])
-        qos = b''
-        if flags & 2:
-            qos = parameter(order, 0x8001, bytes(rng.randrange(5))) + rng.choice([parameter(order, 1, b'')] * 5 + [b''])
-        payload = bytes([rng.randrange(2)]) * rng.choice([8, 8, 8, 0, 3])
-        body = u(order, 2, 0) + u(order, 2, rng.choice([16] * 30 + [15, 20, 40])) + reader + writer + sn(order, some_number(rng)) + qos + payload
-        return submessage(rng, 0x15, flags, body, order)
-    if kind < 9:
-        first = some_number(rng)
-        body = reader + writer + sn(order, first) + sn(order, first + rng.choice([-2, -1, 0, 0, 1, 2, 3])) + u(order, 4, rng.getrandbits(32))
-        return submessage(rng, 0x07, rng.choice([0, 2, 4, 6]), body, order)
-    if kind < 11:
-        body = reader + writer + sn(order, some_number(rng)) + some_set(rng, order, max(0, some_number(rng)))
-        return submessage(rng, 0x08, 0, body, order)
-    if kind < 15:
-        reader = rng.choice([b'\0\0\1\4'] * 6 + [b'\0\0\1\5'])
-        body = reader + writer + some_set(rng, order, rng.choice([0, 1, 2, 2, 3, 3, 4, 5, 7])) + u(order, 4, rng.getrandbits(32))
-        return submessage(rng, 0x06, rng.choice([0, 2]), body, order)
-    if kind == 15:
-        return submessage(rng, 0x09, rng.choice([0, 0, 2]), rng.choice([bytes(8), b'\0\0\0\5\x80\0\0\0', b'']), order)
-    if kind == 16:
-        return submessage(rng, 0x0e, 0, rng.choice([A, A, B, C, bytes(12), bytes(11)]), order)
-    if kind == 17:
-        return submessage(rng, 0x0c, 0, bytes(4) + b'\2\5\1\2' + rng.choice([A, B, C]), order)
-    return submessage(rng, rng.choice([0x01, 0x80, 0x16, 0x12, 0x13, 0x0d, 0x0f, 0x00]), 0, bytes(rng.choice([0, 4, 8])), order)
-
-
-def from_header(rng, prefix):
-    header = b'RTPS\2\5\0\0' + prefix
-    if rng.random() < 0.02:
-        header = rng.choice([header[:19], b'RTPX' + header[4:], header[:4] + b'\1' + header[5:]])
-    return header
-
-
-def some_datagram(rng):
-    kind = rng.random()
-    if kind < 0.2:
-        return from_header(rng, rng.choice([A, B])) + some_announcement(rng, rng.choice(['be', 'le']))
-    if kind < 0.5:
-        answers = b'\x0e\0\0\x0c' + A if rng.random() < 0.9 else b''
-        return from_header(rng, B) + answers + b''.join(some_submessage(rng) for _ in range(rng.randrange(1, 3)))
-    d = from_header(rng, A) + b''.join(some_submessage(rng) for _ in range(rng.randrange(1, 4)))
-    return d[:rng.randrange(len(d))] if rng.random() < 0.03 else d
-
-
-NAMES = b'\0\5\0\x0c\0\0\0\5pose\0\0\0\0\0\7\0\x0c\0\0\0\5Pose\0\0\0\0'
-
-
-def announced(writer, prefix, entity, more, names=NAMES):
-    value = b'\0\2\0\0' + b'\0\x5a\0\x10' + prefix + entity + names + more + b'\0\1\0\0'
-    body = b'\0\0\0\x10' + bytes(4) + writer + bytes(7) + b'\1' + value
-    return b'RTPS\2\5\0\0' + prefix + b'\x15\4' + len(body).to_bytes(2, 'big') + body
-
-
-START = [announced(b'\0\0\3\xc2', A, b'\0\0\1\3', b''), announced(b'\0\0\4\xc2', B, b'\0\0\1\4', b'\0\x1a\0\x0c\0\0\0\2' + bytes(8))]
-
-
-def some_recording(rng):
-    datagrams = [some_datagram(rng) for _ in range(rng.randrange(8))]
-    for d in reversed(START) if rng.random() < 0.9 else []:
-        # Mostly the two are announced first, and sometimes behind what they say.
-        datagrams.insert(0 if rng.random() < 0.6 else rng.randrange(len(datagrams) + 1), d)
-    lines = []
-    for d in datagrams:
-        line = d.hex().encode()
-        if rng.random() < 0.1:
-            line = line.upper()
-        if rng.random() < 0.004:
-            line = rng.choice([line[:-1], line + b'g0', b'\r' + line, line + b'\r\r'])
-        lines.append(line + rng.choice([b'\n', b'\n', b'\r\n']))
-        if rng.random() < 0.1:
-            lines.append(rng.choice([b'\n', b'# a comment\n', b'\r\n']))
-    text = b''.join(lines)
-    return text[:-1] if text and rng.random() < 0.1 else text
-
-
-class Told:
-    """a writer and a reader that speak of few numbers, as a random recording has it. What the reader answers is mostly true,
-    and what is lost on the way is as if it never came"""
-    def __init__(self, rng, writer=b'\0\0\1\3', reader=b'\0\0\1\4'):
-        self.rng, self.first, self.last, self.held = rng, 1, 0, set()
-        self.writer, self.reader = writer, reader
-
-    def submessage(self, sid, flags, *parts):
-        reader = self.rng.choice([bytes(4), bytes(4), self.reader] if sid != 0x06 else [self.reader])
-        body = (b'\0\0\0\x10' if sid == 0x15 else b'') + reader + self.writer + b''.join(parts)
-        return bytes([sid, flags]) + u('be', 2, len(body)) + body
-
-    def take(self, numbers):
-        if self.rng.random() < 0.7:
-            self.held |= set(numbers)
-
-    def data(self, n):
-        self.take([n])
-        flags, payload = (4, b'\0\0\0\0abcd') if self.rng.random() < 0.97 else (self.rng.choice([0, 4, 8]), b'\0\0\0\0ef')
-        return self.submessage(0x15, flags, sn('be', n), payload if flags else b'')
-
-    def heartbeat(self):
-        self.take(range(1, self.first))
-        return self.submessage(0x07, self.rng.choice([0, 0, 0, 2]), sn('be', self.first), sn('be', max(self.last, self.first - 1)), bytes(4))
-
-    def gap(self):
-        start, base = sorted(self.rng.randrange(1, 5) for _ in range(2))
-        listed = {base + i for i in range(2) if self.rng.random() < 0.3}
-        self.take({*range(start, base), *listed})
-        return self.submessage(0x08, 0, sn('be', start), self.set_of(base, listed))
-
-    @staticmethod
-    def set_of(base, numbers):
-        bits = sum(1 << 31 - (n - base) for n in numbers)
-        return sn('be', base) + (u('be', 4, 8) + u('be', 4, bits) if numbers else u('be', 4, 0))
-
-    def answer(self):
-        base = 1
-        while base in self.held:
-            base += 1
-        if self.rng.random() < 0.1:
-            base = self.rng.randrange(1, 6)
-        lacked = {n for n in range(base, max(self.last + 1, base)) if n not in self.held and self.rng.random() < 0.8}
-        if self.rng.random() < 0.05:
-            lacked = {n for n in range(base, base + 3) if self.rng.random() < 0.5}
-        return self.submessage(0x06, self.rng.choice([0, 2]), self.set_of(base, lacked), bytes(4))
-
-    def next(self):
-        """the next submessage, and whether the writer says it"""
-        kind = self.rng.random()
-        if kind < 0.3 and self.last < 4:
-            self.last += 1
-            if self.rng.random() < 0.1:
-                return self.heartbeat(), True
-            return self.data(self.last), True
-        if kind < 0.5 and self.first <= self.last:
-            return self.data(self.rng.randrange(self.first, self.last + 1)), True
-        if kind < 0.62:
-            if self.rng.random() < 0.5 and self.first <= self.last:
-                self.first += 1
-            return self.heartbeat(), True
-        return (self.gap(), True) if kind < 0.67 else (self.answer(), False)
-
-
-def some_delivery(rng):
-    """what a writer and a reader say of the numbers 1 to 4, with resends, first numbers that move on, GAPs and what is asked
-    for"""
-    told, datagrams = Told(rng), []
-    for _ in range(rng.randrange(3, 18)):
-        octets, by_writer = told.next()
-        prefix, dest = (A, rng.choice([b'', b'', b'\x0e\0\0\x0c' + B])) if by_writer else (B, b'\x0e\0\0\x0c' + A)
-        if datagrams and rng.random() < 0.25 and datagrams[-1][8:20] == prefix:
-            datagrams[-1] += dest + octets
-        else:
-            datagrams.append(b'RTPS\2\5\0\0' + prefix + dest + octets)
-    for d in START if rng.random() < 0.5 else START[:1]:
-        datagrams.insert(0 if rng.random() < 0.7 else rng.randrange(len(datagrams) + 1), d)
-    if START[1] not in datagrams:
-        datagrams.insert(rng.randrange(len(datagrams) + 1), START[1])
-    return datagrams
-
-
-TOPICS = b'pose', b'rt/odom', b'rt/scan', b'odom', b'a*b', b'aXbYbZc', b'', b'rt/\xff\x0a'
-PATTERNS = '*', '**', 'rt/*', '*/odom', '*odom', 'a*b', 'a*b*c', 'pose', 'p*e', '', 'rt', '*o*o*', 'rt/*\n', 'a*bc'
-
-
-def names_of(topic):
-    """the parameters of a topic, and of its type"""
-    text = (len(topic) + 1).to_bytes(4, 'big') + topic + b'\0'
-    text += bytes(-len(text) % 4)
-    return b'\0\5' + len(text).to_bytes(2, 'big') + text + NAMES[16:]
-
-
-def some_network(rng):
-    """some writers and readers of several topics in up to three participants, what they announce, and what they say of the
-    numbers 1 to 4. Some name the participant that they speak to, and some do not"""
-    datagrams, ends = [], []
-    topics = [rng.choice(TOPICS) for _ in range(rng.randrange(1, 4))]
-    for k in range(rng.randrange(2, 7)):
-        prefix, topic, reads = rng.choice([A, B, B, C]), rng.choice(topics), rng.random() < 0.5
-        entity = bytes([0, 0, k + 1, 4 if reads else 3])
-        more = b'\0\x1a\0\x0c\0\0\0\2' + bytes(8) if reads else b''
-        ends.append((prefix, entity, topic, reads))
-        datagrams.append(announced(b'\0\0\4\xc2' if reads else b'\0\0\3\xc2', prefix, entity, more, names_of(topic)))
-        if rng.random() < 0.03:
-            datagrams.append(announced(b'\0\0\4\xc2', prefix, entity, more, names_of(rng.choice(TOPICS))))
-    for w in ends:
-        for r in ends:
-            if w[3] or not r[3] or w[2] != r[2] or rng.random() < 0.2:
-                continue
-            told, named = Told(rng, w[1], r[1]), rng.random() < 0.7
-            for _ in range(rng.randrange(1, 12)):
-                octets, by_writer = told.next()
-                source, dest = (w[0], r[0]) if by_writer else (r[0], w[0])
-                names = b'\x0e\0\0\x0c' + dest if named and (not by_writer or rng.random() < 0.5) else b''
-                datagrams.insert(rng.randrange(len(datagrams) + 1) if rng.random() < 0.05 else len(datagrams), b'RTPS\2\5\0\0' + source + names + octets)
-    if rng.random() < 0.1:
-        datagrams.append(b'RTPS\2\5\0\0' + rng.choice([A, B]) + bytes([rng.choice([0x16, 0x12, 0x80]), 0, 0, 4]) + bytes(4))
-    return datagrams
-
-
-def some_asked(rng):
-    topics = [rng.choice(PATTERNS) for _ in range(rng.choice([0, 0, 1, 1, 2, 3]))]
-    return Asked(rng.choice([1, 1, 2, 3, 5]), topics, rng.random() < 0.4, rng.choice([None, None, 0, 1, 2, 3, GREATEST]), rng.random() < 0.4)
-
-
-def some_input(rng):
-    """a recording text of one of three kinds"""
-    kind = rng.random()
-    if kind < 0.35:
-        return some_recording(rng)
-    return text_of_datagrams(some_delivery(rng) if kind < 0.65 else some_network(rng))
-
-
-def text_of_datagrams(datagrams):
-    return b''.join(d.hex().encode() + b'\n' for d in datagrams)
 
 
 def differing_from_runs(recording, w, r, bound, first):
@@ -1267,33 +1039,63 @@ def kept(text):
     return f.name
 
 
+def questions(rng):
+    """views of a recording, each with what is asked"""
+    firsts = [rng.choice([1, 2, 3, 4, 5, 6, GREATEST]) for _ in range(2)]
+    of_all = [(view, PLAIN) for view in VIEWS] + [('show', Asked(fragments=True))]
+    of_reports = [lambda: Asked(firsts[0]), lambda: Asked(firsts[1], fragments=True), lambda: some_asked(rng)]
+    return of_all + [(view, asked()) for asked in of_reports for view in REPORTS]
+
+
+def answers(rng, text):
+    """command lines without their FILE, each with what the program should print of a recording, on standard output and on standard
+    error, and its status"""
+    for view, asked in questions(rng):
+        yield words_of(view) + asked.words(), answer_as(view, text, asked)
+    for flag in [], ['--json']:
+        asked = some_checked(rng)
+        printed, status = check(text, asked, bool(flag))
+        yield ['check', *flag, *asked.words()], (printed, [], status)
+
+
+def differing_in_answers(rng, program, text):
+    """the command lines whose answers differ from those of the program"""
+    for words, (want, told, status) in answers(rng, text):
+        got = subprocess.run(program.split() + words + ['-'], input=text, capture_output=True)
+        if got.stdout.decode() != want or got.returncode != status or status < 2 and got.stderr.decode().splitlines() != told:
+            yield ' '.join(words)
+
+
+def differing_in_runs(recording, w, r):
+    """what is found by conditions and not by the runs, where these are not too many"""
+    said, _ = speech(recording, w, r)
+    spans = [(word.payload, span) for words, _ in said for word in words for span in word.spans]
+    told = {(n, payload) for payload, (lo, hi) in spans for n in range(lo, min(hi, 12))}
+    if len(told) > 8 or any(hi >= 12 for _, (_, hi) in spans):
+        return
+    for first in range(1, 7):
+        for what in differing_from_runs(recording, w, r, 12, first):
+            yield f'the {what} by runs from {first} on'
+
+
 def compare(program, count, seed):
-    rng, differing, verdicts = random.Random(seed), 0, {}
+    rng, differing, verdicts, fragmented = random.Random(seed), 0, {}, 0
+    w, r = A + b'\0\0\1\3', B + b'\0\0\1\4'
     for k in range(count):
         text = some_input(rng)
-        first = Asked(rng.choice([1, 2, 3, 4, 5, 6, GREATEST]))
-        for view, asked in [*((view, PLAIN) for view in VIEWS), *((view, first) for view in REPORTS), *((view, some_asked(rng)) for view in REPORTS)]:
-            words = words_of(view) + asked.words()
-            want, told, status = answer_as(view, text, asked)
-            got = subprocess.run(program.split() + words + ['-'], input=text, capture_output=True)
-            if got.stdout.decode() != want or got.returncode != status or status < 2 and got.stderr.decode().splitlines() != told:
-                differing += 1
-                print(f'{" ".join(words)} differs on recording {k}, kept in {kept(text)}')
+        found = list(differing_in_answers(rng, program, text))
         datagrams = recording_of(text)
         if not isinstance(datagrams, str):
             recording = [acts_of(d) for d in datagrams]
-            w, r = A + b'\0\0\1\3', B + b'\0\0\1\4'
             plain = judge(recording, w, r)
             kind = plain.split()[0]
             verdicts[kind] = verdicts.get(kind, 0) + 1
-            said, _ = speech(recording, w, r)
-            few = len({(n, x.payload) for words, _ in said for x in words for lo, hi in x.spans for n in range(lo, min(hi, 12))}) <= 8
-            for first in range(1, 7):
-                if few and all(hi < 12 for words, _ in said for x in words for _, hi in x.spans):
-                    for what in differing_from_runs(recording, w, r, 12, first):
-                        differing += 1
-                        print(f'the {what} by runs from {first} on differ on recording {k}, kept in {kept(text)}')
-    print(f'{count} recordings, {differing} differences; verdicts {verdicts}')
+            fragmented += plain != judge([acts_of(d, True) for d in datagrams], w, r)
+            found += differing_in_runs(recording, w, r)
+        differing += len(found)
+        for what in found:
+            print(f'{what} differs on recording {k}, kept in {kept(text)}')
+    print(f'{count} recordings, {differing} differences; verdicts {verdicts}, of which {fragmented} are others with fragments')
     return int(differing > 0)
 
 

@@ -177,6 +177,10 @@ class PageTests(Counts):
                     self.same_page(name, os.path.join(folder, name))
         for words in (['--from', '2'], ['--strict'], ['--observed'], ['--expect', '2'], ['--topic', 'p*', '--topic', '<&>"\\\t\u00e9']):
             self.same_page('pose.rec', os.path.join(ROOT, 'examples', 'pose.rec'), words)
+        for name in sorted(os.listdir(rows)):
+            if name.endswith('.audit_asked_with_fragments'):
+                self.same_page(name, os.path.join(rows, name.split('.')[0] + '.rec'), ['--fragments'])
+        self.same_page('fragments.rec', os.path.join(ROOT, 'examples', 'fragments.rec'), ['--fragments', '--strict', '--from', '2'])
         for name in MADE:
             path = os.path.join(self.room, f'{name}.rec')
             with open(path, 'wb') as f:

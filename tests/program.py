@@ -8,6 +8,7 @@ ROOT = os.path.dirname(os.path.dirname(os.path.realpath(__file__)))
 sys.dont_write_bytecode = True
 sys.path.insert(0, os.path.join(ROOT, 'bench'))
 import reference
+from asked import asked_by
 
 VIEWS = tuple(reference.VIEWS)
 
@@ -90,7 +91,7 @@ class Tests(Counts):
         told = f'rtps-audit: {read}\n' if isinstance(read, str) else ''
         for view in views:
             output, error, status = self.run(view, octets, words)
-            wanted, ended = reference.answer(view, octets, any_form=any_form)
+            wanted, _, ended = reference.answer_as(view, octets, asked_by(words), any_form=any_form)
             self.holds(f'{view}: {name}', (wanted, told, ended), (output, error[-len(told):] if told else error, status))
 
 

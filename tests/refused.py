@@ -124,6 +124,23 @@ def named_readers():
     return text_of(datagrams)
 
 
+def in_fragments():
+    """a recording of a writer and two readers of two participants, whose announcements and samples come in fragments: for all,
+    for a participant and for a reader; of one number in two shapes, of one with other octets, and of one that is never whole"""
+    others = bytes([0xcc]) * 12
+    datagrams = [make.announced(b'\0\0\3\xc2', make.A, make.WRITER, b'')]
+    for prefix in (make.B, others):
+        known = make.announced(b'\0\0\4\xc2', prefix, make.READER, make.RELIABLE)
+        datagrams += [known[:20] + b''.join(make.data_frags(known[32:36], 1, known[44:], 30))]
+    sample = bytes(range(1, 17))
+    one, two, three = (make.data_frags(make.WRITER, n, sample, 6) for n in (1, 2, 3))
+    named, other = make.data_frags(make.WRITER, 2, sample, 4, make.READER), make.data_frags(make.WRITER, 1, bytes(16), 6)
+    parts = [one[2] + one[0], make.to(make.B) + one[1], make.to(others) + one[1] + two[0], two[1] + two[2] + b''.join(named), other[1] + three[0]]
+    datagrams += [make.header(make.A) + part for part in parts]
+    datagrams += [make.header(prefix) + make.to(make.A) + make.ack_nack(make.READER, make.WRITER, 3) for prefix in (make.B, others)]
+    return text_of(datagrams)
+
+
 def of_calls(calls, recording):
     """what is tried of the library: a name, the words, the input, what is wanted, how many requests may go on, and the mark"""
     def one(call, name, text):
@@ -149,8 +166,15 @@ def of_program(library, program, recording):
     runs.append((' from 3 on', ['why', '--from', '3', '-'], recording))
     runs.append((' of a GAP whose list has 128 ranges', ['audit', '-'], many_ranges()))
     runs.append((' of readers that are named', ['audit', '--json', '-'], named_readers()))
-    runs.append(('', ['page', '-'], recording))
+    runs.append((' with missed numbers', ['why', '--strict', '-'], file_of('examples', 'missed.rec')))
+    for words in ['page'], ['check'], ['check', '--json']:
+        runs.append(('', [*words, '-'], recording))
     runs.append((' of readers that are named', ['page', '--observed', '-'], named_readers()))
+    for words in ['check'], ['check', '--json']:
+        runs.append((' of readers that are named', [*words, '--topic', 'p*', '--expect', '5', '-'], named_readers()))
+    for words in ['show'], ['audit'], ['why'], ['audit', '--json'], ['page']:
+        runs.append((' of samples in fragments', [*words, '--fragments', '-'], in_fragments()))
+    runs.append((' of samples in fragments', ['check', '-'], in_fragments()))
     runs.append((' of a capture', ['audit', '--max-datagrams', '6', '--max-octets', '100000', '-'], capture))
     runs.append((' of any capture', ['audit', '--any', '-'], file_of('examples', 'ipv6.pcapng')))
     for name, words, text in runs:
