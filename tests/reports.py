@@ -18,7 +18,8 @@ import program
 import reference
 from captures import capture, packet
 from program import ROOT, file_of, text_of
-from reference import A, B, GREATEST, parameter, u
+from random_recordings import A, B, parameter, u
+from reference import GREATEST
 
 WRITER, READER = b'\0\0\1\3', b'\0\0\1\4'
 
