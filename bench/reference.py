@@ -688,12 +688,13 @@ class Delivery:
         self.announced = first_announced(recording, r)
         self.received = {n for n in self.sent() if self.is_received(n)}
         asked = {n for _, found in self.answers for n in members(*found[:3])}
-        self.missed = sorted(n for n in self.sent(self.announced) if n in asked and n not in self.received)
+        brought = {act['number'] for place, act in self.said
+                   if act['kind'] in ('data', 'data_frag') and heard(act, r) and place > self.announced}
+        self.missed = sorted(n for n in brought if self.first <= n <= self.last and n in asked and n not in self.received)
 
-    def sent(self, behind=(0, 0)):
-        """the numbers with a payload behind a place"""
-        return {act['number'] for place, act, words in self.told
-                if words.payload is not None and place > behind and self.first <= act['number'] <= self.last}
+    def sent(self):
+        """the numbers with a payload"""
+        return {act['number'] for _, act, words in self.told if words.payload is not None and self.first <= act['number'] <= self.last}
 
     def words_for(self, n):
         """the acts with a word for a number, and whether that is that it will not come"""

@@ -10,22 +10,23 @@ use Rattle.rtps_ids.specs.NumberSet.{NumberSetValue, is_member}
 use Rattle.rtps_ids.specs.Ranges.{IsRangeFrom, HasNoneFrom}
 use Rattle.rtps_ids.proofs.Offered.{member_decides, not_member}
 use Rattle.rtps_discovery.specs.declared.matching.Pair.{Pair}
-use Rattle.rtps_receiver.specs.Speech.{is_answer}
+use Rattle.rtps_receiver.specs.Speech.{is_answer, is_heard_by, is_spoken_by}
 use Rattle.rtps_discovery.specs.Endpoint.{EndpointValue}
 use Rattle.rtps_discovery.specs.Notice.{announcement_of as notice_of, endpoint_in}
 use Rattle.rtps_audit.specs.AnnouncedPlaces.{announced_among, announced_at}
 use Rattle.rtps_audit.specs.Placed.{PlacedValue, is_from, is_guid}
 use Rattle.rtps_audit.specs.declared.announced_places.AnnouncedPlace.{AnnouncedPlace}
-use Rattle.rtps_audit.proofs.Offered.{answerer_is_origin}
+use Rattle.rtps_audit.proofs.Offered.{answerer_is_origin, speaker_is_origin}
 use Rattle.rtps_evidence.specs.Amount.{count_in, stretches_have}
-use Rattle.rtps_evidence.specs.Locations.{find_last, is_behind, location_of, sends, teller_at}
-use Rattle.rtps_evidence.specs.Missed.{AreMissed, announces, asks_for, first_place, gone_behind, has_guid, is_in_set, is_missed, missed_at, missed_by, numbers_have, place_announced, sends_behind, withdraws_behind}
+use Rattle.rtps_evidence.specs.Claimed.{is_at}
+use Rattle.rtps_evidence.specs.Locations.{find_last, is_behind, location_of, teller_at}
+use Rattle.rtps_evidence.specs.Missed.{AreMissed, announces, asks_for, brings, brings_behind, first_place, gone_behind, has_guid, is_in_set, is_missed, missed_at, missed_by, numbers_have, place_announced, sample_number, withdraws_behind}
 use Rattle.rtps_evidence.specs.Received.{is_received, withdraws}
 use Rattle.rtps_evidence.specs.declared.amount.Stretch.{Stretch}
 use Rattle.rtps_evidence.specs.declared.first_missed.FirstMissed.{FirstMissed}
 use Rattle.rtps_evidence.specs.declared.teller.Teller.{Teller}
 use Rattle.rtps_evidence.specs.declared.location.Location.{Location}
-use Rattle.rtps_evidence.proofs.ClaimedLemmas.{sender, withdrawer}
+use Rattle.rtps_evidence.proofs.ClaimedLemmas.{withdrawer}
 use Rattle.rtps_evidence.proofs.CountLemmas.{count_same}
 use Rattle.rtps_evidence.proofs.FindLemmas.{any_and, any_filter, find_filter}
 use Rattle.rtps_evidence.proofs.NotReceivedLemmas.{least_found, least_none}
@@ -138,7 +139,7 @@ turned false s false = refl
 
 -- what is received is not missed
 pub received_not_missed : (place : Option Location) (writer reader : Guid) (placed : List PlacedValue) (n : ℕ) → not (is_received writer reader placed n) ≡ false → false ≡ is_missed place writer reader placed n
-received_not_missed place writer reader placed n received = sym (ap (λ b. b && (list_any (asks_for writer reader n) placed && list_any (sends_behind place writer reader n) placed)) received)
+received_not_missed place writer reader placed n received = sym (ap (λ b. b && (list_any (asks_for writer reader n) placed && list_any (brings_behind place writer reader n) placed)) received)
 
 -- of the numbers that are asked for, those that are not lacking do not count
 common_same : (some asked sent lacking : Bool) → (lacking ≡ true → some ≡ asked) → (sent ≡ true → lacking ≡ true) → (some && sent) ≡ (asked && sent)
@@ -149,33 +150,39 @@ common_same some asked false lacking same there = none some ∙ sym (none asked)
     none true = refl
     none false = refl
 
+-- what the reader hears of a payload is said by the writer's acts
+bringer : (writer reader : Guid) (n : ℕ) (at : PlacedValue) → brings writer reader n at ≡ true → is_from writer at ≡ true
+bringer writer reader n at is =
+    let said = (parts (is_spoken_by at.act writer && is_heard_by at.act reader) (is_at n (sample_number at.act.body)) is).0 in
+    speaker_is_origin writer at (parts (is_spoken_by at.act writer) (is_heard_by at.act reader) said).0
+
 -- what is sent behind the announcement and not received, and asked for, is missed
 missed_same : (pair : Pair) (placed writer_acts reader_acts : List PlacedValue) (announced : Option Location) (n : ℕ) (lacking asked sent : Bool)
     → writer_acts ≡ filter (is_from pair.writer) placed → reader_acts ≡ filter (is_from pair.reader) placed
     → lacking ≡ not (is_received pair.writer pair.reader placed n)
     → asked ≡ list_any (asks_for pair.writer pair.reader n) reader_acts
-    → sent ≡ list_any (λ at. sends_behind announced pair.writer pair.reader n at && lacking) writer_acts
+    → sent ≡ list_any (λ at. brings_behind announced pair.writer pair.reader n at && lacking) writer_acts
     → (asked && sent) ≡ is_missed announced pair.writer pair.reader placed n
 missed_same pair placed writer_acts reader_acts announced n lacking asked sent of_writer of_reader known asks sends_it =
     ap (λ b. b && sent) (asks ∙ ap (list_any (asks_for pair.writer pair.reader n)) of_reader ∙ any_filter (asks_for pair.writer pair.reader n) (is_from pair.reader)
     (λ at passes. answerer_is_origin pair.reader pair.writer at (parts (is_answer at.act pair.reader pair.writer) (is_in_set at.act.body n) passes).0) placed)
     ∙ ap (λ b. list_any (asks_for pair.writer pair.reader n) placed && b)
-    (sends_it ∙ any_and (sends_behind announced pair.writer pair.reader n) lacking writer_acts
-    ∙ ap (λ b. b && lacking) (ap (list_any (sends_behind announced pair.writer pair.reader n)) of_writer
-    ∙ any_filter (sends_behind announced pair.writer pair.reader n) (is_from pair.writer) (λ at passes. sender pair.writer pair.reader n at (parts (is_behind announced at) (sends pair.writer pair.reader n at) passes).1) placed))
-    ∙ turned (list_any (asks_for pair.writer pair.reader n) placed) (list_any (sends_behind announced pair.writer pair.reader n) placed) lacking
-    ∙ ap (λ b. b && (list_any (asks_for pair.writer pair.reader n) placed && list_any (sends_behind announced pair.writer pair.reader n) placed)) known
+    (sends_it ∙ any_and (brings_behind announced pair.writer pair.reader n) lacking writer_acts
+    ∙ ap (λ b. b && lacking) (ap (list_any (brings_behind announced pair.writer pair.reader n)) of_writer
+    ∙ any_filter (brings_behind announced pair.writer pair.reader n) (is_from pair.writer) (λ at passes. bringer pair.writer pair.reader n at (parts (is_behind announced at) (brings pair.writer pair.reader n at) passes).1) placed))
+    ∙ turned (list_any (asks_for pair.writer pair.reader n) placed) (list_any (brings_behind announced pair.writer pair.reader n) placed) lacking
+    ∙ ap (λ b. b && (list_any (asks_for pair.writer pair.reader n) placed && list_any (brings_behind announced pair.writer pair.reader n) placed)) known
 
 -- also where what is asked for is only known of what is lacking
 pub missed_some : (pair : Pair) (placed writer_acts reader_acts : List PlacedValue) (announced : Option Location) (n : ℕ) (lacking asked sent : Bool)
     → writer_acts ≡ filter (is_from pair.writer) placed → reader_acts ≡ filter (is_from pair.reader) placed
     → lacking ≡ not (is_received pair.writer pair.reader placed n)
     → (lacking ≡ true → asked ≡ list_any (asks_for pair.writer pair.reader n) reader_acts)
-    → sent ≡ list_any (λ at. sends_behind announced pair.writer pair.reader n at && lacking) writer_acts
+    → sent ≡ list_any (λ at. brings_behind announced pair.writer pair.reader n at && lacking) writer_acts
     → (asked && sent) ≡ is_missed announced pair.writer pair.reader placed n
 missed_some pair placed writer_acts reader_acts announced n lacking asked sent of_writer of_reader known asks sends_it =
     common_same asked (list_any (asks_for pair.writer pair.reader n) reader_acts) sent lacking asks
-    (λ is. (parts (list_any (sends_behind announced pair.writer pair.reader n) writer_acts) lacking (sym (any_and (sends_behind announced pair.writer pair.reader n) lacking writer_acts) ∙ sym sends_it ∙ is)).1)
+    (λ is. (parts (list_any (brings_behind announced pair.writer pair.reader n) writer_acts) lacking (sym (any_and (brings_behind announced pair.writer pair.reader n) lacking writer_acts) ∙ sym sends_it ∙ is)).1)
     ∙ missed_same pair placed writer_acts reader_acts announced n lacking (list_any (asks_for pair.writer pair.reader n) reader_acts) sent of_writer of_reader known refl sends_it
 
 -- ---- counted, and the least of them

@@ -5,7 +5,7 @@ use Rattle.std.specs.List.{find, list_any}
 use Rattle.std.specs.Option.{option_map}
 use Rattle.rtps_ids.specs.NumberSet.{is_member}
 use Rattle.rtps_ids.specs.declared.identity.Guid.{Guid}
-use Rattle.rtps_receiver.specs.Speech.{is_answer}
+use Rattle.rtps_receiver.specs.Speech.{is_answer, is_heard_by, is_spoken_by}
 use Rattle.rtps_receiver.specs.Values.{ActBodyValue}
 use Rattle.rtps_receiver.specs.Values.ActBodyValue.{Data, Heartbeat, AckNack, Gap, DataFrag}
 use Rattle.rtps_discovery.specs.Endpoint.{EndpointValue}
@@ -13,7 +13,8 @@ use Rattle.rtps_discovery.specs.Notice.{announcement_of as notice_of, endpoint_i
 use Rattle.rtps_audit.specs.Placed.{PlacedValue, is_guid}
 use Rattle.rtps_audit.specs.declared.announced_places.AnnouncedPlace.{AnnouncedPlace}
 use Rattle.rtps_evidence.specs.Amount.{count_in}
-use Rattle.rtps_evidence.specs.Locations.{find_last, is_behind, location_of, sends, teller_at}
+use Rattle.rtps_evidence.specs.Claimed.{is_at}
+use Rattle.rtps_evidence.specs.Locations.{find_last, is_behind, location_of, teller_at}
 use Rattle.rtps_evidence.specs.Received.{is_received, least_in, withdraws}
 use Rattle.rtps_evidence.specs.declared.location.Location.{Location}
 use Rattle.rtps_evidence.specs.declared.first_missed.FirstMissed.{FirstMissed}
@@ -50,15 +51,27 @@ abbrev pub first_place : List AnnouncedPlace → Option Location
 first_place [] = None
 first_place (place ∷ places) = Some (record { datagram = place.datagram; at = place.at })
 
--- the reader hears a payload for n from the writer, behind a place
-abbrev pub sends_behind : Option Location → Guid → Guid → ℕ → PlacedValue → Bool
-sends_behind place writer reader n placed = is_behind place placed && sends writer reader n placed
+-- the number of the sample of which an act has the payload, or fragments
+abbrev pub sample_number : ActBodyValue → Option ℕ
+sample_number (Data value) = Some value.number
+sample_number (DataFrag value) = Some value.number
+sample_number (Heartbeat value) = None
+sample_number (AckNack value) = None
+sample_number (Gap value) = None
 
--- n is missed: it is not received, the reader says that it lacks n, and of n a payload that the reader hears stands behind this
--- place, the first announcement of the reader
+-- the reader hears from the writer a payload for n, or fragments of one
+abbrev pub brings : Guid → Guid → ℕ → PlacedValue → Bool
+brings writer reader n placed = (is_spoken_by placed.act writer && is_heard_by placed.act reader) && is_at n (sample_number placed.act.body)
+
+-- the same behind a place
+abbrev pub brings_behind : Option Location → Guid → Guid → ℕ → PlacedValue → Bool
+brings_behind place writer reader n placed = is_behind place placed && brings writer reader n placed
+
+-- n is missed: it is not received, the reader says that it lacks n, and of n a payload that the reader hears, or fragments of one,
+-- stand behind this place, the first announcement of the reader
 abbrev pub is_missed : Option Location → Guid → Guid → List PlacedValue → ℕ → Bool
 is_missed place writer reader acts n =
-    not (is_received writer reader acts n) && (list_any (asks_for writer reader n) acts && list_any (sends_behind place writer reader n) acts)
+    not (is_received writer reader acts n) && (list_any (asks_for writer reader n) acts && list_any (brings_behind place writer reader n) acts)
 
 -- these numbers have n
 abbrev pub numbers_have : List ℕ → ℕ → Bool

@@ -6,13 +6,12 @@ ghost use Rattle.rtps_audit.specs.Intake.{Intake};
 ghost use Rattle.rtps_audit.specs.Placed.{placed_in, placed_value};
 ghost use Rattle.rtps_evidence.specs.Amount.{stretches_have};
 ghost use Rattle.rtps_evidence.specs.Claimed.{is_at};
-ghost use Rattle.rtps_evidence.specs.Missed.{asks_for, first_place as first_place_lem, is_missed, numbers_have, place_announced, sends_behind};
+ghost use Rattle.rtps_evidence.specs.Missed.{asks_for, brings, brings_behind, first_place as first_place_lem, is_missed, numbers_have, place_announced};
 ghost use Rattle.rtps_evidence.specs.Received.{is_received};
 ghost use Rattle.rtps_evidence.specs.Rising.{AreRising};
 
 use crate::amount::Stretch;
 use crate::location::{Location, is_behind};
-use crate::received::number_sent;
 use crate::rising::{end_at, rising};
 use rtps_audit::{AnnouncedPlace, Index, Placed};
 use rtps_discovery::Pair;
@@ -116,18 +115,32 @@ fn lacking_among(
     Ok(some)
 }
 
-/// The number of the payload that the reader hears by an act behind its announcement.
+/// The number of the payload that the pair's reader hears by an act, or of which it hears fragments.
+fn number_brought(placed: &Placed<'_>, pair: Pair) -> Option<u64>
+    ensures { (n : ℕ) → brings pair.writer pair.reader n (placed_value placed.now) ≡ is_at n result }
+{
+    if !placed.act.spoken_by(pair.writer) || !placed.act.heard_by(pair.reader) {
+        return None;
+    }
+    match &placed.act.body {
+        ActBody::Data(data) => Some(data.number.get().cast_unsigned()),
+        ActBody::DataFrag(fragment) => Some(fragment.number.get().cast_unsigned()),
+        _ => None,
+    }
+}
+
+/// The same of an act behind the reader's announcement.
 fn number_behind(placed: &Placed<'_>, listener: &Listener) -> Option<u64>
-    ensures { (n : ℕ) → sends_behind listener.now.announced listener.now.pair.writer listener.now.pair.reader n (placed_value placed.now) ≡ is_at n result }
+    ensures { (n : ℕ) → brings_behind listener.now.announced listener.now.pair.writer listener.now.pair.reader n (placed_value placed.now) ≡ is_at n result }
 {
     if is_behind(listener.announced, placed) {
-        number_sent(placed, listener.pair)
+        number_brought(placed, listener.pair)
     } else {
         None
     }
 }
 
-/// Appends the number of a payload that the reader hears behind its announcement, where these have it. After `Memory` the
+/// Appends the number that an act behind the reader's announcement brings it, where these have it. After `Memory` the
 /// numbers are of no use.
 fn push_sent(
     numbers: &mut Vec<u64>,
@@ -137,7 +150,7 @@ fn push_sent(
 ) -> Result<(), Memory>
     requires { AreRising lacking.now }
     ensures { OnOk result ((n : ℕ) → numbers_have numbers.new.items n ≡ (numbers_have numbers.old.items n
-        || (sends_behind listener.now.announced listener.now.pair.writer listener.now.pair.reader n (placed_value placed.now)
+        || (brings_behind listener.now.announced listener.now.pair.writer listener.now.pair.reader n (placed_value placed.now)
         && stretches_have lacking.now n))) }
 {
     let Some(number) = number_behind(placed, listener) else {
@@ -149,7 +162,7 @@ fn push_sent(
     Ok(())
 }
 
-/// The numbers of the payloads that the reader hears behind its announcement by these acts, of those that it lacks.
+/// The numbers that these acts bring the reader behind its announcement, of those that it lacks.
 fn sent_lacking(
     alloc: Global,
     acts: &[Placed<'_>],
@@ -158,7 +171,7 @@ fn sent_lacking(
 ) -> Result<Vec<u64>, Memory>
     requires { AreRising lacking.now }
     ensures { IfOk result (λ numbers. (n : ℕ) → numbers_have numbers.items n
-        ≡ list_any (λ at. sends_behind listener.now.announced listener.now.pair.writer listener.now.pair.reader n at
+        ≡ list_any (λ at. brings_behind listener.now.announced listener.now.pair.writer listener.now.pair.reader n at
         && stretches_have lacking.now n) (map placed_value acts.now)) }
 {
     let mut numbers = Vec::new(alloc);

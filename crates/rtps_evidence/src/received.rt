@@ -19,7 +19,7 @@ use rtps_receiver::ActBody;
 use std::alloc::Global;
 
 /// The number of the payload that the pair's reader hears by an act.
-pub(crate) fn number_sent(placed: &Placed<'_>, pair: Pair) -> Option<u64>
+fn number_sent(placed: &Placed<'_>, pair: Pair) -> Option<u64>
     ensures number { (n : ℕ) → sends pair.writer pair.reader n (placed_value placed.now) ≡ is_at n result }
     ensures in_range { IfSome result (λ number. number < 2 ^ 63) }
 {
