@@ -57,8 +57,15 @@ def heartbeat(first, last):
     return b'RTPS\2\5\0\0' + A + b'\7\0\0\x1c' + bytes(4) + WRITER + u('be', 8, first) + u('be', 8, last) + u('be', 4, 1)
 
 
-def answer(base):
-    return b'RTPS\2\5\0\0' + B + b'\x0e\0\0\x0c' + A + b'\6\0\0\x18' + READER + WRITER + u('be', 8, base) + bytes(8)
+def answer(base, asked=b''):
+    """an ACKNACK; the words that are asked hold one bit, for the base"""
+    numbers = u('be', 8, base) + u('be', 4, len(asked) // 4) + asked
+    body = READER + WRITER + numbers + bytes(4)
+    return b'RTPS\2\5\0\0' + B + b'\x0e\0\0\x0c' + A + b'\6\0' + u('be', 2, len(body)) + body
+
+
+def asking(base):
+    return answer(base, b'\x80\0\0\0')
 
 
 def agrees(tests, name, octets, first=None):
@@ -125,21 +132,46 @@ def of_captures(tests):
     print('reports: 4 with and without ignored frames')
 
 
+def suite_of(output):
+    """what examples/junit.py makes of a report: how many tests, how many of them fail, and its status; and the last failure"""
+    script = os.path.join(ROOT, 'examples', 'junit.py')
+    made = subprocess.run([sys.executable, script], input=output.encode(), capture_output=True)
+    suite = xml.etree.ElementTree.fromstring(made.stdout)
+    failures = suite.findall('testcase/failure')
+    return (len(suite.findall('testcase')), len(failures), made.returncode), failures[-1].get('message') if failures else None
+
+
 def of_junit(tests):
-    """what examples/junit.py makes of a report"""
+    """what examples/junit.py makes of the reports of `audit` and of `check`"""
     for name, octets in recordings():
         if not name.startswith('examples/'):
             continue
         output, _, status = tests.run('json', octets)
-        script = os.path.join(ROOT, 'examples', 'junit.py')
-        made = subprocess.run([sys.executable, script], input=output.encode(), capture_output=True)
-        suite = xml.etree.ElementTree.fromstring(made.stdout)
+        rows = json.loads(output)['pairs']
+        failures = sum(row['verdict'] != 'complete' for row in rows)
+        tests.holds(f'junit.py of {name}', (len(rows), failures, status), suite_of(output)[0])
+        output, status = reference.check(octets, reference.Asked(), True)
         report = json.loads(output)
-        failures = sum(row['verdict'] != 'complete' for row in report['pairs'])
-        tests.holds(f'junit.py of {name}', (len(report['pairs']), failures, status),
-                    (len(suite.findall('testcase')), len(suite.findall('testcase/failure')), made.returncode))
+        failures = sum(row['verdict'] != 'complete' or row['missed'] > 0 for row in report['pairs'])
+        other = any('complete' not in reason and 'missed' not in reason for reason in report['because'])
+        tests.holds(f'junit.py of {name}, checked', (len(report['pairs']) + other, failures + other, status), suite_of(output)[0])
     print('reports: those of examples/ in the form of JUnit')
 
 
+def of_other_reasons(tests):
+    """examples/junit.py where `check` gives reasons beside its pairs: one more test, which fails with all of them"""
+    pose, alone = file_of('examples', 'pose.rec'), text_of(pair()[:1])
+    dropped = text_of([*pair(), data(1), data(2), heartbeat(1, 2), asking(2), heartbeat(3, 2), answer(3)])
+    for name, octets, expected, wanted, told in (
+            ('one row of two', pose, 2, (2, 1, 1), '1 pair of 2 expected'),
+            ('no row', alone, None, (1, 1, 1), 'there is no pair'),
+            ('no row of three', alone, 3, (1, 1, 1), 'there is no pair; 0 pairs of 3 expected'),
+            ('missed', dropped, None, (1, 1, 1), 'complete 2, missed 1'),
+            ('missed, and one row of two', dropped, 2, (2, 2, 1), '1 pair of 2 expected; 1 number was missed in 1 pair')):
+        output, _ = reference.check(octets, reference.Asked(expect=expected), True)
+        tests.holds(f'junit.py, {name}', (wanted, told), suite_of(output))
+    print('reports: 5 in the form of JUnit with other reasons')
+
+
 if __name__ == '__main__':
-    sys.exit(program.main(__doc__, [of_recordings, of_names, of_great_numbers, of_statuses, of_captures, of_junit]))
+    sys.exit(program.main(__doc__, [of_recordings, of_names, of_great_numbers, of_statuses, of_captures, of_junit, of_other_reasons]))

@@ -1,4 +1,5 @@
 pub mod CellLemmas
 pub mod CheckedLemmas
 pub mod CommaLemmas
+pub mod ReasonLemmas
 pub mod TopicLemmas

@@ -220,7 +220,7 @@ fn text_of(alloc: Global, checked: &Checked<'_, '_>, ending: Ending) -> Result<S
 }
 
 /// The number from which on is asked.
-fn first_asked(asked: &Asked<'_>) -> u64
+pub(crate) fn first_asked(asked: &Asked<'_>) -> u64
     ensures { result ≡ asked.now.from }
 {
     asked.from.get().cast_unsigned()

@@ -4,8 +4,10 @@
 mod advice;
 mod by_topic;
 mod causes;
+mod checked_json;
 mod checked_text;
 mod grouped_number;
+pub mod laws;
 mod notes;
 mod parted;
 mod sections;
@@ -13,4 +15,5 @@ mod table;
 mod topic_table;
 mod totals;
 
+pub use checked_json::check_json;
 pub use checked_text::check_text;

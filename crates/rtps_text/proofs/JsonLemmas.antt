@@ -2,15 +2,17 @@
 use Rattle.std.proofs.Common.{◌≡◌, ◌++◌, ◌∷◌, [], ◌∙◌, ◌+◌, ◌<◌, ◌≤◌, ◌^◌, ◌%◌, ◌==◌, ℕ, List, Option, None, Some, ap, append_assoc, append-nil, arith, cond, decimal, drop, false, get_or, length, map, option_and_then, refl, suc, sym, zero}
 use Rattle.std.proofs.lemmas.Bool.{and_from, le-leb, ne_eqb}
 use Rattle.std.proofs.lemmas.Fmt.{decimal_by_steps_wide, decimal_digit, decimal_is_IsNumeral_wide}
+use Rattle.std.proofs.lemmas.List.Concat.{flat_map-append}
+use Rattle.std.proofs.lemmas.List.Folds.{flat_map-map}
 use Rattle.std.proofs.lemmas.List.{drop_all, get_or_append_left, length-append}
 use Rattle.std.proofs.lemmas.Str.Parse.{digit_at}
 use Rattle.std.specs.Char.{is_ascii_digit}
 use Rattle.std.specs.List.{flat_map, prefix_len}
 use Rattle.json.proofs.Printed.Trees.{value-json_tokens}
-use Rattle.json.specs.Json.{document, if_last, max_depth, value}
+use Rattle.json.specs.Json.{Json, document, if_last, max_depth, value}
 use Rattle.json.specs.Lex.{tokens}
 use Rattle.json.specs.Print.{IsNumber, print}
-use Rattle.json.specs.Token.{begin_object, end_array, end_object, key}
+use Rattle.json.specs.Token.{begin_array, begin_object, end_array, end_object, key}
 use Rattle.json.specs.Tree.{depth, items_depth, items_tokens, json_tokens, members_depth, members_tokens}
 use Rattle.json.specs.Word.{after_exponent, after_fraction, after_number, after_whole, head}
 use Rattle.rtps_audit.specs.declared.report.Counts.{Counts}
@@ -29,7 +31,7 @@ use Rattle.rtps_wire.specs.Values.{PayloadValue}
 use Rattle.rtps_wire.specs.Values.PayloadValue.{Absent, Whole, Key}
 use Rattle.rtps_text.specs.Recording.{RecordingValue}
 use Rattle.rtps_text.specs.declared.recording.Reasons.{Reasons}
-use Rattle.rtps_text.specs.JsonText.{Member, announcement_json, claim_json, counts_members, delivery_members, evidence_members, first_missed_members, ignored_members, items_of, members_of, not_received_json, object_of, pair_members, payload_members, place_json, place_members, reasons_members, report_json, row_json, sent_json, shown_members, teller_json, tokens_of, tokens_of_member, verdict_members}
+use Rattle.rtps_text.specs.JsonText.{Member, announcement_json, array_of, audit_members, claim_json, counts_members, delivery_members, evidence_members, first_missed_members, ignored_members, items_of, members_of, not_received_json, object_of, pair_members, payload_members, place_json, place_members, reasons_members, report_json, row_json, sent_json, shown_members, teller_json, tokens_of, tokens_of_member, verdict_members}
 
 -- ---- tokens
 
@@ -51,12 +53,24 @@ row_tokens a b c d e =
     ∙ ap (λ rest. tokens_of a ++ rest) (front b (c ++ (d ++ e))
     ∙ ap (λ rest. tokens_of b ++ rest) (front c (d ++ e) ∙ ap (λ rest. tokens_of c ++ rest) (front d e ∙ ap (λ rest. tokens_of d ++ rest) (whole e)))))
 
--- an object of a member and three parts
-pub report_tokens : (a : Member) (b c d : List Member)
-    → json_tokens (object_of (a ∷ (b ++ (c ++ d)))) ≡ begin_object ∷ (tokens_of_member a ++ (tokens_of b ++ (tokens_of c ++ (tokens_of d ++ end_object ∷ []))))
-report_tokens (name, json) b c d =
-    ap (λ rest. begin_object ∷ key name ∷ (json_tokens json ++ rest))
-    (front b (c ++ d) ∙ ap (λ rest. tokens_of b ++ rest) (front c d ∙ ap (λ rest. tokens_of c ++ rest) (whole d)))
+-- a member and three parts
+pub audit_tokens : (a : Member) (b c d : List Member) → tokens_of (a ∷ (b ++ (c ++ d))) ≡ tokens_of_member a ++ (tokens_of b ++ (tokens_of c ++ tokens_of d))
+audit_tokens a b c d =
+    ap (λ rest. tokens_of_member a ++ rest)
+    (flat_map-append tokens_of_member b (c ++ d) ∙ ap (λ rest. tokens_of b ++ rest) (flat_map-append tokens_of_member c d))
+
+-- an object
+pub object_tokens : (members : List Member) → json_tokens (object_of members) ≡ begin_object ∷ (tokens_of members ++ end_object ∷ [])
+object_tokens members = ap (λ rest. begin_object ∷ rest) (whole members)
+
+list_tokens : (values : List Json) → items_tokens (items_of values) ≡ flat_map json_tokens values ++ end_array ∷ []
+list_tokens [] = refl
+list_tokens (value ∷ values) =
+    ap (λ rest. json_tokens value ++ rest) (list_tokens values) ∙ sym (append_assoc (json_tokens value) (flat_map json_tokens values) (end_array ∷ []))
+
+-- an array of values that are made alike
+pub mapped_tokens : {X : Type 0} (f : X → Json) (xs : List X) → json_tokens (array_of (map f xs)) ≡ begin_array ∷ (flat_map (λ x. json_tokens (f x)) xs ++ end_array ∷ [])
+mapped_tokens f xs = ap (λ rest. begin_array ∷ rest) (list_tokens (map f xs) ∙ ap (λ rest. rest ++ end_array ∷ []) (flat_map-map json_tokens f xs))
 
 -- the array of rows
 pub rows_tokens : (rows : List Explanation)
@@ -148,23 +162,22 @@ reasons_within : (reasons : Option Reasons) → members_depth (members_of (reaso
 reasons_within None = omega arith
 reasons_within (Some reasons) = omega arith
 
-pub report_depth : (rows : List ExplanationValue) (counts : Counts) (recording : RecordingValue) → depth (report_json rows counts recording) ≤ 5
-report_depth rows counts recording =
+pub audit_depth : (rows : List ExplanationValue) (counts : Counts) (recording : RecordingValue) → members_depth (members_of (audit_members rows counts recording)) ≤ 4
+audit_depth rows counts recording =
     let frames = joined 0 (ignored_members recording.ignored) (reasons_members recording.reasons) (ignored_within recording.ignored) (reasons_within recording.reasons) in
     let last = joined 0 (counts_members counts) (ignored_members recording.ignored ++ reasons_members recording.reasons) (omega arith) frames in
     omega (arith, rows_within rows, last)
 
-report_within : (rows : List ExplanationValue) (counts : Counts) (recording : RecordingValue) → depth (report_json rows counts recording) ≤ max_depth
+pub report_depth : (rows : List ExplanationValue) (counts : Counts) (recording : RecordingValue) → depth (report_json rows counts recording) ≤ 5
+report_depth rows counts recording = omega (arith, audit_depth rows counts recording)
+
+pub report_within : (rows : List ExplanationValue) (counts : Counts) (recording : RecordingValue) → depth (report_json rows counts recording) ≤ max_depth
 report_within rows counts recording = omega (arith, report_depth rows counts recording)
 
--- the grammar of JSON reads a report back, where its tokens are read back
-pub report_reads_back : (rows : List ExplanationValue) (counts : Counts) (recording : RecordingValue)
-    → tokens (print (json_tokens (report_json rows counts recording))) ≡ json_tokens (report_json rows counts recording)
-    → document (print (json_tokens (report_json rows counts recording))) ≡ Some (report_json rows counts recording)
-report_reads_back rows counts recording read =
-    let json = report_json rows counts recording in
-    ap (option_and_then (λ p. if_last p.0 p.1))
-    (ap (value max_depth) (read ∙ sym (append-nil (json_tokens json))) ∙ value-json_tokens json max_depth [] (report_within rows counts recording))
+-- the grammar of JSON reads a value back, where its tokens are read back
+pub reads_back : (json : Json) → depth json ≤ max_depth → tokens (print (json_tokens json)) ≡ json_tokens json → document (print (json_tokens json)) ≡ Some json
+reads_back json within read =
+    ap (option_and_then (λ p. if_last p.0 p.1)) (ap (value max_depth) (read ∙ sym (append-nil (json_tokens json))) ∙ value-json_tokens json max_depth [] within)
 
 -- ---- numbers
 

@@ -1,5 +1,5 @@
--- Lemmas for the crates above: where nothing but a number is asked, texts and endings are those by this number; tokens and depth
--- of what is made of members; lists to which parts are appended.
+-- Lemmas for the crates above: where nothing but a number is asked, texts and endings are those by this number; rows that are asked
+-- for are the same where the report is; tokens and depth of what is made of members; lists to which parts are appended.
 use Rattle.std.proofs.Common.{◌∙◌, ℕ, List, ap, ap₂, map, refl, subst, sym}
 use Rattle.rtps_receiver.specs.Acts.{acts_in}
 use Rattle.rtps_audit.specs.declared.report.Counts.{Counts}
@@ -11,7 +11,8 @@ use Rattle.rtps_text.specs.JsonText.{IsJsonLine, IsJsonTextAs, IsJsonTextFrom, r
 use Rattle.rtps_text.specs.Laws.{HaveOneText}
 use Rattle.rtps_text.specs.WhyText.{IsExplainedTextAs, IsExplainedTextFrom, ending_of_rows, explained_text}
 use Rattle.rtps_text.proofs.AskedLemmas.{all_explained, all_rows}
-pub use Rattle.rtps_text.proofs.JsonLemmas.{front, joined, report_depth, whole}
+pub use Rattle.rtps_text.proofs.AskedLemmas.{one_explained}
+pub use Rattle.rtps_text.proofs.JsonLemmas.{audit_depth, front, joined, mapped_tokens, object_tokens, report_depth, whole}
 pub use Rattle.rtps_text.proofs.PartLemmas.{two_parts, three_parts, four_parts, five_parts, six_parts, seven_parts}
 
 pub plainly_audited : (from : ℕ) → HaveOneText (IsAuditedAs (plainly from)) (IsAuditedFrom from)

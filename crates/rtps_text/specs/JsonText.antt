@@ -175,10 +175,14 @@ counts_members counts = (codes "datagrams", count_json counts.datagrams) ∷ (co
 abbrev pub pairs_member : List ExplanationValue → Member
 pairs_member rows = (codes "pairs", array_of (map row_json rows))
 
--- the whole report: the object of these rows and counts, and of the frames of this recording
+-- what `audit --json` tells: these rows and counts, and the frames of this recording
+abbrev pub audit_members : List ExplanationValue → Counts → RecordingValue → List Member
+audit_members rows counts recording =
+    pairs_member rows ∷ (counts_members counts ++ (ignored_members recording.ignored ++ reasons_members recording.reasons))
+
+-- the whole report, as an object
 abbrev pub report_json : List ExplanationValue → Counts → RecordingValue → Json
-report_json rows counts recording =
-    object_of (pairs_member rows ∷ (counts_members counts ++ (ignored_members recording.ignored ++ reasons_members recording.reasons)))
+report_json rows counts recording = object_of (audit_members rows counts recording)
 
 -- the tokens of a member: its name, and those of its value
 abbrev pub tokens_of_member : Member → List Token

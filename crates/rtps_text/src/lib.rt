@@ -22,8 +22,10 @@ pub use text::asked_evidence::{datagrams_of, index_asked, kept_of, rows_asked};
 pub use text::audit_lines::VerdictText;
 pub use text::audit_text::{audit_text, is_complete};
 pub use text::delivery_lines::{AskedLine, QuestionsLine};
-pub use text::json_members::{push_count, push_guid, push_name, push_number, push_text};
-pub use text::json_object::{json_text, push_report};
+pub use text::json_members::{
+    push_count, push_guid, push_name, push_number, push_text, push_texts,
+};
+pub use text::json_object::{json_line, json_text, push_audit_members, push_report};
 pub use text::list_lines::{NameOctets, durability_name, reliability_name, side_name};
 pub use text::list_text::list_text;
 pub use text::show_text::show_text;

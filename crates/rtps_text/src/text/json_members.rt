@@ -1,15 +1,17 @@
 //! Appends members to an object of JSON, and the values that are made of them.
 
-ghost use Rattle.std.specs.Prelude.{◌≡◌, ◌++◌, ◌∷◌, [], OnOk, Some, codes, decimal};
+ghost use Rattle.std.specs.Prelude.{◌≡◌, ◌++◌, ◌∷◌, [], OnOk, Some, codes, decimal, map};
 ghost use Rattle.std.specs.Fmt.{signed_decimal};
 ghost use Rattle.std.specs.List.{flat_map};
 ghost use Rattle.std.specs.Option.{option_map};
+ghost use Rattle.std.specs.String.{string_bytes};
+ghost use Rattle.json.specs.Json.{string};
 ghost use Rattle.json.specs.Token.{key, number as number_token, string as string_token};
 ghost use Rattle.json.specs.Tree.{json_tokens};
 ghost use Rattle.rtps_evidence.specs.Locations.{sent_value};
 ghost use Rattle.rtps_evidence.specs.Explanation.{evidence_value};
 ghost use Rattle.rtps_wire.specs.Values.{payload_value};
-ghost use Rattle.rtps_text.specs.JsonText.{announcement_json, carried_members, claim_json, evidence_members, payload_members, place_json, place_members, sent_json, teller_json, tokens_of};
+ghost use Rattle.rtps_text.specs.JsonText.{announcement_json, array_of, carried_members, claim_json, evidence_members, payload_members, place_json, place_members, sent_json, teller_json, tokens_of};
 ghost use Rattle.rtps_text.specs.ListText.{guid_text, octet_text};
 
 use crate::text::list_lines::NameOctets;
@@ -56,6 +58,30 @@ pub fn push_text(writer: &mut Writer, name: &str, text: &str) -> Result<(), Allo
 {
     writer.key(name)?;
     writer.string(text)
+}
+
+/// Appends texts as the items of an array.
+fn push_items(writer: &mut Writer, texts: &[String]) -> Result<(), AllocError>
+    ensures tokens { OnOk result (writer.new.tokens
+        ≡ writer.old.tokens ++ flat_map (λ text. json_tokens (string (string_bytes text))) texts.now) }
+    ensures before { writer.new.before ≡ writer.old.before }
+{
+    for text in texts {
+        writer.string(text)?;
+    }
+    Ok(())
+}
+
+/// Appends an array of texts.
+pub fn push_texts(writer: &mut Writer, name: &str, texts: &[String]) -> Result<(), AllocError>
+    ensures tokens { OnOk result (writer.new.tokens
+        ≡ writer.old.tokens ++ key name.now ∷ json_tokens (array_of (map string (map string_bytes texts.now)))) }
+    ensures before { writer.new.before ≡ writer.old.before }
+{
+    writer.key(name)?;
+    writer.begin_array()?;
+    push_items(writer, texts)?;
+    writer.end_array()
 }
 
 /// Appends a GUID, which is written to `text` first.

@@ -1,12 +1,13 @@
-ghost use Rattle.std.specs.Prelude.{◌≡◌, ◌++◌, ◌∷◌, [], IfOk, OnOk, codes, map};
+ghost use Rattle.std.specs.Prelude.{◌≡◌, ◌≤◌, ◌++◌, ◌∷◌, [], IfOk, OnOk, codes, map};
 ghost use Rattle.std.specs.Fmt.{signed_decimal};
 ghost use Rattle.std.specs.List.{flat_map};
 ghost use Rattle.std.specs.String.{string_bytes};
+ghost use Rattle.json.specs.Json.{Json, max_depth};
 ghost use Rattle.json.specs.Token.{key, number as number_token, string as string_token};
-ghost use Rattle.json.specs.Tree.{json_tokens};
+ghost use Rattle.json.specs.Tree.{depth, json_tokens};
 ghost use Rattle.rtps_evidence.specs.Explanation.{evidence_value, explanation_value};
 ghost use Rattle.rtps_text.specs.Asked.{asked_value};
-ghost use Rattle.rtps_text.specs.JsonText.{IsJsonLine, IsJsonTextAs, counts_members, ignored_members, pair_members, pairs_member, reasons_members, report_json, row_json, shown_members, tokens_of, tokens_of_member, verdict_members};
+ghost use Rattle.rtps_text.specs.JsonText.{IsJsonLine, IsJsonTextAs, audit_members, counts_members, ignored_members, pair_members, pairs_member, reasons_members, report_json, row_json, shown_members, tokens_of, tokens_of_member, verdict_members};
 
 use crate::asked::Asked;
 use crate::findings::ending_of;
@@ -55,6 +56,15 @@ fn line_of(
 {
     let mut writer = Writer::new(Vec::new(alloc));
     push_report(alloc, &mut writer, explained, recording)?;
+    json_line(writer)
+}
+
+/// The line of the value that was written, and nothing before it.
+pub fn json_line(writer: Writer) -> Result<String, AllocError>
+    requires { writer.before ≡ [] }
+    ensures { (value : Json) → writer.tokens ≡ json_tokens value → depth value ≤ max_depth
+        → IfOk result (λ text. IsJsonLine value (string_bytes text)) }
+{
     let mut text = unsafe { String::from_utf8_unchecked(writer.into_inner()) };
     text.push_str("\n")?;
     Ok(text)
@@ -71,13 +81,27 @@ pub fn push_report(
         ≡ writer.old.tokens ++ json_tokens (report_json (map explanation_value explained.now.rows.items) explained.now.counts recording.now)) }
     ensures before { writer.new.before ≡ writer.old.before }
 {
-    let mut text = String::new(alloc);
     writer.begin_object()?;
+    push_audit_members(alloc, writer, explained, recording)?;
+    writer.end_object()
+}
+
+/// Appends the members of a report's object. After an `Err` what was written is of no use.
+pub fn push_audit_members(
+    alloc: Global,
+    writer: &mut Writer,
+    explained: &Explained<'_>,
+    recording: &Recording,
+) -> Result<(), AllocError>
+    ensures tokens { OnOk result (writer.new.tokens
+        ≡ writer.old.tokens ++ tokens_of (audit_members (map explanation_value explained.now.rows.items) explained.now.counts recording.now)) }
+    ensures before { writer.new.before ≡ writer.old.before }
+{
+    let mut text = String::new(alloc);
     push_pairs(writer, &mut text, &explained.rows)?;
     push_counts(writer, explained.counts)?;
     push_ignored(writer, recording.ignored())?;
-    push_reasons(writer, recording.reasons())?;
-    writer.end_object()
+    push_reasons(writer, recording.reasons())
 }
 
 /// Appends the array of rows. Names are written to `text` first.

@@ -1,26 +1,19 @@
-use Rattle.std.proofs.Common.{◌++◌, ◌∷◌, [], ◌∙◌, ap, map, sym}
+use Rattle.std.proofs.Common.{◌++◌, ◌∷◌, [], ◌∙◌, List, ap, map, sym}
 use Rattle.std.proofs.lemmas.Result.{on_ok_weaker}
-use Rattle.json.specs.Token.{begin_object, end_object}
-use Rattle.json.specs.Tree.{json_tokens}
+use Rattle.json.specs.Token.{Token, begin_object, end_object}
 use Rattle.rtps_evidence.specs.Explanation.{explanation_value}
-use Rattle.rtps_text.specs.JsonText.{counts_members, ignored_members, pairs_member, reasons_members, report_json, tokens_of, tokens_of_member}
-use Rattle.rtps_text.proofs.JsonLemmas.{report_tokens}
-use Rattle.rtps_text.proofs.PartLemmas.{six_parts}
+use Rattle.rtps_text.specs.JsonText.{audit_members, tokens_of}
+use Rattle.rtps_text.proofs.JsonLemmas.{object_tokens}
+use Rattle.rtps_text.proofs.PartLemmas.{three_parts}
 use Rattle.rtps_text.proofs.text.json_object.push_report.Goals as goal
 
 pub returns-clause-tokens : goal.returns-clause-tokens
 returns-clause-tokens c =
-    let start = c.args.writer.now.tokens in
-    let pairs = pairs_member (map explanation_value c.deref.result.now) in
-    let counts = counts_members c.args.explained.now.counts in
-    let recording = c.args.recording.now in
-    let ignored = ignored_members recording.ignored in
-    let reasons = reasons_members recording.reasons in
+    let start : List Token = c.args.writer.now.tokens in
+    let explained = c.args.explained.now in
+    let members = audit_members (map explanation_value explained.rows.items) explained.counts c.args.recording.now in
     on_ok_weaker c.end_object.result
     (λ last.
-    six_parts start (begin_object ∷ []) (tokens_of_member pairs) (tokens_of counts) (tokens_of ignored) (tokens_of reasons) (end_object ∷ []) c.in_ok-begin_object.ensures.ok
-    c.in_ok-push_pairs.ensures.tokens c.in_ok-push_counts.ensures.tokens (c.in_ok-push_ignored.ensures.tokens ∙ ap (λ members. c.push_counts.new.writer.tokens ++ tokens_of (ignored_members members)) c.ignored.ensures)
-    (c.in_ok-push_reasons.ensures.tokens ∙ ap (λ members. c.push_ignored.new.writer.tokens ++ tokens_of (reasons_members members)) c.reasons.ensures) last
-    ∙ ap (λ tokens. start ++ tokens) (sym (report_tokens pairs counts ignored reasons))
-    ∙ ap (λ items. start ++ json_tokens (report_json (map explanation_value items) c.args.explained.now.counts recording)) c.deref.ensures.value)
+    three_parts start (begin_object ∷ []) (tokens_of members) (end_object ∷ []) c.in_ok-begin_object.ensures.ok c.in_ok-push_audit_members.ensures.tokens last
+    ∙ ap (λ tokens. start ++ tokens) (sym (object_tokens members)))
     c.end_object.ensures.ok

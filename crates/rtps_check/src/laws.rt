@@ -1,0 +1,20 @@
+//! Laws of the definitions, each the contract of a function that does nothing.
+
+ghost use Rattle.rtps_text.specs.Asked.{AskedValue};
+ghost use Rattle.rtps_text.specs.Laws.{HasOneText};
+ghost use Rattle.rtps_check.specs.CheckJson.{IsCheckedJsonAs};
+ghost use Rattle.rtps_check.specs.Laws.{TellsWhyUnclean};
+
+use rtps_evidence::laws::one_explanation;
+
+/// `check`, as JSON too, ends clean exactly where it gives no reason.
+pub fn unclean_has_a_reason()
+    ensures { TellsWhyUnclean }
+{}
+
+/// What `check --json` prints of a recording, and how its run ends, is decided by the recording and by what is asked.
+pub fn one_json()
+    ensures { (asked : AskedValue) → HasOneText (IsCheckedJsonAs asked) }
+{
+    one_explanation();
+}
