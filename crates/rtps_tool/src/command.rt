@@ -148,7 +148,8 @@ const ANY_HELP: &str =
     "Read any capture: pcapng, Linux cooked, loopback and raw IP frames, VLAN tags, IPv6, \
     and packets that came in fragments";
 
-const FRAGMENTS_HELP: &str = "Read samples that were sent in DATA_FRAG, which are skipped otherwise";
+const FRAGMENTS_HELP: &str =
+    "Read samples that were sent in DATA_FRAG, which are skipped otherwise";
 
 const FROM_HELP: &str = "The first number to ask for, 1 to 9223372036854775807; \
     smaller numbers are left out; 1 if it is not given";
