@@ -127,7 +127,7 @@ def first_lines(rows, left_out):
 
 
 NO_PAIR_SEEN = 'record where the datagrams of the readers and the writers pass, and switch off shared memory'
-NO_PAIR = 'record from before the start; rtps-audit list prints the writers, the readers and which of them match'
+NO_PAIR = 'record from before the start, and see in rtps-audit list --any whether topic, type and QoS of the writers and readers match'
 
 # ---- the table by topic
 
@@ -209,7 +209,7 @@ def left_out_lines(left_out):
 # name, text of one, text of many, what to do
 NOTES = [
     ('unsure', 'number of a complete pair may not have been received', 'numbers of complete pairs may not have been received',
-     'mostly they were: with KEEP_LAST a writer drops samples before it asks; a greater history depth shows it'),
+     'they may have come: with KEEP_LAST a writer drops samples before it asks, and late readers get no older ones; why names the first'),
     ('pieces', 'frame is a fragment of a packet that is not whole', 'frames are fragments of packets that are not whole',
      "record at the writer's side, and see that tcpdump drops nothing: they may have samples or announcements"),
     ('cut', 'frame is cut', 'frames are cut',

@@ -49,7 +49,7 @@ checked_value checked =
 
 -- what to do where there is no pair, by the pairs that are left out
 abbrev pub no_pair_text : List ExplanationValue → List ℕ
-no_pair_text [] = codes "record from before the start; rtps-audit list prints the writers, the readers and which of them match\n"
+no_pair_text [] = codes "record from before the start, and see in rtps-audit list --any whether topic, type and QoS of the writers and readers match\n"
 no_pair_text (row ∷ rows) = codes "record where the datagrams of the readers and the writers pass, and switch off shared memory\n"
 
 -- how many of the pairs are complete

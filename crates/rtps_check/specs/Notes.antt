@@ -73,7 +73,7 @@ refused_words = record { one = codes "datagram is malformed"; many = codes "data
 -- what is said of numbers that nobody missed
 abbrev pub unsure_note : ℕ → List ℕ
 unsure_note number =
-    note number unsure_words (codes "mostly they were: with KEEP_LAST a writer drops samples before it asks; a greater history depth shows it")
+    note number unsure_words (codes "they may have come: with KEEP_LAST a writer drops samples before it asks, and late readers get no older ones; why names the first")
 
 -- of fragments of packets
 abbrev pub pieces_note : ℕ → List ℕ

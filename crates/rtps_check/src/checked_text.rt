@@ -39,7 +39,7 @@ fn push_no_pair_advice(text: &mut String, left_out: &[Explanation<'_>]) -> Resul
 {
     if left_out.is_empty() {
         text.push_str(
-            "record from before the start; rtps-audit list prints the writers, the readers and which of them match\n",
+            "record from before the start, and see in rtps-audit list --any whether topic, type and QoS of the writers and readers match\n",
         )
     } else {
         text.push_str(

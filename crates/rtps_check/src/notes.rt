@@ -187,7 +187,7 @@ pub(crate) fn push_unsure(text: &mut String, number: u128) -> Result<(), AllocEr
         text,
         number,
         unsure_words(),
-        "mostly they were: with KEEP_LAST a writer drops samples before it asks; a greater history depth shows it",
+        "they may have come: with KEEP_LAST a writer drops samples before it asks, and late readers get no older ones; why names the first",
     )
 }
 

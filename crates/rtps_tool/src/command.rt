@@ -166,6 +166,9 @@ const JSON_HELP: &str = "Print one JSON object, with what each verdict rests on"
 const STATUSES: &str = "Status: 0 all is well, also if there is no pair; 1 a pair is not complete; \
     2 the arguments or the recording are refused; 3 input, output or memory failed";
 
+const PLAIN_STATUSES: &str = "Status: 0 all is printed; \
+    2 the arguments or the recording are refused; 3 input, output or memory failed";
+
 const NEWCOMERS: &str = "A FILE is what was sent in a test: a capture, as tcpdump writes it, \
     or a text with one datagram a line in hexadecimal digits.
 
@@ -179,7 +182,7 @@ const NEWCOMERS: &str = "A FILE is what was sent in a test: a capture, as tcpdum
 check reads any capture, and samples in DATA_FRAG. What one usually wants of audit, why and page is
 the same: rtps-audit audit --any --fragments test.pcapng
 
-Status: 0 all is well, also if there is no pair; 1 a pair is not complete; \
+Status: 0 all is well, also if there is no pair, but for check; 1 a pair is not complete, or check is not clean; \
     2 the arguments or the recording are refused; 3 input, output or memory failed";
 
 const CHECKS: &str = "Says which topics lost data, and what to do: for a person and for a test job";
@@ -249,11 +252,12 @@ fn reading_subcommand<'a>(
     alloc: Global,
     name: &'a str,
     about: &'a str,
+    statuses: &'a str,
 ) -> Result<Command<'a>, AllocError>
     ensures app { IfOk result (λ command. app_of command ≡ reading_app name.now) }
     ensures local { IfOk result (λ command. (out-Command command).has_globals ≡ false) }
 {
-    let limited = limited_subcommand(alloc, name, about, STATUSES)?;
+    let limited = limited_subcommand(alloc, name, about, statuses)?;
     limited.arg(flag(alloc, "any", ANY_HELP))
 }
 
@@ -262,11 +266,12 @@ fn fragments_subcommand<'a>(
     alloc: Global,
     name: &'a str,
     about: &'a str,
+    statuses: &'a str,
 ) -> Result<Command<'a>, AllocError>
     ensures app { IfOk result (λ command. app_of command ≡ fragments_app name.now) }
     ensures local { IfOk result (λ command. (out-Command command).has_globals ≡ false) }
 {
-    let reading = reading_subcommand(alloc, name, about)?;
+    let reading = reading_subcommand(alloc, name, about, statuses)?;
     reading.arg(flag(alloc, "fragments", FRAGMENTS_HELP))
 }
 
@@ -293,7 +298,7 @@ fn report_subcommand<'a>(
     ensures local { IfOk result (λ command. (out-Command command).has_globals ≡ false) }
 {
     let from = number_option(alloc, "N", "from", FROM_HELP);
-    let reading = fragments_subcommand(alloc, name, about)?;
+    let reading = fragments_subcommand(alloc, name, about, STATUSES)?;
     let numbered = reading.arg(from)?;
     with_demands(alloc, numbered)
 }
@@ -312,7 +317,9 @@ fn plain_subcommand<'a>(alloc: Global, name: &'a str, about: &'a str) -> Command
     ensures app { app_of result ≡ new_app name.now }
     ensures local { (out-Command result).has_globals ≡ false }
 {
-    Command::new(alloc, name).about(about).after_help(STATUSES)
+    Command::new(alloc, name)
+        .about(about)
+        .after_help(PLAIN_STATUSES)
 }
 
 /// The program, with no subcommand yet.
@@ -332,9 +339,9 @@ fn program<'a>(alloc: Global) -> Result<Command<'a>, AllocError>
 {
     let check = check_subcommand(alloc)?;
     let zero = bare_program(alloc).subcommand(check)?;
-    let show = fragments_subcommand(alloc, "show", SHOWS)?;
+    let show = fragments_subcommand(alloc, "show", SHOWS, PLAIN_STATUSES)?;
     let one = zero.subcommand(show)?;
-    let list = reading_subcommand(alloc, "list", LISTS)?;
+    let list = reading_subcommand(alloc, "list", LISTS, PLAIN_STATUSES)?;
     let two = one.subcommand(list)?;
     let audit = audit_subcommand(alloc)?;
     let three = two.subcommand(audit)?;
