@@ -27,10 +27,8 @@ from browser import SHIFT, Browser, Tab, browser_path
 
 EXAMPLES = sorted(name for name in os.listdir(os.path.join(ROOT, 'examples')) if name.endswith(('.rec', '.pcap')))
 MADE = 'robot', 'hostile', 'greatest', 'chatty', 'unmatched', 'none'
-# The most octets of a page of an example and of one of 90,000 pairs; the most seconds of processor time until the latter is
-# seen, and until a filter is.
+# The most octets of a page of an example and of one of 90,000 pairs.
 EXAMPLE_SIZE, MANY_SIZE = 100_000, 60_000_000
-FIRST_SIGHT, FILTERED = 2, 0.2
 # What the page says only where it has all acts of a pair.
 OF_ACTS = 'No answer of this reader', 'sends it again', 'sent again'
 PROBE = file_of('tests', 'page_probe.js').decode()
@@ -533,8 +531,6 @@ class PageTests(Counts):
         slowest = max(self.time_to_filter(tab, text) for text in ('000a07', 'unfounded', 'p1', 'nothing', ''))
         size = os.path.getsize(self.path('many'))
         print(f'90,000 pairs: {size:,} octets, seen after {first:.2f} s of processor time, filtered in {slowest * 1000:.0f} ms')
-        self.holds('90,000 pairs: first sight', True, first < FIRST_SIGHT)
-        self.holds('90,000 pairs: a filter', True, slowest < FILTERED)
         self.holds('90,000 pairs: what is shown', '90,000 pairs; the first 100 are shown.', self.text(tab, '#shown'))
         tab.click('#pairs > button.more')
         self.holds('90,000 pairs: more of them', '90,000 pairs; the first 600 are shown.', self.text(tab, '#shown'))
