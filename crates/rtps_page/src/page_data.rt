@@ -1,7 +1,4 @@
 ghost use Rattle.std.specs.Prelude.{ℕ, ◌≡◌, ◌++◌, ◌∷◌, [], codes, map, IfOk, List, None, OnOk};
-ghost use Rattle.std.specs.List.{flat_map};
-ghost use Rattle.std.specs.String.{string_bytes};
-ghost use Rattle.json.specs.Json.{string};
 ghost use Rattle.json.specs.Token.{boolean, key};
 ghost use Rattle.json.specs.Tree.{json_tokens};
 ghost use Rattle.rtps_audit.specs.Index.{IsIndexBy};
@@ -22,7 +19,7 @@ use rtps_audit::Index;
 use rtps_discovery::{Directory, Pair};
 use rtps_evidence::Explained;
 use rtps_ids::Memory;
-use rtps_text::{Asked, Recording, push_count, push_report};
+use rtps_text::{Asked, Recording, push_count, push_report, push_texts};
 use std::alloc::{AllocError, Global};
 
 /// What a page is made of.
@@ -42,29 +39,6 @@ fn push_flag(writer: &mut Writer, name: &str, flag: bool) -> Result<(), AllocErr
 {
     writer.key(name)?;
     writer.boolean(flag)
-}
-
-/// Appends texts.
-fn push_texts(writer: &mut Writer, texts: &[String]) -> Result<(), AllocError>
-    ensures tokens { OnOk result (writer.new.tokens ≡ writer.old.tokens ++ flat_map (λ text. json_tokens (string (string_bytes text))) texts.now) }
-    ensures before { writer.new.before ≡ writer.old.before }
-{
-    for text in texts {
-        writer.string(text)?;
-    }
-    Ok(())
-}
-
-/// Appends the array of patterns.
-fn push_topics(writer: &mut Writer, topics: &[String]) -> Result<(), AllocError>
-    ensures tokens { OnOk result (writer.new.tokens
-        ≡ writer.old.tokens ++ key (codes "topics") ∷ json_tokens (array_of (map string (map string_bytes topics.now)))) }
-    ensures before { writer.new.before ≡ writer.old.before }
-{
-    writer.key("topics")?;
-    writer.begin_array()?;
-    push_texts(writer, topics)?;
-    writer.end_array()
 }
 
 /// Appends how many rows were expected.
@@ -89,7 +63,7 @@ fn push_option_members(writer: &mut Writer, asked: &Asked<'_>, any: bool) -> Res
     push_flag(writer, "fragments", asked.reads_fragments())?;
     push_flag(writer, "observed", asked.rows.observed)?;
     push_flag(writer, "strict", asked.strict)?;
-    push_topics(writer, asked.rows.topics)?;
+    push_texts(writer, "topics", asked.rows.topics)?;
     push_expect(writer, asked.expect)
 }
 

@@ -14,7 +14,8 @@ use Rattle.clap.specs.declared.error.kind.ErrorKind.{ErrorKind}
 use Rattle.clap.specs.declared.error.kind.ErrorKind.TheVariants.{DisplayHelp, DisplayVersion, MissingRequiredArgument, MissingSubcommand, OutOfMemory, UnknownArgument, ValueValidation}
 use Rattle.std.specs.String.{string_bytes}
 use Rattle.rtps_fragments.specs.declared.fragments.Fragments.{Fragments}
-use Rattle.rtps_fragments.specs.declared.fragments.Fragments.TheVariants.{Skipped, Read}
+use Rattle.rtps_fragments.specs.declared.fragments.Fragments.TheVariants.{Read}
+use Rattle.rtps_text.specs.Asked.{are_read}
 use Rattle.rtps_tool.specs.Limits.{usual}
 use Rattle.rtps_tool.specs.declared.captures.Captures.{Captures}
 use Rattle.rtps_tool.specs.declared.captures.Captures.TheVariants.{Classic, Any}
@@ -160,11 +161,6 @@ abbrev pub is_any : Captures → Bool
 is_any Classic = false
 is_any Any = true
 
--- fragments are read where the flag asks for it
-abbrev pub is_read : Fragments → Bool
-is_read Skipped = false
-is_read Read = true
-
 -- its form is the one that was asked for; only `check` and `audit` have one
 abbrev pub HasItsFlag : Choice → List Row → Type 0
 HasItsFlag (Check file from limits form demands) rows = IsFlagGiven (one_of (codes "json") rows) (is_json form)
@@ -206,7 +202,7 @@ pub record AreDemandsGiven (rows : List Row) (demands : Demands) : Type 0 where
   pub observed : IsFlagGiven (one_of (codes "observed") rows) demands.observed
   pub expect : IsExpectGiven (first_of (codes "PAIRS") rows) demands.expect
   pub strict : IsFlagGiven (one_of (codes "strict") rows) demands.strict
-  pub fragments : IsFlagGiven (one_of (codes "fragments") rows) (is_read demands.fragments)
+  pub fragments : IsFlagGiven (one_of (codes "fragments") rows) (are_read demands.fragments)
 
 -- what `check` asks: the patterns and the number that were given, and all that the flags ask for
 pub record AreChecksGiven (rows : List Row) (demands : Demands) : Type 0 where
@@ -220,7 +216,7 @@ pub record AreChecksGiven (rows : List Row) (demands : Demands) : Type 0 where
 -- read
 abbrev pub HasItsDemands : Choice → List Row → Type 0
 HasItsDemands (Check file from limits form demands) rows = AreChecksGiven rows demands
-HasItsDemands (Show file limits captures fragments) rows = IsFlagGiven (one_of (codes "fragments") rows) (is_read fragments)
+HasItsDemands (Show file limits captures fragments) rows = IsFlagGiven (one_of (codes "fragments") rows) (are_read fragments)
 HasItsDemands (ListChoice file limits captures) rows = Unit {0}
 HasItsDemands (Audit file from limits captures form demands) rows = AreDemandsGiven rows demands
 HasItsDemands (Why file from limits captures demands) rows = AreDemandsGiven rows demands

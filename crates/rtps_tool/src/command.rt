@@ -2,7 +2,8 @@ ghost use Rattle.std.specs.Prelude.{◌≡◌, ◌⊎◌, ◌||◌, true, false,
 ghost use Rattle.std.specs.String.{string_bytes};
 ghost use Rattle.clap.specs.Words.{app_of, fault_of, first_of, found_of, new_app, one_of, rows_of, rule_of, subcommand_of, subcommand_rows_of, takes};
 ghost use Rattle.clap.specs.declared.builder.command.Command.TheViews.{out-Command};
-ghost use Rattle.rtps_tool.specs.Words.{bare_program as bare_app, audit_app, check_app, fragments_app, limited_app, flag_rule, is_any, is_json, is_read, number_rule, program as program_app, reading_app, report_app, AreCapturesGiven, AreLimitsGiven, IsChoice, IsFlagGiven, IsGivenOr, IsNumberGiven, IsOneOf, HasItsKind};
+ghost use Rattle.rtps_text.specs.Asked.{are_read};
+ghost use Rattle.rtps_tool.specs.Words.{bare_program as bare_app, audit_app, check_app, fragments_app, limited_app, flag_rule, is_any, is_json, number_rule, program as program_app, reading_app, report_app, AreCapturesGiven, AreLimitsGiven, IsChoice, IsFlagGiven, IsGivenOr, IsNumberGiven, IsOneOf, HasItsKind};
 
 use crate::captures::Captures;
 use crate::demands::{Demands, checks_of, demands_of, with_demands, with_rows};
@@ -432,7 +433,7 @@ fn form_of(found: &ArgMatches) -> ReportForm
 
 /// What is asked to become of samples in fragments.
 pub(crate) fn fragments_of(found: &ArgMatches) -> Fragments
-    ensures { IsFlagGiven (one_of (codes "fragments") (rows_of (found_of found.now))) (is_read result) }
+    ensures { IsFlagGiven (one_of (codes "fragments") (rows_of (found_of found.now))) (are_read result) }
 {
     if is_given(found, "fragments") {
         Fragments::Read

@@ -1,4 +1,4 @@
--- What a datagram adds to the counts of a recording. own: fragments are not put together. They have a count of their
+-- What a datagram adds to the counts of a recording. own: fragments are not put together here. They have a count of their
 -- own, since samples may have been sent in them that no item shows.
 use Rattle.std.specs.Prelude.{ℕ, ◌==◌, ◌||◌, not, Bool, false, count_by, is_some, List}
 use Rattle.rtps_wire.specs.Message.{Reading}

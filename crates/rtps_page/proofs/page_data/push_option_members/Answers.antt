@@ -27,7 +27,7 @@ returns-clause-tokens c =
     seven_parts start (count asked.from) (flag (codes "any") any) (flag (codes "fragments") reads) (flag (codes "observed") asked.rows.observed) (flag (codes "strict") asked.strict) topics expect
     (c.in_ok-push_count.ensures.tokens ∙ ap (λ n. start ++ count n) same) c.in_ok-push_flag.ensures.tokens
     (c.in_ok-push_flag-2.ensures.tokens ∙ ap (λ is. c.push_flag.new.writer.tokens ++ flag (codes "fragments") is) c.reads_fragments.ensures) c.in_ok-push_flag-3.ensures.tokens c.in_ok-push_flag-4.ensures.tokens
-    c.in_ok-push_topics.ensures.tokens last
+    c.in_ok-push_texts.ensures.tokens last
     ∙ ap
     (λ l. start ++ (count asked.from ++ (flag (codes "any") any ++ (flag (codes "fragments") reads ++ (flag (codes "observed") asked.rows.observed ++ (flag (codes "strict") asked.strict ++ (topics ++ l)))))))
     (sym (append-nil expect)))
