@@ -3,13 +3,10 @@ ghost use Rattle.rtps_audit.specs.Told.{audiences_of as audiences_of_lem};
 
 use crate::word::add_told;
 use rtps_coverage::{Coverage, MergedRanges, least_outside};
-use rtps_ids::{EntityId, Guid, Memory};
-use rtps_receiver::{Act, Audience};
+use rtps_ids::{Guid, Memory};
+use rtps_receiver::{Act, Audience, EVERY_READER};
 use std::alloc::Global;
 use std::collections::BTreeMap;
-
-/// The entity id that names every reader.
-const UNKNOWN: EntityId = EntityId([0; 4]);
 
 /// The audiences that a reader is of: everyone, its participant, the readers of its entity id, and itself.
 fn audiences_of(reader: Guid) -> [Audience; 4]
@@ -19,11 +16,11 @@ fn audiences_of(reader: Guid) -> [Audience; 4]
     [
         Audience {
             dest: None,
-            reader: UNKNOWN,
+            reader: EVERY_READER,
         },
         Audience {
             dest: participant,
-            reader: UNKNOWN,
+            reader: EVERY_READER,
         },
         Audience {
             dest: None,

@@ -9,12 +9,9 @@ use crate::amount::{AskedNumbers, HeardNumbers};
 use crate::last_announcement::{Announcement, find_announcement, greatest_number};
 use rtps_audit::{Index, Placed};
 use rtps_discovery::Pair;
-use rtps_ids::{EntityId, Guid, Memory, SeqNum};
-use rtps_receiver::Act;
+use rtps_ids::{Guid, Memory, SeqNum};
+use rtps_receiver::{Act, EVERY_READER};
 use std::alloc::Global;
-
-/// The entity id that names every reader (DDSI-RTPS 2.5, 9.3.1.2 "Mapping of the EntityId_t").
-const EVERY_READER: EntityId = EntityId([0; 4]);
 
 /// What a writer says of the numbers that are asked for, as far as it is one for all its readers.
 #[derive(Drop)]

@@ -13,13 +13,10 @@ use crate::entry_counts::has_number;
 use json::Writer;
 use rtps_audit::Placed;
 use rtps_evidence::Location;
-use rtps_ids::{EntityId, NumberSet};
-use rtps_receiver::{ActBody, Audience, FragmentBody};
+use rtps_ids::NumberSet;
+use rtps_receiver::{ActBody, Audience, EVERY_READER, FragmentBody};
 use rtps_wire::HeartbeatBody;
 use std::alloc::AllocError;
-
-/// The entity id that names every reader.
-const EVERY_READER: EntityId = EntityId([0; 4]);
 
 /// Where an act stands, and whom it names.
 #[derive(Clone, Copy)]

@@ -11,6 +11,6 @@ mod walk;
 
 pub use act::{Act, ActBody, FragmentBody};
 pub use receiver::Acts;
-pub use speech::Audience;
+pub use speech::{Audience, EVERY_READER};
 pub use state::State;
 pub use walk::Walk;

@@ -1,8 +1,8 @@
 use crate::act::{Act, ActBody};
 use rtps_ids::{EntityId, Guid, GuidPrefix};
 
-/// The entity id that names every reader.
-const UNKNOWN: EntityId = EntityId([0; 4]);
+/// The entity id that names every reader (DDSI-RTPS 2.5, 9.3.1.2 "Mapping of the EntityId_t").
+pub const EVERY_READER: EntityId = EntityId([0; 4]);
 
 /// The readers that an act of a writer is sent to: of everyone or of one participant, every reader or one (DDSI-RTPS
 /// 2.5, 8.3.4 "The RTPS Message Receiver"). Audiences are ordered by destination, everyone first, and then by the
@@ -11,7 +11,7 @@ const UNKNOWN: EntityId = EntityId([0; 4]);
 pub struct Audience {
     /// The participant, or None for everyone.
     pub dest: Option<GuidPrefix>,
-    /// The reader that is named. Zeros name every reader (9.3.1.2 "Mapping of the EntityId_t").
+    /// The reader that is named; [`EVERY_READER`] names all.
     pub reader: EntityId,
 }
 
@@ -29,7 +29,7 @@ impl Audience {
             None => true,
             Some(prefix) => prefix == reader.prefix,
         };
-        for_it && (self.reader == UNKNOWN || self.reader == reader.entity)
+        for_it && (self.reader == EVERY_READER || self.reader == reader.entity)
     }
 }
 
