@@ -85,16 +85,16 @@ fn push_data(
     state: &State,
     at: usize,
     order: Order,
-    data: &DataBody<'_>,
+    sent: &DataBody<'_>,
 ) -> Result<(), AllocError>
     requires { IsTailIn state.now (string_bytes tail.old) }
-    ensures line { OnOk result (string_bytes text.new ≡ string_bytes text.old ++ data_line state.now at order (data_value data.now)) }
+    ensures line { OnOk result (string_bytes text.new ≡ string_bytes text.old ++ data_line state.now at order (data_value sent.now)) }
     ensures tail { OnOk result (IsTailIn state.now (string_bytes tail.new)) }
 {
-    push_act(text, "data ", at, order, data.reader, data.writer)?;
-    push_field(text, " number ", data.number.get())?;
-    push_field(text, " qos ", qos_octets(&data.qos))?;
-    push_payload(text, data.payload)?;
+    push_act(text, "data ", at, order, sent.reader, sent.writer)?;
+    push_field(text, " number ", sent.number.get())?;
+    push_field(text, " qos ", qos_octets(&sent.qos))?;
+    push_payload(text, sent.payload)?;
     push_tail(text, tail, state)
 }
 
