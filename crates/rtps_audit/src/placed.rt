@@ -85,7 +85,7 @@ fn append_placed<'a>(
 }
 
 /// The first place from this one on whose act is from another GUID; the end, where none is.
-fn run_end(acts: &[Act<'_>], start: usize, origin: Guid) -> usize
+pub(crate) fn run_end(acts: &[Act<'_>], start: usize, origin: Guid) -> usize
     requires { start ≤ length acts.now }
     ensures onward { start ≤ result }
     ensures within { result ≤ length acts.now }
