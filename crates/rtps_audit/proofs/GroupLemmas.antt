@@ -1,5 +1,5 @@
 -- Lists in a map, one of which is written back under its key.
-use Rattle.std.proofs.Common.{◌≡◌, Bool, true, false, cond, List, [], ◌∷◌, ◌++◌, append-nil, Option, Some, None, refl, sym, ap, ◌∙◌}
+use Rattle.std.proofs.Common.{◌≡◌, Bool, true, false, cond, List, [], ◌∷◌, ◌++◌, append-nil, Option, Some, None, IsSome, refl, sym, ap, subst, ◌∙◌}
 use Rattle.std.specs.BTreeMap.{BTreeMap, Updates, get, is_at}
 use Rattle.std.specs.Cmp.{IsTotalOrder}
 use Rattle.std.specs.Global.{Vec}
@@ -56,3 +56,17 @@ list_grown total seen old new key other list added updates grown = entry_grown t
 pub lent_items : {V : Type 0} (found value : Option (Vec V)) (empty list : Vec V) → empty.items ≡ [] → value ≡ found → list ≡ unwrap_or value empty → list.items ≡ items_or_none found
 lent_items found None empty list none same is = ap (λ (l : Vec _). l.items) is ∙ none ∙ ap items_or_none same
 lent_items found (Some held) empty list none same is = ap (λ (l : Vec _). l.items) is ∙ ap items_or_none same
+
+-- the same, where the list was there
+pub list_written : {K V : Type 0} {cmp : K → K → Ordering} (total : IsTotalOrder cmp) {X : Type 0} (seen : List V → List X) (old new : BTreeMap K (Vec V)) (key other : K) (found list : Vec V) (added : List X)
+    → (IsSome (get cmp old key) → Updates cmp old new key (Some list)) → get cmp old key ≡ Some found → seen list.items ≡ seen found.items ++ added
+    → seen (values_at cmp new other) ≡ seen (values_at cmp old other) ++ cond (is_eq (cmp other key)) added []
+list_written total seen old new key other found list added updates there grown =
+    list_grown total seen old new key other list added (updates (subst IsSome (sym there) refl)) (grown ∙ ap (λ o. seen (items_or_none o) ++ added) (sym there))
+
+-- and where there was none
+pub list_begun : {K V : Type 0} {cmp : K → K → Ordering} (total : IsTotalOrder cmp) {X : Type 0} (seen : List V → List X) (old mid new : BTreeMap K (Vec V)) (key other : K) (list : Vec V) (added : List X)
+    → mid ≡ old → Updates cmp mid new key (Some list) → get cmp old key ≡ None → seen list.items ≡ seen [] ++ added
+    → seen (values_at cmp new other) ≡ seen (values_at cmp old other) ++ cond (is_eq (cmp other key)) added []
+list_begun {cmp = cmp} total seen old mid new key other list added same updates none grown =
+    list_grown total seen old new key other list added (subst (λ (m : BTreeMap _ (Vec _)). Updates cmp m new key (Some list)) same updates) (grown ∙ ap (λ o. seen (items_or_none o) ++ added) (sym none))

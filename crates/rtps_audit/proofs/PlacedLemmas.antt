@@ -1,6 +1,8 @@
 -- The acts and answers of one datagram more, by origin and by pair.
-use Rattle.std.proofs.Common.{◌≡◌, ℕ, zero, suc, ℤ, pos, Bool, true, false, cond, ◌&&◌, List, [], ◌∷◌, ◌++◌, length, take, drop, get_or, ◌+◌, ◌-◌, ◌<◌, append_assoc, arith, subst, map, filter, Option, Some, None, refl, sym, ap, ◌∙◌}
+use Rattle.std.proofs.Common.{◌≡◌, ℕ, zero, suc, ℤ, pos, Bool, true, false, cond, ◌&&◌, List, [], ◌∷◌, ◌++◌, length, take, drop, get_or, ◌+◌, ◌-◌, ◌<◌, ◌≤◌, append-nil, append_assoc, arith, subst, map, filter, Option, Some, None, refl, sym, ap, ◌∙◌}
+use Rattle.std.specs.BTreeMap.{BTreeMap, Updates, get}
 use Rattle.std.specs.Cmp.{IsTotalOrder, both_ways}
+use Rattle.std.specs.Global.{Vec}
 use Rattle.std.specs.Prelude.{if◌then◌else◌}
 use Rattle.std.specs.List.{All, AllWithin, cons_option, slice_range}
 use Rattle.std.specs.Option.{unwrap_or}
@@ -8,6 +10,7 @@ use Rattle.std.specs.Ordering.{is_eq, ordering_then}
 use Rattle.std.specs.Str.{bytes_eq}
 use Rattle.std.specs.declared.cmp.Ordering.{Ordering}
 use Rattle.std.specs.declared.cmp.Ordering.TheVariants.{Less, Equal, Greater}
+use Rattle.std.proofs.Math.Seq.{drop-cons, take-add}
 use Rattle.std.proofs.lemmas.Cmp.{nat_list_cmp_total, on_total, then_total}
 use Rattle.std.proofs.lemmas.List.{get_or_default, get_or-drop, get_or-take, length-take, map-append, take_more}
 use Rattle.std.proofs.lemmas.List.Elements.{All-head, All-tail, filter-append, filter_map-append}
@@ -24,10 +27,11 @@ use Rattle.rtps_discovery.specs.GuidOrder.{guid_cmp}
 use Rattle.rtps_discovery.specs.Listings.{pair_cmp}
 use Rattle.rtps_discovery.specs.declared.matching.Pair.{Pair}
 use Rattle.rtps_audit.specs.Groups.{values_at}
-use Rattle.rtps_audit.specs.Placed.{PlacedValue, answer_at, answer_of, answers_among, answers_to, is_from, is_guid, placed_at}
+use Rattle.rtps_audit.specs.Placed.{AddsAnswers, AddsAnswersOf, PlacedValue, answer_at, answer_of, answers_among, answers_to, is_from, is_guid, placed_at}
 use Rattle.rtps_audit.specs.Speech.{base_of_body}
 use Rattle.rtps_audit.specs.declared.answer.Answer.{Answer}
 use Rattle.rtps_audit.specs.declared.groups.Groups.{Groups}
+use Rattle.rtps_audit.proofs.GroupLemmas.{entry_grown}
 
 is_eq-then : (a b : Ordering) → is_eq (ordering_then a b) ≡ is_eq a && is_eq b
 is_eq-then Less b = refl
@@ -181,3 +185,68 @@ pub placed_more : (datagram : ℕ) (acts : List Act) (i : ℕ) (act : Act) → i
     → placed_at datagram (map act_value (take (i + 1) acts)) ≡ placed_at datagram (map act_value (take i acts)) ++ placed_at datagram (act_value act ∷ [])
 placed_more datagram acts i act lt at =
     ap (λ l. placed_at datagram (map act_value l)) (take_more acts i act lt ∙ ap (λ a. take i acts ++ a ∷ []) (sym at)) ∙ ap (placed_at datagram) (map-append act_value (take i acts) _) ∙ map-append _ (map act_value (take i acts)) _
+
+-- ---- answers of one reader
+
+-- one answer more of its reader
+pub AddsAnswersOf-one : (old new : BTreeMap Guid (Vec Answer)) (reader : Guid) (placed : PlacedValue) (found : Pair) (answer : Answer) → found.reader ≡ reader
+    → ((pair : Pair) → answer_of pair placed ≡ cond (is_eq (pair_cmp pair found)) (Some answer) None)
+    → ((writer : Guid) → values_at guid_cmp new writer ≡ values_at guid_cmp old writer ++ cond (is_eq (guid_cmp writer found.writer)) (answer ∷ []) [])
+    → AddsAnswersOf reader old new (placed ∷ [])
+AddsAnswersOf-one old new reader placed found answer of is added = record {
+  own = λ pair e. added pair.writer ∙ ap (λ l. values_at guid_cmp old pair.writer ++ l) (alone (is_eq (guid_cmp pair.writer found.writer)) _ true (its pair ∙ ap (λ b. is_eq (guid_cmp pair.writer found.writer) && b) e) ∙ answer_added _ _ answer (is pair));
+  others = λ pair e. sym (answer_added _ _ answer (is pair)) ∙ nobody (is_eq (guid_cmp pair.writer found.writer)) _ (its pair ∙ ap (λ b. is_eq (guid_cmp pair.writer found.writer) && b) e);
+}
+  where
+    its : (pair : Pair) → is_eq (pair_cmp pair found) ≡ is_eq (guid_cmp pair.writer found.writer) && is_eq (guid_cmp pair.reader reader)
+    its pair = is_eq-then _ _ ∙ ap (λ r. is_eq (guid_cmp pair.writer found.writer) && is_eq (guid_cmp pair.reader r)) of
+
+    alone : (a b c : Bool) → b ≡ a && true → cond a (answer ∷ []) [] ≡ cond b (answer ∷ []) []
+    alone true b c e = ap (λ x. cond x (answer ∷ []) []) (sym e)
+    alone false b c e = ap (λ x. cond x (answer ∷ []) []) (sym e)
+
+    nobody : (a b : Bool) → b ≡ a && false → cond b (answer ∷ []) [] ≡ []
+    nobody true b e = ap (λ x. cond x (answer ∷ []) []) e
+    nobody false b e = ap (λ x. cond x (answer ∷ []) []) e
+
+-- an act that is no answer
+pub AddsAnswersOf-none : (answers : BTreeMap Guid (Vec Answer)) (reader : Guid) (placed : PlacedValue) → ((pair : Pair) → answer_of pair placed ≡ None) → AddsAnswersOf reader answers answers (placed ∷ [])
+AddsAnswersOf-none answers reader placed is = record {
+  own = λ pair e. sym (append-nil _) ∙ ap (λ l. values_at guid_cmp answers pair.writer ++ l) (sym (no_answer pair));
+  others = λ pair e. no_answer pair;
+}
+  where
+    no_answer : (pair : Pair) → answers_among pair (placed ∷ []) ≡ []
+    no_answer pair = ap (λ o. cons_option o []) (is pair)
+
+pub AddsAnswersOf-joined : (reader : Guid) (old mid new : BTreeMap Guid (Vec Answer)) (xs ys : List PlacedValue) → AddsAnswersOf reader old mid xs → AddsAnswersOf reader mid new ys → AddsAnswersOf reader old new (xs ++ ys)
+AddsAnswersOf-joined reader old mid new xs ys one two = record {
+  own = λ pair e. answers_joined pair _ _ _ xs ys (one.own pair e) (two.own pair e);
+  others = λ pair e. filter_map-append (answer_of pair) xs ys ∙ ap (λ l. l ++ answers_among pair ys) (one.others pair e) ∙ two.others pair e;
+}
+
+-- the answers of all readers, where those of one reader were added
+pub answers_of_reader : (old new : BTreeMap Guid (Groups Guid Answer)) (reader : Guid) (lent now empty : Groups Guid Answer) (value : Option (Groups Guid Answer)) (placed : List PlacedValue)
+    → ((writer : Guid) → values_at guid_cmp empty.map writer ≡ []) → value ≡ get guid_cmp old reader → lent ≡ unwrap_or value empty
+    → Updates guid_cmp old new reader (Some now) → AddsAnswersOf reader lent.map now.map placed → AddsAnswers old new placed
+answers_of_reader old new reader lent now empty value placed none same is updates more = λ pair.
+    entry_grown guids_total (λ found. answers_to found pair.writer) old new reader pair.reader now (answers_among pair placed) updates (λ e. more.own pair e ∙ ap (λ l. l ++ answers_among pair placed) (lent_answers pair.writer _ _ _ _ (none pair.writer) same is))
+    ∙ ap (λ l. answers_to (get guid_cmp old pair.reader) pair.writer ++ l) (by_test (is_eq (guid_cmp pair.reader reader)) (more.others pair))
+  where
+    by_test : {xs : List Answer} (b : Bool) → (b ≡ false → xs ≡ []) → cond b xs [] ≡ xs
+    by_test true f = refl
+    by_test false f = sym (f refl)
+
+-- ---- the acts up to a place, and those from there to another
+
+pub one_between : {X : Type 0} (xs : List X) (i : ℕ) (x : X) → i < length xs → x ≡ get_or xs i x → slice_range xs i (i + 1) ≡ x ∷ []
+one_between xs i x lt at = ap (λ n. take n (drop i xs)) one ∙ ap (take 1) (drop-cons xs i x lt) ∙ ap (λ y. y ∷ []) (sym at)
+  where
+    one : i + 1 - i ≡ 1
+    one = omega arith
+
+pub placed_up_to : (datagram : ℕ) (acts : List Act) (start end : ℕ) → start ≤ end → placed_at datagram (map act_value (take end acts)) ≡ placed_at datagram (map act_value (take start acts)) ++ placed_at datagram (map act_value (slice_range acts start end))
+placed_up_to datagram acts start end le = ap (λ l. placed_at datagram (map act_value l)) (sym (sym (take-add start (end - start) acts) ∙ ap (λ n. take n acts) whole)) ∙ placed_both datagram (take start acts) (slice_range acts start end)
+  where
+    whole : start + (end - start) ≡ end
+    whole = omega arith

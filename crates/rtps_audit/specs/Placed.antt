@@ -1,9 +1,10 @@
 -- The acts of a recording, each with the datagram that it stands in. own: what one GUID said stands together, so that a
 -- pair costs no more than what its two said.
-use Rattle.std.specs.Prelude.{ℕ, pos, Bool, ◌+◌, ◌≡◌, ◌&&◌, List, [], ◌∷◌, ◌++◌, filter, map, Option, Some, None}
+use Rattle.std.specs.Prelude.{ℕ, pos, Bool, true, false, ◌+◌, ◌≡◌, ◌&&◌, List, [], ◌∷◌, ◌++◌, filter, map, Option, Some, None}
 use Rattle.std.specs.BTreeMap.{BTreeMap, get}
 use Rattle.std.specs.Global.{Vec}
 use Rattle.std.specs.List.{filter_map}
+use Rattle.std.specs.Ordering.{is_eq}
 use Rattle.rtps_ids.specs.declared.identity.Guid.{Guid}
 use Rattle.rtps_receiver.specs.Speech.{is_entity, is_prefix, origin_of}
 use Rattle.rtps_receiver.specs.Values.{ActValue, act_value}
@@ -74,3 +75,8 @@ answers_kept readers pair = answers_to (get guid_cmp readers pair.reader) pair.w
 -- and so the answers
 abbrev pub AddsAnswers : BTreeMap Guid (Groups Guid Answer) → BTreeMap Guid (Groups Guid Answer) → List PlacedValue → Type 0
 AddsAnswers old new placed = (pair : Pair) → answers_kept new pair ≡ answers_kept old pair ++ answers_among pair placed
+
+-- the lists of a reader have what the old ones have, and then its answers among these acts, which answer for no other reader
+pub record AddsAnswersOf (reader : Guid) (old new : BTreeMap Guid (Vec Answer)) (placed : List PlacedValue) : Type 0 where
+  pub own : (pair : Pair) → is_eq (guid_cmp pair.reader reader) ≡ true → values_at guid_cmp new pair.writer ≡ values_at guid_cmp old pair.writer ++ answers_among pair placed
+  pub others : (pair : Pair) → is_eq (guid_cmp pair.reader reader) ≡ false → answers_among pair placed ≡ []

@@ -1,11 +1,15 @@
-ghost use Rattle.std.specs.Prelude.{◌≡◌, [], ◌∷◌, cond, map, Some, None, MatchOption, OnOk};
+ghost use Rattle.std.specs.Prelude.{◌≡◌, ◌≤◌, ◌<◌, ◌+◌, [], ◌∷◌, cond, length, map, Some, None, All, IfOk, IfSome, MatchOption, OnOk};
+ghost use Rattle.std.specs.List.{slice_range};
 ghost use Rattle.std.specs.Ordering.{is_eq};
+ghost use Rattle.rtps_ids.specs.declared.identity.Guid.{Guid as GuidValue};
+ghost use Rattle.rtps_receiver.specs.Speech.{origin_of};
 ghost use Rattle.rtps_discovery.specs.Listings.{pair_cmp};
 ghost use Rattle.rtps_discovery.specs.declared.matching.Pair.{Pair as PairValue};
 ghost use Rattle.rtps_receiver.specs.Values.{act_value};
-ghost use Rattle.rtps_audit.specs.Placed.{AddsAnswers, answer_of, placed_at};
+ghost use Rattle.rtps_audit.specs.Placed.{AddsAnswers, AddsAnswersOf, answer_of, placed_at};
 
 use crate::groups::Groups;
+use crate::placed::run_end;
 use rtps_discovery::Pair;
 use rtps_ids::{Guid, Memory};
 use rtps_receiver::{Act, ActBody};
@@ -43,11 +47,11 @@ pub(crate) struct Answers {
 }
 
 impl Answers {
-    ghost use Rattle.std.specs.Prelude.{◌≡◌, ◌++◌, ◌∷◌, [], cond, OnOk};
-    ghost use Rattle.std.specs.Ordering.{is_eq};
-    ghost use Rattle.rtps_discovery.specs.Listings.{pair_cmp};
+    ghost use Rattle.std.specs.Prelude.{◌≡◌, [], map, All, OnOk};
+    ghost use Rattle.rtps_receiver.specs.Speech.{origin_of};
+    ghost use Rattle.rtps_receiver.specs.Values.{act_value};
     ghost use Rattle.rtps_discovery.specs.declared.matching.Pair.{Pair as PairValue};
-    ghost use Rattle.rtps_audit.specs.Placed.{answers_kept};
+    ghost use Rattle.rtps_audit.specs.Placed.{AddsAnswers, answers_kept, placed_at};
 
     /// No answers.
     pub(crate) fn new(alloc: Global) -> Self
@@ -59,16 +63,21 @@ impl Answers {
         }
     }
 
-    /// Appends an answer to those of its pair. After `Memory` the answers are of no use.
-    fn push(&mut self, pair: Pair, answer: Answer) -> Result<(), Memory>
-        ensures { OnOk result ((other : PairValue) → answers_kept self.new.readers other
-            ≡ answers_kept self.old.readers other ++ cond (is_eq (pair_cmp other pair)) (answer ∷ []) []) }
+    /// Adds the answers among acts of a reader in a datagram. After `Memory` the answers are of no use.
+    fn note_run(
+        &mut self,
+        reader: Guid,
+        datagram: usize,
+        run: &[Act<'_>],
+    ) -> Result<(), Memory>
+        requires { All (λ act. origin_of (act_value act) ≡ reader) run.now }
+        ensures { OnOk result (AddsAnswers self.old.readers self.new.readers (placed_at datagram (map act_value run.now))) }
     {
         let found = self
             .readers
-            .entry(pair.reader)?
+            .entry(reader)?
             .or_insert(Groups::new(self.alloc));
-        found.push(pair.writer, answer)?;
+        note_answers_of(found, reader, datagram, run)?;
         Ok(())
     }
 
@@ -85,10 +94,11 @@ impl Answers {
 
 /// The answer that an act of a datagram is, and the pair that it is of. None where the act answers nobody.
 fn answer_in(datagram: usize, act: &Act<'_>) -> Option<(Pair, Answer)>
-    ensures { MatchOption result
+    ensures answer { MatchOption result
         ((pair : PairValue) → answer_of pair (record { datagram = datagram; act = act_value act.now }) ≡ None)
         (λ found. (pair : PairValue) → answer_of pair (record { datagram = datagram; act = act_value act.now })
         ≡ cond (is_eq (pair_cmp pair found.0)) (Some found.1) None) }
+    ensures reader { IfSome result (λ found. found.0.reader ≡ origin_of (act_value act.now)) }
 {
     let ActBody::AckNack(ack_nack) = &act.body else {
         return None;
@@ -105,17 +115,60 @@ fn answer_in(datagram: usize, act: &Act<'_>) -> Option<(Pair, Answer)>
     Some((pair, answer))
 }
 
-/// Adds the answer that an act of a datagram is, if it is one. After `Memory` the answers are of no use.
-fn note_answer(answers: &mut Answers, datagram: usize, act: &Act<'_>) -> Result<(), Memory>
-    ensures { OnOk result (AddsAnswers answers.old.readers answers.new.readers (placed_at datagram (act_value act.now ∷ []))) }
+/// Adds the answer that an act of a datagram is, if it is one, to those of its reader. After `Memory` they are of no use.
+fn note_answer(
+    answers: &mut Groups<Guid, Answer>,
+    datagram: usize,
+    act: &Act<'_>,
+) -> Result<(), Memory>
+    ensures { OnOk result (AddsAnswersOf (origin_of (act_value act.now)) answers.old.map answers.new.map
+        (placed_at datagram (act_value act.now ∷ []))) }
 {
     if let Some((pair, answer)) = answer_in(datagram, act) {
-        answers.push(pair, answer)?;
+        answers.push(pair.writer, answer)?;
     }
     Ok(())
 }
 
-/// Adds the answers among the acts of a datagram. After `Memory` the answers are of no use.
+/// Adds the answers among acts of a reader in a datagram to those of the reader. After `Memory` they are of no use.
+fn note_answers_of(
+    answers: &mut Groups<Guid, Answer>,
+    reader: Guid,
+    datagram: usize,
+    run: &[Act<'_>],
+) -> Result<(), Memory>
+    requires { All (λ act. origin_of (act_value act) ≡ reader) run.now }
+    ensures { OnOk result (AddsAnswersOf reader answers.old.map answers.new.map (placed_at datagram (map act_value run.now))) }
+{
+    for act in run {
+        note_answer(answers, datagram, act)?;
+    }
+    Ok(())
+}
+
+/// Adds the answers among the acts from this place on that are from one GUID, and says where these end. An act that is
+/// no answer is passed alone. After `Memory` the answers are of no use.
+fn note_next(
+    answers: &mut Answers,
+    datagram: usize,
+    acts: &[Act<'_>],
+    start: usize,
+) -> Result<usize, Memory>
+    requires { start < length acts.now }
+    ensures end { IfOk result (λ end. (start < end) × (end ≤ length acts.now)) }
+    ensures added { IfOk result (λ end. AddsAnswers answers.old.readers answers.new.readers
+        (placed_at datagram (map act_value (slice_range acts.now start end)))) }
+{
+    let Some((pair, _)) = answer_in(datagram, &acts[start]) else {
+        return Ok(start + 1);
+    };
+    let end = run_end(acts, start + 1, pair.reader);
+    answers.note_run(pair.reader, datagram, &acts[start..end])?;
+    Ok(end)
+}
+
+/// Adds the answers among the acts of a datagram. Those of one reader that follow one another are added at once. After
+/// `Memory` the answers are of no use.
 pub(crate) fn note_answers(
     answers: &mut Answers,
     datagram: usize,
@@ -123,8 +176,9 @@ pub(crate) fn note_answers(
 ) -> Result<(), Memory>
     ensures { OnOk result (AddsAnswers answers.old.readers answers.new.readers (placed_at datagram (map act_value acts.now))) }
 {
-    for act in acts {
-        note_answer(answers, datagram, act)?;
+    let mut start = 0;
+    'runs: while start < acts.len() {
+        start = note_next(answers, datagram, acts, start)?;
     }
     Ok(())
 }

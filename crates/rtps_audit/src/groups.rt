@@ -30,8 +30,13 @@ impl<K: Ord + Copy + Drop, V: Copy + Drop> Groups<K, V> {
         ensures { OnOk result ((other : K) → values_at K.cmp self.new.map other
             ≡ values_at K.cmp self.old.map other ++ cond (is_eq (K.cmp other key)) (value ∷ []) []) }
     {
-        let found = self.map.entry(key)?.or_insert(Vec::new(self.alloc));
-        append(found, value)?;
+        if let Some(found) = self.map.get_mut(&key) {
+            append(found, value)?;
+            return Ok(());
+        }
+        let mut list = Vec::new(self.alloc);
+        append(&mut list, value)?;
+        self.map.insert(key, list)?;
         Ok(())
     }
 

@@ -85,7 +85,7 @@ fn append_placed<'a>(
 }
 
 /// The first place from this one on whose act is from another GUID; the end, where none is.
-fn run_end(acts: &[Act<'_>], start: usize, origin: Guid) -> usize
+pub(crate) fn run_end(acts: &[Act<'_>], start: usize, origin: Guid) -> usize
     requires { start ≤ length acts.now }
     ensures onward { start ≤ result }
     ensures within { result ≤ length acts.now }
@@ -110,11 +110,13 @@ fn note_run<'a>(
         ≡ map placed_value (values_at guid_cmp origins.old.map other)
         ++ cond (is_eq (guid_cmp other origin)) (placed_at datagram (map act_value run.now)) []) }
 {
-    let placed = origins
-        .map
-        .entry(origin)?
-        .or_insert(Vec::new(origins.alloc));
-    append_placed(placed, datagram, run)?;
+    if let Some(placed) = origins.map.get_mut(&origin) {
+        append_placed(placed, datagram, run)?;
+        return Ok(());
+    }
+    let mut placed = Vec::new(origins.alloc);
+    append_placed(&mut placed, datagram, run)?;
+    origins.map.insert(origin, placed)?;
     Ok(())
 }
 

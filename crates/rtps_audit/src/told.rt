@@ -68,11 +68,13 @@ impl Told {
         let Some(audience) = act.audience() else {
             return Ok(());
         };
-        let set = self
-            .sets
-            .entry(audience)?
-            .or_insert(MergedRanges::empty(self.alloc));
-        add_told(set, &act.body)?;
+        if let Some(set) = self.sets.get_mut(&audience) {
+            add_told(set, &act.body)?;
+            return Ok(());
+        }
+        let mut set = MergedRanges::empty(self.alloc);
+        add_told(&mut set, &act.body)?;
+        self.sets.insert(audience, set)?;
         Ok(())
     }
 

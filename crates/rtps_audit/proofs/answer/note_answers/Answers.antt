@@ -1,15 +1,28 @@
-use Rattle.std.proofs.Common.{◌++◌, ◌∙◌, ap, arith, map, subst, sym}
+use Rattle.std.proofs.Common.{◌++◌, ap, append-nil, arith, map, subst, sym, take}
+use Rattle.std.specs.List.{slice_range}
 use Rattle.std.proofs.lemmas.List.{take_all}
 use Rattle.rtps_receiver.specs.Values.{act_value}
-use Rattle.rtps_audit.specs.Placed.{AddsAnswers, answers_among, answers_kept, placed_at}
-use Rattle.rtps_audit.proofs.PlacedLemmas.{answers_joined, placed_more}
+use Rattle.rtps_audit.specs.Placed.{AddsAnswers, placed_at}
+use Rattle.rtps_audit.proofs.PlacedLemmas.{answers_joined, placed_up_to}
 use Rattle.rtps_audit.proofs.answer.note_answers.Goals as goal
 
-pub loop-act-preserved : goal.loop-act-preserved
-loop-act-preserved c = λ pair.
-    answers_joined pair _ _ _ _ _ (c.loop-act.invariant pair) (c.in_ok-note_answer.ensures pair)
-    ∙ ap (λ l. answers_kept c.args.answers.now.readers pair ++ answers_among pair l) (sym (placed_more c.args.datagram c.args.acts.now c.loop-act.act-index _ c.loop-act-test.true c.act-item.is))
+pub runs-init : goal.runs-init
+runs-init c = record {
+  within = omega arith;
+  added = λ pair. sym (append-nil _);
+}
+
+pub runs-preserved : goal.runs-preserved
+runs-preserved c =
+    let acts = c.args.acts.now in
+    let start = c.runs.start in
+    let end = c.in_ok-start.start in
+    record {
+      within = c.in_ok-start.ensures.end.1;
+      added = subst (AddsAnswers c.args.answers.now.readers c.note_next.new.answers.readers) (sym (placed_up_to c.args.datagram acts start end (omega (arith, c.in_ok-start.ensures.end.0))))
+          (λ pair. answers_joined pair _ _ _ _ _ (c.runs.invariant.added pair) (c.in_ok-start.ensures.added pair));
+    }
 
 pub returns : goal.returns
 returns c =
-    subst (λ l. AddsAnswers c.args.answers.now.readers c.loop-act.answers.readers (placed_at c.args.datagram (map act_value l))) (take_all c.loop-act.act-index c.args.acts.now (omega (arith, c.loop-act-test.false))) c.loop-act.invariant
+    subst (λ l. AddsAnswers c.args.answers.now.readers c.runs.answers.readers (placed_at c.args.datagram (map act_value l))) (take_all c.runs.start c.args.acts.now (omega (arith, c.runs-test.false))) c.runs.invariant.added

@@ -1,8 +1,14 @@
-use Rattle.std.proofs.Common.{map, take}
+use Rattle.std.proofs.Common.{◌-◌, ◌≤◌, length, map, take}
 use Rattle.rtps_receiver.specs.Values.{act_value}
 use Rattle.rtps_audit.specs.Placed.{AddsAnswers, placed_at}
 use Rattle.rtps_audit.proofs.answer.note_answers.Given as goal
 
 -- the answers of the acts so far
-abbrev pub invariant-loop-act : goal.invariant-loop-act
-invariant-loop-act l = AddsAnswers l.fn.answers.readers l.answers.readers (placed_at l.datagram (map act_value (take l.act-index l.acts)))
+abbrev pub invariant-runs : goal.invariant-runs
+invariant-runs l = record {
+  within : l.start ≤ length l.acts;
+  added : AddsAnswers l.fn.answers.readers l.answers.readers (placed_at l.datagram (map act_value (take l.start l.acts)));
+}
+
+abbrev pub decreases-runs : goal.decreases-runs
+decreases-runs l = length l.acts - l.start
