@@ -12,3 +12,4 @@ pub mod Sending
 pub mod RecordedSamples
 pub mod Overheard
 pub mod Whole
+pub mod Survey
