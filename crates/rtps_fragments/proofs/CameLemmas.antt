@@ -14,7 +14,7 @@ use Rattle.std.proofs.lemmas.List.Folds.{find-append}
 use Rattle.std.proofs.lemmas.Option.{slice_get_cases}
 use Rattle.std.proofs.lemmas.Slice.Eq.{bytes_eq-Decides}
 use Rattle.rtps_fragments.specs.Came.{IsCame, came_from, kept_first, kept_other, with_part}
-use Rattle.rtps_fragments.specs.Pieces.{parts_in}
+use Rattle.rtps_wire.specs.DataFrag.{parts_in}
 use Rattle.rtps_fragments.specs.Samples.{differs, first_of, firsts_of, is_other, samples_by, samples_of}
 use Rattle.rtps_fragments.specs.declared.came.Came.{Came}
 use Rattle.rtps_fragments.proofs.SampleLemmas.{firsts_get}

@@ -5,7 +5,6 @@ pub mod SampleActs
 pub mod SamplesSent
 pub mod Announcing
 pub mod Laws
-pub mod Pieces
 pub mod Came
 pub mod Telling
 pub mod Merging
@@ -13,3 +12,4 @@ pub mod Sending
 pub mod RecordedSamples
 pub mod Overheard
 pub mod Whole
+pub mod Survey

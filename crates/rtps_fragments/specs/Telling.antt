@@ -14,7 +14,7 @@ use Rattle.rtps_wire.specs.Values.{PayloadValue}
 use Rattle.rtps_wire.specs.Values.PayloadValue.{Whole, Key}
 use Rattle.rtps_fragments.specs.FragmentDelivery.{Shape, last_fragment, payload_by}
 use Rattle.rtps_fragments.specs.Came.{IsCame, came_from}
-use Rattle.rtps_fragments.specs.Pieces.{parts_in}
+use Rattle.rtps_wire.specs.DataFrag.{parts_in}
 use Rattle.rtps_fragments.specs.Samples.{samples_of}
 use Rattle.rtps_fragments.specs.SampleActs.{is_same_dest, once}
 use Rattle.rtps_fragments.specs.declared.addressed.Addressed.{Addressed}

@@ -4,7 +4,7 @@ ghost use Rattle.std.specs.List.{concat};
 ghost use Rattle.std.specs.Ordering.{nat_cmp};
 ghost use Rattle.rtps_fragments.specs.Came.{IsCame, came_from, with_part};
 ghost use Rattle.rtps_fragments.specs.FragmentDelivery.{last_fragment};
-ghost use Rattle.rtps_fragments.specs.Pieces.{parts_in};
+ghost use Rattle.rtps_wire.specs.DataFrag.{parts_in};
 ghost use Rattle.rtps_fragments.specs.Samples.{firsts_of, has_sample, samples_of};
 ghost use Rattle.rtps_fragments.specs.Telling.{IsSent, sent_value, shape_of, told_by_sent, told_value};
 
@@ -78,7 +78,8 @@ impl<'a> Came<'a> {
     /// How many samples can be put together: none where some fragment did not come, two where one came with other octets.
     pub(crate) fn count(&self, last: u64) -> usize
         requires { 0 < last }
-        ensures { (came : List (ℕ × List ℕ)) → IsCame last came self.now → result ≡ length (samples_of last came) }
+        ensures samples { (came : List (ℕ × List ℕ)) → IsCame last came self.now → result ≡ length (samples_of last came) }
+        ensures whole { 0 < result → last ≤ self.now.front }
     {
         if self.front < last {
             0
@@ -89,13 +90,16 @@ impl<'a> Came<'a> {
         }
     }
 
-    /// The octets of all fragments, with these in place of those of the fragment `index`; of none where it is 0.
-    fn joined(&self, last: u64, index: u64, octets: &[u8]) -> Result<Vec<u8>, Memory>
-        ensures { IfOk result (λ sample. (came : List (ℕ × List ℕ)) (parts : List (List ℕ)) → IsCame last came self.now
-            → firsts_of came last ≡ Some parts → sample.items ≡ concat (with_part parts index octets.now)) }
+    /// The octets of all fragments, with these in place of those of the fragment `index`; of none where it is 0. Each fragment came,
+    /// so there are as many octets as the sample has, and room for them is asked for at once.
+    fn joined(&self, shape: Shape, index: u64, octets: &[u8]) -> Result<Vec<u8>, Memory>
+        requires size { 0 < shape.fragment }
+        requires whole { last_fragment shape ≤ self.now.front }
+        ensures { IfOk result (λ sample. (came : List (ℕ × List ℕ)) (parts : List (List ℕ)) → IsCame (last_fragment shape) came self.now
+            → firsts_of came (last_fragment shape) ≡ Some parts → sample.items ≡ concat (with_part parts index octets.now)) }
     {
-        let mut sample = Vec::new(self.alloc);
-        for place in 0..last {
+        let mut sample = Vec::with_capacity(self.alloc, shape.sample as usize)?;
+        for place in 0..shape.last_fragment() {
             if place + 1 == index {
                 sample.extend_from_slice(octets)?;
             } else if let Some(first) = self.firsts.get(&(place + 1)) {
@@ -107,15 +111,16 @@ impl<'a> Came<'a> {
 
     /// The sample at a place of those that can be put together: the octets that came first for each fragment; at place 1 with
     /// the other octets of the fragment that came with others.
-    fn sample(&self, last: u64, place: usize) -> Result<Vec<u8>, Memory>
-        requires { 0 < last }
-        ensures { IfOk result (λ sample. (came : List (ℕ × List ℕ)) → IsCame last came self.now
-            → place < length (samples_of last came) → slice_get (samples_of last came) place ≡ Some sample.items) }
+    fn sample(&self, shape: Shape, place: usize) -> Result<Vec<u8>, Memory>
+        requires size { 0 < shape.fragment }
+        requires whole { last_fragment shape ≤ self.now.front }
+        ensures { IfOk result (λ sample. (came : List (ℕ × List ℕ)) → IsCame (last_fragment shape) came self.now
+            → place < length (samples_of (last_fragment shape) came) → slice_get (samples_of (last_fragment shape) came) place ≡ Some sample.items) }
     {
         if place == 0 {
-            self.joined(last, 0, &[])
+            self.joined(shape, 0, &[])
         } else {
-            self.joined(last, self.other, self.octets)
+            self.joined(shape, self.other, self.octets)
         }
     }
 
@@ -172,7 +177,7 @@ impl<'a> Came<'a> {
         self.take_all(shape, &sent.fragments)?;
         let after = self.count(last);
         for place in before..after {
-            let octets = self.sample(last, place)?;
+            let octets = self.sample(shape, place)?;
             told.push(ToldSample {
                 act: sent.act,
                 audience,

@@ -13,6 +13,7 @@ mod piece;
 mod sample_index;
 mod samples;
 mod sending;
+mod survey;
 mod telling;
 mod told_sample;
 mod whole;

@@ -1,4 +1,4 @@
-ghost use Rattle.std.specs.Prelude.{◌≡◌, ◌≤◌, ◌++◌, drop, length, map, take, IfOk, OnOk};
+ghost use Rattle.std.specs.Prelude.{◌≡◌, ◌≤◌, ◌++◌, drop, length, map, take, OnOk};
 ghost use Rattle.rtps_receiver.specs.Values.{act_value};
 ghost use Rattle.rtps_wire.specs.Values.{payload_value};
 ghost use Rattle.rtps_fragments.specs.Merging.{act_as as act_as_lem, acts_told, merged_from, run_of, run_past};
@@ -11,7 +11,6 @@ use crate::told_sample::ToldSample;
 use rtps_ids::{Memory, SeqNum};
 use rtps_receiver::{Act, ActBody, FragmentBody};
 use rtps_wire::{DataBody, Payload};
-use std::alloc::Global;
 use std::slice;
 
 /// The form in which a sample that is told stands among acts.
@@ -120,23 +119,23 @@ fn run_length(told: &[ToldSample], act: usize) -> usize
     told.len()
 }
 
-/// The acts of a datagram, and behind each the samples that it tells, in this form.
+/// Puts the acts of a datagram there in place of others, and behind each the samples that it tells, in this form.
 pub(crate) fn merge<'s>(
-    alloc: Global,
+    merged: &mut Vec<Act<'s>>,
     form: SampleForm,
     acts: &[Act<'s>],
     told: &'s [ToldSample],
-) -> Result<Vec<Act<'s>>, Memory>
-    ensures { IfOk result (λ merged. map act_value merged.items ≡ merged_from form 0 (map act_value acts.now) (map told_value told.now)) }
+) -> Result<(), Memory>
+    ensures { OnOk result (map act_value merged.new.items ≡ merged_from form 0 (map act_value acts.now) (map told_value told.now)) }
 {
-    let mut merged = Vec::new(alloc);
+    merged.clear();
     let mut rest = told;
     for place in 0..acts.len() {
         let act = &acts[place];
         merged.extend_from_slice(slice::from_ref(act))?;
         let (run, behind) = rest.split_at(run_length(rest, place));
-        push_told(&mut merged, form, act, run)?;
+        push_told(merged, form, act, run)?;
         rest = behind;
     }
-    Ok(merged)
+    Ok(())
 }

@@ -1,15 +1,12 @@
 ghost use Rattle.std.specs.Prelude.{◌≡◌, ◌++◌, ◌∷◌, [], map, All, IfOk, List, OnOk};
 ghost use Rattle.rtps_fragments.specs.Announcing.{is_built_in as is_built_in_lem};
-ghost use Rattle.rtps_fragments.specs.Merging.{sents_from};
 ghost use Rattle.rtps_fragments.specs.Overheard.{AreOverheard, AreOverheardOf, overheard_behind, overheard_in_turn};
-ghost use Rattle.rtps_fragments.specs.Sending.{piece_acts_of};
 ghost use Rattle.rtps_fragments.specs.Telling.{IsSent, SentValue, sent_value, told_value};
 
 use crate::addressed::UNKNOWN;
 use crate::came::Came;
 use crate::hearing::{Hearing, Listener, tell_listener};
 use crate::piece::SentFragments;
-use crate::sending::Sending;
 use crate::told_sample::ToldSample;
 use rtps_ids::{EntityId, Memory};
 use rtps_receiver::Audience;
@@ -98,21 +95,6 @@ pub(crate) struct OverheardSamples {
     pub(crate) told: Vec<Vec<ToldSample>>,
 }
 
-/// What the fragments of one datagram more tell a reader which hears everything. After `Memory` it is of no use.
-fn overhear_datagram<'a>(
-    overheard: &mut Overheard<'a>,
-    alloc: Global,
-    datagram: &'a [u8],
-) -> Result<Vec<ToldSample>, Memory>
-    ensures { IfOk result (λ told. (before : List SentValue) → AreOverheard before overheard.old.came
-        → AreOverheard (before ++ sents_from 0 (piece_acts_of datagram.now)) overheard.new.came
-        × (map told_value told.items ≡ overheard_in_turn before (sents_from 0 (piece_acts_of datagram.now)))) }
-{
-    let sending = Sending::read(alloc, datagram)?;
-    let told = overheard.hear(&sending.sents)?;
-    Ok(told)
-}
-
 impl OverheardSamples {
     /// No samples. It takes no memory.
     pub(crate) fn none(alloc: Global) -> OverheardSamples
@@ -121,18 +103,5 @@ impl OverheardSamples {
         OverheardSamples {
             told: Vec::new(alloc),
         }
-    }
-
-    /// Puts the samples of the built-in writers of a recording together, whoever hears them, any datagrams in the order of
-    /// sending. `Memory` is answered where there is none for them.
-    pub(crate) fn of(alloc: Global, recording: &[&[u8]]) -> Result<OverheardSamples, Memory>
-        ensures { IfOk result (AreOverheardOf (map (λ datagram. datagram.now) recording.now)) }
-    {
-        let mut overheard = Overheard::new(alloc);
-        let mut told = Vec::new(alloc);
-        for datagram in recording {
-            told.push(overhear_datagram(&mut overheard, alloc, datagram)?)?;
-        }
-        Ok(OverheardSamples { told })
     }
 }

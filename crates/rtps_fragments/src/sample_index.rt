@@ -20,7 +20,7 @@ use crate::whole::WholeNumbers;
 use rtps_audit::{Index, Verdict};
 use rtps_discovery::Pair;
 use rtps_ids::{Memory, SeqNum};
-use rtps_receiver::Walk;
+use rtps_receiver::{Act, Walk};
 use rtps_wire::tally;
 use std::alloc::Global;
 
@@ -35,10 +35,20 @@ struct DatagramSamples<'s> {
     whole: &'s WholeNumbers,
 }
 
+/// What a datagram is read into, one after another.
+#[derive(Drop)]
+struct Reading<'s> {
+    sending: Sending<'s>,
+    /// Its acts, and behind each the samples that it tells.
+    acts: Vec<Act<'s>>,
+    /// Its acts, and behind each the samples that it tells a reader which hears everything.
+    announcing: Vec<Act<'s>>,
+}
+
 /// Takes in one datagram more, and behind each of its acts the samples that it tells. After `Memory` the index is of no use.
 fn note_datagram<'s>(
     index: &mut Index<'s>,
-    alloc: Global,
+    reading: &mut Reading<'s>,
     datagram: &'s [u8],
     samples: &DatagramSamples<'s>,
 ) -> Result<(), Memory>
@@ -47,16 +57,22 @@ fn note_datagram<'s>(
         → IsIndexBy (intake_more intake (tally_left all datagram.now) (merged_from ForAudience 0 (map (λ one. one.act) (piece_acts_of datagram.now)) (map told_value samples.now.told.now))
         (merged_from ForEveryone 0 (map (λ one. one.act) (piece_acts_of datagram.now)) (map told_value samples.now.overheard.now))) index.new) }
 {
-    let sending = Sending::read(alloc, datagram)?;
-    let acts = merge(alloc, SampleForm::ForAudience, &sending.acts, samples.told)?;
-    let announcing = merge(
-        alloc,
+    reading.sending.read(datagram)?;
+    let own = &reading.sending.acts;
+    merge(
+        &mut reading.acts,
+        SampleForm::ForAudience,
+        own,
+        samples.told,
+    )?;
+    merge(
+        &mut reading.announcing,
         SampleForm::ForEveryone,
-        &sending.acts,
+        own,
         samples.overheard,
     )?;
-    let tally = samples.whole.tally(tally(datagram), &sending);
-    index.note(tally, &acts, &announcing)?;
+    let tally = samples.whole.tally(tally(datagram), &reading.sending);
+    index.note(tally, &reading.acts, &reading.announcing)?;
     Ok(())
 }
 
@@ -70,13 +86,18 @@ pub fn index_with<'s>(
     ensures { IfOk result (IsIndexBy (intake_with (map (λ datagram. datagram.now) recording.now))) }
 {
     let mut index = Index::new(alloc);
+    let mut reading = Reading {
+        sending: Sending::new(alloc),
+        acts: Vec::new(alloc),
+        announcing: Vec::new(alloc),
+    };
     for place in 0..recording.len() {
         let told = DatagramSamples {
             told: &samples.told[place],
             overheard: &samples.overheard.told[place],
             whole: &samples.whole,
         };
-        note_datagram(&mut index, alloc, recording[place], &told)?;
+        note_datagram(&mut index, &mut reading, recording[place], &told)?;
     }
     Ok(index)
 }

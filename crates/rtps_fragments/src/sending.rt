@@ -1,4 +1,4 @@
-ghost use Rattle.std.specs.Prelude.{◌≡◌, ◌≤◌, ◌<◌, ◌+◌, ◌^◌, ◌∷◌, [], drop, length, IfOk, IfSome, None, OnOk, Some};
+ghost use Rattle.std.specs.Prelude.{◌≡◌, ◌≤◌, ◌<◌, ◌+◌, ◌^◌, ◌∷◌, [], drop, length, IfSome, None, OnOk, Some};
 ghost use Rattle.std.specs.Option.{option_map};
 ghost use Rattle.rtps_receiver.specs.Acts.{act_at, act_body, state_behind};
 ghost use Rattle.rtps_receiver.specs.Values.{act_value};
@@ -123,7 +123,7 @@ fn act_of<'a>(state: &State, item: &Item<'_>, fragments: &DataFrag<'a>) -> Act<'
 }
 
 impl<'a> Sending<'a> {
-    /// No acts.
+    /// No acts. It takes no memory.
     pub(crate) fn new(alloc: Global) -> Sending<'a>
         ensures { IsSending [] 0 result }
     {
@@ -193,17 +193,24 @@ impl<'a> Sending<'a> {
         }
     }
 
-    /// The acts of a datagram of any length, and the fragments that its DATA_FRAG send, up to its refusal, if it has one.
-    pub(crate) fn read(alloc: Global, datagram: &'a [u8]) -> Result<Sending<'a>, Memory>
-        ensures { IfOk result (IsSending (piece_acts_of datagram.now) (unusable_in datagram.now)) }
+    /// Takes the acts out.
+    fn clear(&mut self)
+        ensures { IsSending [] 0 self.new }
     {
-        let mut sending = Sending::new(alloc);
+        self.acts.clear();
+        self.sents.clear();
+        self.unusable = 0;
+    }
+
+    /// Reads a datagram of any length, up to its refusal, if it has one. Its acts, and the fragments that its DATA_FRAG send, replace
+    /// those of the datagram before. After `Memory` it is of no use.
+    pub(crate) fn read(&mut self, datagram: &'a [u8]) -> Result<(), Memory>
+        ensures { OnOk result (IsSending (piece_acts_of datagram.now) (unusable_in datagram.now) self.new) }
+    {
+        self.clear();
         match Items::open(datagram) {
-            Ok((header, items)) => {
-                sending.add_items(State::at_start(header), items, datagram)?;
-                Ok(sending)
-            }
-            Err(_) => Ok(sending),
+            Ok((header, items)) => self.add_items(State::at_start(header), items, datagram),
+            Err(_) => Ok(()),
         }
     }
 }

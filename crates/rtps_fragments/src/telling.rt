@@ -28,7 +28,7 @@ impl Addresses {
     }
 
     /// Notes to whom fragments are sent. After `Memory` it is of no use.
-    pub(crate) fn note(&mut self, sent: &SentFragments<'_>) -> Result<(), Memory>
+    fn note(&mut self, sent: &SentFragments<'_>) -> Result<(), Memory>
         ensures { OnOk result ((all : List SentValue) → AreAddressed all self.old.kept → AreAddressed (all ++ sent_value sent.now ∷ []) self.new.kept) }
     {
         if let Some(addressed) = self.kept.get_mut(&sent.key) {
@@ -38,6 +38,16 @@ impl Addresses {
         let mut addressed = Addressed::new(self.alloc);
         addressed.add(sent.audience)?;
         self.kept.insert(sent.key, addressed)?;
+        Ok(())
+    }
+
+    /// Notes to whom fragments are sent, one act after another. After `Memory` it is of no use.
+    pub(crate) fn note_all(&mut self, sents: &[SentFragments<'_>]) -> Result<(), Memory>
+        ensures { OnOk result ((all : List SentValue) → AreAddressed all self.old.kept → AreAddressed (all ++ map sent_value sents.now) self.new.kept) }
+    {
+        for sent in sents {
+            self.note(sent)?;
+        }
         Ok(())
     }
 }

@@ -2,9 +2,7 @@ ghost use Rattle.std.specs.Prelude.{ℕ, ◌≡◌, ◌≤◌, ◌<◌, ◌+◌,
 ghost use Rattle.std.specs.BTreeMap.{get};
 ghost use Rattle.std.specs.Ordering.{is_eq};
 ghost use Rattle.rtps_fragments.specs.FragmentDelivery.{last_fragment};
-ghost use Rattle.rtps_fragments.specs.Merging.{sents_from};
 ghost use Rattle.rtps_fragments.specs.Samples.{has_sample};
-ghost use Rattle.rtps_fragments.specs.Sending.{piece_acts_of};
 ghost use Rattle.rtps_fragments.specs.Telling.{HasCame, IsSent, SentValue, sample_cmp, sent_value, shape_of};
 ghost use Rattle.rtps_fragments.specs.Whole.{AreTracked, AreWholeIn, AreWholeOf, key_number as key_number_lem, left_among as left_among_lem, tally_with_fragments};
 ghost use Rattle.rtps_fragments.specs.declared.piece.SampleKey.{SampleKey as SampleKeyValue};
@@ -73,7 +71,7 @@ fn take_sent<'a>(
 
 impl<'a> Tracking<'a> {
     /// Nothing came.
-    fn new(alloc: Global) -> Tracking<'a>
+    pub(crate) fn new(alloc: Global) -> Tracking<'a>
         ensures { AreTracked [] result.came result.numbers }
     {
         Tracking {
@@ -97,7 +95,7 @@ impl<'a> Tracking<'a> {
     }
 
     /// Fragments come, one act after another. After `Memory` it is of no use.
-    fn take_all(&mut self, sents: &[SentFragments<'a>]) -> Result<(), Memory>
+    pub(crate) fn take_all(&mut self, sents: &[SentFragments<'a>]) -> Result<(), Memory>
         requires { All IsSent sents.now }
         ensures { OnOk result ((before : List SentValue) → AreTracked before self.old.came self.old.numbers
             → AreTracked (before ++ map sent_value sents.now) self.new.came self.new.numbers) }
@@ -108,14 +106,13 @@ impl<'a> Tracking<'a> {
         Ok(())
     }
 
-    /// The fragments of one datagram more come. After `Memory` it is of no use.
-    fn take_datagram(&mut self, datagram: &'a [u8]) -> Result<(), Memory>
-        ensures { OnOk result ((before : List SentValue) → AreTracked before self.old.came self.old.numbers
-            → AreTracked (before ++ sents_from 0 (piece_acts_of datagram.now)) self.new.came self.new.numbers) }
+    /// Takes the numbers out.
+    pub(crate) fn take_numbers(&mut self) -> WholeNumbers
+        ensures { result.numbers ≡ self.old.numbers }
     {
-        let sending = Sending::read(self.alloc, datagram)?;
-        self.take_all(&sending.sents)?;
-        Ok(())
+        let mut numbers = BTreeSet::new(self.alloc);
+        std::mem::swap(&mut numbers, &mut self.numbers);
+        WholeNumbers { numbers }
     }
 }
 
@@ -127,19 +124,6 @@ impl WholeNumbers {
         WholeNumbers {
             numbers: BTreeSet::new(alloc),
         }
-    }
-
-    /// Those of a recording, any datagrams in the order of sending. `Memory` is answered where there is none for them.
-    pub(crate) fn of(alloc: Global, recording: &[&[u8]]) -> Result<WholeNumbers, Memory>
-        ensures { IfOk result (AreWholeOf (map (λ datagram. datagram.now) recording.now)) }
-    {
-        let mut tracking = Tracking::new(alloc);
-        for datagram in recording {
-            tracking.take_datagram(datagram)?;
-        }
-        let mut numbers = BTreeSet::new(alloc);
-        std::mem::swap(&mut numbers, &mut tracking.numbers);
-        Ok(WholeNumbers { numbers })
     }
 
     /// The tally of a datagram with this plain one, which sends this. Its fragments are the DATA_FRAG of no sample.

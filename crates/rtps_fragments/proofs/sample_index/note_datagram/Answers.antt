@@ -16,8 +16,8 @@ use Rattle.rtps_fragments.proofs.sample_index.note_datagram.Goals as goal
 pub returns : goal.returns
 returns c = λ intake all whole is.
     let octets = c.args.datagram.now in
-    let sending = c.in_ok-sending.sending in
-    let sent = c.in_ok-sending.ensures in
+    let sending = c.read.new.self in
+    let sent = c.in_ok-read.ensures in
     let plain = tally_of (reading_of octets) in
     let tally : c.tally-tally.result ≡ tally_left all octets =
     c.tally-tally.ensures all whole ∙ ap (λ (t : Tally). tally_with_fragments t (sending.unusable + left_among all (map sent_value sending.sents.items))) c.tally.ensures
@@ -26,9 +26,9 @@ returns c = λ intake all whole is.
     let noted = map told_value c.args.samples.now.overheard.now in
     let own = map (λ (one : PieceAct). one.act) (piece_acts_of octets) in
     let acts : map act_value c.deref-3.result.now ≡ merged_from ForAudience 0 own told =
-    ap (map act_value) c.deref-3.ensures.value ∙ c.in_ok-acts.ensures ∙ ap (λ ones. merged_from ForAudience 0 ones told) (ap (map act_value) c.deref.ensures.value ∙ sent.acts) in
+    ap (map act_value) c.deref-3.ensures.value ∙ c.in_ok-merge.ensures ∙ ap (λ ones. merged_from ForAudience 0 ones told) (ap (map act_value) c.deref.ensures.value ∙ sent.acts) in
     let announcing : map act_value c.deref-4.result.now ≡ merged_from ForEveryone 0 own noted =
-    ap (map act_value) c.deref-4.ensures.value ∙ c.in_ok-announcing.ensures ∙ ap (λ ones. merged_from ForEveryone 0 ones noted) (ap (map act_value) c.deref-2.ensures.value ∙ sent.acts) in
+    ap (map act_value) c.deref-4.ensures.value ∙ c.in_ok-merge-2.ensures ∙ ap (λ ones. merged_from ForEveryone 0 ones noted) (ap (map act_value) c.deref-2.ensures.value ∙ sent.acts) in
     subst (λ (t : Tally). IsIndexBy (intake_more intake t (merged_from ForAudience 0 own told) (merged_from ForEveryone 0 own noted)) c.note.new.self) tally
     (subst (λ (ones : List ActValue). IsIndexBy (intake_more intake c.tally-tally.result ones (merged_from ForEveryone 0 own noted)) c.note.new.self) acts
     (subst (λ (ones : List ActValue). IsIndexBy (intake_more intake c.tally-tally.result (map act_value c.deref-3.result.now) ones) c.note.new.self) announcing (c.in_ok-note.ensures intake is)))

@@ -1,7 +1,7 @@
 use Rattle.std.proofs.Common.{◌≡◌, ◌++◌, ◌∙◌, ◌+◌, ◌-◌, ap, append-nil, arith, drop, length, min, subst, sym, suc, take}
 use Rattle.std.proofs.lemmas.List.{drop_min, take_min, take_all}
 use Rattle.rtps_fragments.specs.Came.{IsCame, came_from}
-use Rattle.rtps_fragments.specs.Pieces.{parts_in}
+use Rattle.rtps_wire.specs.DataFrag.{parts_in}
 use Rattle.rtps_fragments.proofs.CameLemmas.{length-parts_in, parts_behind, piece_step}
 use Rattle.rtps_fragments.proofs.came.Came.take_all.Goals as goal
 

@@ -1,6 +1,6 @@
 use Rattle.std.proofs.Common.{◌≡◌, ℕ, ◌-◌, ◌++◌, List, drop, take}
 use Rattle.rtps_fragments.specs.Came.{IsCame, came_from}
-use Rattle.rtps_fragments.specs.Pieces.{parts_in}
+use Rattle.rtps_wire.specs.DataFrag.{parts_in}
 use Rattle.rtps_fragments.proofs.came.Came.take_all.Given as goal
 
 -- what came so far is kept, and the octets that are left are those of the other fragments

@@ -1,5 +1,7 @@
 use Rattle.std.proofs.Common.{List, ap, arith, length, subst, sym}
+use Rattle.std.specs.Prelude.{Err, Ok, OnOk, Result}
 use Rattle.std.proofs.lemmas.List.{length-map}
+use Rattle.rtps_ids.specs.declared.memory.Memory.{Memory}
 use Rattle.rtps_wire.specs.Reading.{items_among, outcomes_left}
 use Rattle.rtps_fragments.specs.SampleActs.{PieceAct}
 use Rattle.rtps_fragments.specs.Sending.{IsSending, piece_acts_of, unusable_among}
@@ -7,21 +9,27 @@ use Rattle.rtps_fragments.specs.Telling.{sent_value}
 use Rattle.rtps_fragments.proofs.SendingLemmas.{acts_read, acts_refused, unusable_read, unusable_refused}
 use Rattle.rtps_fragments.proofs.sending.Sending.read.Goals as goal
 
-pub returns-in_ok-add_items-in-Ok : goal.returns-in_ok-add_items-in-Ok
-returns-in_ok-add_items-in-Ok c =
+weaker : {T : Type 0} (result : Result T Memory) (P Q : Type 0) → (P → Q) → OnOk result P → OnOk result Q
+weaker (Ok done) P Q says is = says is
+weaker (Err memory) P Q says is = tt
+
+pub returns-in-Ok : goal.returns-in-Ok
+returns-in-Ok c =
     let octets = c.args.datagram.now in
-    subst (λ n. IsSending (piece_acts_of octets) n c.add_items.new.self) (sym (unusable_read octets _ (outcomes_left c.in-Ok.items) c.in-Ok.ensures.0))
-    (subst (λ (ones : List PieceAct). IsSending ones (unusable_among octets (items_among (outcomes_left c.in-Ok.items))) c.add_items.new.self) (sym (acts_read octets _ (outcomes_left c.in-Ok.items) _ c.in-Ok.ensures.0 c.at_start.ensures)) (c.in_ok-add_items-in-Ok.ensures c.new-sending.ensures))
+    let outcomes = outcomes_left c.in-Ok.items in
+    weaker c.add_items.result _ _ (λ is.
+    subst (λ n. IsSending (piece_acts_of octets) n c.add_items.new.self) (sym (unusable_read octets _ outcomes c.in-Ok.ensures.0))
+    (subst (λ (ones : List PieceAct). IsSending ones (unusable_among octets (items_among outcomes)) c.add_items.new.self) (sym (acts_read octets _ outcomes _ c.in-Ok.ensures.0 c.at_start.ensures)) (is c.clear.ensures))) c.add_items.ensures
 
 pub returns-in-Err : goal.returns-in-Err
 returns-in-Err c =
     let octets = c.args.datagram.now in
-    subst (λ n. IsSending (piece_acts_of octets) n c.new-sending.result) (sym (unusable_refused octets _ c.in-Err.ensures.0))
-    (subst (λ (ones : List PieceAct). IsSending ones 0 c.new-sending.result) (sym (acts_refused octets _ c.in-Err.ensures.0)) c.new-sending.ensures)
+    subst (λ n. IsSending (piece_acts_of octets) n c.clear.new.self) (sym (unusable_refused octets _ c.in-Err.ensures.0))
+    (subst (λ (ones : List PieceAct). IsSending ones 0 c.clear.new.self) (sym (acts_refused octets _ c.in-Err.ensures.0)) c.clear.ensures)
 
 pub add_items-requires : goal.add_items-requires
 add_items-requires c =
-    let sents = ap length c.new-sending.ensures.sents in
-    let unusable = c.new-sending.ensures.unusable in
-    let none = length-map c.new-sending.result.sents.items sent_value in
+    let sents = ap length c.clear.ensures.sents in
+    let unusable = c.clear.ensures.unusable in
+    let none = length-map c.clear.new.self.sents.items sent_value in
     omega (arith, sents, unusable, none, c.in-Ok.ensures.1)

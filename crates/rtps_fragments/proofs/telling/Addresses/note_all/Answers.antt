@@ -3,10 +3,10 @@ use Rattle.std.proofs.lemmas.List.{take_all}
 use Rattle.rtps_fragments.specs.Telling.{AreAddressed, SentValue, sent_value}
 use Rattle.rtps_fragments.specs.declared.piece.SentFragments.{SentFragments}
 use Rattle.rtps_fragments.proofs.ToldSoFar.{sents-more}
-use Rattle.rtps_fragments.proofs.samples.note_sents.Goals as goal
+use Rattle.rtps_fragments.proofs.telling.Addresses.note_all.Goals as goal
 
 pub loop-sent-init : goal.loop-sent-init
-loop-sent-init c = λ all are. subst (λ (ss : List SentValue). AreAddressed ss c.args.addresses.now.kept) (sym (append-nil all)) are
+loop-sent-init c = λ all are. subst (λ (ss : List SentValue). AreAddressed ss c.args.self.now.kept) (sym (append-nil all)) are
 
 pub loop-sent-preserved : goal.loop-sent-preserved
 loop-sent-preserved c = λ all are.
@@ -18,4 +18,4 @@ loop-sent-preserved c = λ all are.
 
 pub returns : goal.returns
 returns c = λ all are.
-    subst (λ (ss : List SentFragments). AreAddressed (all ++ map sent_value ss) c.loop-sent.addresses.kept) (take_all c.loop-sent.sent-index c.args.sents.now (omega (arith, c.loop-sent-test.false))) (c.loop-sent.invariant all are)
+    subst (λ (ss : List SentFragments). AreAddressed (all ++ map sent_value ss) c.loop-sent.self.kept) (take_all c.loop-sent.sent-index c.args.sents.now (omega (arith, c.loop-sent-test.false))) (c.loop-sent.invariant all are)

@@ -3,7 +3,7 @@ use Rattle.rtps_fragments.specs.Merging.{sents_in}
 use Rattle.rtps_fragments.specs.RecordedSamples.{told_by_datagram}
 use Rattle.rtps_fragments.specs.Sending.{sending_of}
 use Rattle.rtps_fragments.specs.Telling.{AreAddressed, AreHeard, told_value}
-use Rattle.rtps_fragments.proofs.samples.Samples.of.Given as goal
+use Rattle.rtps_fragments.proofs.samples.told_of.Given as goal
 
 -- what the datagrams so far send came, and is told
 pub record IsToldSoFar (l : goal.Live-loop-datagram) : Type 0 where
