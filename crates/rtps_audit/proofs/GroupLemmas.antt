@@ -4,7 +4,6 @@ use Rattle.std.specs.BTreeMap.{BTreeMap, Updates, get, is_at}
 use Rattle.std.specs.Cmp.{IsTotalOrder}
 use Rattle.std.specs.Global.{Vec}
 use Rattle.std.specs.Map.{lookup}
-use Rattle.std.specs.Option.{unwrap_or}
 use Rattle.std.specs.Ordering.{is_eq, ordering_reverse}
 use Rattle.std.specs.declared.cmp.Ordering.{Ordering}
 use Rattle.std.specs.declared.cmp.Ordering.TheVariants.{Less, Equal, Greater}
@@ -51,11 +50,6 @@ module _ {K A : Type 0} {cmp : K → K → Ordering} (total : IsTotalOrder cmp) 
 pub list_grown : {K V : Type 0} {cmp : K → K → Ordering} (total : IsTotalOrder cmp) {X : Type 0} (seen : List V → List X) (old new : BTreeMap K (Vec V)) (key other : K) (list : Vec V) (added : List X) → Updates cmp old new key (Some list)
     → seen list.items ≡ seen (values_at cmp old key) ++ added → seen (values_at cmp new other) ≡ seen (values_at cmp old other) ++ cond (is_eq (cmp other key)) added []
 list_grown total seen old new key other list added updates grown = entry_grown total (λ found. seen (items_or_none found)) old new key other list added updates (λ e. grown)
-
--- the list that an entry lends
-pub lent_items : {V : Type 0} (found value : Option (Vec V)) (empty list : Vec V) → empty.items ≡ [] → value ≡ found → list ≡ unwrap_or value empty → list.items ≡ items_or_none found
-lent_items found None empty list none same is = ap (λ (l : Vec _). l.items) is ∙ none ∙ ap items_or_none same
-lent_items found (Some held) empty list none same is = ap (λ (l : Vec _). l.items) is ∙ ap items_or_none same
 
 -- the same, where the list was there
 pub list_written : {K V : Type 0} {cmp : K → K → Ordering} (total : IsTotalOrder cmp) {X : Type 0} (seen : List V → List X) (old new : BTreeMap K (Vec V)) (key other : K) (found list : Vec V) (added : List X)

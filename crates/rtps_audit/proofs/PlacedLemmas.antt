@@ -1,5 +1,5 @@
 -- The acts and answers of one datagram more, by origin and by pair.
-use Rattle.std.proofs.Common.{◌≡◌, ℕ, zero, suc, ℤ, pos, Bool, true, false, cond, ◌&&◌, List, [], ◌∷◌, ◌++◌, length, take, drop, get_or, ◌+◌, ◌-◌, ◌<◌, ◌≤◌, append-nil, append_assoc, arith, subst, map, filter, Option, Some, None, refl, sym, ap, ◌∙◌}
+use Rattle.std.proofs.Common.{◌≡◌, ℕ, zero, suc, ℤ, pos, Bool, true, false, cond, ◌&&◌, List, [], ◌∷◌, ◌++◌, length, take, drop, get_or, ◌+◌, ◌-◌, ◌<◌, ◌≤◌, append_assoc, arith, subst, map, filter, Option, Some, None, refl, sym, ap, ◌∙◌}
 use Rattle.std.specs.BTreeMap.{BTreeMap, Updates, get}
 use Rattle.std.specs.Cmp.{IsTotalOrder, both_ways}
 use Rattle.std.specs.Global.{Vec}
@@ -104,16 +104,6 @@ answer_read datagram act ack_nack writer reader pair number body answered from i
         subst (λ (w : Guid). answer_of pair (record { datagram = datagram; act = act }) ≡ cond (is_eq (pair_cmp pair (record { writer = w; reader = origin_of act }))) (Some (record { datagram = datagram; at = act.at; base = number })) None) same
         (answer_for datagram act ack_nack dest pair number body e is)
 
--- what is added where two orders are equal
-pub both_equal : {X : Type 0} (one other : Ordering) (xs : List X) → cond (is_eq other) (cond (is_eq one) xs []) [] ≡ cond (is_eq (ordering_then one other)) xs []
-both_equal one other xs = by_test (is_eq one) (is_eq other) ∙ sym (ap (λ b. cond b xs []) (is_eq-then one other))
-  where
-    by_test : (a b : Bool) → cond b (cond a xs []) [] ≡ cond (a && b) xs []
-    by_test true true = refl
-    by_test true false = refl
-    by_test false true = refl
-    by_test false false = refl
-
 -- the answers of the reader that an entry lends
 pub lent_answers : (writer : Guid) (found value : Option (Groups Guid Answer)) (empty lent : Groups Guid Answer) → values_at guid_cmp empty.map writer ≡ [] → value ≡ found → lent ≡ unwrap_or value empty → values_at guid_cmp lent.map writer ≡ answers_to found writer
 lent_answers writer found None empty lent none same is = ap (λ (g : Groups Guid Answer). values_at guid_cmp g.map writer) is ∙ none ∙ ap (λ f. answers_to f writer) same
@@ -194,30 +184,20 @@ pub AddsAnswersOf-one : (old new : BTreeMap Guid (Vec Answer)) (reader : Guid) (
     → ((writer : Guid) → values_at guid_cmp new writer ≡ values_at guid_cmp old writer ++ cond (is_eq (guid_cmp writer found.writer)) (answer ∷ []) [])
     → AddsAnswersOf reader old new (placed ∷ [])
 AddsAnswersOf-one old new reader placed found answer of is added = record {
-  own = λ pair e. added pair.writer ∙ ap (λ l. values_at guid_cmp old pair.writer ++ l) (alone (is_eq (guid_cmp pair.writer found.writer)) _ true (its pair ∙ ap (λ b. is_eq (guid_cmp pair.writer found.writer) && b) e) ∙ answer_added _ _ answer (is pair));
+  own = λ pair e. added pair.writer ∙ ap (λ l. values_at guid_cmp old pair.writer ++ l) (alone (is_eq (guid_cmp pair.writer found.writer)) _ (its pair ∙ ap (λ b. is_eq (guid_cmp pair.writer found.writer) && b) e) ∙ answer_added _ _ answer (is pair));
   others = λ pair e. sym (answer_added _ _ answer (is pair)) ∙ nobody (is_eq (guid_cmp pair.writer found.writer)) _ (its pair ∙ ap (λ b. is_eq (guid_cmp pair.writer found.writer) && b) e);
 }
   where
     its : (pair : Pair) → is_eq (pair_cmp pair found) ≡ is_eq (guid_cmp pair.writer found.writer) && is_eq (guid_cmp pair.reader reader)
     its pair = is_eq-then _ _ ∙ ap (λ r. is_eq (guid_cmp pair.writer found.writer) && is_eq (guid_cmp pair.reader r)) of
 
-    alone : (a b c : Bool) → b ≡ a && true → cond a (answer ∷ []) [] ≡ cond b (answer ∷ []) []
-    alone true b c e = ap (λ x. cond x (answer ∷ []) []) (sym e)
-    alone false b c e = ap (λ x. cond x (answer ∷ []) []) (sym e)
+    alone : (a b : Bool) → b ≡ a && true → cond a (answer ∷ []) [] ≡ cond b (answer ∷ []) []
+    alone true b e = ap (λ x. cond x (answer ∷ []) []) (sym e)
+    alone false b e = ap (λ x. cond x (answer ∷ []) []) (sym e)
 
     nobody : (a b : Bool) → b ≡ a && false → cond b (answer ∷ []) [] ≡ []
     nobody true b e = ap (λ x. cond x (answer ∷ []) []) e
     nobody false b e = ap (λ x. cond x (answer ∷ []) []) e
-
--- an act that is no answer
-pub AddsAnswersOf-none : (answers : BTreeMap Guid (Vec Answer)) (reader : Guid) (placed : PlacedValue) → ((pair : Pair) → answer_of pair placed ≡ None) → AddsAnswersOf reader answers answers (placed ∷ [])
-AddsAnswersOf-none answers reader placed is = record {
-  own = λ pair e. sym (append-nil _) ∙ ap (λ l. values_at guid_cmp answers pair.writer ++ l) (sym (no_answer pair));
-  others = λ pair e. no_answer pair;
-}
-  where
-    no_answer : (pair : Pair) → answers_among pair (placed ∷ []) ≡ []
-    no_answer pair = ap (λ o. cons_option o []) (is pair)
 
 pub AddsAnswersOf-joined : (reader : Guid) (old mid new : BTreeMap Guid (Vec Answer)) (xs ys : List PlacedValue) → AddsAnswersOf reader old mid xs → AddsAnswersOf reader mid new ys → AddsAnswersOf reader old new (xs ++ ys)
 AddsAnswersOf-joined reader old mid new xs ys one two = record {

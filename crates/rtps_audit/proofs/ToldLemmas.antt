@@ -1,6 +1,5 @@
 -- Who was told of which numbers, by one act more.
 use Rattle.std.proofs.Common.{◌≡◌, ℕ, Bool, true, false, ◌&&◌, ◌||◌, cond, List, [], ◌∷◌, Option, Some, None, refl, sym, ap, ◌∙◌, arith, get_or}
-use Rattle.std.specs.Prelude.{unwrap_or}
 use Rattle.std.specs.BTreeMap.{BTreeMap, Updates, get}
 use Rattle.std.specs.Cmp.{IsTotalOrder}
 use Rattle.std.specs.Cmp.Lexicographic.{options_total, slice_cmp}
@@ -30,11 +29,6 @@ use Rattle.rtps_audit.proofs.PlacedLemmas.{bytes_eq-sym}
 
 audiences_total : IsTotalOrder audience_cmp
 audiences_total = then_total (on_total (λ a. a.dest) (options_total (on_total (λ prefix. prefix.0) nat_list_cmp_total))) (on_total (λ a. a.reader.0) nat_list_cmp_total)
-
--- the set that an entry lends has the numbers of the one that was found
-pub lent_set : (found value : Option MergedRanges) (empty set : MergedRanges) (n : ℕ) → ((n : ℕ) → covered_of empty n ≡ false) → value ≡ found → set ≡ unwrap_or value empty → covered_of set n ≡ in_set found n
-lent_set found None empty set n none same is = ap (λ (s : MergedRanges). covered_of s n) is ∙ none n ∙ ap (λ o. in_set o n) same
-lent_set found (Some held) empty set n none same is = ap (λ (s : MergedRanges). covered_of s n) is ∙ ap (λ o. in_set o n) same
 
 -- where the set of an audience grows, that audience was told of these numbers more, and no other was
 set_grown : (old new : BTreeMap Audience MergedRanges) (key other : Audience) (set : MergedRanges) (n : ℕ) (more : Bool) → Updates audience_cmp old new key (Some set)

@@ -64,12 +64,7 @@ impl Answers {
     }
 
     /// Adds the answers among acts of a reader in a datagram. After `Memory` the answers are of no use.
-    fn note_run(
-        &mut self,
-        reader: Guid,
-        datagram: usize,
-        run: &[Act<'_>],
-    ) -> Result<(), Memory>
+    fn note_run(&mut self, reader: Guid, datagram: usize, run: &[Act<'_>]) -> Result<(), Memory>
         requires { All (λ act. origin_of (act_value act) ≡ reader) run.now }
         ensures { OnOk result (AddsAnswers self.old.readers self.new.readers (placed_at datagram (map act_value run.now))) }
     {

@@ -1,4 +1,4 @@
-use Rattle.rtps_audit.proofs.PlacedLemmas.{AddsAnswersOf-one, AddsAnswersOf-none}
+use Rattle.rtps_audit.proofs.PlacedLemmas.{AddsAnswersOf-one}
 use Rattle.rtps_audit.proofs.answer.note_answer.Goals as goal
 
 pub returns-in_ok-push : goal.returns-in_ok-push

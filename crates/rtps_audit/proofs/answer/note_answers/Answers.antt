@@ -1,5 +1,4 @@
-use Rattle.std.proofs.Common.{◌++◌, ap, append-nil, arith, map, subst, sym, take}
-use Rattle.std.specs.List.{slice_range}
+use Rattle.std.proofs.Common.{append-nil, arith, map, subst, sym}
 use Rattle.std.proofs.lemmas.List.{take_all}
 use Rattle.rtps_receiver.specs.Values.{act_value}
 use Rattle.rtps_audit.specs.Placed.{AddsAnswers, placed_at}

@@ -17,4 +17,3 @@ loop-act-preserved c =
     let more = subst (λ r. AddsAnswersOf r c.loop-act.answers.map c.note_answer.new.answers.map placed) of c.in_ok-note_answer.ensures in
     subst (AddsAnswersOf c.args.reader c.args.answers.now.map c.note_answer.new.answers.map) (sym (placed_more c.args.datagram run k act lt c.act-item.is))
     (AddsAnswersOf-joined c.args.reader _ _ _ (placed_at c.args.datagram (map act_value (take k run))) placed c.loop-act.invariant more)
-

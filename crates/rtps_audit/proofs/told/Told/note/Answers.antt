@@ -1,6 +1,6 @@
-use Rattle.std.proofs.Common.{IsSome, Some, ◌≡◌, ◌||◌, ◌&&◌, ◌∙◌, ap, refl, subst, sym}
+use Rattle.std.proofs.Common.{IsSome, Some, ◌||◌, ◌&&◌, ◌∙◌, ap, refl, subst, sym}
 use Rattle.std.specs.Prelude.{is_some}
-use Rattle.std.specs.BTreeMap.{BTreeMap, Updates, get}
+use Rattle.std.specs.BTreeMap.{BTreeMap, Updates}
 use Rattle.std.specs.List.{list_any}
 use Rattle.std.specs.Option.{option_copied_mut}
 use Rattle.rtps_coverage.specs.declared.merged_ranges.MergedRanges.{MergedRanges}
