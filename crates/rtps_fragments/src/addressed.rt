@@ -4,11 +4,8 @@ ghost use Rattle.rtps_fragments.specs.SampleActs.{is_same_dest as is_same_dest_l
 ghost use Rattle.rtps_fragments.specs.Telling.{added};
 
 use rtps_ids::{EntityId, GuidPrefix, Memory};
-use rtps_receiver::Audience;
+use rtps_receiver::{Audience, EVERY_READER};
 use std::alloc::Global;
-
-/// The entity id that names every reader.
-pub(crate) const UNKNOWN: EntityId = EntityId([0; 4]);
 
 /// To whom the fragments of a sample are sent: everyone and each destination, every reader and each one that is named, in the
 /// order in which they come first.
@@ -73,7 +70,7 @@ impl Addressed {
     {
         add_dest(&mut self.dests, None)?;
         add_dest(&mut self.dests, audience.dest)?;
-        add_reader(&mut self.readers, UNKNOWN)?;
+        add_reader(&mut self.readers, EVERY_READER)?;
         add_reader(&mut self.readers, audience.reader)?;
         Ok(())
     }

@@ -6,12 +6,12 @@ ghost use Rattle.rtps_fragments.specs.Telling.{AreHeard, AreHeardSo, HasCame, Is
 ghost use Rattle.rtps_ids.specs.declared.identity.GuidPrefix.{GuidPrefix as GuidPrefixValue};
 ghost use Rattle.rtps_fragments.specs.declared.hearing.Hearing.{Hearing as HearingValue};
 
-use crate::addressed::{Addressed, UNKNOWN, is_same_dest};
+use crate::addressed::{Addressed, is_same_dest};
 use crate::came::Came;
 use crate::piece::{SampleKey, SentFragments};
 use crate::told_sample::ToldSample;
 use rtps_ids::Memory;
-use rtps_receiver::Audience;
+use rtps_receiver::{Audience, EVERY_READER};
 use std::alloc::Global;
 use std::collections::BTreeMap;
 
@@ -20,7 +20,7 @@ fn is_for_audience(one: &Audience, other: &Audience) -> bool
     ensures { result ≡ is_for_audience_lem one.now other.now }
 {
     (one.dest.is_none() || is_same_dest(one.dest, other.dest))
-        && (one.reader == UNKNOWN || one.reader == other.reader)
+        && (one.reader == EVERY_READER || one.reader == other.reader)
 }
 
 /// An audience of a sample, by the places of its destination and its reader among those that the sample is sent to.

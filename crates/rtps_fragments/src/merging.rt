@@ -6,10 +6,9 @@ ghost use Rattle.rtps_fragments.specs.SampleActs.{sample_act};
 ghost use Rattle.rtps_fragments.specs.SamplesSent.{noted_act as noted_act_lem};
 ghost use Rattle.rtps_fragments.specs.Telling.{told_value};
 
-use crate::addressed::UNKNOWN;
 use crate::told_sample::ToldSample;
 use rtps_ids::{Memory, SeqNum};
-use rtps_receiver::{Act, ActBody, FragmentBody};
+use rtps_receiver::{Act, ActBody, EVERY_READER, FragmentBody};
 use rtps_wire::{DataBody, Payload};
 use std::slice;
 
@@ -67,7 +66,7 @@ fn noted_act<'s>(act: &Act<'s>, number: SeqNum, told: &'s ToldSample) -> Act<'s>
         stamp: act.stamp,
         order: act.order,
         body: ActBody::Data(DataBody {
-            reader: UNKNOWN,
+            reader: EVERY_READER,
             writer: act.origin().entity,
             number,
             qos: None,

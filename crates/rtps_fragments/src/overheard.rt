@@ -3,13 +3,12 @@ ghost use Rattle.rtps_fragments.specs.Announcing.{is_built_in as is_built_in_lem
 ghost use Rattle.rtps_fragments.specs.Overheard.{AreOverheard, AreOverheardOf, overheard_behind, overheard_in_turn};
 ghost use Rattle.rtps_fragments.specs.Telling.{IsSent, SentValue, sent_value, told_value};
 
-use crate::addressed::UNKNOWN;
 use crate::came::Came;
 use crate::hearing::{Hearing, Listener, tell_listener};
 use crate::piece::SentFragments;
 use crate::told_sample::ToldSample;
 use rtps_ids::{EntityId, Memory};
-use rtps_receiver::Audience;
+use rtps_receiver::{Audience, EVERY_READER};
 use std::alloc::Global;
 use std::collections::BTreeMap;
 
@@ -54,7 +53,7 @@ fn overhear<'a>(
         },
         audience: Audience {
             dest: None,
-            reader: UNKNOWN,
+            reader: EVERY_READER,
         },
         alloc,
     };

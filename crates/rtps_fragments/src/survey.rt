@@ -17,7 +17,7 @@ use std::alloc::Global;
 
 /// What is noted of fragments before their samples are told.
 #[derive(Drop)]
-pub(crate) struct Noting<'a> {
+pub(crate) struct SurveyNotes<'a> {
     pub(crate) tracking: Tracking<'a>,
     pub(crate) overheard: Overheard<'a>,
     pub(crate) addresses: Addresses,
@@ -34,12 +34,12 @@ pub(crate) struct Survey {
     pub(crate) addresses: Addresses,
 }
 
-impl<'a> Noting<'a> {
+impl<'a> SurveyNotes<'a> {
     /// Nothing is sent.
-    fn new(alloc: Global) -> Noting<'a>
+    fn new(alloc: Global) -> SurveyNotes<'a>
         ensures { AreNoted [] result }
     {
-        Noting {
+        SurveyNotes {
             tracking: Tracking::new(alloc),
             overheard: Overheard::new(alloc),
             addresses: Addresses::new(alloc),
@@ -87,13 +87,13 @@ impl Survey {
         ensures overheard { IfOk result (λ survey. AreOverheardOf (map (λ datagram. datagram.now) recording.now) survey.overheard) }
         ensures addressed { IfOk result (λ survey. AreAddressed (sents_in (sending_of (map (λ datagram. datagram.now) recording.now))) survey.addresses.kept) }
     {
-        let mut noting = Noting::new(alloc);
-        let told = noting.take_all(alloc, recording)?;
-        let Noting {
+        let mut notes = SurveyNotes::new(alloc);
+        let told = notes.take_all(alloc, recording)?;
+        let SurveyNotes {
             mut tracking,
             overheard: _,
             addresses,
-        } = noting;
+        } = notes;
         Ok(Survey {
             whole: tracking.take_numbers(),
             overheard: OverheardSamples { told },

@@ -1,4 +1,4 @@
-use Rattle.rtps_fragments.proofs.survey.Noting.take.Goals as goal
+use Rattle.rtps_fragments.proofs.survey.SurveyNotes.take.Goals as goal
 
 pub returns : goal.returns
 returns c = λ before noted.

@@ -4,7 +4,7 @@ use Rattle.rtps_fragments.specs.Overheard.{overheard_by_datagram}
 use Rattle.rtps_fragments.specs.Sending.{sending_of}
 use Rattle.rtps_fragments.specs.Survey.{AreNoted}
 use Rattle.rtps_fragments.specs.Telling.{told_value}
-use Rattle.rtps_fragments.proofs.survey.Noting.take_all.Given as goal
+use Rattle.rtps_fragments.proofs.survey.SurveyNotes.take_all.Given as goal
 
 -- what the datagrams so far send is noted, and is told
 pub record IsNotedSoFar (l : goal.Live-loop-datagram) : Type 0 where

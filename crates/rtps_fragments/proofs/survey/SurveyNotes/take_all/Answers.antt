@@ -9,7 +9,7 @@ use Rattle.rtps_fragments.specs.Telling.{SentValue, sent_value, told_value}
 use Rattle.rtps_fragments.specs.declared.told_sample.ToldSample.{ToldSample}
 use Rattle.rtps_fragments.proofs.OverheardLemmas.{overheard_next}
 use Rattle.rtps_fragments.proofs.SampleSteps.{octets_of, sending_next, sents_next}
-use Rattle.rtps_fragments.proofs.survey.Noting.take_all.Goals as goal
+use Rattle.rtps_fragments.proofs.survey.SurveyNotes.take_all.Goals as goal
 
 pub loop-datagram-preserved : goal.loop-datagram-preserved
 loop-datagram-preserved c =
