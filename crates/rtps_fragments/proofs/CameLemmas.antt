@@ -133,6 +133,20 @@ module _ (last : ℕ) (came : List (ℕ × List ℕ)) (kept new : Came) (k : ℕ
       stays : (i : ℕ) → i < kept.front → is_some (first_of came (suc i)) ≡ true → is_some (first_of (came ++ (k, octets) ∷ []) (suc i)) ≡ true
       stays i before e = ap is_some (first_new came k octets (suc i) (sym (is.firsts k) ∙ none)) ∙ by i (suc i == k) e
 
+  -- the next one after those that came
+  pub kept_next : k ≡ suc kept.front → kept.front < last → ((i : ℕ) → kept_first new i ≡ cond (i == k) (Some octets) (kept_first kept i)) → k ≤ new.front → new.front ≤ last
+      → ((i : ℕ) → k ≤ i → i < new.front → is_some (kept_first new (suc i)) ≡ true) → (new.front < last → kept_first new (suc new.front) ≡ None) → kept_other new ≡ kept_other kept
+      → IsCame last (came ++ (k, octets) ∷ []) new
+  kept_next follows more firsts onward within there next other =
+      let absent : kept_first kept k ≡ None = is.firsts k ∙ ap (first_of came) follows ∙ is.next more in
+      let here : kept_first new k ≡ Some octets = firsts k ∙ ap (λ b. cond b (Some octets) (kept_first kept k)) (own_number k) in
+      let each : (i : ℕ) → kept.front ≤ i → i < new.front → is_some (kept_first new (suc i)) ≡ true =
+      λ i ge lt. elim (cases_lt i k) [
+        | inl before ↦ (let same : suc i ≡ k = omega (arith, follows, ge, before) in ap (λ n. is_some (kept_first new n)) same ∙ ap is_some here)
+        | inr behind ↦ there i behind lt
+      ] in
+      kept_new absent firsts (omega (arith, follows, onward)) within each next other
+
 -- what is kept at first
 pub kept_none : (last : ℕ) (kept : Came) → ((i : ℕ) → kept_first kept i ≡ None) → kept.front ≡ 0 → kept.other ≡ 0 → IsCame last [] kept
 kept_none last kept firsts front other = record {

@@ -53,8 +53,8 @@ guid_is a b e =
 
 pub sample_is : (a b : SampleKey) → is_sample a b ≡ true → a ≡ b
 sample_is a b e =
-    let (writer, rest) = eq_then _ _ e in
-    let (number, rest) = eq_then _ _ rest in
+    let (number, rest) = eq_then _ _ e in
+    let (writer, rest) = eq_then _ _ rest in
     let (sample, rest) = eq_then _ _ rest in
     let (fragment, key) = eq_then _ _ rest in
     let one : Guid → SampleKey = λ w. record { writer = w; number = a.number; sample = a.sample; fragment = a.fragment; is_key = a.is_key } in
@@ -79,8 +79,8 @@ guids_total = then_total (on_total (λ (guid : Guid). guid.prefix.0) nat_list_cm
 
 pub samples_total : IsTotalOrder sample_cmp
 samples_total =
-    then_total (on_total (λ (key : SampleKey). key.writer) guids_total)
-    (then_total (on_total (λ (key : SampleKey). key.number) nat_cmp_total)
+    then_total (on_total (λ (key : SampleKey). key.number) nat_cmp_total)
+    (then_total (on_total (λ (key : SampleKey). key.writer) guids_total)
     (then_total (on_total (λ (key : SampleKey). key.sample) nat_cmp_total)
     (then_total (on_total (λ (key : SampleKey). key.fragment) nat_cmp_total) (on_total (λ (key : SampleKey). key.is_key) bool_cmp_total))))
 

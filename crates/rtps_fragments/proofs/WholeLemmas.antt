@@ -42,13 +42,13 @@ use Rattle.rtps_fragments.proofs.ToldLemmas.{and_true}
 
 same_number : (a b : SampleNumber) → is_number a b ≡ true → a ≡ b
 same_number a b e =
-    let (writer, number) = eq_then _ _ e in
+    let (number, writer) = eq_then _ _ e in
     let one : Guid → SampleNumber = λ w. record { writer = w; number = a.number } in
     let two : ℕ → SampleNumber = λ n. record { writer = b.writer; number = n } in
     ap one (guid_is a.writer b.writer writer) ∙ ap two (number_is a.number b.number number)
 
 numbers_total : IsTotalOrder number_cmp
-numbers_total = then_total (on_total (λ (n : SampleNumber). n.writer) guids_total) (on_total (λ (n : SampleNumber). n.number) nat_cmp_total)
+numbers_total = then_total (on_total (λ (n : SampleNumber). n.number) nat_cmp_total) (on_total (λ (n : SampleNumber). n.writer) guids_total)
 
 own_number : (a : SampleNumber) → is_number a a ≡ true
 own_number a = own_eq (number_cmp a a) (numbers_total.antisymm a a)

@@ -26,11 +26,11 @@ use Rattle.rtps_fragments.specs.declared.told_sample.ToldSample.{ToldSample}
 
 -- ---- samples
 
--- the order of two samples: by writer, number and shape
+-- the order of two samples: by number, writer and shape
 abbrev pub sample_cmp : SampleKey → SampleKey → Ordering
 sample_cmp a b =
-    ordering_then (guid_cmp a.writer b.writer)
-    (ordering_then (nat_cmp a.number b.number) (ordering_then (nat_cmp a.sample b.sample) (ordering_then (nat_cmp a.fragment b.fragment) (bool_cmp a.is_key b.is_key))))
+    ordering_then (nat_cmp a.number b.number)
+    (ordering_then (guid_cmp a.writer b.writer) (ordering_then (nat_cmp a.sample b.sample) (ordering_then (nat_cmp a.fragment b.fragment) (bool_cmp a.is_key b.is_key))))
 
 -- two samples are the same
 abbrev pub is_sample : SampleKey → SampleKey → Bool

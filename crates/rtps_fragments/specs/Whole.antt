@@ -21,9 +21,9 @@ use Rattle.rtps_fragments.specs.declared.piece.SampleKey.{SampleKey}
 use Rattle.rtps_fragments.specs.declared.whole.SampleNumber.{SampleNumber}
 use Rattle.rtps_fragments.specs.declared.whole.WholeNumbers.{WholeNumbers}
 
--- the order of two numbers: by writer, and then by number
+-- the order of two numbers: by number, and then by writer
 abbrev pub number_cmp : SampleNumber → SampleNumber → Ordering
-number_cmp a b = ordering_then (guid_cmp a.writer b.writer) (nat_cmp a.number b.number)
+number_cmp a b = ordering_then (nat_cmp a.number b.number) (guid_cmp a.writer b.writer)
 
 -- two numbers are the same
 abbrev pub is_number : SampleNumber → SampleNumber → Bool

@@ -63,6 +63,12 @@ impl<'a> Came<'a> {
         requires { 0 < index }
         ensures { OnOk result ((came : List (ℕ × List ℕ)) → IsCame last came self.old → IsCame last (came ++ (index, octets.now) ∷ []) self.new) }
     {
+        if self.front < last && index == self.front + 1 {
+            // The next one after those that came: it did not come before.
+            self.firsts.insert(index, octets)?;
+            self.front = front_from(&self.firsts, index, last);
+            return Ok(());
+        }
         if let Some(first) = self.firsts.get(&index) {
             if self.other == 0 && *first != octets {
                 self.other = index;

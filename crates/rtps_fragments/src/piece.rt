@@ -16,12 +16,12 @@ pub struct FragmentRun<'a> {
     pub octets: &'a [u8],
 }
 
-/// A sample that is sent in fragments of one shape.
+/// A sample that is sent in fragments of one shape. The number comes first: where two are compared, that decides soonest.
 #[derive(Clone, Copy, PartialEq, Eq, PartialOrd, Ord, Debug)]
 pub struct SampleKey {
-    pub writer: Guid,
     /// The number of the sample.
     pub number: SeqNum,
+    pub writer: Guid,
     /// The size of the sample, in octets.
     pub sample: u32,
     /// The size of a fragment, in octets.

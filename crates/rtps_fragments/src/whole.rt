@@ -18,8 +18,8 @@ use std::collections::{BTreeMap, BTreeSet};
 /// The number of a sample, and its writer.
 #[derive(Clone, Copy, PartialEq, Eq, PartialOrd, Ord, Debug)]
 pub(crate) struct SampleNumber {
-    pub(crate) writer: Guid,
     pub(crate) number: SeqNum,
+    pub(crate) writer: Guid,
 }
 
 /// The numbers of which some sample can be put together, and what came of each sample of another number, whoever hears it.
