@@ -149,6 +149,10 @@ length-any_within (suc n) unread = by (nat_lt unread.at (length unread.octets)) 
     by true rest = omega arith
     by false rest = omega arith
 
+pub length-left-behind : (unread : AnyUnread) → unread.at ≤ length unread.octets → unread.at + length (any_frames_left unread) ≤ length unread.octets
+unfolding any_frames_left
+length-left-behind unread within = omega (arith, length-any_within (length unread.octets - unread.at) unread, within)
+
 pub length-left : (unread : AnyUnread) → length (any_frames_left unread) ≤ length unread.octets
 unfolding any_frames_left
 length-left unread = omega (arith, length-any_within (length unread.octets - unread.at) unread)

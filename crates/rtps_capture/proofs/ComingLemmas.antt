@@ -37,11 +37,11 @@ four-append Little xs ys enough =
     rw (octet-append 0 xs ys (omega arith), octet-append 1 xs ys (omega arith), octet-append 2 xs ys (omega arith), octet-append 3 xs ys (omega arith)) refl
 
 -- a number that stands in the front
-two_behind : (order : Order) (at : ℕ) (xs ys : List ℕ) → at + 2 ≤ length xs → number_of order 2 (drop at (xs ++ ys)) ≡ number_of order 2 (drop at xs)
+pub two_behind : (order : Order) (at : ℕ) (xs ys : List ℕ) → at + 2 ≤ length xs → number_of order 2 (drop at (xs ++ ys)) ≡ number_of order 2 (drop at xs)
 two_behind order at xs ys enough =
     ap (number_of order 2) (drop-append-le at xs ys (omega arith)) ∙ two-append order (drop at xs) ys (omega (arith, length-drop at xs))
 
-four_behind : (order : Order) (at : ℕ) (xs ys : List ℕ) → at + 4 ≤ length xs → number_of order 4 (drop at (xs ++ ys)) ≡ number_of order 4 (drop at xs)
+pub four_behind : (order : Order) (at : ℕ) (xs ys : List ℕ) → at + 4 ≤ length xs → number_of order 4 (drop at (xs ++ ys)) ≡ number_of order 4 (drop at xs)
 four_behind order at xs ys enough =
     ap (number_of order 4) (drop-append-le at xs ys (omega arith)) ∙ four-append order (drop at xs) ys (omega (arith, length-drop at xs))
 
@@ -106,7 +106,7 @@ frames_left-whole cursor octets later some whole =
     ∙ ap (λ (f : Frame). f ∷ frames_from order link file frame.to) (given_at-append link octets later frame (omega arith) within.1)
 
 -- how a capture begins is told by its header
-order_known : (octets : List ℕ) (order : Order) → order_of octets ≡ Some order → 4 ≤ length octets
+pub order_known : (octets : List ℕ) (order : Order) → order_of octets ≡ Some order → 4 ≤ length octets
 unfolding order_of
 order_known octets order is = by (nat_lt (length octets) 4) refl
   where
@@ -122,7 +122,7 @@ link_known order octets link is = by (nat_lt (length octets) header.SIZE) refl
     by true test = let none : link_of order octets ≡ None = rw test refl in absurd (none-some link (sym none ∙ is))
     by false test = grind (arith, nat_tests)
 
-link_type_in-append : (order : Order) (octets later : List ℕ) → header.SIZE ≤ length octets → link_type_in order (octets ++ later) ≡ link_type_in order octets
+pub link_type_in-append : (order : Order) (octets later : List ℕ) → header.SIZE ≤ length octets → link_type_in order (octets ++ later) ≡ link_type_in order octets
 unfolding link_type_in
 link_type_in-append order octets later enough =
     let long : nat_lt (length octets) header.SIZE ≡ false = grind (arith, nat_tests) in

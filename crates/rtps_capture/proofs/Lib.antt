@@ -10,3 +10,5 @@ pub mod SentLemmas
 pub mod PacketLemmas
 pub mod CarriedLemmas
 pub mod AlikeLemmas
+pub mod GrownLemmas
+pub mod FrontLemmas

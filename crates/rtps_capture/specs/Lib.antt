@@ -8,6 +8,7 @@ pub mod Blocks
 pub mod Coming
 pub mod Datagrams
 pub mod Frames
+pub mod Front
 pub mod Laws
 pub mod Layout
 pub mod LinkTypes

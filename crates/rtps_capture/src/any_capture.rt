@@ -1,7 +1,8 @@
-ghost use Rattle.std.specs.Prelude.{◌≡◌, ◌≤◌, ◌<◌, ◌+◌, ◌^◌, ◌++◌, length, IfOk, MatchResult, Ok, OnOk};
-ghost use Rattle.rtps_capture.specs.AnyCapture.{AreWithin, IsAnswer, IsCounted, IsCountedWith, IsFault, StaysWithin, all_read, answer_of, any_read, any_value, collected, collected_of, contents_in as contents_in_lem, ignored, noted, nothing, size_of, with_fragment};
+ghost use Rattle.std.specs.Prelude.{◌≡◌, ◌≤◌, ◌<◌, ◌+◌, ◌^◌, ◌∷◌, ◌++◌, length, IfOk, MatchResult, Ok, OnOk};
+ghost use Rattle.rtps_capture.specs.AnyCapture.{AreWithin, IsAnswer, IsCounted, IsCountedWith, IsFault, StaysWithin, all_read, answer_of, any_read, any_value, collected, collected_of, contents_in as contents_in_lem, ignored, noted, size_of, with_fragment};
 ghost use Rattle.rtps_capture.specs.AnyFrames.{StandsInFile, any_frames_left, unread_of};
 ghost use Rattle.rtps_capture.specs.Assembly.{making_of, taken_piece};
+ghost use Rattle.rtps_capture.specs.Front.{HasReadFront, IsLeast, read_of};
 ghost use Rattle.rtps_capture.specs.Packets.{StandsIn, fragment_size};
 ghost use Rattle.rtps_capture.specs.Pieces.{piece_of};
 
@@ -10,6 +11,7 @@ use crate::assembly::Assembly;
 use crate::capture_octets::CaptureOctets;
 use crate::datagram::ByteRange;
 use crate::fragment::Fragment;
+use crate::front::{AnyFront, FrontRead};
 use crate::link_type::LinkType;
 use crate::packet::{Contents, contents_of, moved};
 use rtps_ids::Memory;
@@ -66,14 +68,14 @@ struct Collected {
 
 /// How many frames there were so far, and of what kinds.
 #[derive(Clone, Copy)]
-struct Counts {
-    frames: u64,
+pub(crate) struct Counts {
+    pub(crate) frames: u64,
     /// Frames with a fragment that is no repeat.
-    fresh: u64,
+    pub(crate) fresh: u64,
     /// Those of them whose packet was whole.
-    settled: u64,
-    cut: u64,
-    other: u64,
+    pub(crate) settled: u64,
+    pub(crate) cut: u64,
+    pub(crate) other: u64,
 }
 
 /// The datagrams of a capture of either form, whose octets it keeps; after one of more than `most` datagrams nothing is read. The
@@ -86,7 +88,50 @@ pub fn read_any(alloc: Global, octets: Vec<u8>, most: u64) -> Result<AnyReading,
     let Some(frames) = AnyFrames::open(alloc, &octets) else {
         return Err(AnyFault::BadCapture);
     };
-    read_frames(frames, Collected::new(alloc, octets), most)
+    let collected = Collected::new(alloc, octets, FrontRead::new(alloc));
+    read_frames(frames, collected, most)
+}
+
+/// The same as [`read_any`], where the front was read while the octets came.
+pub fn read_any_behind(
+    alloc: Global,
+    octets: Vec<u8>,
+    most: u64,
+    mut front: AnyFront,
+) -> Result<AnyReading, AnyFault>
+    requires { HasReadFront most front octets.items }
+    ensures read { IsAnswer octets.items (any_read most octets.items) result }
+    ensures few { IfOk result (λ reading. ignored reading < 2 ^ 64) }
+    ensures within { IfOk result (λ reading. AreWithin (length reading.octets.items) reading.datagrams.items) }
+{
+    let Some(frames) = front.frames.take() else {
+        return read_any(alloc, octets, most);
+    };
+    let last = front.read.last;
+    let collected = Collected::new(alloc, octets, front.read);
+    match last {
+        None => read_frames(frames, collected, most),
+        Some(frame) => read_last(frame, frames, collected, most),
+    }
+}
+
+/// What a frame gives behind those that were collected, and the frames behind it.
+fn read_last(
+    frame: AnyFrame,
+    frames: AnyFrames,
+    mut collected: Collected,
+    most: u64,
+) -> Result<AnyReading, AnyFault>
+    requires counted { IsCounted collected }
+    requires few { collected.counts.frames + 1 + length (any_frames_left (unread_of collected.octets.file frames)) < 2 ^ 63 }
+    requires within { AreWithin (size_of collected) collected.datagrams.items }
+    requires stands { StandsInFile (length collected.octets.file) frame }
+    ensures read { let file = collected.octets.file in IsAnswer file (all_read file most (collected_of collected) (frame ∷ any_frames_left (unread_of file frames))) result }
+    ensures few { IfOk result (λ reading. ignored reading < 2 ^ 64) }
+    ensures within { IfOk result (λ reading. AreWithin (length reading.octets.items) reading.datagrams.items) }
+{
+    collected.note(frame, most)?;
+    read_frames(frames, collected, most)
 }
 
 /// What the frames give behind those that were collected.
@@ -110,7 +155,7 @@ fn read_frames(
 
 /// What the frame contains that stands there in the file, with places of the file.
 #[tactic(auto, unfolding(crate::specs::AnyCapture::contents_in))]
-fn contents_in(octets: &[u8], link: Option<LinkType>, range: ByteRange) -> Contents
+pub(crate) fn contents_in(octets: &[u8], link: Option<LinkType>, range: ByteRange) -> Contents
     requires ordered { range.from ≤ range.to }
     requires within { range.to ≤ length octets.now }
     ensures contents { result ≡ contents_in_lem octets.now link range }
@@ -123,23 +168,18 @@ fn contents_in(octets: &[u8], link: Option<LinkType>, range: ByteRange) -> Conte
 }
 
 impl Collected {
-    fn new(alloc: Global, octets: Vec<u8>) -> Collected
+    fn new(alloc: Global, octets: Vec<u8>, read: FrontRead) -> Collected
+        requires { IsLeast read.counts }
         ensures file { result.octets.file ≡ octets.items }
-        ensures nothing { collected_of result ≡ nothing }
+        ensures read { collected_of result ≡ read_of read }
         ensures counted { IsCounted result }
     {
         Collected {
             octets: CaptureOctets::new(octets),
             assembly: Assembly::new(alloc),
             packet: Vec::new(alloc),
-            datagrams: Vec::new(alloc),
-            counts: Counts {
-                frames: 0,
-                fresh: 0,
-                settled: 0,
-                cut: 0,
-                other: 0,
-            },
+            datagrams: read.datagrams,
+            counts: read.counts,
         }
     }
 

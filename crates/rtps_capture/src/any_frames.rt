@@ -1,7 +1,8 @@
-ghost use Rattle.std.specs.Prelude.{◌≡◌, ◌≤◌, ◌<◌, ◌+◌, drop, length, IfOk, MatchOption, None, Some};
+ghost use Rattle.std.specs.Prelude.{◌≡◌, ◌≤◌, ◌<◌, ◌+◌, drop, false, length, IfOk, IfSome, MatchOption, None, Some};
 ghost use Rattle.rtps_capture.specs.AnyFrames.{GivesNextOf, StandsInFile, TakesStep, any_opened, any_step, frame_of_block as frame_of_block_lem, framed as framed_lem, interface_at as interface_at_lem, interface_of as interface_of_lem, interfaces_behind, is_last as is_last_lem, simple_size as simple_size_lem, step_of_block, step_of_record, unread_of};
 ghost use Rattle.rtps_capture.specs.Blocks.{BlockStands, block_at as block_at_lem};
 ghost use Rattle.rtps_capture.specs.Frames.{is_whole};
+ghost use Rattle.rtps_capture.specs.Front.{GoesOn, stays};
 ghost use Rattle.rtps_capture.specs.declared.blocks.Block.TheVariants.{Whole};
 
 use crate::blocks::{Block, Interface, WholeBlock, block_at};
@@ -59,6 +60,7 @@ fn framed(link: Option<LinkType>, size: usize, range: ByteRange) -> AnyFrame
     requires { range.from ≤ range.to }
     ensures framed { result ≡ framed_lem link size range }
     ensures within { StandsInFile range.to result }
+    ensures whole { stays result ≡ false }
 {
     if size > range.to - range.from {
         return AnyFrame::CutFrame;
@@ -106,6 +108,7 @@ fn frame_of_block(interfaces: &[Interface], whole: WholeBlock, octets: &[u8], at
     requires { BlockStands at octets.now (Whole whole) }
     ensures gives { result ≡ frame_of_block_lem interfaces.now whole octets.now at }
     ensures within { StandsInFile (length octets.now) result }
+    ensures whole { stays result ≡ false }
 {
     let body = at + block::BODY;
     let to = whole.to - block::REPETITION;
@@ -169,9 +172,10 @@ impl AnyFrames {
     /// Reads the header of a capture of either form, of any length, and leaves its frames to be read. None where it is no
     /// capture: the header of a classic one is cut, of another major version or of a link type that is not read, or the
     /// first block is not a whole header of a section that is read.
-    #[tactic(auto, unfolding(crate::specs::AnyFrames::any_opened))]
+    #[tactic(auto, unfolding(crate::specs::AnyFrames::any_opened, crate::specs::Opening::link_type_in))]
     pub(crate) fn open(alloc: Global, octets: &[u8]) -> Option<AnyFrames>
-        ensures { MatchOption result (any_opened octets.now ≡ None) (λ frames. any_opened octets.now ≡ Some (unread_of octets.now frames)) }
+        ensures opened { MatchOption result (any_opened octets.now ≡ None) (λ frames. any_opened octets.now ≡ Some (unread_of octets.now frames)) }
+        ensures within { IfSome result (λ frames. frames.at ≤ length octets.now) }
     {
         if let Some(order) = capture_order(octets) {
             let link = link_type_numbered(link_type_in(order, octets)?)?;
@@ -210,10 +214,11 @@ impl AnyFrames {
 
     /// What the next record or block gives, with what is behind it left.
     #[tactic(auto, unfolding(crate::specs::AnyFrames::any_step))]
-    fn step(&mut self, octets: &[u8]) -> Result<AnyFrame, Memory>
+    pub(crate) fn step(&mut self, octets: &[u8]) -> Result<AnyFrame, Memory>
         requires { self.old.at < length octets.now }
         ensures step { IfOk result (λ frame. TakesStep (any_step (unread_of octets.now self.old)) frame (unread_of octets.now self.new)) }
         ensures within { IfOk result (λ frame. StandsInFile (length octets.now) frame) }
+        ensures onward { IfOk result (λ frame. GoesOn (length octets.now) self.old frame self.new) }
     {
         match self.classic {
             Some(link) => Ok(self.next_record(octets, link)),
@@ -226,6 +231,7 @@ impl AnyFrames {
         requires { self.old.at < length octets.now }
         ensures step { TakesStep (step_of_record (unread_of octets.now self.old) link (is_whole self.old.order (drop self.old.at octets.now))) result (unread_of octets.now self.new) }
         ensures within { StandsInFile (length octets.now) result }
+        ensures onward { GoesOn (length octets.now) self.old result self.new }
     {
         match frame_at(self.order, octets, self.at) {
             Some(frame) => {
@@ -241,6 +247,7 @@ impl AnyFrames {
         requires { self.old.at < length octets.now }
         ensures step { IfOk result (λ frame. TakesStep (step_of_block (unread_of octets.now self.old) (block_at_lem self.old.order octets.now self.old.at)) frame (unread_of octets.now self.new)) }
         ensures within { IfOk result (λ frame. StandsInFile (length octets.now) frame) }
+        ensures onward { IfOk result (λ frame. GoesOn (length octets.now) self.old frame self.new) }
     {
         let whole = match block_at(self.order, octets, self.at) {
             Block::Whole(whole) => whole,

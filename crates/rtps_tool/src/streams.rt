@@ -1,5 +1,6 @@
 ghost use Rattle.std.specs.Prelude.{◌≡◌, [], true, false, ◌+◌, ◌≤◌, ◌<◌, ℕ, List, Option, length, take, drop, vec_len, MatchResult, IfErr, IfOk, OnOk};
 ghost use Rattle.std.specs.Io.KnownBytes.{Appends, Consumes, IsAtEnd};
+ghost use Rattle.rtps_capture.specs.Front.{HasReadFront as HasReadAnyFront};
 ghost use Rattle.rtps_capture.specs.Opening.{order_of};
 ghost use Rattle.rtps_tool.specs.Forms.{begins_capture as begins_capture_lem};
 ghost use Rattle.rtps_tool.specs.declared.captures.Captures.{Captures as CapturesValue};
@@ -17,6 +18,7 @@ use crate::form::capture_reader::CaptureReader;
 use crate::form::either::read_recording_within;
 use crate::form::line_reader::{KEPT_MAX, LineReader};
 use crate::runs::Limits;
+use rtps_capture::AnyFront;
 use rtps_text::{Recording, make_room, push_octets};
 use std::alloc::{AllocError, Global};
 use std::io::{Read, Write};
@@ -243,20 +245,24 @@ fn read_any_input<R: Read>(
     ensures { (before : Option (List ℕ)) → Consumes before (R.remaining input.old) begun.now
         → MatchResult result (ReadsRecording limits Any before (R.remaining input.new)) (FailsReading limits Any before (R.remaining input.new)) }
 {
-    let octets = read_all(alloc, limits, input, begun)?;
-    Ok(read_any_capture(alloc, limits.datagrams, octets)?)
+    let mut front = AnyFront::open(alloc, begun);
+    let octets = read_all(alloc, limits, input, begun, &mut front)?;
+    Ok(read_any_capture(alloc, limits.datagrams, octets, front)?)
 }
 
-/// Reads all the input, of which these octets were read. It has their form.
+/// Reads all the input, of which these octets were read, and gives the front what comes. It has their form.
 fn read_all<R: Read>(
     alloc: Global,
     limits: Limits,
     input: &mut R,
     begun: &[u8],
+    front: &mut AnyFront,
 ) -> Result<Vec<u8>, RunFault>
     requires begun { 4 ≤ length begun.now }
+    requires opened { HasReadAnyFront limits.datagrams front.old begun.now }
     ensures form { IfOk result (λ octets. begins_capture_lem Any octets.items ≡ begins_capture_lem Any begun.now) }
     ensures small { IfOk result (λ octets. length octets.items ≤ limits.octets) }
+    ensures fed { IfOk result (λ octets. HasReadAnyFront limits.datagrams front.new octets.items) }
     ensures read { (before : Option (List ℕ)) → Consumes before (R.remaining input.old) begun.now → MatchResult result
         (λ octets. Consumes before (R.remaining input.new) octets.items × IsAtEnd (R.remaining input.new))
         (FailsReading limits Any before (R.remaining input.new)) }
@@ -264,6 +270,7 @@ fn read_all<R: Read>(
     let mut octets = Vec::new(alloc);
     push_octets(&mut octets, begun)?;
     'pieces: while octets.len() as u64 <= limits.octets {
+        front.feed(limits.datagrams, &octets)?;
         if read_behind(input, &mut octets)? == 0 {
             return Ok(octets);
         }

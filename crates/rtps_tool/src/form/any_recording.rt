@@ -1,33 +1,44 @@
 ghost use Rattle.std.specs.Prelude.{◌≡◌, List, ℕ, length, Ok, IfErr, IfOk, MatchResult};
 ghost use Rattle.rtps_capture.specs.AnyCapture.{AreWithin};
+ghost use Rattle.rtps_capture.specs.Front.{HasReadFront};
 ghost use Rattle.rtps_text.specs.DatagramSpan.{AreSpans, pieces};
 ghost use Rattle.rtps_tool.specs.Outcomes.{IsFaultOf};
 ghost use Rattle.rtps_tool.specs.RecordingAnyCapture.{octets_in, recording_of_any};
 
 use crate::faults::RecFault;
-use rtps_capture::{ByteRange, read_any};
+use rtps_capture::{AnyFront, ByteRange, read_any_behind};
 use rtps_text::{DatagramSpan, Reasons, Recording};
 use std::alloc::Global;
 
-/// Reads a recording of so many datagrams at most from a capture of either form. It keeps the octets of the capture, and behind
-/// them those of the packets that came in fragments.
+/// Reads a recording of so many datagrams at most from a capture of either form, of which the front was read. It keeps the octets
+/// of the capture, and behind them those of the packets that came in fragments.
 pub(crate) fn read_any_capture(
     alloc: Global,
     most: u64,
     octets: Vec<u8>,
+    front: AnyFront,
 ) -> Result<Recording, RecFault>
+    requires { HasReadFront most front octets.items }
     ensures { MatchResult result
         (λ recording. recording_of_any most octets.items ≡ Ok recording)
         (IsFaultOf (recording_of_any most octets.items)) }
 {
-    let reading = read_any(alloc, octets, most)?;
+    let reading = read_any_behind(alloc, octets, most, front)?;
     let spans = spans_of(alloc, &reading.datagrams)?;
+    let_go(reading.datagrams);
     let reasons = Reasons {
         pieces: reading.pieces,
         cut: reading.cut,
         other: reading.other,
     };
     Ok(Recording::of_any_capture(reading.octets, spans, reasons))
+}
+
+/// Gives back the memory of ranges. The allocator of the C library maps each large block on its own, so that it grows without a
+/// copy; where a large one is freed, it copies those that are smaller from then on. So the block is made small before.
+fn let_go(mut ranges: Vec<ByteRange>) {
+    ranges.truncate(1);
+    ranges.shrink_to_fit();
 }
 
 /// The spans of these ranges. `Memory` is answered, too, where one has none.

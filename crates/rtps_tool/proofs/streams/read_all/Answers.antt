@@ -2,10 +2,15 @@ use Rattle.std.proofs.Common.{◌≡◌, ◌++◌, ◌∙◌, List, ℕ, drop, l
 use Rattle.std.specs.Io.KnownBytes.{Consumes}
 use Rattle.std.proofs.KnownBytes.{Consumes-trans}
 use Rattle.std.proofs.lemmas.Result.{err_from_is_err_and}
+use Rattle.rtps_capture.specs.Front.{HasReadFront}
+use Rattle.rtps_capture.proofs.FrontLemmas.{has_grown}
 use Rattle.rtps_tool.specs.Forms.{begins_capture}
 use Rattle.rtps_tool.specs.declared.captures.Captures.TheVariants.{Any}
 use Rattle.rtps_tool.proofs.UnfinishedLemmas.{begins_capture-append}
 use Rattle.rtps_tool.proofs.streams.read_all.Goals as goal
+
+pub feed-requires : goal.feed-requires
+feed-requires g c = subst (HasReadFront c.args.limits.datagrams c.pieces.front) (sym c.deref.ensures.value) c.pieces.invariant.2
 
 pub returns-in_err-read_behind-clause-read : goal.returns-in_err-read_behind-clause-read
 returns-in_err-read_behind-clause-read g c = λ before taken.
@@ -19,8 +24,11 @@ pieces-preserved g c =
     let more = drop (length octets) c.read_behind.new.octets.items in
     let joined : octets ++ more ≡ c.read_behind.new.octets.items =
     ap (λ (front : List ℕ). front ++ more) (sym came.front) ∙ take-append-drop (length octets) c.read_behind.new.octets.items in
-    let invariant = c.pieces.invariant in (
+    let invariant = c.pieces.invariant in
+    let most = c.args.limits.datagrams in
+    let fed : HasReadFront most c.feed.new.self octets = subst (HasReadFront most c.feed.new.self) c.deref.ensures.value c.in_ok-feed.ensures in (
       omega (arith, came.size, invariant.0),
       ap (begins_capture Any) (sym joined) ∙ begins_capture-append Any octets more invariant.0 ∙ invariant.1,
-      λ before taken. subst (Consumes before _) joined (Consumes-trans before _ _ octets more (invariant.2 before taken) came.read),
+      subst (HasReadFront most c.feed.new.self) joined (has_grown most octets more c.feed.new.self fed),
+      λ before taken. subst (Consumes before _) joined (Consumes-trans before _ _ octets more (invariant.3 before taken) came.read),
     )

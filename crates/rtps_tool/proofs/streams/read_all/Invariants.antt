@@ -1,5 +1,6 @@
 use Rattle.std.proofs.Common.{◌≡◌, ◌+◌, ◌-◌, ◌≤◌, List, ℕ, Option, length}
 use Rattle.std.specs.Io.KnownBytes.{Consumes}
+use Rattle.rtps_capture.specs.Front.{HasReadFront}
 use Rattle.rtps_tool.specs.Forms.{begins_capture}
 use Rattle.rtps_tool.specs.declared.captures.Captures.TheVariants.{Any}
 use Rattle.rtps_tool.proofs.streams.read_all.Given as goal
@@ -8,7 +9,7 @@ use Rattle.rtps_tool.proofs.streams.read_all.Given as goal
 abbrev pub invariant-pieces : goal.invariant-pieces
 invariant-pieces g l =
     let octets = l.octets.items in
-    (4 ≤ length octets) × (begins_capture Any octets ≡ begins_capture Any l.initial.begun)
+    (4 ≤ length octets) × (begins_capture Any octets ≡ begins_capture Any l.initial.begun) × HasReadFront l.limits.datagrams l.front octets
     × ((before : Option (List ℕ)) → Consumes before (g.R.Read.remaining l.initial.input) l.initial.begun → Consumes before (g.R.Read.remaining l.input) octets)
 
 -- the octets that may still come
