@@ -1,4 +1,4 @@
-use Rattle.std.proofs.Common.{◌≡◌, ◌∙◌, false, refl, ap, ap₂}
+use Rattle.std.proofs.Common.{◌∙◌, refl, ap, ap₂}
 use Rattle.std.proofs.lemmas.Result.{IfOk-weaker}
 use Rattle.clap.specs.Words.{with_rule}
 use Rattle.rtps_tool.specs.Words.{expect_rule, pattern_rule}
