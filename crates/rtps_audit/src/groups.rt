@@ -30,6 +30,7 @@ impl<K: Ord + Copy + Drop, V: Copy + Drop> Groups<K, V> {
         ensures { OnOk result ((other : K) → values_at K.cmp self.new.map other
             ≡ values_at K.cmp self.old.map other ++ cond (is_eq (K.cmp other key)) (value ∷ []) []) }
     {
+        // Most lists are there, and an entry goes down the map twice.
         if let Some(found) = self.map.get_mut(&key) {
             append(found, value)?;
             return Ok(());
