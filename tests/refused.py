@@ -68,8 +68,7 @@ def requests_of(library, words):
 
 def sweep(library, words, text, wanted, may_go_on, mark=0):
     """Refuses each request in turn: how many times that is answered as wanted, how many times as with ample memory, which
-    so many of the first may do, and with `--any` one that makes a block smaller, and how often otherwise."""
-    smaller = int('--any' in words or 'fragments_any_run' in words)
+    so many of the first may do, and how often otherwise."""
     ample, _ = run(library, words, 0, text, mark)
     told = went_on = failed = request = 0
     while True:
@@ -79,8 +78,7 @@ def sweep(library, words, text, wanted, may_go_on, mark=0):
             return told, went_on, failed + (answer != ample)
         if answer == wanted:
             told += 1
-        elif answer == ample and (request <= may_go_on or smaller):
-            smaller -= request > may_go_on
+        elif answer == ample and request <= may_go_on:
             went_on += 1
         else:
             failed += 1

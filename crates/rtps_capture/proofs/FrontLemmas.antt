@@ -6,7 +6,7 @@ use Rattle.std.proofs.lemmas.Bool.Decides.{nat_tests}
 use Rattle.std.proofs.lemmas.List.{append-nil, append_assoc, length-append}
 use Rattle.rtps_capture.specs.AnyCapture.{AnyAnswer, AreWithin, Collected, IsAnswer, all_noted, all_read, answered, any_read, collected, contents_in, limited, nothing, noted, opened_read, or_fault, with_contents, with_frame}
 use Rattle.rtps_capture.specs.AnyFrames.{StandsInFile, TakesStep, any_frames_left, any_opened, any_step, behind, unread_of}
-use Rattle.rtps_capture.specs.Front.{GoesOn, GoesOnBy, HasReadFront, IsFront, IsLeast, Keeps, is_plain, left_of, read_of, stays}
+use Rattle.rtps_capture.specs.Front.{GoesOn, GoesOnBy, HasReadFront, IsFront, AreFrontCounts, Keeps, is_plain, left_of, read_of, stays}
 use Rattle.rtps_capture.specs.Packets.{StandsIn}
 use Rattle.rtps_ids.specs.declared.memory.Memory.{Memory}
 use Rattle.rtps_capture.specs.declared.any_capture.AnyFault.{AnyFault}
@@ -30,7 +30,7 @@ unfolding any_read
 front_first most octets frames read opened within empty none last = record {
   within = within;
   few = omega (arith, ap (λ (c : Collected). c.counts.frames) none, ap (λ (l : Option AnyFrame). length (option_to_list l)) last);
-  least = subst (λ (c : Collected). IsLeast c.counts) (sym none) (refl, refl, omega arith, omega arith);
+  least = subst (λ (c : Collected). AreFrontCounts c.counts) (sym none) (refl, refl, omega arith, omega arith);
   stand = λ i d few. absurd (omega (arith, few, ap (λ (l : List ByteRange). length l) empty));
   last = subst (λ (l : Option AnyFrame). IfSome l (StandsInFile (length octets))) (sym last) tt;
   tells = λ later.
@@ -164,7 +164,7 @@ noted_plain most file so_far link range contents is plain few = ap (λ (c : Cont
 -- a frame whose contents are kept
 front_kept : (most : ℕ) (octets : List ℕ) (old new : AnyFrames) (read next : FrontRead) (link : Option LinkType) (range : ByteRange) (contents : Contents) (taken : Bool)
     → Steps most octets old new read (Frame link range) → length read.datagrams.items < most → contents ≡ contents_in octets link range
-    → Keeps read (Frame link range) contents taken next → AreWithin (length octets) next.datagrams.items → IsLeast next.counts → IsFront most octets new next
+    → Keeps read (Frame link range) contents taken next → AreWithin (length octets) next.datagrams.items → AreFrontCounts next.counts → IsFront most octets new next
 front_kept most octets old new read next link range contents false is few gives keeps stand least = front_held most octets old new read next (Frame link range) is keeps
 front_kept most octets old new read next link range contents true is few gives keeps stand least =
     let none = keeps.2 ∙ is.none in record {
@@ -185,7 +185,7 @@ front_kept most octets old new read next link range contents true is few gives k
 pub front_read : (most : ℕ) (octets : List ℕ) (old new : AnyFrames) (read next : FrontRead) (link : Option LinkType) (range : ByteRange)
     (contents : Contents) (result : Result Bool Memory) → Steps most octets old new read (Frame link range)
     → length read.datagrams.items < most → contents ≡ contents_in octets link range → StandsIn (length octets) contents
-    → IfOk result (λ taken. Keeps read (Frame link range) contents taken next) → OnOk result (IsLeast next.counts)
+    → IfOk result (λ taken. Keeps read (Frame link range) contents taken next) → OnOk result (AreFrontCounts next.counts)
     → OnOk result ((size : ℕ) → StandsIn size contents → AreWithin size read.datagrams.items → AreWithin size next.datagrams.items)
     → OnOk result (IsFront most octets new next)
 front_read most octets old new read next link range contents (Err e) is few gives stands keeps least within = tt

@@ -38,15 +38,15 @@ read_of read = record nothing { datagrams = read.datagrams.items; counts = read.
 abbrev pub left_of : List ℕ → AnyFrames → Option AnyFrame → List AnyFrame
 left_of file frames last = option_to_list last ++ any_frames_left (unread_of file frames)
 
--- the kinds of frames are no more than the frames
-abbrev pub IsLeast : Counts → Type 0
-IsLeast counts = (counts.fresh ≡ 0) × (counts.settled ≡ 0) × (counts.cut ≤ counts.frames) × (counts.other ≤ counts.frames)
+-- no packet came in fragments, and the kinds of frames are no more than the frames
+abbrev pub AreFrontCounts : Counts → Type 0
+AreFrontCounts counts = (counts.fresh ≡ 0) × (counts.settled ≡ 0) × (counts.cut ≤ counts.frames) × (counts.other ≤ counts.frames)
 
 -- these frames are unread behind what was read, whatever comes behind these octets
 pub record IsFront (most : ℕ) (octets : List ℕ) (frames : AnyFrames) (read : FrontRead) : Type 0 where
   pub within : frames.at ≤ length octets
   pub few : read.counts.frames + length (option_to_list read.last) ≤ frames.at
-  pub least : IsLeast read.counts
+  pub least : AreFrontCounts read.counts
   pub stand : AreWithin (length octets) read.datagrams.items
   pub last : IfSome read.last (StandsInFile (length octets))
   pub tells : (later : List ℕ) → any_read most (octets ++ later) ≡ all_read (octets ++ later) most (read_of read) (left_of (octets ++ later) frames read.last)

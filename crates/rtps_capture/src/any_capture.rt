@@ -2,7 +2,7 @@ ghost use Rattle.std.specs.Prelude.{◌≡◌, ◌≤◌, ◌<◌, ◌+◌, ◌^
 ghost use Rattle.rtps_capture.specs.AnyCapture.{AreWithin, IsAnswer, IsCounted, IsCountedWith, IsFault, StaysWithin, all_read, answer_of, any_read, any_value, collected, collected_of, contents_in as contents_in_lem, ignored, noted, size_of, with_fragment};
 ghost use Rattle.rtps_capture.specs.AnyFrames.{StandsInFile, any_frames_left, unread_of};
 ghost use Rattle.rtps_capture.specs.Assembly.{making_of, taken_piece};
-ghost use Rattle.rtps_capture.specs.Front.{HasReadFront, IsLeast, read_of};
+ghost use Rattle.rtps_capture.specs.Front.{HasReadFront, AreFrontCounts, read_of};
 ghost use Rattle.rtps_capture.specs.Packets.{StandsIn, fragment_size};
 ghost use Rattle.rtps_capture.specs.Pieces.{piece_of};
 
@@ -169,7 +169,7 @@ pub(crate) fn contents_in(octets: &[u8], link: Option<LinkType>, range: ByteRang
 
 impl Collected {
     fn new(alloc: Global, octets: Vec<u8>, read: FrontRead) -> Collected
-        requires { IsLeast read.counts }
+        requires { AreFrontCounts read.counts }
         ensures file { result.octets.file ≡ octets.items }
         ensures read { collected_of result ≡ read_of read }
         ensures counted { IsCounted result }

@@ -1,6 +1,6 @@
-ghost use Rattle.std.specs.Prelude.{◌≡◌, ◌≤◌, ◌<◌, ◌+◌, ◌^◌, [], ℕ, length, true, IfOk, OnOk, None};
+ghost use Rattle.std.specs.Prelude.{◌≡◌, ◌≤◌, ◌<◌, ◌+◌, ◌++◌, ◌^◌, [], List, ℕ, length, true, IfOk, OnOk, None};
 ghost use Rattle.rtps_capture.specs.AnyCapture.{AreWithin, nothing};
-ghost use Rattle.rtps_capture.specs.Front.{HasReadFront, IsFront, IsLeast, Keeps, read_of};
+ghost use Rattle.rtps_capture.specs.Front.{HasReadFront, IsFront, AreFrontCounts, Keeps, read_of};
 ghost use Rattle.rtps_capture.specs.Packets.{StandsIn};
 
 use crate::any_capture::{Counts, contents_in};
@@ -40,10 +40,10 @@ impl AnyFront {
     }
 
     /// Reads the frames that are whole in these octets, with which the capture begins, as long as there are fewer datagrams than
-    /// `most`. After an `Err` it is of no use.
+    /// `most`. What was read stays right whatever comes behind these octets. After an `Err` it is of no use.
     pub fn feed(&mut self, most: u64, octets: &[u8]) -> Result<(), Memory>
         requires { HasReadFront most self.old octets.now }
-        ensures { OnOk result (HasReadFront most self.new octets.now) }
+        ensures { OnOk result ((later : List ℕ) → HasReadFront most self.new (octets.now ++ later)) }
     {
         let Some(mut frames) = self.frames.take() else {
             return Ok(());
@@ -89,7 +89,7 @@ impl FrontRead {
     /// Reads the next frame, if it is whole. Answers whether there may be more to read.
     fn read_frame(&mut self, frames: &mut AnyFrames, octets: &[u8]) -> Result<bool, Memory>
         requires few { self.old.counts.frames ≤ frames.old.at }
-        requires least { IsLeast self.old.counts }
+        requires least { AreFrontCounts self.old.counts }
         ensures read { (most : ℕ) → length self.old.datagrams.items < most → IsFront most octets.now frames.old self.old → OnOk result (IsFront most octets.now frames.new self.new) }
         ensures onward { IfOk result (λ more. more ≡ true → (frames.old.at < frames.new.at) × (frames.new.at ≤ length octets.now)) }
     {
@@ -112,9 +112,9 @@ impl FrontRead {
     #[inline]
     fn keep(&mut self, frame: AnyFrame, contents: Contents) -> Result<bool, Memory>
         requires few { self.old.counts.frames < 2 ^ 63 }
-        requires least { IsLeast self.old.counts }
+        requires least { AreFrontCounts self.old.counts }
         ensures kept { IfOk result (λ taken. Keeps self.old frame contents taken self.new) }
-        ensures least { OnOk result (IsLeast self.new.counts) }
+        ensures least { OnOk result (AreFrontCounts self.new.counts) }
         ensures within { OnOk result ((size : ℕ) → StandsIn size contents → AreWithin size self.old.datagrams.items → AreWithin size self.new.datagrams.items) }
     {
         match contents {

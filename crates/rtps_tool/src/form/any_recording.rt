@@ -25,20 +25,12 @@ pub(crate) fn read_any_capture(
 {
     let reading = read_any_behind(alloc, octets, most, front)?;
     let spans = spans_of(alloc, &reading.datagrams)?;
-    let_go(reading.datagrams);
     let reasons = Reasons {
         pieces: reading.pieces,
         cut: reading.cut,
         other: reading.other,
     };
     Ok(Recording::of_any_capture(reading.octets, spans, reasons))
-}
-
-/// Gives back the memory of ranges. The allocator of the C library maps each large block on its own, so that it grows without a
-/// copy; where a large one is freed, it copies those that are smaller from then on. So the block is made small before.
-fn let_go(mut ranges: Vec<ByteRange>) {
-    ranges.truncate(1);
-    ranges.shrink_to_fit();
 }
 
 /// The spans of these ranges. `Memory` is answered, too, where one has none.

@@ -3,7 +3,6 @@ use Rattle.std.specs.Io.KnownBytes.{Consumes}
 use Rattle.std.proofs.KnownBytes.{Consumes-trans}
 use Rattle.std.proofs.lemmas.Result.{err_from_is_err_and}
 use Rattle.rtps_capture.specs.Front.{HasReadFront}
-use Rattle.rtps_capture.proofs.FrontLemmas.{has_grown}
 use Rattle.rtps_tool.specs.Forms.{begins_capture}
 use Rattle.rtps_tool.specs.declared.captures.Captures.TheVariants.{Any}
 use Rattle.rtps_tool.proofs.UnfinishedLemmas.{begins_capture-append}
@@ -26,9 +25,9 @@ pieces-preserved g c =
     ap (λ (front : List ℕ). front ++ more) (sym came.front) ∙ take-append-drop (length octets) c.read_behind.new.octets.items in
     let invariant = c.pieces.invariant in
     let most = c.args.limits.datagrams in
-    let fed : HasReadFront most c.feed.new.self octets = subst (HasReadFront most c.feed.new.self) c.deref.ensures.value c.in_ok-feed.ensures in (
+    let fed : HasReadFront most c.feed.new.self (octets ++ more) = subst (λ (l : List ℕ). HasReadFront most c.feed.new.self (l ++ more)) c.deref.ensures.value (c.in_ok-feed.ensures more) in (
       omega (arith, came.size, invariant.0),
       ap (begins_capture Any) (sym joined) ∙ begins_capture-append Any octets more invariant.0 ∙ invariant.1,
-      subst (HasReadFront most c.feed.new.self) joined (has_grown most octets more c.feed.new.self fed),
+      subst (HasReadFront most c.feed.new.self) joined fed,
       λ before taken. subst (Consumes before _) joined (Consumes-trans before _ _ octets more (invariant.3 before taken) came.read),
     )
