@@ -7,8 +7,7 @@ use Rattle.rtps_ids.specs.declared.identity.Guid.{Guid}
 use Rattle.rtps_discovery.specs.Endpoint.{EndpointValue, endpoint_value}
 use Rattle.rtps_discovery.specs.GuidOrder.{guid_cmp}
 use Rattle.rtps_discovery.specs.declared.endpoint.Endpoint.{Endpoint}
-use Rattle.rtps_audit.specs.AnnouncedPlaces.{announced_among, announced_at, announced_of}
-use Rattle.rtps_audit.specs.Placed.{PlacedValue}
+use Rattle.rtps_audit.specs.Placed.{PlacedValue, announced_among, announced_at, announced_of}
 use Rattle.rtps_audit.specs.declared.announced_places.AnnouncedPlace.{AnnouncedPlace}
 use Rattle.rtps_audit.proofs.PlacedLemmas.{is_eq-guid_cmp}
 

@@ -7,7 +7,7 @@ use Rattle.std.specs.Map.{lookup}
 use Rattle.std.specs.Ordering.{is_eq, ordering_reverse}
 use Rattle.std.specs.declared.cmp.Ordering.{Ordering}
 use Rattle.std.specs.declared.cmp.Ordering.TheVariants.{Less, Equal, Greater}
-use Rattle.rtps_audit.specs.Groups.{items_or_none, values_at}
+use Rattle.rtps_audit.specs.Placed.{items_or_none, values_at}
 
 pub equal_of : (order : Ordering) → is_eq order ≡ true → order ≡ Equal
 equal_of Less e = cc

@@ -1,4 +1,3 @@
-pub mod PayloadLemmas
 pub mod WordLemmas
 pub mod Greatest
 pub mod DeliveryRuns
@@ -12,7 +11,6 @@ pub mod AnswerLemmas
 pub mod PlacedActs
 pub mod IntakeLemmas
 pub mod IndexSpeech
-pub mod JudgeLemmas
 pub mod FullRunLemmas
 pub mod EachVerdict
 pub mod FirstMissed

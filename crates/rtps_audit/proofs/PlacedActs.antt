@@ -2,16 +2,18 @@
 use Rattle.std.proofs.Common.{◌≡◌, ℕ, ◌+◌, ◌<◌, List, [], ◌∷◌, ◌++◌, length, map, take, get_or, Bor, sym, ◌∙◌, ap, zero, suc, ◌≤◌, Bool, true, false, cond, filter, Option, Some, None, slice_get, ◌⊎◌, inl, inr, refl, subst, arith, append_assoc, append-nil}
 use Rattle.std.proofs.lemmas.List.{map-append, take_more, get_or-map, length-map, length-take-le}
 use Rattle.std.proofs.lemmas.Grind.{flat_map-append}
-use Rattle.std.specs.Prelude.{Contains, ⊤}
+use Rattle.std.specs.Prelude.{Contains, ⊤, unwrap_or}
 use Rattle.std.specs.List.{All, cons_option, filter_map}
 use Rattle.std.specs.List.Sorted.{IsNonDecreasingBy}
 use Rattle.std.proofs.lemmas.List.Elements.{All-append, All-contains, All-contains_itself, All-cons, All-filter, All-head, All-nil, All-tail, All-weaker, Contains-append_cases, Contains-append_left, Contains-append_right, Contains-push}
 use Rattle.rtps_wire.specs.Reading.{reading_of}
 use Rattle.rtps_receiver.specs.Acts.{acts_of}
 use Rattle.rtps_receiver.specs.Values.{ActValue}
+use Rattle.rtps_discovery.specs.declared.matching.Pair.{Pair}
 use Rattle.rtps_audit.specs.Intake.{acts_together}
-use Rattle.rtps_audit.specs.Placed.{PlacedValue, placed_at, placed_behind, placed_in, placed_value}
-use Rattle.rtps_audit.specs.Speech.{acts_by_datagram}
+use Rattle.rtps_audit.specs.Placed.{PlacedValue, answer_at, answer_of, answers_among, placed_at, placed_behind, placed_in, placed_value}
+use Rattle.rtps_audit.specs.Speech.{acts_by_datagram, base_for}
+use Rattle.rtps_audit.specs.declared.answer.Answer.{Answer}
 use Rattle.rtps_audit.specs.declared.placed.Placed.{Placed}
 
 -- ---- one datagram more
@@ -226,3 +228,22 @@ makes {X} {Y} h (z ∷ xs) x y among is = elim (contains_cases z xs x among) [
     later : (o : Option Y) → Contains (filter_map h xs) y → Contains (cons_option o (filter_map h xs)) y
     later None there = there
     later (Some w) there = contains_tail w (filter_map h xs) y there
+
+-- ---- the order of what is made of acts
+
+rising_made : {X Y : Type 0} (n : X → ℕ) (m : Y → ℕ) (h : X → Option Y) → ((x : X) (y : Y) → h x ≡ Some y → m y ≡ n x) → (xs : List X) → Rising n xs → Rising m (filter_map h xs)
+unfolding Rising
+rising_made n m h keeps [] rises = tt
+rising_made {X} {Y} n m h keeps (x ∷ xs) rises = by_value (h x) refl (rising_made n m h keeps xs rises.1)
+  where
+    by_value : (o : Option Y) → h x ≡ o → Rising m (filter_map h xs) → Rising m (cons_option o (filter_map h xs))
+    by_value None e rest = rest
+    by_value (Some y) e rest = (All-weaker (Contains (filter_map h xs)) (λ z. m y ≤ m z) (λ z among. let from = made_from h xs z among in let le = All-contains (λ w. n x ≤ n w) xs from.0 rises.0 from.1 in omega (arith, keeps x y e, keeps from.0 z from.2)) (filter_map h xs) (All-contains_itself (filter_map h xs)), rest)
+
+-- the answers of a pair are in the order of their datagrams
+pub answers_in_order : (pair : Pair) (recording : List (List ActValue)) → IsNonDecreasingBy (λ (answer : Answer). answer.datagram) (answers_among pair (placed_in recording))
+answers_in_order pair recording = falls_nowhere (λ (answer : Answer). answer.datagram) (answers_among pair (placed_in recording)) (rising_made (λ (placed : PlacedValue). placed.datagram) (λ (answer : Answer). answer.datagram) (answer_of pair) (λ placed answer e. stands (base_for pair.writer pair.reader placed.act) placed.datagram placed.act.at answer e) (placed_in recording) (rising_behind 0 recording).1)
+  where
+    stands : (base : Option ℕ) (datagram at : ℕ) (answer : Answer) → answer_at datagram at base ≡ Some answer → answer.datagram ≡ datagram
+    stands None datagram at answer e = cc
+    stands (Some base) datagram at answer e = sym (ap (λ (o : Option Answer). let none : Answer = answer in (unwrap_or o none).datagram) e)

@@ -26,8 +26,7 @@ use Rattle.rtps_receiver.specs.declared.act.Act.{Act}
 use Rattle.rtps_discovery.specs.GuidOrder.{guid_cmp}
 use Rattle.rtps_discovery.specs.Listings.{pair_cmp}
 use Rattle.rtps_discovery.specs.declared.matching.Pair.{Pair}
-use Rattle.rtps_audit.specs.Groups.{values_at}
-use Rattle.rtps_audit.specs.Placed.{AddsAnswers, AddsAnswersOf, PlacedValue, answer_at, answer_of, answers_among, answers_to, is_from, is_guid, placed_at}
+use Rattle.rtps_audit.specs.Placed.{AddsAnswers, AddsAnswersOf, PlacedValue, answer_at, answer_of, answers_among, answers_to, is_from, is_guid, placed_at, values_at}
 use Rattle.rtps_audit.specs.Speech.{base_of_body}
 use Rattle.rtps_audit.specs.declared.answer.Answer.{Answer}
 use Rattle.rtps_audit.specs.declared.groups.Groups.{Groups}

@@ -1,9 +1,9 @@
 -- What readers were told by one act more, their fronts before their answers, and their answers in another order.
-use Rattle.std.proofs.Common.{◌≡◌, ℕ, zero, suc, pos, ◌+◌, ◌-◌, ◌<◌, ◌≤◌, ◌^◌, Bool, true, false, ◌&&◌, ◌||◌, cond, filter, List, [], ◌∷◌, ◌++◌, append-nil, get_or, length, map, max, set, take, Option, Some, None, inl, inr, refl, sym, ap, ◌∙◌, subst, arith}
-use Rattle.std.specs.Prelude.{Contains, ◌==◌, if◌then◌else◌, is_some}
+use Rattle.std.proofs.Common.{◌≡◌, ℕ, zero, suc, ℤ, pos, negsuc, ◌+◌, ◌-◌, ◌<◌, ◌≤◌, ◌^◌, Bool, true, false, ◌&&◌, ◌||◌, cond, filter, List, [], ◌∷◌, ◌++◌, append-nil, get_or, length, map, max, set, take, Option, Some, None, inl, inr, refl, sym, ap, ◌∙◌, subst, arith}
+use Rattle.std.specs.Prelude.{Contains, ◌==◌, ◌<ℤ◌, if◌then◌else◌, is_some, nat_lt}
 use Rattle.std.specs.List.{All, AllWithin, cons_option, filter_map}
 use Rattle.std.specs.List.Sorted.{IsPermutation}
-use Rattle.std.proofs.lemmas.Bool.{cases_lt}
+use Rattle.std.proofs.lemmas.Bool.{cases_lt, ltb-true}
 use Rattle.std.proofs.lemmas.Bool.Decides.{nat_tests}
 use Rattle.std.proofs.lemmas.Int.{ints}
 use Rattle.std.proofs.lemmas.List.{get_or-map, get_or-set_other, get_or-set_same, get_or-take, length-map, length-set, length-take-le}
@@ -11,17 +11,16 @@ use Rattle.std.proofs.lemmas.List.Elements.{All-append, All-cons, All-contains, 
 use Rattle.std.proofs.lemmas.List.Sorted.{All-permutation, Contains-permutation, IsPermutation-sym}
 use Rattle.rtps_ids.specs.declared.identity.EntityId.{EntityId}
 use Rattle.rtps_ids.specs.declared.identity.Guid.{Guid}
-use Rattle.rtps_coverage.specs.Coverage.{IsLeastFrom, TellsMore}
+use Rattle.rtps_coverage.specs.Coverage.{IsFront, IsLeastFrom, TellsMore}
 use Rattle.rtps_receiver.specs.Speech.{is_among, is_for, is_for_all, is_heard_by, is_spoken_by, reader_named}
 use Rattle.rtps_receiver.specs.Values.{ActValue}
 use Rattle.rtps_discovery.specs.declared.matching.Pair.{Pair}
 use Rattle.rtps_audit.specs.Answered.{IsFrontBy, IsHeard, IsToldAll, IsUntoldAmong, base_among, last_among}
-use Rattle.rtps_audit.specs.Delivery.{Word}
+use Rattle.rtps_audit.specs.Delivery.{IsAsked, Word}
 use Rattle.rtps_audit.specs.PayloadConflict.{AreConflictsOf}
 use Rattle.rtps_audit.specs.Placed.{PlacedValue, answers_among, is_from, placed_in, placed_value}
 use Rattle.rtps_audit.specs.Speech.{natural, word_for, word_of}
-use Rattle.rtps_audit.specs.Sweep.{AreAsksOf, AreBehind, AreClaimsOf, HaveSame, IsAllKnown, IsSweptTo, IsToldBelow, TellsOf, answer_if_at, answers_at}
-use Rattle.rtps_audit.specs.Told.{is_told}
+use Rattle.rtps_audit.specs.Sweep.{AreAsksOf, AreBehind, AreClaimsOf, HasAllBelow, HasHeard, HaveSame, Hears, IsAllKnown, IsSweptTo, answer_if_at, answers_at, is_told}
 use Rattle.rtps_audit.specs.declared.answer.Answer.{Answer}
 use Rattle.rtps_audit.specs.declared.payload_conflict.PayloadConflicts.{PayloadConflicts}
 use Rattle.rtps_audit.specs.declared.placed.Placed.{Placed}
@@ -29,6 +28,7 @@ use Rattle.rtps_audit.specs.declared.sweep.Ask.{Ask}
 use Rattle.rtps_audit.specs.declared.sweep.AskedReader.{AskedReader}
 use Rattle.rtps_audit.specs.declared.sweep.Sweep.{Sweep}
 use Rattle.rtps_audit.specs.declared.told.Told.{Told}
+use Rattle.rtps_audit.specs.declared.verdict.Claims.{Claims}
 use Rattle.rtps_audit.specs.declared.verdict.Untold.{Untold}
 use Rattle.rtps_audit.proofs.Greatest.{below_greatest, greatest_below}
 use Rattle.rtps_audit.proofs.IndexSpeech.{contains_mapped, mapped_contains, same_number}
@@ -61,34 +61,68 @@ word_if_heard writer reader at n from = by_tests (is_spoken_by at.act writer) (i
     by_tests false true word f = absurd (let clash : false ≡ true = f refl in cc)
     by_tests false false word f = refl
 
-pub tells_on : (old new : Told) (writer : Guid) (placed : List PlacedValue) (p : PlacedValue) → is_from writer p ≡ true
-    → ((reader : Guid) → TellsMore (is_told old reader) (is_told new reader) (λ n. is_heard_by p.act reader && is_some (word_of p.act.body n))) → TellsOf old writer placed → TellsOf new writer (placed ++ p ∷ [])
-tells_on old new writer placed p from tells known reader n positive small = (to, back)
+pub heard_on : (from : ℕ) (old new : ℕ → Bool) (writer reader : Guid) (placed : List PlacedValue) (p : PlacedValue) → is_from writer p ≡ true
+    → TellsMore old new (λ n. is_heard_by p.act reader && is_some (word_of p.act.body n)) → HasHeard from old writer reader placed → HasHeard from new writer reader (placed ++ p ∷ [])
+heard_on from old new writer reader placed p its tells known n asked small = (to, back)
   where
-    more : is_told new reader n ≡ (is_told old reader n || is_some (word_for writer reader p.act n))
-    more = tells reader n positive small ∙ ap (λ b. is_told old reader n || b) (sym (word_if_heard writer reader p n from))
+    more : new n ≡ (old n || is_some (word_for writer reader p.act n))
+    more = tells n asked.0 small ∙ ap (λ b. old n || b) (sym (word_if_heard writer reader p n its))
 
-    to : is_told new reader n ≡ true → (word : Word) × IsHeard writer reader (placed ++ p ∷ []) n word
-    to is = elim (or_cases (is_told old reader n) (is_some (word_for writer reader p.act n)) (sym more ∙ is)) [
-      | inl before ↦ let told = (known reader n positive small).0 before in (told.0, record { at = told.1.at; among = Contains-append_left placed (p ∷ []) told.1.at told.1.among; says = told.1.says })
+    to : new n ≡ true → (word : Word) × IsHeard writer reader (placed ++ p ∷ []) n word
+    to is = elim (or_cases (old n) (is_some (word_for writer reader p.act n)) (sym more ∙ is)) [
+      | inl before ↦ let told = (known n asked small).0 before in (told.0, record { at = told.1.at; among = Contains-append_left placed (p ∷ []) told.1.at told.1.among; says = told.1.says })
       | inr now ↦ let some = some_word (word_for writer reader p.act n) now in (some.0, record { at = p; among = Contains-push placed p; says = some.1 })
     ]
 
-    back : ((word : Word) × IsHeard writer reader (placed ++ p ∷ []) n word) → is_told new reader n ≡ true
+    back : ((word : Word) × IsHeard writer reader (placed ++ p ∷ []) n word) → new n ≡ true
     back (word, heard) = elim (Contains-push_cases placed p heard.at heard.among) [
-      | inl before ↦ more ∙ or_left (is_told old reader n) _ ((known reader n positive small).1 (word, record { at = heard.at; among = before; says = heard.says }))
-      | inr now ↦ more ∙ or_right (is_told old reader n) _ (word_some (word_for writer reader p.act n) word (subst (λ (q : PlacedValue). word_for writer reader q.act n ≡ Some word) (sym now) heard.says))
+      | inl before ↦ more ∙ or_left (old n) _ ((known n asked small).1 (word, record { at = heard.at; among = before; says = heard.says }))
+      | inr now ↦ more ∙ or_right (old n) _ (word_some (word_for writer reader p.act n) word (subst (λ (q : PlacedValue). word_for writer reader q.act n ≡ Some word) (sym now) heard.says))
     ]
+
+-- before all acts, a set has what it hears if it has just what is not asked for
+pub hears_none : (from : ℕ) (set : ℕ → Bool) (writer reader : Guid) → ((n : ℕ) → 1 ≤ n → n < 2 ^ 63 - 1 → set n ≡ nat_lt n from) → Hears from set writer reader []
+hears_none from set writer reader has = record {
+  passed = λ n positive lt small. has n positive small ∙ grind (arith, nat_tests);
+  heard = λ n asked small. (
+    λ e. absurd (let lt = ltb-true n from (sym (has n asked.0 small) ∙ e) in let le = asked.1 in omega arith),
+    λ heard. absurd (let none = heard.1.among.1 in omega arith),
+  );
+}
+
+pub hears_on : (from : ℕ) (old new : ℕ → Bool) (writer reader : Guid) (placed : List PlacedValue) (p : PlacedValue) → is_from writer p ≡ true
+    → TellsMore old new (λ n. is_heard_by p.act reader && is_some (word_of p.act.body n)) → Hears from old writer reader placed → Hears from new writer reader (placed ++ p ∷ [])
+hears_on from old new writer reader placed p its tells known = record {
+  passed = λ n positive lt small. tells n positive small ∙ or_left (old n) _ (known.passed n positive lt small);
+  heard = heard_on from old new writer reader placed p its tells known.heard;
+}
 
 -- ---- a front before an answer
 
-pub below_here : {from : ℕ} (told : Told) (reader : Guid) (start number : ℕ) → IsToldBelow from told reader start → IsLeastFrom (is_told told reader) start number → IsToldBelow from told reader number
-below_here told reader start number known least = (
+pub below_here : (from : ℕ) (set : ℕ → Bool) (start number : ℕ) → HasAllBelow from set start → IsLeastFrom set start number → HasAllBelow from set number
+below_here from set start number known least = (
   let le = known.0 in let on = least.onward in omega arith,
   λ n asked lt. elim (cases_lt n start) [
     | inl before ↦ known.1 n asked before
     | inr ge ↦ least.between n ge lt
   ],
+)
+
+-- the front of a set that has all that is not asked for is the least number from the first that is
+pub front_least : (from : ℕ) (set : ℕ → Bool) (front : ℤ) → 1 ≤ from → from < 2 ^ 63 → front <ℤ pos (2 ^ 63) → ((n : ℕ) → 1 ≤ n → n < from → n < 2 ^ 63 - 1 → set n ≡ true) → IsFront set front → (number : ℕ) × (front ≡ pos number) × IsLeastFrom set from number
+front_least from set (negsuc n) positive fits small passed is = absurd (let low = is.positive in omega (arith, ints))
+front_least from set (pos n) positive fits small passed is = (
+  n,
+  refl,
+  record {
+    onward = elim (cases_lt n from) [
+      | inl lt ↦ absurd (let yes = passed n (let low = is.positive in omega (arith, ints)) lt (omega arith) in let no = is.outside in let clash : true ≡ false = sym yes ∙ no in cc)
+      | inr le ↦ le
+    ];
+    in_range = omega (arith, ints);
+    outside = is.outside;
+    between = λ m from_on lt. is.below m (omega arith) (omega (arith, ints));
+  },
 )
 
 module _ (acts : List Placed) (place datagram : ℕ) (within : place ≤ length acts) (before : AllWithin (λ (at : Placed). at.datagram < datagram) acts 0 place) (behind : AreBehind acts place datagram) where
@@ -120,25 +154,26 @@ module _ (acts : List Placed) (place datagram : ℕ) (within : place ≤ length 
       (subst (Contains (map placed_value acts)) from.2 (mapped_contains placed_value acts from.0 (i, omega arith, same)), omega (arith, sent))
 
   -- so the least number that was not told by them is the front before the datagram
-  pub front_found : (from start number : ℕ) (told : Told) (writer reader : Guid) → TellsOf told writer (map placed_value (take place acts)) → 1 ≤ start → IsToldBelow from told reader start → IsLeastFrom (is_told told reader) start number
+  pub front_found : (from start number : ℕ) (set : ℕ → Bool) (writer reader : Guid) → HasHeard from set writer reader (map placed_value (take place acts)) → 1 ≤ start → HasAllBelow from set start → IsLeastFrom set start number
       → 1 ≤ datagram → IsFrontBy from writer reader (map placed_value acts) (datagram - 1) (pos number)
-  front_found from start number told writer reader known positive told_below least counted = record {
+  front_found from start number set writer reader known positive has_below least counted = record {
     positive = let on = least.onward in omega (arith, ints);
     outside = λ n at small.
         let is : n ≡ number = omega (arith, ints, at) in
         let on = least.onward in
-        let le = told_below.0 in (
-          (omega arith, omega arith),
+        let le = has_below.0 in
+        let asked : IsAsked from n = (omega arith, omega arith) in (
+          asked,
           λ heard.
               let first = among_first heard.1.0.at counted heard.1.0.among heard.1.1 in
-              let yes = (known reader n (omega arith) small).1 (heard.0, record { at = heard.1.0.at; among = first; says = heard.1.0.says }) in
-              let no = subst (λ m. is_told told reader m ≡ false) (sym is) least.outside in
+              let yes = (known n asked small).1 (heard.0, record { at = heard.1.0.at; among = first; says = heard.1.0.says }) in
+              let no = subst (λ m. set m ≡ false) (sym is) least.outside in
               let clash : true ≡ false = sym yes ∙ no in
               cc,
         );
     below = λ n asked small lt.
-        let yes = (below_here {from = from} told reader start number told_below least).1 n asked (omega (arith, ints)) in
-        let heard = (known reader n asked.0 small).0 yes in
+        let yes = (below_here from set start number has_below least).1 n asked (omega (arith, ints)) in
+        let heard = (known n asked small).0 yes in
         let there = first_among heard.1.at heard.1.among in
         (heard.0, (record { at = heard.1.at; among = there.0; says = heard.1.says }, let early = there.1 in omega arith));
   }
@@ -173,9 +208,9 @@ base_same xs ys same = same_number (base_among xs) (base_among ys) (λ n. into n
         let from = contains_mapped base_of xs found.0 found.1 in
         greatest_below n found.0 (map base_of ys) (subst (Contains (map base_of ys)) from.2 (mapped_contains base_of ys from.0 (to from.0 from.1))) found.2
 
-pub claims_same : {from : ℕ} (writer reader : Guid) (placed : List PlacedValue) (xs ys : List Answer) (asked : AskedReader) → HaveSame xs ys → AreClaimsOf from writer reader placed xs asked.claims → AreClaimsOf from writer reader placed ys asked.claims
-claims_same {from} writer reader placed xs ys asked same known =
-    record { untold = untold_same from writer reader placed xs ys asked.claims.untold same known.untold; base = known.base ∙ ap (max from) (base_same xs ys same); last = known.last }
+pub claims_same : {from : ℕ} (writer reader : Guid) (placed : List PlacedValue) (xs ys : List Answer) (claims : Claims) → HaveSame xs ys → AreClaimsOf from writer reader placed xs claims → AreClaimsOf from writer reader placed ys claims
+claims_same {from} writer reader placed xs ys claims same known =
+    record { asking = known.asking; untold = untold_same from writer reader placed xs ys claims.untold same known.untold; base = known.base ∙ ap (max from) (base_same xs ys same) }
 
 -- ---- asks
 
@@ -281,9 +316,9 @@ claims_more {from} writer placed old new asks ask asked is lt pair note known k 
 -- nothing is claimed, and nothing was told
 pub record IsUnasked (from : ℕ) (asked : AskedReader) : Type 0 where
   pub front : asked.front ≡ from
+  pub asking : asked.claims.from ≡ from
   pub untold : asked.claims.untold ≡ None
   pub base : asked.claims.base ≡ from
-  pub last : asked.claims.last ≡ from - 1
 
 -- ---- after the last ask
 
@@ -304,9 +339,9 @@ pairs_kept (first ∷ readers) (suc place) asked same = ap (λ l. first.pair ∷
 
 -- and the fronts rise
 pub fronts_on : (from : ℕ) (old new : Told) (readers : List AskedReader) → ((reader : Guid) (n : ℕ) → 1 ≤ n → n < 2 ^ 63 - 1 → is_told old reader n ≡ true → is_told new reader n ≡ true)
-    → All (λ asked. IsToldBelow from old asked.pair.reader asked.front) readers → All (λ asked. IsToldBelow from new asked.pair.reader asked.front) readers
+    → All (λ asked. HasAllBelow from (is_told old asked.pair.reader) asked.front) readers → All (λ asked. HasAllBelow from (is_told new asked.pair.reader) asked.front) readers
 fronts_on from old new readers more known =
-    All-weaker (λ (asked : AskedReader). IsToldBelow from old asked.pair.reader asked.front) (λ (asked : AskedReader). IsToldBelow from new asked.pair.reader asked.front)
+    All-weaker (λ (asked : AskedReader). HasAllBelow from (is_told old asked.pair.reader) asked.front) (λ (asked : AskedReader). HasAllBelow from (is_told new asked.pair.reader) asked.front)
     (λ asked is. (is.0, λ n wanted lt. let small = asked.in_range in more asked.pair.reader n wanted.0 (omega arith) (is.1 n wanted lt))) readers known
 
 -- acts that a test kept pass it
@@ -318,14 +353,14 @@ acts_passed test acts placed same k d lt =
 -- where all asks of a writer's readers are answered, all that the verdicts are by is known
 pub all_known : (from : ℕ) (recording : List (List ActValue)) (writer : Guid) (pairs : List Pair) (acts : List Placed) (sweep : Sweep) (asks : List Ask) (datagram : ℕ) (conflicts : PayloadConflicts) (last : ℕ) → All (λ (pair : Pair). pair.writer ≡ writer) pairs
     → map (λ (asked : AskedReader). asked.pair) sweep.readers.items ≡ pairs → map placed_value acts ≡ filter (is_from writer) (placed_in recording) → AreAsksOf recording pairs asks
-    → AreConflictsOf from conflicts.payloads.items (map placed_value acts) → last ≡ last_among writer (map placed_value acts) → IsSweptTo from sweep writer acts asks datagram → All (IsAllKnown from recording conflicts last) sweep.readers.items
+    → AreConflictsOf from conflicts.payloads.items (map placed_value acts) → last ≡ last_among writer (map placed_value acts) → IsSweptTo from sweep writer acts asks datagram → All (λ asked. IsAllKnown from recording asked.pair conflicts last asked.claims) sweep.readers.items
 all_known from recording writer pairs acts sweep asks datagram conflicts last of_writer are_pairs are_acts are_asks are_conflicts is_last swept k d lt = record {
   payloads = subst (λ (w : Guid). AreConflictsOf from conflicts.payloads.items (filter (is_from w) (placed_in recording))) (sym its) (subst (AreConflictsOf from conflicts.payloads.items) are_acts are_conflicts);
   announced = is_last ∙ ap (last_among writer) are_acts ∙ ap (λ (w : Guid). last_among w (filter (is_from w) (placed_in recording))) (sym its);
   claims =
       subst (λ (w : Guid). AreClaimsOf from w asked.pair.reader (filter (is_from w) (placed_in recording)) (answers_among asked.pair (placed_in recording)) asked.claims) (sym its)
       (subst (λ l. AreClaimsOf from writer asked.pair.reader l (answers_among asked.pair (placed_in recording)) asked.claims) are_acts
-      (claims_same {from = from} writer asked.pair.reader (map placed_value acts) (answers_at k asks) (answers_among asked.pair (placed_in recording)) asked same (swept.claims k d lt)));
+      (claims_same {from = from} writer asked.pair.reader (map placed_value acts) (answers_at k asks) (answers_among asked.pair (placed_in recording)) asked.claims same (swept.claims k d lt)));
 }
   where
     asked : AskedReader

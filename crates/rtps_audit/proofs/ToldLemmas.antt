@@ -21,7 +21,7 @@ use Rattle.rtps_receiver.specs.Audience.{audience_at, audience_cmp, audience_of}
 use Rattle.rtps_receiver.specs.Speech.{is_among, is_heard_by, reader_named, unknown_entity}
 use Rattle.rtps_receiver.specs.Values.{ActValue}
 use Rattle.rtps_receiver.specs.declared.speech.Audience.{Audience}
-use Rattle.rtps_audit.specs.Told.{audiences_of, in_set, told_at}
+use Rattle.rtps_audit.specs.Sweep.{audiences_of, in_set, told_at}
 use Rattle.rtps_audit.proofs.GroupLemmas.{entry_written, equal_of, found_alike}
 use Rattle.rtps_audit.proofs.PlacedLemmas.{bytes_eq-sym}
 

@@ -4,9 +4,7 @@ use Rattle.rtps_ids.specs.declared.identity.Guid.{Guid}
 use Rattle.rtps_discovery.specs.Directory.{IsMapOf}
 use Rattle.rtps_discovery.specs.GuidOrder.{guid_cmp}
 use Rattle.rtps_discovery.specs.declared.matching.Pair.{Pair}
-use Rattle.rtps_audit.specs.AnnouncedPlaces.{announced_among}
-use Rattle.rtps_audit.specs.Groups.{values_at}
-use Rattle.rtps_audit.specs.Placed.{answers_among, answers_kept, is_from, placed_in, placed_value}
+use Rattle.rtps_audit.specs.Placed.{announced_among, answers_among, answers_kept, is_from, placed_in, placed_value, values_at}
 use Rattle.rtps_audit.specs.Intake.{Intake, acts_together, intake_of}
 use Rattle.rtps_audit.specs.Report.{counts_of}
 use Rattle.rtps_audit.specs.declared.index.Index.{Index}

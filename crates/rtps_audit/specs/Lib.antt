@@ -5,15 +5,10 @@ pub mod FullRun
 pub mod Speech
 pub mod Report
 pub mod Delivered
-pub mod KeptPayloads
-pub mod Groups
 pub mod Placed
-pub mod AnnouncedPlaces
 pub mod Answered
 pub mod PayloadConflict
 pub mod Intake
 pub mod Index
-pub mod Told
 pub mod Sweep
-pub mod Judge
 pub mod Laws

@@ -1,20 +1,34 @@
--- The acts of a recording, each with the datagram that it stands in. own: what one GUID said stands together, so that a
--- pair costs no more than what its two said.
-use Rattle.std.specs.Prelude.{ℕ, pos, Bool, true, false, ◌+◌, ◌≡◌, ◌&&◌, List, [], ◌∷◌, ◌++◌, filter, map, Option, Some, None}
+-- The acts of a recording, each with the datagram that it stands in; and of them the answers of each pair, and where endpoints
+-- are announced (DDSI-RTPS 2.5, 8.5.4 "The Simple Endpoint Discovery Protocol"). own: what one GUID said stands together, so that
+-- a pair costs no more than what its two said. A reader that is not announced yet may not be there, so what it did not get before
+-- that says nothing.
+use Rattle.std.specs.Prelude.{List, [], Option, Some, None, ℕ, pos, Bool, true, false, ◌+◌, ◌≡◌, ◌&&◌, ◌∷◌, ◌++◌, filter, map, cond}
 use Rattle.std.specs.BTreeMap.{BTreeMap, get}
 use Rattle.std.specs.Global.{Vec}
 use Rattle.std.specs.List.{filter_map}
 use Rattle.std.specs.Ordering.{is_eq}
+use Rattle.std.specs.declared.cmp.Ordering.{Ordering}
 use Rattle.rtps_ids.specs.declared.identity.Guid.{Guid}
 use Rattle.rtps_receiver.specs.Speech.{is_entity, is_prefix, origin_of}
 use Rattle.rtps_receiver.specs.Values.{ActValue, act_value}
 use Rattle.rtps_discovery.specs.GuidOrder.{guid_cmp}
+use Rattle.rtps_discovery.specs.Endpoint.{EndpointValue}
+use Rattle.rtps_discovery.specs.Notice.{announcement_of, endpoint_in}
 use Rattle.rtps_discovery.specs.declared.matching.Pair.{Pair}
-use Rattle.rtps_audit.specs.Groups.{values_at}
 use Rattle.rtps_audit.specs.Speech.{base_for}
 use Rattle.rtps_audit.specs.declared.answer.Answer.{Answer}
 use Rattle.rtps_audit.specs.declared.groups.Groups.{Groups}
+use Rattle.rtps_audit.specs.declared.announced_places.AnnouncedPlace.{AnnouncedPlace}
 use Rattle.rtps_audit.specs.declared.placed.Placed.{Placed}
+
+-- the values of a list, none where there is no list
+abbrev pub items_or_none : {V : Type 0} → Option (Vec V) → List V
+items_or_none (Some values) = values.items
+items_or_none None = []
+
+-- the values of a key; none where it has no list
+abbrev pub values_at : {K V : Type 0} → (K → K → Ordering) → BTreeMap K (Vec V) → K → List V
+values_at cmp map key = items_or_none (get cmp map key)
 
 -- an act, and the datagram that it stands in, counted from 1
 pub record PlacedValue : Type 0 where
@@ -80,3 +94,20 @@ AddsAnswers old new placed = (pair : Pair) → answers_kept new pair ≡ answers
 pub record AddsAnswersOf (reader : Guid) (old new : BTreeMap Guid (Vec Answer)) (placed : List PlacedValue) : Type 0 where
   pub own : (pair : Pair) → is_eq (guid_cmp pair.reader reader) ≡ true → values_at guid_cmp new pair.writer ≡ values_at guid_cmp old pair.writer ++ answers_among pair placed
   pub others : (pair : Pair) → is_eq (guid_cmp pair.reader reader) ≡ false → answers_among pair placed ≡ []
+
+-- the place of an announcement, where it is of the endpoint of this GUID
+abbrev pub announced_at : ℕ → ℕ → Guid → Option EndpointValue → Option AnnouncedPlace
+announced_at datagram at guid None = None
+announced_at datagram at guid (Some endpoint) = cond (is_guid guid endpoint.guid) (Some (record { datagram = datagram; at = at })) None
+
+-- where an act announces the endpoint of this GUID, as a writer or a reader of whatever topic
+abbrev pub announced_of : Guid → PlacedValue → Option AnnouncedPlace
+announced_of guid placed = announced_at placed.datagram placed.act.at guid (endpoint_in (announcement_of placed.act))
+
+-- where these acts do
+abbrev pub announced_among : Guid → List PlacedValue → List AnnouncedPlace
+announced_among guid placed = filter_map (announced_of guid) placed
+
+-- the new lists have the places of the old ones, and then those of these acts
+abbrev pub AddsAnnounced : BTreeMap Guid (Vec AnnouncedPlace) → BTreeMap Guid (Vec AnnouncedPlace) → List PlacedValue → Type 0
+AddsAnnounced old new placed = (guid : Guid) → values_at guid_cmp new guid ≡ values_at guid_cmp old guid ++ announced_among guid placed

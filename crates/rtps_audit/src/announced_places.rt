@@ -3,8 +3,7 @@ ghost use Rattle.std.specs.Ordering.{is_eq};
 ghost use Rattle.rtps_ids.specs.declared.identity.Guid.{Guid as GuidValue};
 ghost use Rattle.rtps_discovery.specs.GuidOrder.{guid_cmp};
 ghost use Rattle.rtps_receiver.specs.Values.{act_value};
-ghost use Rattle.rtps_audit.specs.AnnouncedPlaces.{AddsAnnounced, announced_of};
-ghost use Rattle.rtps_audit.specs.Placed.{placed_at};
+ghost use Rattle.rtps_audit.specs.Placed.{AddsAnnounced, announced_of, placed_at};
 
 use crate::groups::Groups;
 use rtps_discovery::announced_endpoint;

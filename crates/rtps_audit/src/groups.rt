@@ -13,7 +13,7 @@ pub(crate) struct Groups<K: Ord, V> {
 }
 
 impl<K: Ord + Copy + Drop, V: Copy + Drop> Groups<K, V> {
-    ghost use Rattle.rtps_audit.specs.Groups.{values_at};
+    ghost use Rattle.rtps_audit.specs.Placed.{values_at};
 
     /// No values.
     pub(crate) fn new(alloc: Global) -> Self

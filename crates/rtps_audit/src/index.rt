@@ -4,8 +4,7 @@ ghost use Rattle.rtps_discovery.specs.Directory.{IsMapOf};
 ghost use Rattle.rtps_audit.specs.Delivered.{IsExactVerdict, IsExactVerdictFrom};
 ghost use Rattle.rtps_audit.specs.Index.{IsIndexBy, IsIndexOf};
 ghost use Rattle.rtps_audit.specs.Intake.{Intake, acts_together, intake_more, no_intake};
-ghost use Rattle.rtps_audit.specs.AnnouncedPlaces.{announced_among};
-ghost use Rattle.rtps_audit.specs.Placed.{answers_among, is_from, placed_in, placed_value};
+ghost use Rattle.rtps_audit.specs.Placed.{announced_among, answers_among, is_from, placed_in, placed_value};
 ghost use Rattle.rtps_audit.specs.Report.{is_undirected as is_undirected_lem};
 ghost use Rattle.rtps_audit.specs.Speech.{speech_by};
 

@@ -7,7 +7,6 @@ mod answer;
 mod groups;
 mod index;
 pub mod laws;
-mod payload;
 mod payload_conflict;
 mod placed;
 mod plain_judge;

@@ -5,8 +5,7 @@ ghost use Rattle.rtps_ids.specs.declared.identity.Guid.{Guid as GuidValue};
 ghost use Rattle.rtps_receiver.specs.Speech.{origin_of};
 ghost use Rattle.rtps_receiver.specs.Values.{act_body_value, act_value};
 ghost use Rattle.rtps_discovery.specs.GuidOrder.{guid_cmp};
-ghost use Rattle.rtps_audit.specs.Groups.{values_at};
-ghost use Rattle.rtps_audit.specs.Placed.{AddsActs, placed_at, placed_value};
+ghost use Rattle.rtps_audit.specs.Placed.{AddsActs, placed_at, placed_value, values_at};
 
 use crate::groups::Groups;
 use rtps_ids::{Guid, Memory};

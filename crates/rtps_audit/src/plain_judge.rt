@@ -1,108 +1,80 @@
-ghost use Rattle.std.specs.Prelude.{ℕ, ◌≡◌, ◌≤◌, ◌+◌, ◌<◌, ◌^◌, ◌∷◌, ◌++◌, [], map, unwrap_or, IfOk, List, OnOk};
-ghost use Rattle.rtps_receiver.specs.Values.{ActValue, act_value};
-ghost use Rattle.rtps_discovery.specs.declared.matching.Pair.{Pair as PairValue};
+ghost use Rattle.std.specs.Prelude.{map, IfOk};
 ghost use Rattle.rtps_audit.specs.Delivered.{IsExactVerdict, IsExactVerdictFrom};
-ghost use Rattle.rtps_audit.specs.Placed.{PlacedValue, placed_at, placed_in};
-ghost use Rattle.rtps_audit.specs.RunVerdict.{IsVerdictFrom};
-ghost use Rattle.rtps_audit.specs.Speech.{base_for, speech_by, speech_of};
+ghost use Rattle.rtps_audit.specs.Speech.{speech_of};
 
+use crate::index::Index;
+use crate::payload_conflict::PayloadConflicts;
+use crate::placed::Placed;
 use crate::verdict::{Claims, Verdict};
-use crate::word::{Words, announced_number};
+use crate::word::{add_row, add_told};
 use rtps_coverage::{Coverage, MergedRanges};
 use rtps_discovery::Pair;
-use rtps_ids::{Memory, SeqNum};
-use rtps_receiver::{Act, ActBody, Walk};
+use rtps_ids::{Guid, Memory, SeqNum};
+use rtps_receiver::Act;
 use std::alloc::Global;
 
-/// Judges one writer and one reader, which is told the acts of each datagram in the order of sending.
-///
-/// The words of a datagram serve the answers of later datagrams alone.
+/// A reader, and what it was told so far by the acts of a writer, in the order of sending.
 #[derive(Drop)]
-pub(crate) struct PlainJudge<'a, C> {
-    words: Words<'a, C>,
-    claims: Claims,
-    /// How many datagrams began.
-    datagrams: u64,
-    /// The least number that is asked for and that no datagram before the last of them tells.
-    front: i64,
+struct ToldReader<C> {
+    guid: Guid,
+    /// The numbers that it was told of, and all that are not asked for.
+    told: C,
+    /// How many of the writer's acts are told.
+    place: usize,
 }
 
-impl<'a, C: Coverage> PlainJudge<'a, C> {
-    ghost use Rattle.rtps_audit.specs.Judge.{Knows};
+impl<C: Coverage> ToldReader<C> {
+    ghost use Rattle.std.specs.Prelude.{ℕ, ◌≡◌, ◌≤◌, ◌<◌, ◌-◌, ◌^◌, ◌&&◌, true, is_some, nat_lt, All, IfOk, OnOk};
+    ghost use Rattle.std.specs.List.Sorted.{IsNonDecreasingBy};
+    ghost use Rattle.rtps_ids.specs.declared.identity.Guid.{Guid as GuidValue};
+    ghost use Rattle.rtps_coverage.specs.Coverage.{TellsMore};
+    ghost use Rattle.rtps_receiver.specs.Speech.{is_heard_by};
+    ghost use Rattle.rtps_receiver.specs.Values.{act_value};
+    ghost use Rattle.rtps_audit.specs.Placed.{is_from, placed_value};
+    ghost use Rattle.rtps_audit.specs.Speech.{word_of};
+    ghost use Rattle.rtps_audit.specs.Sweep.{AreBehind, Hears, IsToldUpTo};
 
-    /// A judge of no datagram, who asks for the numbers from `from` on.
-    pub(crate) fn new(alloc: Global, from: SeqNum) -> Result<Self, Memory>
-        ensures count { IfOk result (λ judge. judge.datagrams ≡ 0) }
-        ensures knows { IfOk result (λ judge. (pair : PairValue) → Knows C.covered from judge pair []) }
+    /// Before all acts. The numbers from `from` on are asked for.
+    fn new(alloc: Global, guid: Guid, from: SeqNum) -> Result<Self, Memory>
+        ensures guid { IfOk result (λ reader. reader.guid ≡ guid) }
+        ensures told { IfOk result (λ reader. (n : ℕ) → 1 ≤ n → n < 2 ^ 63 - 1 → C.covered reader.told n ≡ nat_lt n from) }
+        ensures place { IfOk result (λ reader. reader.place ≡ 0) }
     {
-        let words = Words::new(alloc, from)?;
-        Ok(PlainJudge {
-            words,
-            claims: Claims::new(from),
-            datagrams: 0,
-            front: from.get(),
+        let mut told = C::empty(alloc);
+        add_row(&mut told, 1, from.get().cast_unsigned())?;
+        Ok(ToldReader {
+            guid,
+            told,
+            place: 0,
         })
     }
 
-    /// Begins the next datagram.
-    fn begin(&mut self)
-        requires { self.old.datagrams + 1 < 2 ^ 64 }
-        ensures count { self.new.datagrams ≡ self.old.datagrams + 1 }
-        ensures knows { (from : ℕ) (pair : PairValue) (placed : List PlacedValue)
-            → Knows C.covered from self.old pair placed → Knows C.covered from self.new pair placed }
+    /// Tells the next act. After `Memory` the set is of no use.
+    fn note(&mut self, act: &Act<'_>) -> Result<(), Memory>
+        ensures guid { self.new.guid ≡ self.old.guid }
+        ensures place { self.new.place ≡ self.old.place }
+        ensures told { OnOk result (TellsMore (C.covered self.old.told) (C.covered self.new.told)
+            (λ n. is_heard_by (act_value act.now) self.old.guid && is_some (word_of (act_value act.now).body n))) }
     {
-        self.datagrams += 1;
-        self.front = self.words.told.front();
-    }
-
-    /// Tells the next act of the datagram. After `Memory` the judge is of no use.
-    fn note(&mut self, act: &Act<'a>, pair: Pair) -> Result<(), Memory>
-        requires { 1 ≤ self.old.datagrams }
-        ensures count { self.new.datagrams ≡ self.old.datagrams }
-        ensures knows { OnOk result ((from : ℕ) (placed : List PlacedValue) → Knows C.covered from self.old pair placed
-            → Knows C.covered from self.new pair (placed ++ placed_at self.old.datagrams (act_value act.now ∷ []))) }
-    {
-        self.claims
-            .note_base(base_in(act, pair), self.datagrams, self.front);
-        self.claims.note_number(announced_number(act, pair.writer));
-        self.words.note_heard(act, pair)?;
-        Ok(())
-    }
-
-    /// Tells the acts of the next datagram. After `Memory` the judge is of no use.
-    pub(crate) fn note_all(&mut self, acts: &[Act<'a>], pair: Pair) -> Result<(), Memory>
-        requires { self.old.datagrams + 1 < 2 ^ 64 }
-        ensures count { OnOk result (self.new.datagrams ≡ self.old.datagrams + 1) }
-        ensures knows { OnOk result ((from : ℕ) (placed : List PlacedValue) → Knows C.covered from self.old pair placed
-            → Knows C.covered from self.new pair (placed ++ placed_at (self.old.datagrams + 1) (map act_value acts.now))) }
-    {
-        self.begin();
-        for act in acts {
-            self.note(act, pair)?;
+        if act.heard_by(self.guid) {
+            add_told(&mut self.told, &act.body)?;
         }
         Ok(())
     }
 
-    /// The verdict on the datagrams that were told. `Memory` is answered where there is none to put the payloads in order.
-    pub(crate) fn verdict(mut self) -> Result<Verdict, Memory>
-        ensures { IfOk result (λ verdict. (from : ℕ) (pair : PairValue) (recording : List (List ActValue))
-            → Knows C.covered from self.entry pair (placed_in recording) → IsVerdictFrom from (speech_by pair.writer pair.reader recording) verdict) }
+    /// Tells the acts before a datagram. After `Memory` the set is of no use.
+    fn tell_before(&mut self, acts: &[Placed<'_>], datagram: usize) -> Result<(), Memory>
+        ensures guid { self.new.guid ≡ self.old.guid }
+        ensures told { OnOk result ((from : ℕ) (writer : GuidValue) → All (λ at. is_from writer (placed_value at) ≡ true) acts.now
+            → IsToldUpTo (Hears from (C.covered self.old.told) writer self.old.guid) acts.now self.old.place datagram
+            → IsToldUpTo (Hears from (C.covered self.new.told) writer self.old.guid) acts.now self.new.place datagram) }
+        ensures behind { OnOk result (IsNonDecreasingBy (λ at. at.datagram) acts.now → AreBehind acts.now self.new.place datagram) }
     {
-        let conflict = self.words.least_conflict()?;
-        Ok(self.claims.verdict(conflict))
-    }
-}
-
-/// The base by which an act of the reader answers the writer, or 0.
-pub(crate) fn base_in(act: &Act<'_>, pair: Pair) -> u64
-    ensures value { result ≡ unwrap_or (base_for pair.writer pair.reader (act_value act.now)) 0 }
-    ensures in_range { result < 2 ^ 63 }
-{
-    match &act.body {
-        ActBody::AckNack(ack_nack) if act.answers(pair.reader, pair.writer) => {
-            ack_nack.set.base().cast_unsigned()
+        'acts: while self.place < acts.len() && acts[self.place].datagram < datagram {
+            self.note(&acts[self.place].act)?;
+            self.place += 1;
         }
-        _ => 0,
+        Ok(())
     }
 }
 
@@ -119,14 +91,19 @@ pub fn judge_from<C: Coverage>(
     ensures { IfOk result (IsExactVerdictFrom from
         (speech_of pair.writer pair.reader (map (λ datagram. datagram.now) recording.now))) }
 {
-    let mut judge = PlainJudge::<C>::new(alloc, from)?;
-    let mut walk = Walk::new(alloc);
-    for datagram in recording {
-        let _ = walk.read(datagram)?;
-        judge.note_all(walk.acts(), pair)?;
+    let index = Index::build(alloc, recording)?;
+    let acts = index.acts_of(pair.writer);
+    let answers = index.answers_of(pair);
+    let mut reader = ToldReader::<C>::new(alloc, pair.reader, from)?;
+    let mut claims = Claims::new(from);
+    for answer in answers {
+        reader.tell_before(acts, answer.datagram)?;
+        let front = reader.told.front();
+        claims.note_answer(*answer, front);
     }
-    let verdict = judge.verdict()?;
-    Ok(verdict)
+    let first = from.get().cast_unsigned();
+    let (conflicts, last) = PayloadConflicts::of(alloc, acts, pair.writer, first)?;
+    Ok(claims.verdict_on(pair, &conflicts, last))
 }
 
 /// Judges by all of the writer's numbers, as [`judge_from`] does.

@@ -9,7 +9,7 @@ use crate::payload_conflict::PayloadConflicts;
 use crate::placed::Placed;
 use crate::report::Row;
 use crate::told::Told;
-use crate::verdict::{Claims, Verdict};
+use crate::verdict::Claims;
 use rtps_discovery::Pair;
 use rtps_ids::{Guid, Memory, SeqNum};
 use std::alloc::Global;
@@ -77,45 +77,26 @@ impl Ask {
 }
 
 impl AskedReader {
-    ghost use Rattle.std.specs.Prelude.{ℕ, ◌≡◌, ◌≤◌, ◌<◌, ◌^◌, ◌++◌, ◌∷◌, [], map, List};
+    ghost use Rattle.std.specs.Prelude.{ℕ, ◌≡◌, ◌≤◌, ◌++◌, ◌∷◌, [], map, List};
     ghost use Rattle.rtps_ids.specs.declared.identity.Guid.{Guid as GuidValue};
-    ghost use Rattle.rtps_receiver.specs.Values.{ActValue};
     ghost use Rattle.rtps_audit.specs.Placed.{placed_value};
-    ghost use Rattle.rtps_audit.specs.RunVerdict.{IsVerdictFrom};
-    ghost use Rattle.rtps_audit.specs.Speech.{speech_by};
-    ghost use Rattle.rtps_audit.specs.Sweep.{AreBehind, AreClaimsOf, IsAllKnown, IsToldBelow, IsToldUpTo};
+    ghost use Rattle.rtps_audit.specs.Sweep.{AreBehind, AreClaimsOf, HasAllBelow, IsToldUpTo, TellsOf, is_told};
     ghost use Rattle.rtps_audit.specs.declared.answer.Answer.{Answer as AnswerValue};
     ghost use Rattle.rtps_audit.specs.declared.placed.Placed.{Placed as PlacedAct};
 
     /// Notes its next answer, where the readers were told what stands before the datagram of the answer.
     fn note(&mut self, told: &Told, answer: Answer)
         ensures pair { self.new.pair ≡ self.old.pair }
-        ensures front { (from : ℕ) → IsToldBelow from told.now self.old.pair.reader self.old.front
-            → IsToldBelow from told.now self.old.pair.reader self.new.front }
+        ensures front { (from : ℕ) → HasAllBelow from (is_told told.now self.old.pair.reader) self.old.front
+            → HasAllBelow from (is_told told.now self.old.pair.reader) self.new.front }
         ensures claims { (from : ℕ) (writer : GuidValue) (acts : List PlacedAct) (place : ℕ) (answers : List AnswerValue)
-            → IsToldUpTo told.now writer acts place answer.datagram → AreBehind acts place answer.datagram
-            → IsToldBelow from told.now self.old.pair.reader self.old.front → 1 ≤ answer.datagram
+            → IsToldUpTo (TellsOf told.now writer) acts place answer.datagram → AreBehind acts place answer.datagram
+            → HasAllBelow from (is_told told.now self.old.pair.reader) self.old.front → 1 ≤ answer.datagram
             → AreClaimsOf from writer self.old.pair.reader (map placed_value acts) answers self.old.claims
             → AreClaimsOf from writer self.old.pair.reader (map placed_value acts) (answers ++ answer ∷ []) self.new.claims }
     {
         self.front = told.least_untold(self.pair.reader, self.front);
-        self.claims.note_base(
-            answer.natural_base(),
-            answer.datagram as u64,
-            self.front.cast_signed(),
-        );
-    }
-
-    /// The verdict, where all its answers are noted, this is the last number that its writer announces, and these are the
-    /// conflicts among the writer's payloads.
-    fn verdict(&self, conflicts: &PayloadConflicts<'_, '_>, last: u64) -> Verdict
-        requires { last < 2 ^ 63 }
-        ensures { (from : ℕ) (recording : List (List ActValue)) → 1 ≤ from → IsAllKnown from recording conflicts.now last self.now
-            → IsVerdictFrom from (speech_by self.now.pair.writer self.now.pair.reader recording) result }
-    {
-        let mut claims = self.claims;
-        claims.note_number(last);
-        claims.verdict(conflicts.least_for(self.pair.reader))
+        self.claims.note_answer(answer, self.front.cast_signed());
     }
 }
 
@@ -126,8 +107,7 @@ impl Sweep {
     ghost use Rattle.rtps_receiver.specs.Values.{ActValue};
     ghost use Rattle.rtps_audit.specs.Placed.{is_from, placed_value};
     ghost use Rattle.rtps_audit.specs.Report.{IsJudgedFrom};
-    ghost use Rattle.rtps_audit.specs.Sweep.{AreBehind, IsAllKnown, IsSweptTo, IsToldUpTo};
-    ghost use Rattle.rtps_audit.specs.Told.{is_told};
+    ghost use Rattle.rtps_audit.specs.Sweep.{AreBehind, IsAllKnown, IsSweptTo, IsToldUpTo, TellsOf, is_told};
     ghost use Rattle.rtps_audit.specs.declared.placed.Placed.{Placed as PlacedAct};
     ghost use Rattle.rtps_audit.specs.declared.sweep.Ask.{Ask as AskValue};
 
@@ -155,8 +135,8 @@ impl Sweep {
     fn tell_before(&mut self, acts: &[Placed<'_>], datagram: usize) -> Result<(), Memory>
         ensures readers { self.new.readers ≡ self.old.readers }
         ensures told { OnOk result ((writer : GuidValue) → All (λ at. is_from writer (placed_value at) ≡ true) acts.now
-            → IsToldUpTo self.old.told writer acts.now self.old.place datagram
-            → IsToldUpTo self.new.told writer acts.now self.new.place datagram) }
+            → IsToldUpTo (TellsOf self.old.told writer) acts.now self.old.place datagram
+            → IsToldUpTo (TellsOf self.new.told writer) acts.now self.new.place datagram) }
         ensures more { OnOk result ((reader : GuidValue) (n : ℕ) → 1 ≤ n → n < 2 ^ 63 - 1
             → is_told self.old.told reader n ≡ true → is_told self.new.told reader n ≡ true) }
         ensures behind { OnOk result (IsNonDecreasingBy (λ at. at.datagram) acts.now → AreBehind acts.now self.new.place datagram) }
@@ -194,14 +174,14 @@ impl Sweep {
         requires { last < 2 ^ 63 }
         ensures pairs { IfOk result (λ rows. map (λ row. row.pair) rows.items ≡ map (λ asked. asked.pair) self.now.readers.items) }
         ensures judged { (from : ℕ) (recording : List (List ActValue)) → 1 ≤ from
-            → All (IsAllKnown from recording conflicts.now last) self.now.readers.items
+            → All (λ asked. IsAllKnown from recording asked.pair conflicts.now last asked.claims) self.now.readers.items
             → IfOk result (λ rows. All (IsJudgedFrom from recording) rows.items) }
     {
         let mut rows = Vec::with_capacity(alloc, self.readers.len())?;
         for asked in &self.readers {
             rows.push(Row {
                 pair: asked.pair,
-                verdict: asked.verdict(conflicts, last),
+                verdict: asked.claims.verdict_on(asked.pair, conflicts, last),
             })?;
         }
         Ok(rows)

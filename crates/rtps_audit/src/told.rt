@@ -1,5 +1,5 @@
 ghost use Rattle.std.specs.Prelude.{◌≡◌};
-ghost use Rattle.rtps_audit.specs.Told.{audiences_of as audiences_of_lem};
+ghost use Rattle.rtps_audit.specs.Sweep.{audiences_of as audiences_of_lem};
 
 use crate::word::add_told;
 use rtps_coverage::{Coverage, MergedRanges, least_outside};
@@ -48,7 +48,7 @@ impl Told {
     ghost use Rattle.rtps_coverage.specs.Coverage.{IsLeastFrom, TellsMore};
     ghost use Rattle.rtps_coverage.specs.MergedRanges.{covered_of};
     ghost use Rattle.rtps_audit.specs.Speech.{word_of};
-    ghost use Rattle.rtps_audit.specs.Told.{is_told, told_at};
+    ghost use Rattle.rtps_audit.specs.Sweep.{is_told, told_at};
 
     /// Nobody was told anything.
     pub(crate) fn new(alloc: Global) -> Self

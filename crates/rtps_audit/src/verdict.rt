@@ -1,5 +1,8 @@
-ghost use Rattle.std.specs.Prelude.{◌≡◌, ◌-◌, ◌<◌, ◌^◌, max, None, IfSome};
+ghost use Rattle.std.specs.Prelude.{◌≤◌, ◌<◌, ◌^◌};
 
+use crate::answer::Answer;
+use crate::payload_conflict::PayloadConflicts;
+use rtps_discovery::Pair;
 use rtps_ids::SeqNum;
 
 /// What a recording says of one writer and one reader, by all runs of the reader (DDSI-RTPS 2.5, 8.4 "Behavior Module").
@@ -25,41 +28,49 @@ pub(crate) struct Untold {
     pub(crate) number: i64,
 }
 
-/// What answers claim, and what is announced, so far.
+/// What answers claim so far.
 #[derive(Clone, Copy, Debug)]
 pub(crate) struct Claims {
+    /// The first number that is asked for.
+    pub(crate) from: u64,
     pub(crate) untold: Option<Untold>,
     /// The least number that is asked for and that no answer claims.
     pub(crate) base: u64,
-    /// The last number that is announced; where that is not asked for, the number before the first one that is.
-    pub(crate) last: u64,
-    ghost in_range: { (base < 2 ^ 63) × (last < 2 ^ 63) },
+    ghost in_range: { (1 ≤ from) × (from < 2 ^ 63) × (base < 2 ^ 63) },
 }
 
 impl Claims {
-    ghost use Rattle.rtps_audit.specs.Answered.{FindsUntold, verdict_by};
+    ghost use Rattle.std.specs.Prelude.{ℕ, ◌≡◌, ◌-◌, ◌≤◌, ◌<◌, ◌^◌, ◌∷◌, ◌++◌, [], max, List, None, IfSome};
+    ghost use Rattle.rtps_ids.specs.declared.identity.Guid.{Guid as GuidValue};
+    ghost use Rattle.rtps_receiver.specs.Values.{ActValue};
+    ghost use Rattle.rtps_audit.specs.Answered.{FindsUntold, IsFrontBy, verdict_by};
+    ghost use Rattle.rtps_audit.specs.Placed.{PlacedValue};
+    ghost use Rattle.rtps_audit.specs.RunVerdict.{IsVerdictFrom};
+    ghost use Rattle.rtps_audit.specs.Speech.{speech_by};
+    ghost use Rattle.rtps_audit.specs.Sweep.{AreClaimsOf, IsAllKnown};
+    ghost use Rattle.rtps_audit.specs.declared.answer.Answer.{Answer as AnswerValue};
 
-    /// Nothing is claimed, and nothing announced. The numbers from `from` on are asked for.
+    /// Nothing is claimed. The numbers from `from` on are asked for.
     pub(crate) fn new(from: SeqNum) -> Self
+        ensures from { result.from ≡ from }
         ensures untold { result.untold ≡ None }
         ensures base { result.base ≡ from }
-        ensures last { result.last ≡ from - 1 }
     {
-        let base = from.get().cast_unsigned();
+        let from = from.get().cast_unsigned();
         Claims {
+            from,
             untold: None,
-            base,
-            last: base - 1,
+            base: from,
         }
     }
 
     /// Notes an answer of this base in a datagram. The front is the least number that no earlier datagram tells. Where it is
     /// claimed, it is kept, unless one of the same or an earlier datagram is.
-    pub(crate) fn note_base(&mut self, base: u64, datagram: u64, front: i64)
+    fn note_base(&mut self, base: u64, datagram: u64, front: i64)
         requires { base < 2 ^ 63 }
+        ensures from { self.new.from ≡ self.old.from }
         ensures untold { FindsUntold self.old.untold self.new.untold datagram front base }
         ensures base { self.new.base ≡ max self.old.base base }
-        ensures last { self.new.last ≡ self.old.last }
     {
         let is_first = match self.untold {
             None => true,
@@ -74,21 +85,23 @@ impl Claims {
         self.base = self.base.max(base);
     }
 
-    /// Notes a number that is announced.
-    pub(crate) fn note_number(&mut self, number: u64)
-        requires { number < 2 ^ 63 }
-        ensures untold { self.new.untold ≡ self.old.untold }
-        ensures base { self.new.base ≡ self.old.base }
-        ensures last { self.new.last ≡ max self.old.last number }
+    /// Notes an answer more. The front is the least number that no datagram before that of the answer tells.
+    pub(crate) fn note_answer(&mut self, answer: Answer, front: i64)
+        ensures { (from : ℕ) (writer reader : GuidValue) (placed : List PlacedValue) (answers : List AnswerValue)
+            → IsFrontBy from writer reader placed (answer.datagram - 1) front → AreClaimsOf from writer reader placed answers self.old
+            → AreClaimsOf from writer reader placed (answers ++ answer ∷ []) self.new }
     {
-        self.last = self.last.max(number);
+        self.note_base(answer.natural_base(), answer.datagram as u64, front);
     }
 
-    /// The verdict: the first of the four that holds. The conflict is the least number that two payloads are spoken for.
-    pub(crate) fn verdict(&self, conflict: Option<u64>) -> Verdict
-        requires { IfSome conflict (λ n. n < 2 ^ 63) }
-        ensures { result ≡ verdict_by self.now.untold conflict self.now.base self.now.last }
+    /// The verdict: the first of the four that holds, where this is the last number that is announced. The conflict is the
+    /// least number that two payloads are spoken for.
+    fn verdict(&self, conflict: Option<u64>, last: u64) -> Verdict
+        requires conflict { IfSome conflict (λ n. n < 2 ^ 63) }
+        requires last { last < 2 ^ 63 }
+        ensures { result ≡ verdict_by self.now.untold conflict self.now.base (max (self.now.from - 1) last) }
     {
+        let last = last.max(self.from - 1);
         if let Some(untold) = self.untold {
             return Verdict::Unfounded {
                 datagram: untold.datagram,
@@ -100,14 +113,29 @@ impl Claims {
                 number: number.cast_signed(),
             };
         }
-        if self.base <= self.last {
+        if self.base <= last {
             Verdict::Open {
                 number: self.base.cast_signed(),
             }
         } else {
             Verdict::Complete {
-                last: self.last.cast_signed(),
+                last: last.cast_signed(),
             }
         }
+    }
+
+    /// The verdict on a pair, where all its answers are noted, this is the last number that its writer announces, and these
+    /// are the conflicts among the writer's payloads.
+    pub(crate) fn verdict_on(
+        &self,
+        pair: Pair,
+        conflicts: &PayloadConflicts<'_, '_>,
+        last: u64,
+    ) -> Verdict
+        requires { last < 2 ^ 63 }
+        ensures { (from : ℕ) (recording : List (List ActValue)) → 1 ≤ from → IsAllKnown from recording pair conflicts.now last self.now
+            → IsVerdictFrom from (speech_by pair.writer pair.reader recording) result }
+    {
+        self.verdict(conflicts.least_for(pair.reader), last)
     }
 }

@@ -13,8 +13,7 @@ use Rattle.rtps_discovery.specs.declared.matching.Pair.{Pair}
 use Rattle.rtps_receiver.specs.Speech.{is_answer, is_heard_by, is_spoken_by}
 use Rattle.rtps_discovery.specs.Endpoint.{EndpointValue}
 use Rattle.rtps_discovery.specs.Notice.{announcement_of as notice_of, endpoint_in}
-use Rattle.rtps_audit.specs.AnnouncedPlaces.{announced_among, announced_at}
-use Rattle.rtps_audit.specs.Placed.{PlacedValue, is_from, is_guid}
+use Rattle.rtps_audit.specs.Placed.{PlacedValue, announced_among, announced_at, is_from, is_guid}
 use Rattle.rtps_audit.specs.declared.announced_places.AnnouncedPlace.{AnnouncedPlace}
 use Rattle.rtps_audit.proofs.Offered.{answerer_is_origin, speaker_is_origin}
 use Rattle.rtps_evidence.specs.Amount.{count_in, stretches_have}

@@ -1,6 +1,6 @@
 use Rattle.std.proofs.Common.{◌++◌, ◌∙◌, ap}
 use Rattle.rtps_discovery.specs.GuidOrder.{guid_cmp}
-use Rattle.rtps_audit.specs.Groups.{values_at}
+use Rattle.rtps_audit.specs.Placed.{values_at}
 use Rattle.rtps_audit.proofs.AnnouncedLemmas.{place_added}
 use Rattle.rtps_audit.proofs.announced_places.note_place.Goals as goal
 

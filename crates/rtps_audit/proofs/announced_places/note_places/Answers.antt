@@ -2,9 +2,7 @@ use Rattle.std.proofs.Common.{[], ◌∷◌, ◌++◌, ◌∙◌, ap, arith, map
 use Rattle.std.proofs.lemmas.List.{take_all}
 use Rattle.rtps_discovery.specs.GuidOrder.{guid_cmp}
 use Rattle.rtps_receiver.specs.Values.{act_value}
-use Rattle.rtps_audit.specs.AnnouncedPlaces.{AddsAnnounced, announced_among}
-use Rattle.rtps_audit.specs.Groups.{values_at}
-use Rattle.rtps_audit.specs.Placed.{placed_at}
+use Rattle.rtps_audit.specs.Placed.{AddsAnnounced, announced_among, placed_at, values_at}
 use Rattle.rtps_audit.proofs.AnnouncedLemmas.{places_joined}
 use Rattle.rtps_audit.proofs.PlacedLemmas.{placed_more}
 use Rattle.rtps_audit.proofs.announced_places.note_places.Goals as goal

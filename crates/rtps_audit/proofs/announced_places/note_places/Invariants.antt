@@ -1,7 +1,6 @@
 use Rattle.std.proofs.Common.{map, take}
 use Rattle.rtps_receiver.specs.Values.{act_value}
-use Rattle.rtps_audit.specs.AnnouncedPlaces.{AddsAnnounced}
-use Rattle.rtps_audit.specs.Placed.{placed_at}
+use Rattle.rtps_audit.specs.Placed.{AddsAnnounced, placed_at}
 use Rattle.rtps_audit.proofs.announced_places.note_places.Given as goal
 
 -- the places of the acts so far

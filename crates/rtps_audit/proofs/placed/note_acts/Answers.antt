@@ -6,8 +6,7 @@ use Rattle.rtps_receiver.specs.Speech.{origin_of}
 use Rattle.rtps_receiver.specs.Values.{act_value}
 use Rattle.rtps_receiver.specs.declared.act.Act.{Act}
 use Rattle.rtps_discovery.specs.GuidOrder.{guid_cmp}
-use Rattle.rtps_audit.specs.Groups.{values_at}
-use Rattle.rtps_audit.specs.Placed.{AddsActs, placed_at, placed_value}
+use Rattle.rtps_audit.specs.Placed.{AddsActs, placed_at, placed_value, values_at}
 use Rattle.rtps_audit.proofs.PlacedLemmas.{acts_joined, all_between, all_with_first, placed_both, run_filtered}
 use Rattle.rtps_audit.proofs.placed.note_acts.Goals as goal
 

@@ -1,12 +1,14 @@
-use Rattle.std.proofs.Common.{◌≡◌, map, take}
-use Rattle.rtps_audit.specs.Judge.{Knows}
-use Rattle.rtps_audit.specs.Placed.{placed_in}
-use Rattle.rtps_audit.specs.Speech.{acts_by_datagram}
+use Rattle.std.proofs.Common.{ℕ, ◌≡◌, ◌≤◌, ◌<◌, get_or, length, map, take}
+use Rattle.rtps_audit.specs.Placed.{placed_value}
+use Rattle.rtps_audit.specs.Sweep.{AreClaimsOf, Hears, IsToldUpTo}
+use Rattle.rtps_audit.specs.declared.answer.Answer.{Answer}
 use Rattle.rtps_audit.proofs.plain_judge.judge_from.Given as goal
 
--- the judge knows the datagrams so far
-abbrev pub invariant-loop-datagram : goal.invariant-loop-datagram
-invariant-loop-datagram g l = record {
-  count : l.judge.datagrams ≡ l.datagram-index;
-  knows : Knows g.C.Coverage.covered l.fn.from l.judge l.pair (placed_in (acts_by_datagram (map (λ datagram. datagram.now) (take l.datagram-index l.recording))));
+-- the claims of the answers so far, by what stands before a datagram that is not behind the next
+abbrev pub invariant-loop-answer : goal.invariant-loop-answer
+invariant-loop-answer g l = record {
+  guid : l.reader.guid ≡ l.pair.reader;
+  heard : (datagram : ℕ) × ((k : ℕ) (d : Answer) → l.answer-index ≤ k → k < length l.answers → datagram ≤ (get_or l.answers k d).datagram)
+      × IsToldUpTo (Hears l.from (g.C.Coverage.covered l.reader.told) l.pair.writer l.pair.reader) l.acts l.reader.place datagram;
+  claims : AreClaimsOf l.from l.pair.writer l.pair.reader (map placed_value l.acts) (take l.answer-index l.answers) l.claims;
 }

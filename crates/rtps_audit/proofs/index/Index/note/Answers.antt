@@ -3,10 +3,8 @@ use Rattle.std.proofs.lemmas.List.{length-append}
 use Rattle.rtps_receiver.specs.Values.{act_value}
 use Rattle.rtps_discovery.specs.Directory.{IsMapOf}
 use Rattle.rtps_discovery.specs.GuidOrder.{guid_cmp}
-use Rattle.rtps_audit.specs.AnnouncedPlaces.{announced_among}
-use Rattle.rtps_audit.specs.Groups.{values_at}
+use Rattle.rtps_audit.specs.Placed.{announced_among, answers_among, is_from, placed_at, placed_in, values_at}
 use Rattle.rtps_audit.specs.Intake.{acts_together}
-use Rattle.rtps_audit.specs.Placed.{answers_among, is_from, placed_at, placed_in}
 use Rattle.rtps_audit.specs.declared.report.Counts.{Counts}
 use Rattle.rtps_audit.proofs.AnnouncedLemmas.{places_joined}
 use Rattle.rtps_audit.proofs.IntakeLemmas.{counts_more}

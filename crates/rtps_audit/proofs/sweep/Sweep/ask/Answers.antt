@@ -4,7 +4,7 @@ use Rattle.std.proofs.lemmas.List.{get_or_read}
 use Rattle.std.proofs.lemmas.List.Elements.{All-set}
 use Rattle.rtps_discovery.specs.declared.matching.Pair.{Pair}
 use Rattle.rtps_audit.specs.Placed.{placed_value}
-use Rattle.rtps_audit.specs.Sweep.{AreClaimsOf, IsToldBelow, answers_at}
+use Rattle.rtps_audit.specs.Sweep.{AreClaimsOf, HasAllBelow, answers_at, is_told}
 use Rattle.rtps_audit.specs.declared.sweep.AskedReader.{AskedReader}
 use Rattle.rtps_audit.proofs.SweepLemmas.{claims_more, fronts_on, pairs_kept}
 use Rattle.rtps_audit.proofs.sweep.Sweep.ask.Goals as goal
@@ -34,10 +34,10 @@ returns-clause-swept c = λ from writer asks datagram all rising le counted know
     let here = get_or_read readers place lent lt c.index_mut.ensures.value in
     let told = c.in_ok-tell_before.ensures.told writer all (record { within = known.told.within; before = λ k d low high. let early = known.told.before k d low high in omega arith; tells = known.told.tells }) in
     let behind = c.in_ok-tell_before.ensures.behind rising in
-    let is_below = λ (asked : AskedReader). IsToldBelow from mid.told asked.pair.reader asked.front in
-    let fronts = fronts_on from old.told mid.told readers c.in_ok-tell_before.ensures.more (subst (λ (r : _). All (λ (asked : AskedReader). IsToldBelow from old.told asked.pair.reader asked.front) r.items) (sym same) known.fronts) in
+    let is_below = λ (asked : AskedReader). HasAllBelow from (is_told mid.told asked.pair.reader) asked.front in
+    let fronts = fronts_on from old.told mid.told readers c.in_ok-tell_before.ensures.more (subst (λ (r : _). All (λ (asked : AskedReader). HasAllBelow from (is_told old.told asked.pair.reader) asked.front) r.items) (sym same) known.fronts) in
     let below = subst is_below (sym (here lent)) (fronts place lent lt) in
-    let front = subst (λ (p : Pair). IsToldBelow from mid.told p.reader new.front) (sym c.note.ensures.pair) (c.note.ensures.front from below) in
+    let front = subst (λ (p : Pair). HasAllBelow from (is_told mid.told p.reader) new.front) (sym c.note.ensures.pair) (c.note.ensures.front from below) in
     record {
       told = told;
       fronts = All-set is_below readers place new front fronts;

@@ -9,5 +9,5 @@ use Rattle.rtps_audit.proofs.sweep.Sweep.rows.Given as goal
 abbrev pub invariant-loop-asked : goal.invariant-loop-asked
 invariant-loop-asked l = record {
   pairs : map (λ row. row.pair) l.rows.items ≡ map (λ asked. asked.pair) (take l.asked-index l.asked-items);
-  judged : (from : ℕ) (recording : List (List ActValue)) → 1 ≤ from → All (IsAllKnown from recording l.conflicts l.last) l.self.readers.items → All (IsJudgedFrom from recording) l.rows.items;
+  judged : (from : ℕ) (recording : List (List ActValue)) → 1 ≤ from → All (λ asked. IsAllKnown from recording asked.pair l.conflicts l.last asked.claims) l.self.readers.items → All (IsJudgedFrom from recording) l.rows.items;
 }

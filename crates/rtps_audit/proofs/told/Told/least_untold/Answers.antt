@@ -1,4 +1,4 @@
-use Rattle.rtps_audit.specs.Told.{is_told}
+use Rattle.rtps_audit.specs.Sweep.{is_told}
 use Rattle.rtps_audit.proofs.ToldLemmas.{least_alike, told_by_four}
 use Rattle.rtps_audit.proofs.told.Told.least_untold.Goals as goal
 

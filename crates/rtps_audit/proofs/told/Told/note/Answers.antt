@@ -8,7 +8,7 @@ use Rattle.rtps_receiver.specs.Audience.{audience_cmp}
 use Rattle.rtps_receiver.specs.Values.{act_value}
 use Rattle.rtps_receiver.specs.declared.speech.Audience.{Audience}
 use Rattle.rtps_audit.specs.Speech.{word_of}
-use Rattle.rtps_audit.specs.Told.{audiences_of, in_set, told_at}
+use Rattle.rtps_audit.specs.Sweep.{audiences_of, in_set, told_at}
 use Rattle.rtps_audit.proofs.ToldLemmas.{heard_by_audience, told_more}
 use Rattle.rtps_audit.proofs.told.Told.note.Goals as goal
 
