@@ -12,7 +12,7 @@ use Rattle.rtps_receiver.specs.Speech.{entity_from, is_entity, is_prefix, is_spo
 use Rattle.rtps_receiver.specs.Values.{ActBodyValue, ActValue}
 use Rattle.rtps_receiver.specs.Values.ActBodyValue.{Data, Heartbeat, AckNack, Gap, DataFrag}
 use Rattle.rtps_discovery.specs.declared.matching.Pair.{Pair}
-use Rattle.rtps_audit.specs.Answered.{HearsTwo, IsGivenBy, IsHeard, IsToldAll, IsToldBy, IsUntoldAmong, base_among, last_among, verdict_by}
+use Rattle.rtps_audit.specs.Answered.{HearsTwo, IsHeard, IsToldAll, IsToldBy, IsUntoldAmong, base_among, last_among, verdict_by}
 use Rattle.rtps_audit.specs.Delivery.{Claims, Datagram, Gives, IsAsked, Speech, Word, greatest, last_announced_from}
 use Rattle.rtps_audit.specs.Delivery.Word.{Told}
 use Rattle.rtps_audit.specs.Placed.{PlacedValue, answer_at, answer_of, answers_among, is_from, placed_in}
@@ -394,6 +394,16 @@ verdict_known {from} speech None None base last positive founded never is_base i
     by_test false e =
         let lt : last < base = grind (arith, nat_tests) in
         from_plain from speech (Complete (pos last)) (ap pos is_last, founded, never, all lt)
+
+-- The verdict is that on what the reader hears by these acts and on its answers.
+pub record IsGivenBy (from : ℕ) (writer reader : Guid) (placed : List PlacedValue) (answers : List Answer) (verdict : Verdict) : Type 0 where
+  pub untold : Option Untold
+  pub conflict : Option ℕ
+  pub last : ℕ
+  pub first : IsUntoldAmong from writer reader placed answers untold
+  pub least : MatchOption conflict ((n : ℕ) → ¬ HearsTwo from writer reader placed n) (IsLeast (HearsTwo from writer reader placed))
+  pub announced : last ≡ max (from - 1) (last_among writer placed)
+  pub value : verdict ≡ verdict_by untold conflict (max from (base_among answers)) last
 
 -- by acts that have all that the writer says
 pub verdict_of : (from : ℕ) (pair : Pair) (recording : List (List ActValue)) (placed : List PlacedValue) → HasSpeech pair.writer recording placed → (answers : List Answer) (verdict : Verdict) → 1 ≤ from

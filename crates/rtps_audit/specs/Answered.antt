@@ -1,6 +1,6 @@
 -- The verdict by what a reader hears and by its answers. own: of an answer, what counts is whether each number that it claims
 -- was told before it; a reader claims only what it was told (DDSI-RTPS 2.5, 8.4.2.3 "Required RTPS Reader Behavior").
-use Rattle.std.specs.Prelude.{ℕ, ◌≡◌, ℤ, pos, int_lt, nat_le, nat_lt, Bool, true, ◌&&◌, Option, Some, None, if◌then◌else◌, ◌≢◌, ◌≤◌, ◌<◌, ◌-◌, ◌^◌, ◌<ℤ◌, ◌≤ℤ◌, List, Contains, max, map, MatchOption}
+use Rattle.std.specs.Prelude.{ℕ, ◌≡◌, ℤ, pos, int_lt, nat_le, nat_lt, Bool, true, ◌&&◌, Option, Some, None, if◌then◌else◌, ◌≢◌, ◌≤◌, ◌<◌, ◌-◌, ◌^◌, ◌<ℤ◌, ◌≤ℤ◌, List, Contains, map, MatchOption}
 use Rattle.std.specs.List.{filter_map, All}
 use Rattle.rtps_ids.specs.declared.identity.Guid.{Guid}
 use Rattle.rtps_wire.specs.Values.{PayloadValue}
@@ -11,7 +11,6 @@ use Rattle.rtps_audit.specs.Delivery.{Word, IsAsked, greatest}
 use Rattle.rtps_audit.specs.Delivery.Word.{Told}
 use Rattle.rtps_audit.specs.Placed.{PlacedValue}
 use Rattle.rtps_audit.specs.Speech.{announced_for, word_for, natural}
-use Rattle.rtps_audit.specs.RunVerdict.{IsLeast}
 use Rattle.rtps_audit.specs.declared.answer.Answer.{Answer}
 
 -- whether a datagram stands before that of the claim which is known
@@ -77,13 +76,3 @@ IsUntoldAmong from writer reader placed answers untold =
 -- the greatest base of an answer, or 0
 abbrev pub base_among : List Answer → ℕ
 base_among answers = greatest (map (λ answer. natural answer.base) answers)
-
--- The verdict is that on what the reader hears by these acts and on its answers.
-pub record IsGivenBy (from : ℕ) (writer reader : Guid) (placed : List PlacedValue) (answers : List Answer) (verdict : Verdict) : Type 0 where
-  pub untold : Option Untold
-  pub conflict : Option ℕ
-  pub last : ℕ
-  pub first : IsUntoldAmong from writer reader placed answers untold
-  pub least : MatchOption conflict ((n : ℕ) → ¬ HearsTwo from writer reader placed n) (IsLeast (HearsTwo from writer reader placed))
-  pub announced : last ≡ max (from - 1) (last_among writer placed)
-  pub value : verdict ≡ verdict_by untold conflict (max from (base_among answers)) last
