@@ -7,7 +7,7 @@ use Rattle.std.proofs.lemmas.List.Elements.{filter_map-append, Contains-append_l
 use Rattle.rtps_audit.specs.Delivery.{greatest, Datagram, Speech, IsAsked, Claims}
 use Rattle.rtps_audit.specs.PlainVerdict.{IsClaimed}
 
-greatest-append : (xs ys : List ℕ) → greatest (xs ++ ys) ≡ max (greatest xs) (greatest ys)
+pub greatest-append : (xs ys : List ℕ) → greatest (xs ++ ys) ≡ max (greatest xs) (greatest ys)
 greatest-append [] ys = omega arith
 greatest-append (x ∷ xs) ys = let rest = greatest-append xs ys in omega arith
 

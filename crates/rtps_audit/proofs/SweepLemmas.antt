@@ -3,7 +3,7 @@ use Rattle.std.proofs.Common.{◌≡◌, ℕ, zero, suc, ℤ, pos, negsuc, ◌+�
 use Rattle.std.specs.Prelude.{Contains, ◌==◌, ◌<ℤ◌, if◌then◌else◌, is_some, nat_lt}
 use Rattle.std.specs.List.{All, AllWithin, cons_option, filter_map}
 use Rattle.std.specs.List.Sorted.{IsPermutation}
-use Rattle.std.proofs.lemmas.Bool.{cases_lt, ltb-true}
+use Rattle.std.proofs.lemmas.Bool.{cases_lt, ltb-true, or_cases, or_left, or_right}
 use Rattle.std.proofs.lemmas.Bool.Decides.{nat_tests}
 use Rattle.std.proofs.lemmas.Int.{ints}
 use Rattle.std.proofs.lemmas.List.{get_or-map, get_or-set_other, get_or-set_same, get_or-take, length-map, length-set, length-take-le}
@@ -34,7 +34,7 @@ use Rattle.rtps_audit.proofs.Greatest.{below_greatest, greatest_below}
 use Rattle.rtps_audit.proofs.IndexSpeech.{contains_mapped, mapped_contains, same_number}
 use Rattle.rtps_audit.proofs.PayloadHearing.{from_speaks}
 use Rattle.rtps_audit.proofs.PlacedActs.{made_from, makes}
-use Rattle.rtps_audit.proofs.WordLemmas.{or_cases, or_left, or_right, some_word, word_some}
+use Rattle.rtps_audit.proofs.WordLemmas.{some_word, word_some}
 
 -- ---- what is told
 

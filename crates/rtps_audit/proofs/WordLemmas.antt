@@ -1,8 +1,9 @@
 -- The numbers that the words of one act more add.
-use Rattle.std.proofs.Common.{◌≡◌, ℕ, ◌≤◌, Bool, true, false, ◌&&◌, ◌||◌, nat_le, nat_lt, pos, refl, arith, inl, inr, Option, Some, None, sym, ◌∙◌, ap, ◌⊎◌}
+use Rattle.std.proofs.Common.{◌≡◌, ℕ, ◌≤◌, Bool, true, false, ◌&&◌, ◌||◌, nat_le, nat_lt, pos, refl, arith, inl, inr, Option, Some, None, sym, ◌∙◌, ap}
 use Rattle.std.proofs.lemmas.Bool.Decides.{nat_tests}
 use Rattle.std.proofs.lemmas.Bool.{cases_lt}
 use Rattle.std.specs.Prelude.{is_some}
+use Rattle.std.proofs.Math.Bool.{or_assoc}
 use Rattle.rtps_ids.specs.NumberSet.{IsMember, NumberSetValue, is_member}
 use Rattle.rtps_ids.specs.Ranges.{IsRangeFrom, HasNoneFrom}
 use Rattle.rtps_wire.specs.declared.body.GapBody.{GapBody}
@@ -44,21 +45,6 @@ gap_end gap at none n = elim (cases_lt n at) [
 
 -- ---- words
 
-pub or_cases : (a b : Bool) → (a || b) ≡ true → (a ≡ true) ⊎ (b ≡ true)
-or_cases true b e = inl refl
-or_cases false b e = inr e
-
-pub or_left : (a b : Bool) → a ≡ true → (a || b) ≡ true
-or_left a b e = rw e refl
-
-pub or_right : (a b : Bool) → b ≡ true → (a || b) ≡ true
-or_right true b e = refl
-or_right false b e = e
-
-or_both : (a b c : Bool) → ((a || b) || c) ≡ (a || (b || c))
-or_both true b c = refl
-or_both false b c = refl
-
 -- a number that some word is for
 pub some_word : (o : Option Word) → is_some o ≡ true → (word : Word) × (o ≡ Some word)
 some_word None e = cc
@@ -76,4 +62,4 @@ tells_same old new more other same tells n positive small = tells n positive sma
 -- some, and then others
 pub tells_both : (old mid new one two both : ℕ → Bool) → ((n : ℕ) → both n ≡ (one n || two n)) → TellsMore old mid one → TellsMore mid new two → TellsMore old new both
 tells_both old mid new one two both split first then n positive small =
-    then n positive small ∙ ap (λ b. b || two n) (first n positive small) ∙ or_both (old n) (one n) (two n) ∙ ap (λ b. old n || b) (sym (split n))
+    then n positive small ∙ ap (λ b. b || two n) (first n positive small) ∙ or_assoc (old n) (one n) (two n) ∙ ap (λ b. old n || b) (sym (split n))

@@ -3,9 +3,11 @@ use Rattle.std.proofs.Common.{◌≡◌, ◌∙◌, ℕ, ◌<◌, ◌≤◌, ◌
 use Rattle.std.specs.Prelude.{Contains, is_some, unwrap_or, if◌then◌else◌}
 use Rattle.std.specs.List.{cons_option, list_any}
 use Rattle.std.specs.Option.{option_map}
-use Rattle.std.proofs.lemmas.Bool.{cases_lt}
+use Rattle.std.proofs.lemmas.Bool.{cases_lt, and_parts, not-true, false_from_ne_true}
 use Rattle.std.proofs.lemmas.Bool.Decides.{nat_tests}
 use Rattle.std.proofs.lemmas.List.Folds.{list_any-append, list_any-from_Any}
+use Rattle.std.proofs.Math.Bool.{and-false}
+use Rattle.std.specs.Cmp.{both_ways}
 use Rattle.rtps_ids.specs.declared.identity.Guid.{Guid}
 use Rattle.rtps_discovery.specs.declared.matching.Pair.{Pair}
 use Rattle.rtps_receiver.specs.Speech.{is_heard_by, is_spoken_by}
@@ -37,29 +39,8 @@ or_false : (b : Bool) → (b || false) ≡ b
 or_false true = refl
 or_false false = refl
 
-and_false : (b : Bool) → (b && false) ≡ false
-and_false true = refl
-and_false false = refl
-
-parts : (a b : Bool) → (a && b) ≡ true → (a ≡ true) × (b ≡ true)
-parts true b e = (refl, e)
-parts false b e = absurd (let no : false ≡ true = e in cc)
-
-not_true : (b : Bool) → not b ≡ true → b ≡ false
-not_true false e = refl
-not_true true e = absurd (let no : false ≡ true = e in cc)
-
-both_ways : (a b : Bool) → (a ≡ true → b ≡ true) → (b ≡ true → a ≡ true) → a ≡ b
-both_ways true b to from = sym (to refl)
-both_ways false true to from = from refl
-both_ways false false to from = refl
-
 never_both : (b : Bool) → b ≡ true → b ≡ false → ⊥
 never_both b holds fails = let clash : true ≡ false = sym holds ∙ fails in cc
-
-to_false : (b : Bool) → (b ≡ true → ⊥) → b ≡ false
-to_false true h = absurd (h refl)
-to_false false h = refl
 
 -- an element that passes
 any_of : {X : Type 0} (test : X → Bool) (xs : List X) (x : X) → Contains xs x → test x ≡ true → list_any test xs ≡ true
@@ -77,7 +58,7 @@ none_received old certain m n sent uncovered e = sym (or_false old) ∙ ap (λ b
   where
     same : (b : Bool) → (m == n) ≡ b → false ≡ (certain n && b)
     same true at = let one : m ≡ n = grind (arith, nat_tests, at) in sym (ap (λ k. certain k && true) (sym one) ∙ ap (λ b. b && true) uncovered)
-    same false at = sym (and_false (certain n))
+    same false at = sym (and-false (certain n))
 
 -- ---- what is claimed
 
@@ -91,7 +72,7 @@ claimed_same pair (x ∷ placed) datagram n = by (base_for pair.writer pair.read
         ≡ ((nat_le x.datagram datagram && nat_lt n (unwrap_or base 0)) || list_any (λ at. nat_le at.datagram datagram && claims pair.writer pair.reader n at) placed)
     by None h =
         let none : nat_lt n 0 ≡ false = grind (arith, nat_tests) in
-        h ∙ sym (ap (λ b. b || list_any (λ at. nat_le at.datagram datagram && claims pair.writer pair.reader n at) placed) (ap (λ b. nat_le x.datagram datagram && b) none ∙ and_false (nat_le x.datagram datagram)))
+        h ∙ sym (ap (λ b. b || list_any (λ at. nat_le at.datagram datagram && claims pair.writer pair.reader n at) placed) (ap (λ b. nat_le x.datagram datagram && b) none ∙ and-false (nat_le x.datagram datagram)))
     by (Some base) h = ap (λ b. (nat_le x.datagram datagram && nat_lt n base) || b) h
 
 below_greatest : {X : Type 0} (number : X → ℕ) (xs : List X) (n : ℕ) → nat_lt n (greatest (map number xs)) ≡ list_any (λ x. nat_lt n (number x)) xs
@@ -118,7 +99,7 @@ withdrawer writer reader n at is = speaker_is_origin writer at (spoken_word (is_
 pub withdrawals_same : (writer reader : Guid) (placed acts : List PlacedValue) (heard : HeardNumbers) → acts ≡ filter (is_from writer) placed → IsHeardBy writer reader acts heard → AreWithdrawals writer reader placed heard.gone.items
 withdrawals_same writer reader placed acts heard same is = λ n datagram.
     is.gone n datagram ∙ ap (list_any (withdraws_before writer reader n datagram)) same
-    ∙ any_filter (withdraws_before writer reader n datagram) (is_from writer) (λ at passes. withdrawer writer reader n at (parts (nat_lt at.datagram datagram) (withdraws writer reader n at) passes).1) placed
+    ∙ any_filter (withdraws_before writer reader n datagram) (is_from writer) (λ at passes. withdrawer writer reader n at (and_parts (nat_lt at.datagram datagram) (withdraws writer reader n at) passes).1) placed
 
 -- ---- what is claimed first
 
@@ -138,10 +119,10 @@ before_first pair placed answers datagram n claim same among claiming none = eli
 no_claim_before : (pair : Pair) (recording : List (List ActValue)) (answers : List Answer) (datagram n : ℕ) (claim : PlacedValue) → answers ≡ answers_among pair (placed_in recording)
     → first_claiming pair.writer pair.reader n (placed_in recording) ≡ Some claim → datagram < claim.datagram → list_any (claims_up_to datagram n) answers ≡ false
 no_claim_before pair recording answers datagram n claim same found before =
-    to_false (list_any (claims_up_to datagram n) answers) (λ some.
+    false_from_ne_true (list_any (claims_up_to datagram n) answers) (λ some.
     let any = sym (ap (list_any (claims_up_to datagram n)) same ∙ claimed_same pair (placed_in recording) datagram n) ∙ some in
     let at = some_passes (λ (at : PlacedValue). nat_le at.datagram datagram && claims pair.writer pair.reader n at) (placed_in recording) any in
-    let tests = parts (nat_le at.0.datagram datagram) (claims pair.writer pair.reader n at.0) at.2 in
+    let tests = and_parts (nat_le at.0.datagram datagram) (claims pair.writer pair.reader n at.0) at.2 in
     let le = first_is_first (claims pair.writer pair.reader n) 1 (placed_in recording) at.0 claim (placed_ordered 0 recording) found at.1 tests.1 in
     let up_to : at.0.datagram ≤ datagram = (let t = tests.0 in grind (arith, nat_tests, t)) in
     omega arith)
@@ -152,7 +133,7 @@ unclaimed_before : (pair : Pair) (recording : List (List ActValue)) (answers : L
 unclaimed_before pair recording answers n claim same found datagram =
     let there = found_is_there (claims pair.writer pair.reader n) (placed_in recording) claim found in
     both_ways (not (list_any (claims_up_to datagram n) answers)) (nat_lt datagram claim.datagram)
-    (λ none. let before = before_first pair (placed_in recording) answers datagram n claim same there.0 there.1 (not_true (list_any (claims_up_to datagram n) answers) none) in grind (arith, nat_tests, before))
+    (λ none. let before = before_first pair (placed_in recording) answers datagram n claim same there.0 there.1 (not-true (list_any (claims_up_to datagram n) answers) none) in grind (arith, nat_tests, before))
     (λ is. let before : datagram < claim.datagram = grind (arith, nat_tests, is) in ap not (no_claim_before pair recording answers datagram n claim same found before))
 
 any_same : {X : Type 0} (one other : X → Bool) → ((x : X) → one x ≡ other x) → (xs : List X) → list_any one xs ≡ list_any other xs
@@ -167,9 +148,9 @@ past_same items lent answers withdrawals n same is =
 
 -- withdrawals that end up to a number have none from there on
 pub none_past : (withdrawals : List Withdrawal) (answers : List Answer) (from n : ℕ) → from ≤ n → list_any (λ withdrawal. nat_lt from withdrawal.hi) withdrawals ≡ false → list_any (withdrawn_unclaimed answers n) withdrawals ≡ false
-none_past withdrawals answers from n low none = to_false (list_any (withdrawn_unclaimed answers n) withdrawals) (λ some.
+none_past withdrawals answers from n low none = false_from_ne_true (list_any (withdrawn_unclaimed answers n) withdrawals) (λ some.
     let at = some_passes (withdrawn_unclaimed answers n) withdrawals some in
-    let has = parts (nat_le at.0.lo n) (nat_lt n at.0.hi) (parts (not (list_any (claims_up_to at.0.datagram n) answers)) _ at.2).1 in
+    let has = and_parts (nat_le at.0.lo n) (nat_lt n at.0.hi) (and_parts (not (list_any (claims_up_to at.0.datagram n) answers)) _ at.2).1 in
     let past : nat_lt from at.0.hi ≡ true = (let t = has.1 in grind (arith, nat_tests, t)) in
     none_passes (λ (withdrawal : Withdrawal). nat_lt from withdrawal.hi) withdrawals at.0 none at.1 past)
 
@@ -213,7 +194,7 @@ is_past : (pair : Pair) (placed : List PlacedValue) (answers : List Answer) (n :
     → nat_lt n (greatest (map (λ answer. natural answer.base) answers)) ≡ false
 is_past pair placed answers n same none =
     base_same pair placed answers n same
-    ∙ to_false (list_any (claims pair.writer pair.reader n) placed) (λ some.
+    ∙ false_from_ne_true (list_any (claims pair.writer pair.reader n) placed) (λ some.
     let claim = some_passes (claims pair.writer pair.reader n) placed some in
     none_found (claims pair.writer pair.reader n) placed claim.0 none claim.1 claim.2)
 
@@ -225,7 +206,7 @@ pub received_same : (pair : Pair) (recording : List (List ActValue)) (acts : Lis
     → list_any (λ at. certain_at certainty at.datagram n && sends pair.writer pair.reader n at) acts ≡ is_received pair.writer pair.reader (placed_in recording) n
 received_same pair recording acts answers withdrawals certainty n of_writer of_reader are is =
     ap (list_any (λ (at : PlacedValue). certain_at certainty at.datagram n && sends pair.writer pair.reader n at)) of_writer
-    ∙ any_filter (λ (at : PlacedValue). certain_at certainty at.datagram n && sends pair.writer pair.reader n at) (is_from pair.writer) (λ at passes. sender pair.writer pair.reader n at (parts (certain_at certainty at.datagram n) _ passes).1) (placed_in recording)
+    ∙ any_filter (λ (at : PlacedValue). certain_at certainty at.datagram n && sends pair.writer pair.reader n at) (is_from pair.writer) (λ at passes. sender pair.writer pair.reader n at (and_parts (certain_at certainty at.datagram n) _ passes).1) (placed_in recording)
     ∙ by (first_claiming pair.writer pair.reader n (placed_in recording)) refl
   where
     swapped : (a b c : Bool) → ((a && b) && c) ≡ ((a && c) && b)
@@ -234,7 +215,7 @@ received_same pair recording acts answers withdrawals certainty n of_writer of_r
         and_true : (b : Bool) → b ≡ (b && true)
         and_true true = refl
         and_true false = refl
-    swapped true b false = and_false b
+    swapped true b false = and-false b
     swapped false b c = refl
 
     certain : (claim at : PlacedValue) → first_claiming pair.writer pair.reader n (placed_in recording) ≡ Some claim
@@ -251,10 +232,10 @@ received_same pair recording acts answers withdrawals certainty n of_writer of_r
 
     by : (claim : Option PlacedValue) → first_claiming pair.writer pair.reader n (placed_in recording) ≡ claim
         → list_any (λ at. certain_at certainty at.datagram n && sends pair.writer pair.reader n at) (placed_in recording) ≡ is_certain_by pair.writer pair.reader n (placed_in recording) claim
-    by None found = to_false (list_any (λ (at : PlacedValue). certain_at certainty at.datagram n && sends pair.writer pair.reader n at) (placed_in recording)) (λ some.
+    by None found = false_from_ne_true (list_any (λ (at : PlacedValue). certain_at certainty at.datagram n && sends pair.writer pair.reader n at) (placed_in recording)) (λ some.
         let at = some_passes (λ (at : PlacedValue). certain_at certainty at.datagram n && sends pair.writer pair.reader n at) (placed_in recording) some in
-        let certain = (parts (certain_at certainty at.0.datagram n) _ at.2).0 in
-        let below = (parts (nat_lt n certainty.below) _ (parts (not (some_reaches certainty.claims.items at.0.datagram n)) _ certain).1).0 in
+        let certain = (and_parts (certain_at certainty at.0.datagram n) _ at.2).0 in
+        let below = (and_parts (nat_lt n certainty.below) _ (and_parts (not (some_reaches certainty.claims.items at.0.datagram n)) _ certain).1).0 in
         never_both (nat_lt n certainty.below) below (ap (nat_lt n) is.below ∙ is_past pair (placed_in recording) answers n of_reader found))
     by (Some claim) found =
         any_same (λ (at : PlacedValue). certain_at certainty at.datagram n && sends pair.writer pair.reader n at) (λ (at : PlacedValue). sends_before pair.writer pair.reader n claim.datagram at && not (list_any (withdraws_before pair.writer pair.reader n claim.datagram) (placed_in recording)))
@@ -273,7 +254,7 @@ founded_same from pair recording answers withdrawals n asked run same are = by (
 
     sent : (claim : PlacedValue) (gone : Bool) → first_claiming pair.writer pair.reader n (placed_in recording) ≡ Some claim → list_any (withdraws_before pair.writer pair.reader n claim.datagram) (placed_in recording) ≡ gone
         → gone ≡ not (list_any (sends_before pair.writer pair.reader n claim.datagram) (placed_in recording) && not gone)
-    sent claim true found is = sym (ap not (and_false (list_any (sends_before pair.writer pair.reader n claim.datagram) (placed_in recording))))
+    sent claim true found is = sym (ap not (and-false (list_any (sends_before pair.writer pair.reader n claim.datagram) (placed_in recording))))
     sent claim false found is = sym (ap (λ b. not (b && true)) (sent_before from pair recording n claim asked run found is))
 
     by : (claim : Option PlacedValue) → first_claiming pair.writer pair.reader n (placed_in recording) ≡ claim
@@ -295,4 +276,4 @@ has_run from speech (Complete last) is founded = is.1
 -- the first act that tells a number gone is one that the writer says
 pub gone_same_before : (writer reader : Guid) (n datagram : ℕ) (placed : List PlacedValue) → gone_before writer reader n datagram (filter (is_from writer) placed) ≡ gone_before writer reader n datagram placed
 gone_same_before writer reader n datagram placed =
-    ap (option_map teller_at) (find_filter (withdraws_before writer reader n datagram) (is_from writer) (λ at passes. withdrawer writer reader n at (parts (nat_lt at.datagram datagram) _ passes).1) placed)
+    ap (option_map teller_at) (find_filter (withdraws_before writer reader n datagram) (is_from writer) (λ at passes. withdrawer writer reader n at (and_parts (nat_lt at.datagram datagram) _ passes).1) placed)

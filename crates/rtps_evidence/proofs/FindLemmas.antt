@@ -7,6 +7,7 @@ use Rattle.std.specs.Option.{option_or}
 use Rattle.std.proofs.lemmas.List.{map-append, take_more, take-append-drop}
 use Rattle.std.proofs.lemmas.List.Folds.{find-append, list_any-append}
 use Rattle.rtps_audit.specs.Delivery.{greatest}
+use Rattle.rtps_audit.proofs.Offered.{greatest-append}
 
 find_past : {X : Type 0} (test : X → Bool) (x : X) (keeps : Bool) (xs : List X) → (test x ≡ true → keeps ≡ true) → find test (cond keeps (x ∷ xs) xs) ≡ cond (test x) (Some x) (find test xs)
 find_past test x true xs h = refl
@@ -86,16 +87,12 @@ any_past v test xs i x lt at = any_more v test xs i x lt ∙ ap (λ y. list_any 
 
 -- ---- the greatest of what is made of each
 
-greatest_append : (xs ys : List ℕ) → greatest (xs ++ ys) ≡ max (greatest xs) (greatest ys)
-greatest_append [] ys = omega arith
-greatest_append (x ∷ xs) ys = let rest = greatest_append xs ys in omega arith
-
 pub greatest_past : {X Y : Type 0} (v : X → Y) (number : Y → ℕ) (xs : List X) (i : ℕ) (x : X) → i < length xs → x ≡ get_or xs i x → greatest (map number (map v (take (i + 1) xs))) ≡ max (greatest (map number (map v (take i xs)))) (number (v x))
 greatest_past v number xs i x lt at =
     ap (λ l. greatest (map number (map v l))) (take_more xs i x lt)
     ∙ ap (λ l. greatest (map number l)) (map-append v (take i xs) (get_or xs i x ∷ []))
     ∙ ap greatest (map-append number (map v (take i xs)) (v (get_or xs i x) ∷ []))
-    ∙ greatest_append (map number (map v (take i xs))) (number (v (get_or xs i x)) ∷ [])
+    ∙ greatest-append (map number (map v (take i xs))) (number (v (get_or xs i x)) ∷ [])
     ∙ ap (λ y. max (greatest (map number (map v (take i xs)))) (max (number (v y)) 0)) (sym at)
     ∙ one (number (v x))
   where
@@ -106,7 +103,7 @@ pub greatest_of_each : {X : Type 0} (number : X → ℕ) (xs : List X) (i : ℕ)
 greatest_of_each number xs i d lt =
     ap (λ l. greatest (map number l)) (take_more xs i d lt)
     ∙ ap greatest (map-append number (take i xs) (get_or xs i d ∷ []))
-    ∙ greatest_append (map number (take i xs)) (number (get_or xs i d) ∷ [])
+    ∙ greatest-append (map number (take i xs)) (number (get_or xs i d) ∷ [])
     ∙ one (number (get_or xs i d))
   where
     one : (n : ℕ) → max (greatest (map number (take i xs))) (max n 0) ≡ max (greatest (map number (take i xs))) n

@@ -3,7 +3,7 @@ use Rattle.std.proofs.Common.{◌≡◌, ◌∙◌, ◌&&◌, ◌||◌, ◌+◌,
 use Rattle.std.specs.Prelude.{if◌then◌else◌, is_some, None, slice_get}
 use Rattle.std.specs.List.{list_any}
 use Rattle.std.specs.Option.{option_map}
-use Rattle.std.proofs.Math.Bool.{or-false}
+use Rattle.std.proofs.Math.Bool.{or-false, or_assoc}
 use Rattle.std.proofs.lemmas.List.Folds.{list_any-append, list_any_more}
 use Rattle.std.proofs.lemmas.Option.{slice_get-get_or, slice_get-map, slice_get_past}
 use Rattle.rtps_ids.specs.declared.identity.Guid.{Guid}
@@ -18,7 +18,6 @@ use Rattle.rtps_evidence.specs.Received.{is_gone, withdraws_before}
 use Rattle.rtps_evidence.specs.WriterSummary.{IsSplit, any_at, is_for_everyone, option_any}
 use Rattle.rtps_evidence.specs.declared.amount.HeardNumbers.{HeardNumbers}
 use Rattle.rtps_evidence.proofs.FindLemmas.{any_past}
-use Rattle.rtps_evidence.proofs.StretchLemmas.{or_assoc}
 
 heard : (act : ActValue) (reader : Guid) → is_for_everyone act ≡ true → is_heard_by act reader ≡ true
 heard act reader e = both (is_for_all act.dest) (is_for act.dest reader.prefix) (names (reader_named act.body) unknown_entity) (names (reader_named act.body) reader.entity) e

@@ -2,7 +2,7 @@
 use Rattle.std.proofs.Common.{◌≡◌, ◌∙◌, ℕ, ◌+◌, ◌<◌, ◌≤◌, ◌==◌, ◌&&◌, ◌||◌, Bool, true, false, cond, nat_le, nat_lt, not, filter, get_or, length, take, List, [], ◌∷◌, ◌++◌, Option, Some, None, refl, sym, ap, arith, inl, inr}
 use Rattle.std.specs.List.{cons_option, find, last_or, list_any}
 use Rattle.std.specs.Option.{option_map}
-use Rattle.std.proofs.lemmas.Bool.{cases_lt}
+use Rattle.std.proofs.lemmas.Bool.{cases_lt, and_parts}
 use Rattle.std.proofs.lemmas.Bool.Decides.{nat_tests}
 use Rattle.std.proofs.lemmas.List.Folds.{list_any-append}
 use Rattle.rtps_ids.specs.declared.identity.Guid.{Guid}
@@ -124,10 +124,6 @@ number_none old m n sent lacking e out = sym (or_nothing old) ∙ ap (λ b. old 
 
 -- ---- what is missed
 
-parts : (a b : Bool) → (a && b) ≡ true → (a ≡ true) × (b ≡ true)
-parts true b e = (refl, e)
-parts false b e = absurd (let no : false ≡ true = e in cc)
-
 turned : (a s r : Bool) → (a && (s && r)) ≡ (r && (a && s))
 turned true true true = refl
 turned true true false = refl
@@ -152,8 +148,8 @@ common_same some asked false lacking same there = none some ∙ sym (none asked)
 -- what the reader hears of a payload is said by the writer's acts
 bringer : (writer reader : Guid) (n : ℕ) (at : PlacedValue) → brings writer reader n at ≡ true → is_from writer at ≡ true
 bringer writer reader n at is =
-    let said = (parts (is_spoken_by at.act writer && is_heard_by at.act reader) (is_at n (sample_number at.act.body)) is).0 in
-    speaker_is_origin writer at (parts (is_spoken_by at.act writer) (is_heard_by at.act reader) said).0
+    let said = (and_parts (is_spoken_by at.act writer && is_heard_by at.act reader) (is_at n (sample_number at.act.body)) is).0 in
+    speaker_is_origin writer at (and_parts (is_spoken_by at.act writer) (is_heard_by at.act reader) said).0
 
 -- what is sent behind the announcement and not received, and asked for, is missed
 missed_same : (pair : Pair) (placed writer_acts reader_acts : List PlacedValue) (announced : Option Location) (n : ℕ) (lacking asked sent : Bool)
@@ -164,11 +160,11 @@ missed_same : (pair : Pair) (placed writer_acts reader_acts : List PlacedValue) 
     → (asked && sent) ≡ is_missed announced pair.writer pair.reader placed n
 missed_same pair placed writer_acts reader_acts announced n lacking asked sent of_writer of_reader known asks sends_it =
     ap (λ b. b && sent) (asks ∙ ap (list_any (asks_for pair.writer pair.reader n)) of_reader ∙ any_filter (asks_for pair.writer pair.reader n) (is_from pair.reader)
-    (λ at passes. answerer_is_origin pair.reader pair.writer at (parts (is_answer at.act pair.reader pair.writer) (is_in_set at.act.body n) passes).0) placed)
+    (λ at passes. answerer_is_origin pair.reader pair.writer at (and_parts (is_answer at.act pair.reader pair.writer) (is_in_set at.act.body n) passes).0) placed)
     ∙ ap (λ b. list_any (asks_for pair.writer pair.reader n) placed && b)
     (sends_it ∙ any_and (brings_behind announced pair.writer pair.reader n) lacking writer_acts
     ∙ ap (λ b. b && lacking) (ap (list_any (brings_behind announced pair.writer pair.reader n)) of_writer
-    ∙ any_filter (brings_behind announced pair.writer pair.reader n) (is_from pair.writer) (λ at passes. bringer pair.writer pair.reader n at (parts (is_behind announced at) (brings pair.writer pair.reader n at) passes).1) placed))
+    ∙ any_filter (brings_behind announced pair.writer pair.reader n) (is_from pair.writer) (λ at passes. bringer pair.writer pair.reader n at (and_parts (is_behind announced at) (brings pair.writer pair.reader n at) passes).1) placed))
     ∙ turned (list_any (asks_for pair.writer pair.reader n) placed) (list_any (brings_behind announced pair.writer pair.reader n) placed) lacking
     ∙ ap (λ b. b && (list_any (asks_for pair.writer pair.reader n) placed && list_any (brings_behind announced pair.writer pair.reader n) placed)) known
 
@@ -181,7 +177,7 @@ pub missed_some : (pair : Pair) (placed writer_acts reader_acts : List PlacedVal
     → (asked && sent) ≡ is_missed announced pair.writer pair.reader placed n
 missed_some pair placed writer_acts reader_acts announced n lacking asked sent of_writer of_reader known asks sends_it =
     common_same asked (list_any (asks_for pair.writer pair.reader n) reader_acts) sent lacking asks
-    (λ is. (parts (list_any (brings_behind announced pair.writer pair.reader n) writer_acts) lacking (sym (any_and (brings_behind announced pair.writer pair.reader n) lacking writer_acts) ∙ sym sends_it ∙ is)).1)
+    (λ is. (and_parts (list_any (brings_behind announced pair.writer pair.reader n) writer_acts) lacking (sym (any_and (brings_behind announced pair.writer pair.reader n) lacking writer_acts) ∙ sym sends_it ∙ is)).1)
     ∙ missed_same pair placed writer_acts reader_acts announced n lacking (list_any (asks_for pair.writer pair.reader n) reader_acts) sent of_writer of_reader known refl sends_it
 
 -- ---- counted, and the least of them
@@ -217,11 +213,11 @@ none_missed from last least count place pair placed items lent same is below cou
 pub asking_same : (writer reader : Guid) (n : ℕ) (placed : List PlacedValue) → option_map location_of (find_last (asks_for writer reader n) (filter (is_from reader) placed)) ≡ option_map location_of (find_last (asks_for writer reader n) placed)
 asking_same writer reader n placed =
     ap (λ l. option_map location_of (last_or None l)) (filter_filter (asks_for writer reader n) (is_from reader)
-    (λ at passes. answerer_is_origin reader writer at (parts (is_answer at.act reader writer) (is_in_set at.act.body n) passes).0) placed)
+    (λ at passes. answerer_is_origin reader writer at (and_parts (is_answer at.act reader writer) (is_in_set at.act.body n) passes).0) placed)
 
 pub gone_same_behind : (place : Location) (writer reader : Guid) (n : ℕ) (placed : List PlacedValue) → gone_behind place writer reader n (filter (is_from writer) placed) ≡ gone_behind place writer reader n placed
 gone_same_behind place writer reader n placed =
-    ap (option_map teller_at) (find_filter (withdraws_behind place writer reader n) (is_from writer) (λ at passes. withdrawer writer reader n at (parts (is_behind (Some place) at) (withdraws writer reader n at) passes).1) placed)
+    ap (option_map teller_at) (find_filter (withdraws_behind place writer reader n) (is_from writer) (λ at passes. withdrawer writer reader n at (and_parts (is_behind (Some place) at) (withdraws writer reader n at) passes).1) placed)
 
 pub never_asked : (writer reader : Guid) (n : ℕ) (placed : List PlacedValue) (asking : Option PlacedValue) → None ≡ option_map location_of asking → ◌≡◌ {A = Option FirstMissed} None (option_map (missed_at writer reader n placed) asking)
 never_asked writer reader n placed None e = refl

@@ -3,7 +3,7 @@ use Rattle.std.proofs.Common.{◌≡◌, ◌∙◌, ℕ, zero, suc, ◌+◌, ◌
 use Rattle.std.specs.Prelude.{IfSome, is_some, if◌then◌else◌, slice_get}
 use Rattle.std.specs.List.{cons_option, drop-map, last_or}
 use Rattle.std.specs.Option.{option_map}
-use Rattle.std.proofs.lemmas.Bool.{cases_lt}
+use Rattle.std.proofs.lemmas.Bool.{cases_lt, and_parts}
 use Rattle.std.proofs.lemmas.Bool.Decides.{nat_tests}
 use Rattle.std.proofs.lemmas.List.{length-append, length-drop, map-append, take-append-drop, take_all, take_more}
 use Rattle.std.proofs.lemmas.Option.{get_or_from_slice_get, slice_get-map, slice_get_within}
@@ -150,17 +150,13 @@ pub filter_filter : {X : Type 0} (test keeps : X → Bool) → ((x : X) → test
 filter_filter test keeps h [] = refl
 filter_filter test keeps h (x ∷ xs) = filter_kept test x (keeps x) (filter keeps xs) xs (h x) (filter_filter test keeps h xs)
 
-parts : (a b : Bool) → (a && b) ≡ true → (a ≡ true) × (b ≡ true)
-parts true b e = (refl, e)
-parts false b e = absurd (let no : false ≡ true = e in cc)
-
 -- what the writer's acts ask is what all acts do
 pub asked_same : (place : Option Location) (writer reader : Guid) (placed : List PlacedValue) (questions : Questions) → AreAsked place writer reader (filter (is_from writer) placed) questions → AreAsked place writer reader placed questions
 asked_same place writer reader placed questions is = record { count = is.count ∙ ap length same; last = is.last ∙ ap (λ l. option_map location_of (last_or None l)) same }
   where
     same : filter (questions_behind place writer reader) (filter (is_from writer) placed) ≡ filter (questions_behind place writer reader) placed
     same = filter_filter (questions_behind place writer reader) (is_from writer) (λ at passes. speaker_is_origin writer at
-        (parts (is_spoken_by at.act writer) (is_heard_by at.act reader && is_question at.act.body) (parts (is_behind place at) (is_spoken_by at.act writer && (is_heard_by at.act reader && is_question at.act.body)) passes).1).0) placed
+        (and_parts (is_spoken_by at.act writer) (is_heard_by at.act reader && is_question at.act.body) (and_parts (is_behind place at) (is_spoken_by at.act writer && (is_heard_by at.act reader && is_question at.act.body)) passes).1).0) placed
 
 -- ---- what stands before
 

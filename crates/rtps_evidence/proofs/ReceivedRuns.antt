@@ -2,7 +2,7 @@
 use Rattle.std.proofs.Common.{◌≡◌, ℕ, suc, ◌+◌, ◌<◌, ◌≤◌, ◌&&◌, Bool, true, false, nat_lt, not, List, [], ◌∷◌, ◌++◌, Option, Some, None, refl, sym, ◌∙◌, ap, subst, arith, inl, inr}
 use Rattle.std.specs.Prelude.{Contains, is_some, unwrap_or}
 use Rattle.std.specs.List.{list_any}
-use Rattle.std.proofs.lemmas.Bool.{cases_lt}
+use Rattle.std.proofs.lemmas.Bool.{cases_lt, and_parts, not-true}
 use Rattle.std.proofs.lemmas.Bool.Decides.{nat_tests}
 use Rattle.std.proofs.lemmas.List.Elements.{Contains-append_left}
 use Rattle.std.proofs.lemmas.List.Folds.{list_any-from_Any}
@@ -83,14 +83,6 @@ gone_word (Some Gone) e = refl
 gone_word (Some (Told payload)) e = absurd (let no : false ≡ true = e in cc)
 gone_word None e = absurd (let no : false ≡ true = e in cc)
 
-parts : (a b : Bool) → (a && b) ≡ true → (a ≡ true) × (b ≡ true)
-parts true b e = (refl, e)
-parts false b e = absurd (let no : false ≡ true = e in cc)
-
-not_true : (b : Bool) → not b ≡ true → b ≡ false
-not_true false e = refl
-not_true true e = absurd (let no : false ≡ true = e in cc)
-
 -- an act that tells a number gone before a datagram does
 passes_gone : (writer reader : Guid) (n datagram : ℕ) (at : PlacedValue) → at.datagram < datagram → word_for writer reader at.act n ≡ Some Gone → withdraws_before writer reader n datagram at ≡ true
 passes_gone writer reader n datagram at lt word =
@@ -136,8 +128,8 @@ certain from pair recording n (Some claim) asked found is end ends =
     by held here.2 held.word refl
   where
     never : list_any (withdraws_before pair.writer pair.reader n claim.datagram) (placed_in recording) ≡ false
-    never = not_true (list_any (withdraws_before pair.writer pair.reader n claim.datagram) (placed_in recording))
-        (parts (list_any (sends_before pair.writer pair.reader n claim.datagram) (placed_in recording)) _ is).1
+    never = not-true (list_any (withdraws_before pair.writer pair.reader n claim.datagram) (placed_in recording))
+        (and_parts (list_any (sends_before pair.writer pair.reader n claim.datagram) (placed_in recording)) _ is).1
 
     by : {j : ℕ} (held : HoldsFrom from (speech_by pair.writer pair.reader recording) end j n) → claim.datagram ≡ j + 1 → (word : Word) → held.word ≡ word → HoldsPayload end n
     by held at (Told payload) same = (payload, subst (λ (w : Word). Contains end.held (n, w)) same held.held)
@@ -176,7 +168,7 @@ gone_there : (from : ℕ) (pair : Pair) (recording : List (List ActValue)) (n da
     → list_any (withdraws_before pair.writer pair.reader n datagram) (placed_in recording) ≡ true → IsGoneBefore from (speech_by pair.writer pair.reader recording) j n
 gone_there from pair recording n datagram j asked le some =
     let teller = some_passes (withdraws_before pair.writer pair.reader n datagram) (placed_in recording) some in
-    let tests = parts (nat_lt teller.0.datagram datagram) (withdraws pair.writer pair.reader n teller.0) teller.2 in
+    let tests = and_parts (nat_lt teller.0.datagram datagram) (withdraws pair.writer pair.reader n teller.0) teller.2 in
     let early : teller.0.datagram < datagram = (let is = tests.0 in grind (arith, nat_tests, is)) in
     let given = word_is_given from pair.writer pair.reader recording n Gone teller.0 teller.1 (gone_word (word_for pair.writer pair.reader teller.0.act n) tests.1) asked in
     let place = given.3 in

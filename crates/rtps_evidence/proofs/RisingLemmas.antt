@@ -4,11 +4,12 @@ use Rattle.std.specs.Prelude.{Contains}
 use Rattle.std.specs.List.{list_any}
 use Rattle.std.specs.List.Sorted.{IsNonDecreasingBy, IsPartitionPoint}
 use Rattle.std.proofs.Math.Bool.{and-false}
-use Rattle.std.proofs.lemmas.Bool.{cases_lt}
+use Rattle.std.proofs.lemmas.Bool.{cases_lt, and_parts, false_from_ne_true}
 use Rattle.std.proofs.lemmas.Bool.Decides.{nat_tests}
 use Rattle.std.proofs.lemmas.List.{get_or_default, length-append, take_more, get_or_push}
 use Rattle.std.proofs.lemmas.List.Folds.{list_any-append, list_any-from_Any}
 use Rattle.std.proofs.lemmas.List.Sorted.{IsNonDecreasingBy-push}
+use Rattle.std.specs.Cmp.{both_ways}
 use Rattle.rtps_evidence.specs.Rising.{AreRising, reaches, some_reaches}
 use Rattle.rtps_evidence.specs.declared.amount.Stretch.{Stretch}
 use Rattle.rtps_evidence.proofs.PlacedOrder.{some_passes}
@@ -115,10 +116,6 @@ risen_more sorted i hi risen new x top in_order lt at is greatest so_far =
 
 -- ---- by a key
 
-parts : (a b : Bool) → (a && b) ≡ true → (a ≡ true) × (b ≡ true)
-parts true b e = (refl, e)
-parts false b e = absurd (let no : false ≡ true = e in cc)
-
 -- a stretch that begins up to the key stands before the place
 stands_before : (stretches : List Stretch) (key place n : ℕ) → IsPartitionPoint (λ (s : Stretch). nat_le s.lo key ≡ true) (λ (s : Stretch). nat_le s.lo key ≡ false) stretches place → some_reaches stretches key n ≡ true
     → (k : ℕ) × (k < place) × (k < length stretches) × (n < (get_or stretches k no_stretch).hi)
@@ -126,7 +123,7 @@ stands_before stretches key place n point some = at (some_passes (reaches key n)
   where
     at : (x : Stretch) × Contains stretches x × (reaches key n x ≡ true) → (k : ℕ) × (k < place) × (k < length stretches) × (n < (get_or stretches k no_stretch).hi)
     at (x, (k, lt, e), passes) =
-        let tests = parts (nat_le x.lo key) (nat_lt n x.hi) passes in
+        let tests = and_parts (nat_le x.lo key) (nat_lt n x.hi) passes in
         let same : get_or stretches k no_stretch ≡ x = get_or_default stretches k no_stretch x lt ∙ e in
         let lo = ap (λ (s : Stretch). nat_le s.lo key) same in
         let hi = ap (λ (s : Stretch). s.hi) same in
@@ -136,20 +133,11 @@ stands_before stretches key place n point some = at (some_passes (reaches key n)
           | inr behind ↦ absurd (let no : nat_le (get_or stretches k no_stretch).lo key ≡ false = point.1 k no_stretch behind lt in let is = tests.0 in let clash : true ≡ false = sym is ∙ sym lo ∙ no in cc)
         ]
 
-to_false : (b : Bool) → (b ≡ true → ⊥) → b ≡ false
-to_false true h = absurd (h refl)
-to_false false h = refl
-
 pub none_reaches : (stretches : List Stretch) (key place : ℕ) → IsPartitionPoint (λ (s : Stretch). nat_le s.lo key ≡ true) (λ (s : Stretch). nat_le s.lo key ≡ false) stretches place → place ≡ 0
     → (n : ℕ) → nat_lt n 0 ≡ some_reaches stretches key n
 none_reaches stretches key place point zero n =
     let not_before : nat_lt n 0 ≡ false = grind (arith, nat_tests) in
-    not_before ∙ sym (to_false (some_reaches stretches key n) (λ some. let at = stands_before stretches key place n point some in let lt = at.1 in omega arith))
-
-both_ways : (a b : Bool) → (a ≡ true → b ≡ true) → (b ≡ true → a ≡ true) → a ≡ b
-both_ways true b to from = sym (to refl)
-both_ways false true to from = from refl
-both_ways false false to from = refl
+    not_before ∙ sym (false_from_ne_true (some_reaches stretches key n) (λ some. let at = stands_before stretches key place n point some in let lt = at.1 in omega arith))
 
 pub last_reaches : (stretches : List Stretch) (key place : ℕ) (d : Stretch) → AreRising stretches → IsPartitionPoint (λ (s : Stretch). nat_le s.lo key ≡ true) (λ (s : Stretch). nat_le s.lo key ≡ false) stretches place
     → 0 < place → place ≤ length stretches → (n : ℕ) → nat_lt n (get_or stretches (place - 1) d).hi ≡ some_reaches stretches key n
@@ -173,7 +161,7 @@ last_reaches stretches key place d rising point some within n =
 pub reached_on : (stretches : List Stretch) (key later n : ℕ) → key ≤ later → some_reaches stretches key n ≡ true → some_reaches stretches later n ≡ true
 reached_on stretches key later n le some =
     let at = some_passes (reaches key n) stretches some in
-    let tests = parts (nat_le at.0.lo key) (nat_lt n at.0.hi) at.2 in
+    let tests = and_parts (nat_le at.0.lo key) (nat_lt n at.0.hi) at.2 in
     let lower : at.0.lo ≤ key = (let t = tests.0 in grind (arith, nat_tests, t)) in
     let begins : nat_le at.0.lo later ≡ true = grind (arith, nat_tests, lower, le) in
     list_any-from_Any (reaches later n) stretches (at.1.0, at.0, at.1.1, at.1.2, ap (λ b. b && nat_lt n at.0.hi) begins ∙ tests.1)

@@ -5,7 +5,7 @@ use Rattle.std.specs.List.{flat_map}
 use Rattle.std.proofs.lemmas.List.Elements.{Contains-append_cases, Contains-append_left, Contains-append_right}
 use Rattle.std.proofs.lemmas.Option.{some_pair_parts}
 use Rattle.std.specs.Cmp.Lexicographic.{bytes_decides}
-use Rattle.std.proofs.lemmas.Bool.{cases_Bool}
+use Rattle.std.proofs.lemmas.Bool.{cases_Bool, and_from}
 use Rattle.rtps_ids.specs.declared.identity.EntityId.{EntityId}
 use Rattle.rtps_ids.specs.declared.identity.Guid.{Guid}
 use Rattle.rtps_discovery.specs.Notice.{is_entity, subject_of}
@@ -25,7 +25,7 @@ use Rattle.rtps_fragments.proofs.Audiences.{flat_from, flat_has, own_entity, own
 use Rattle.rtps_fragments.proofs.HeardLemmas.{IsToldBy, heard-append, heard-cons, heard_one, one_more}
 use Rattle.rtps_fragments.proofs.MergingLemmas.{if_among}
 use Rattle.rtps_fragments.proofs.SampleActLemmas.{NamesItsWriter, spoken_is_origin}
-use Rattle.rtps_fragments.proofs.ToldLemmas.{and_true, payloads_grow, told_more}
+use Rattle.rtps_fragments.proofs.ToldLemmas.{payloads_grow, told_more}
 
 -- ---- datagrams together
 
@@ -83,7 +83,7 @@ module _ (all : List PieceAct) (named : (part : PieceAct) (piece : Piece) → Co
   -- the act is spoken by the writer that it is from
   spoken_by_own : (part : PieceAct) → NamesItsWriter part.act → is_spoken_by part.act (origin_of part.act) ≡ true
   spoken_by_own part names_it =
-      ap (λ o. is_prefix part.act.source part.act.source && names o (entity_from part.act.body)) names_it ∙ and_true (is_prefix part.act.source part.act.source) _ (own_prefix part.act.source) (own_entity (entity_from part.act.body))
+      ap (λ o. is_prefix part.act.source part.act.source && names o (entity_from part.act.body)) names_it ∙ and_from (is_prefix part.act.source part.act.source) _ (own_prefix part.act.source) (own_entity (entity_from part.act.body))
 
   note_is_sent : (act : ActValue) → IsNoteOf all act → Contains (acts_to_note all) act
   note_is_sent act note =

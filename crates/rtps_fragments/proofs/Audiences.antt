@@ -2,7 +2,7 @@
 use Rattle.std.proofs.Common.{◌≡◌, ℕ, Bool, true, false, not, ◌&&◌, List, [], ◌∷◌, map, filter, Option, Some, None, refl, sym, ap, subst, inl, inr, ◌⊎◌}
 use Rattle.std.specs.Prelude.{Contains, ◌||◌}
 use Rattle.std.specs.List.{filter_map, flat_map}
-use Rattle.std.proofs.lemmas.Bool.{cases_Bool}
+use Rattle.std.proofs.lemmas.Bool.{cases_Bool, or_left, or_right, or_cases, and_parts}
 use Rattle.std.proofs.lemmas.List.Elements.{Contains-append_left, Contains-append_right, Contains-append_cases}
 use Rattle.std.proofs.lemmas.Slice.Eq.{bytes_eq-Decides}
 use Rattle.rtps_ids.specs.declared.identity.EntityId.{EntityId}
@@ -41,14 +41,6 @@ for_is None prefix e = cc
 names_is : (named : Option EntityId) (entity : EntityId) → names named entity ≡ true → named ≡ Some entity
 names_is (Some named) entity e = ap Some (entity_is named entity e)
 names_is None entity e = cc
-
-or_left : (a b : Bool) → a ≡ true → (a || b) ≡ true
-or_left true b e = refl
-or_left false b e = cc
-
-or_right : (a b : Bool) → b ≡ true → (a || b) ≡ true
-or_right true b e = refl
-or_right false b e = e
 
 or_own : (a b : Bool) → b ≡ false → (a || a) ≡ (a || b)
 or_own true b e = refl
@@ -180,14 +172,6 @@ least_audience reader parts =
     )
 
 -- ---- an audience that has the reader
-
-or_cases : (a b : Bool) → (a || b) ≡ true → (a ≡ true) ⊎ (b ≡ true)
-or_cases true b e = inl refl
-or_cases false b e = inr e
-
-pub and_parts : (a b : Bool) → (a && b) ≡ true → (a ≡ true) × (b ≡ true)
-and_parts true b e = (refl, e)
-and_parts false b e = cc
 
 for_reader : (dest other : Option GuidPrefix) (prefix : GuidPrefix) → (is_for_all dest || is_same_dest dest other) ≡ true → (is_for_all other || is_for other prefix) ≡ true → (is_for_all dest || is_for dest prefix) ≡ true
 for_reader None other prefix same has = refl

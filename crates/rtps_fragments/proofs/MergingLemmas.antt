@@ -6,6 +6,9 @@ use Rattle.std.proofs.lemmas.Bool.Decides.{Decides-eqb, nat_tests}
 use Rattle.std.proofs.lemmas.List.{drop-map, length-map, map-append}
 use Rattle.std.proofs.lemmas.List.Concat.{flat_map-append}
 use Rattle.std.proofs.lemmas.List.Elements.{Contains-append_cases, Contains-append_left, Contains-append_right, filter-append, filter_map-append}
+use Rattle.std.specs.Cmp.{both_ways}
+use Rattle.std.proofs.lemmas.Bool.{and_parts, and_from}
+use Rattle.std.proofs.Math.Bool.{and-false}
 use Rattle.rtps_ids.specs.declared.identity.EntityId.{EntityId}
 use Rattle.rtps_ids.specs.declared.identity.Guid.{Guid}
 use Rattle.rtps_ids.specs.declared.identity.GuidPrefix.{GuidPrefix}
@@ -27,19 +30,9 @@ use Rattle.rtps_audit.proofs.Offered.{contains_cases, contains_head, contains_ma
 use Rattle.rtps_fragments.proofs.Audiences.{flat_from, own_entity, own_prefix}
 use Rattle.rtps_fragments.proofs.SampleActLemmas.{spoken_is_origin}
 use Rattle.rtps_fragments.proofs.TellingLemmas.{comes, own_sample, sample_is}
-use Rattle.rtps_fragments.proofs.ToldLemmas.{and_true, none_came, own_shape, same_sample}
+use Rattle.rtps_fragments.proofs.ToldLemmas.{none_came, own_shape, same_sample}
 
 -- ---- one act
-
-pub alike : (a b : Bool) → (a ≡ true → b ≡ true) → (b ≡ true → a ≡ true) → a ≡ b
-alike true true f g = refl
-alike true false f g = sym (f refl)
-alike false true f g = g refl
-alike false false f g = refl
-
-both_parts : (a b : Bool) → (a && b) ≡ true → (a ≡ true) × (b ≡ true)
-both_parts true b e = (refl, e)
-both_parts false b e = cc
 
 -- consecutive fragments of a sample, as what came of it
 own_came : (n : ℕ) (shape : Shape) (i : ℕ) (parts : List (List ℕ)) → filter_map (came_of n shape) (fragments_from n shape i parts) ≡ came_from i parts
@@ -59,18 +52,18 @@ module _ (one : PieceAct) (piece : Piece) (frag : IsFragmentAct one piece) where
   spoken_by_own = by one.act.body frag.body
     where
       by : (body : ActBodyValue) → body ≡ DataFrag frag.value → is_spoken_by (record one.act { body = body }) (record { prefix = one.act.source; entity = entity_from body }) ≡ true
-      by body e = subst (λ b. is_spoken_by (record one.act { body = b }) (record { prefix = one.act.source; entity = entity_from b }) ≡ true) (sym e) (and_true _ _ (own_prefix one.act.source) (own_entity frag.value.writer))
+      by body e = subst (λ b. is_spoken_by (record one.act { body = b }) (record { prefix = one.act.source; entity = entity_from b }) ≡ true) (sym e) (and_from _ _ (own_prefix one.act.source) (own_entity frag.value.writer))
 
   -- the act is of a sample by both tests
   pub same_test : (key : SampleKey) → is_sample key (key_of one.act piece) ≡ (is_spoken_by one.act key.writer && is_of key.number (shape_of key) piece.number piece.shape)
-  same_test key = alike _ _ to from
+  same_test key = both_ways _ _ to from
     where
       to : is_sample key (key_of one.act piece) ≡ true → (is_spoken_by one.act key.writer && is_of key.number (shape_of key) piece.number piece.shape) ≡ true
-      to e = subst (λ k. (is_spoken_by one.act k.writer && is_of k.number (shape_of k) piece.number piece.shape) ≡ true) (sym (sample_is key (key_of one.act piece) e)) (and_true _ _ spoken_by_own (own_shape piece.number piece.shape))
+      to e = subst (λ k. (is_spoken_by one.act k.writer && is_of k.number (shape_of k) piece.number piece.shape) ≡ true) (sym (sample_is key (key_of one.act piece) e)) (and_from _ _ spoken_by_own (own_shape piece.number piece.shape))
 
       from : (is_spoken_by one.act key.writer && is_of key.number (shape_of key) piece.number piece.shape) ≡ true → is_sample key (key_of one.act piece) ≡ true
       from e =
-          let (spoken, its) = both_parts (is_spoken_by one.act key.writer) _ e in
+          let (spoken, its) = and_parts (is_spoken_by one.act key.writer) _ e in
           let writer = spoken_is_origin one.act key.writer named spoken in
           let (number, shape) = same_sample key.number (shape_of key) piece.number piece.shape its in
           let first : Guid → SampleKey = λ w. record { writer = w; number = piece.number; sample = piece.shape.sample; fragment = piece.shape.fragment; is_key = piece.shape.is_key } in
@@ -139,10 +132,6 @@ matches_both acts more sents others one other = record {
 abbrev pub AreFragmentActs : List PieceAct → Type 0
 AreFragmentActs acts = (one : PieceAct) (piece : Piece) → Contains acts one → one.piece ≡ Some piece → IsFragmentAct one piece
 
-never : (b : Bool) → (b && false) ≡ false
-never true = refl
-never false = refl
-
 -- an act without a piece
 matches_without : (one : PieceAct) → one.piece ≡ None → Matches (one ∷ []) []
 matches_without one e = record {
@@ -152,7 +141,7 @@ matches_without one e = record {
 }
   where
     no_part : (key : SampleKey) → (is_spoken_by one.act key.writer && is_piece_of key.number (shape_of key) one.piece) ≡ false
-    no_part key = ap (λ o. is_spoken_by one.act key.writer && is_piece_of key.number (shape_of key) o) e ∙ never (is_spoken_by one.act key.writer)
+    no_part key = ap (λ o. is_spoken_by one.act key.writer && is_piece_of key.number (shape_of key) o) e ∙ and-false (is_spoken_by one.act key.writer)
 
     nothing : (b : Bool) → flat_map (λ (p : PieceAct). fragments_in p.piece) (cond b (one ∷ []) []) ≡ []
     nothing true = ap (λ o. fragments_in o ++ []) e

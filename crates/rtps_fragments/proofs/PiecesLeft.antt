@@ -2,7 +2,7 @@
 use Rattle.std.proofs.Common.{◌≡◌, ℕ, suc, ◌≤◌, Bool, true, false, not, ◌&&◌, List, [], ◌∷◌, Option, Some, None, refl, sym, ◌∙◌, ap, subst, arith, inl, inr}
 use Rattle.std.specs.Prelude.{Contains, ◌==◌, ◌||◌}
 use Rattle.std.specs.List.{list_any}
-use Rattle.std.proofs.lemmas.Bool.{cases_Bool}
+use Rattle.std.proofs.lemmas.Bool.{cases_Bool, and_from, and_parts}
 use Rattle.std.proofs.lemmas.Bool.Decides.{Decides-eqb}
 use Rattle.std.proofs.lemmas.Option.{slice_get_cases}
 use Rattle.rtps_ids.specs.declared.identity.Guid.{Guid}
@@ -19,10 +19,9 @@ use Rattle.rtps_audit.specs.Speech.{speech_by}
 use Rattle.rtps_fragments.specs.SampleActs.{PieceAct, fragment_speech_of, fragments_in, piece_acts_in}
 use Rattle.rtps_fragments.specs.SamplesSent.{is_left, is_some_payload, is_whole, sent_by}
 use Rattle.rtps_fragments.proofs.ActsTell.{fragment_bounds}
-use Rattle.rtps_fragments.proofs.Audiences.{and_parts, flat_from}
+use Rattle.rtps_fragments.proofs.Audiences.{flat_from}
 use Rattle.rtps_fragments.proofs.HeardLemmas.{heard_from}
 use Rattle.rtps_fragments.proofs.PutTogether.{EachOf, IsWithin, put_of, some_of_shape}
-use Rattle.rtps_fragments.proofs.ToldLemmas.{and_true}
 
 -- ---- no pieces
 
@@ -125,8 +124,8 @@ module _ (all : List PieceAct) (writer : Guid) (n : ℕ) (parts : (part : PieceA
           let (piece, is, number, shape, own) = of_its_piece other.piece f has in
           let some : is_some_payload (payloads_of n piece.shape (sent_by writer all)) ≡ true =
           subst (λ s. is_some_payload (payloads_of n s (sent_by writer all)) ≡ true) (sym shape) (some_payload (payloads_of n put.shape (sent_by writer all)) told.0 told.1) in
-          let whole = and_true (piece.number == n) _ ((Decides-eqb piece.number n).1 number) some in
-          (other, there, and_true (is_spoken_by other.act writer) _ spoken (subst (λ o. is_whole all writer n o ≡ true) (sym is) whole))
+          let whole = and_from (piece.number == n) _ ((Decides-eqb piece.number n).1 number) some in
+          (other, there, and_from (is_spoken_by other.act writer) _ spoken (subst (λ o. is_whole all writer n o ≡ true) (sym is) whole))
 
 not_true : (b : Bool) → not b ≡ true → b ≡ true → ⊥
 not_true true e f = cc

@@ -4,6 +4,7 @@ use Rattle.std.specs.Prelude.{Contains, ◌==◌}
 use Rattle.std.specs.List.{flat_map}
 use Rattle.std.proofs.lemmas.Bool.Decides.{Decides-eqb}
 use Rattle.std.proofs.lemmas.List.Elements.{Contains-append_left, Contains-append_right, Contains-append_cases}
+use Rattle.std.proofs.lemmas.Bool.{and_from, and_parts}
 use Rattle.rtps_ids.specs.declared.identity.EntityId.{EntityId}
 use Rattle.rtps_ids.specs.declared.identity.Guid.{Guid}
 use Rattle.rtps_ids.specs.declared.identity.GuidPrefix.{GuidPrefix}
@@ -18,9 +19,9 @@ use Rattle.rtps_fragments.specs.FragmentDelivery.{Fragment, Piece, Shape, fragme
 use Rattle.rtps_fragments.specs.Samples.{payloads_of, told_by}
 use Rattle.rtps_receiver.specs.declared.speech.Audience.{Audience}
 use Rattle.rtps_fragments.specs.SampleActs.{PieceAct, acts_and_samples, audiences_among, fragments_in, is_piece_of, acts_of_sample, reaches, sample_act, samples_told, sent_to, told_to}
-use Rattle.rtps_fragments.proofs.Audiences.{and_parts, entity_is, flat_from, flat_has, least_audience, prefix_is, reached_is_heard}
+use Rattle.rtps_fragments.proofs.Audiences.{entity_is, flat_from, flat_has, least_audience, prefix_is, reached_is_heard}
 use Rattle.rtps_fragments.proofs.HeardLemmas.{IsToldBy, came_alike, heard_from, heard_of, one_more, told_alike}
-use Rattle.rtps_fragments.proofs.ToldLemmas.{IsPut, and_true, if_then, own_shape, told_is_come}
+use Rattle.rtps_fragments.proofs.ToldLemmas.{IsPut, if_then, own_shape, told_is_come}
 
 -- ---- who speaks
 
@@ -68,7 +69,7 @@ module _ (writer reader : Guid) where
   sample_word : (act : ActValue) (number : ℕ) (audience : Audience) (payload : PayloadValue) (n : ℕ) → is_spoken_by (sample_act act number audience payload) writer ≡ true
       → is_among audience.dest (Some audience.reader) reader ≡ true → number ≡ n → word_for writer reader (sample_act act number audience payload) n ≡ Some (Told payload)
   sample_word act number audience payload n spoken heard same =
-      ap (λ b. cond b (word_of (sample_act act number audience payload).body n) None) (and_true _ _ spoken heard)
+      ap (λ b. cond b (word_of (sample_act act number audience payload).body n) None) (and_from _ _ spoken heard)
       ∙ ap (λ b. cond b (Some (Told payload)) None) ((Decides-eqb n number).1 (sym same))
 
   sample_there : (all before : List PieceAct) (part : PieceAct) (piece : Piece) (payload : PayloadValue) (n : ℕ) → part.piece ≡ Some piece → NamesItsWriter part.act → Contains all part
@@ -96,7 +97,7 @@ module _ (writer reader : Guid) where
     where
       in_parts : (other : PieceAct) → Contains all other → is_spoken_by other.act writer ≡ true → is_piece_of piece.number piece.shape other.piece ≡ true → Contains (acts_of_sample writer piece.number piece.shape all) other
       in_parts other there speaks its =
-          kept_if_passed (λ (p : PieceAct). is_spoken_by p.act writer && is_piece_of piece.number piece.shape p.piece) all other there (and_true (is_spoken_by other.act writer) _ speaks its)
+          kept_if_passed (λ (p : PieceAct). is_spoken_by p.act writer && is_piece_of piece.number piece.shape p.piece) all other there (and_from (is_spoken_by other.act writer) _ speaks its)
 
   -- one of these acts has the payload of n as its word for the reader
   abbrev pub TellsReader : List ActValue → ℕ → PayloadValue → Type 0
@@ -240,7 +241,7 @@ module _ (writer reader : Guid) where
       )
     where
       heard : (part : PieceAct) → is_spoken_by part.act writer ≡ true → reaches part.act sample.audience ≡ true → is_among sample.audience.dest (Some sample.audience.reader) reader ≡ true → hears writer reader part ≡ true
-      heard part spoken reached has = and_true (is_spoken_by part.act writer) (is_heard_by part.act reader) spoken (reached_is_heard part.act sample.audience reader reached has)
+      heard part spoken reached has = and_from (is_spoken_by part.act writer) (is_heard_by part.act reader) spoken (reached_is_heard part.act sample.audience reader reached has)
 
       before_it : is_among sample.audience.dest (Some sample.audience.reader) reader ≡ true → (f : Fragment) → Contains (sent_to writer sample.audience sample.earlier) f → there f
       before_it has f early =

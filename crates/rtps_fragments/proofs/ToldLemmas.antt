@@ -2,7 +2,7 @@
 use Rattle.std.proofs.Common.{◌≡◌, ℕ, suc, Bool, true, false, cond, ◌&&◌, not, List, [], ◌∷◌, ◌++◌, length, map, drop, Option, Some, None, refl, sym, ◌∙◌, ap, subst, inl, inr, ◌⊎◌, append_assoc, append-nil}
 use Rattle.std.specs.Prelude.{Contains, ◌==◌}
 use Rattle.std.specs.List.{filter_map, flat_map, cons_option}
-use Rattle.std.proofs.lemmas.Bool.{cases_Bool}
+use Rattle.std.proofs.lemmas.Bool.{cases_Bool, and_parts, and_from}
 use Rattle.std.proofs.lemmas.Bool.Decides.{Decides-eqb}
 use Rattle.std.proofs.lemmas.List.{map-append}
 use Rattle.std.proofs.lemmas.List.Elements.{filter_map-append, Contains-append_left, Contains-append_right, Contains-append_cases}
@@ -16,10 +16,6 @@ use Rattle.rtps_fragments.specs.Samples.{is_shape, is_of, came_of, samples_of, p
 use Rattle.rtps_fragments.proofs.SampleLemmas.{samples_grow}
 
 -- ---- which fragments are of a sample
-
-both_true : (a b : Bool) → (a && b) ≡ true → (a ≡ true) × (b ≡ true)
-both_true true b e = (refl, e)
-both_true false b e = cc
 
 same_flag : (a b : Bool) → (cond a b (not b)) ≡ true → a ≡ b
 same_flag true true e = refl
@@ -40,24 +36,19 @@ shape_is one other sample fragment key =
 
 same_shape : (one other : Shape) → is_shape one other ≡ true → one ≡ other
 same_shape one other e =
-    let (sample, rest) = both_true (one.sample == other.sample) _ e in
-    let (fragment, key) = both_true (one.fragment == other.fragment) _ rest in
+    let (sample, rest) = and_parts (one.sample == other.sample) _ e in
+    let (fragment, key) = and_parts (one.fragment == other.fragment) _ rest in
     shape_is one other ((Decides-eqb one.sample other.sample).0 sample) ((Decides-eqb one.fragment other.fragment).0 fragment) (same_flag one.is_key other.is_key key)
-
-pub and_true : (a b : Bool) → a ≡ true → b ≡ true → (a && b) ≡ true
-and_true true true e f = refl
-and_true true false e f = cc
-and_true false b e f = cc
 
 pub own_shape : (n : ℕ) (shape : Shape) → is_of n shape n shape ≡ true
 own_shape n shape =
     let sample = (Decides-eqb shape.sample shape.sample).1 refl in
     let fragment = (Decides-eqb shape.fragment shape.fragment).1 refl in
-    and_true (n == n) _ ((Decides-eqb n n).1 refl) (and_true (shape.sample == shape.sample) _ sample (and_true (shape.fragment == shape.fragment) _ fragment (own_flag shape.is_key)))
+    and_from (n == n) _ ((Decides-eqb n n).1 refl) (and_from (shape.sample == shape.sample) _ sample (and_from (shape.fragment == shape.fragment) _ fragment (own_flag shape.is_key)))
 
 pub same_sample : (n : ℕ) (shape : Shape) (number : ℕ) (other : Shape) → is_of n shape number other ≡ true → (number ≡ n) × (other ≡ shape)
 same_sample n shape number other e =
-    let (is, also) = both_true (number == n) _ e in
+    let (is, also) = and_parts (number == n) _ e in
     ((Decides-eqb number n).0 is, same_shape other shape also)
 
 -- ---- what came of a sample are its fragments

@@ -3,10 +3,10 @@ use Rattle.std.proofs.Common.{◌≡◌, ℕ, suc, ◌+◌, ◌≤◌, Bool, tru
 use Rattle.std.specs.Prelude.{Contains, ◌==◌, ◌||◌}
 use Rattle.std.specs.BTreeMap.{BTreeMap, get}
 use Rattle.std.specs.BTreeSet.{BTreeSet, contains}
-use Rattle.std.specs.Cmp.{IsTotalOrder}
+use Rattle.std.specs.Cmp.{IsTotalOrder, both_ways}
 use Rattle.std.specs.List.{filter_map, list_any}
 use Rattle.std.specs.Ordering.{is_eq}
-use Rattle.std.proofs.lemmas.Bool.{cases_Bool}
+use Rattle.std.proofs.lemmas.Bool.{cases_Bool, and_from, and_parts}
 use Rattle.std.proofs.lemmas.Bool.Decides.{Decides-eqb, nat_tests}
 use Rattle.std.proofs.lemmas.Cmp.{nat_cmp_total, on_total, then_total}
 use Rattle.std.proofs.lemmas.List.{length-append}
@@ -27,8 +27,7 @@ use Rattle.rtps_fragments.specs.Whole.{AreTracked, has_whole, is_number, is_put,
 use Rattle.rtps_fragments.specs.declared.came.Came.{Came}
 use Rattle.rtps_fragments.specs.declared.piece.SampleKey.{SampleKey}
 use Rattle.rtps_fragments.specs.declared.whole.SampleNumber.{SampleNumber}
-use Rattle.rtps_fragments.proofs.Audiences.{and_parts}
-use Rattle.rtps_fragments.proofs.MergingLemmas.{AreFragmentActs, alike, named, sent_by_act, spoken_by_own}
+use Rattle.rtps_fragments.proofs.MergingLemmas.{AreFragmentActs, named, sent_by_act, spoken_by_own}
 use Rattle.rtps_fragments.proofs.NoteLemmas.{Overhears}
 use Rattle.rtps_fragments.proofs.OverheardLemmas.{other_sample, overheard-more}
 use Rattle.rtps_fragments.proofs.PiecesLeft.{any_from}
@@ -36,7 +35,6 @@ use Rattle.rtps_fragments.proofs.SampleActLemmas.{spoken_is_origin}
 use Rattle.rtps_fragments.proofs.SampleLemmas.{samples_grow}
 use Rattle.rtps_fragments.proofs.SendingLemmas.{one_of}
 use Rattle.rtps_fragments.proofs.TellingLemmas.{eq_then, guid_is, guids_total, number_is, own_eq, own_sample, sample_is}
-use Rattle.rtps_fragments.proofs.ToldLemmas.{and_true}
 
 -- ---- numbers
 
@@ -87,7 +85,7 @@ module _ (before : List SentValue) (sent : SentValue) (number : SampleNumber) wh
   whole_stays e =
       let (one, among, has) = any_has (λ (s : SentValue). is_number number (key_number s.key) && is_put before s.key) before e in
       let (same, put) = and_parts (is_number number (key_number one.key)) (is_put before one.key) has in
-      any_from passes (before ++ sent ∷ []) one (Contains-append_left before (sent ∷ []) one among) (and_true _ _ same (put_stays before sent one.key put))
+      any_from passes (before ++ sent ∷ []) one (Contains-append_left before (sent ∷ []) one among) (and_from _ _ same (put_stays before sent one.key put))
 
   -- a sample that can be put together now is the one of these fragments, or could be before
   whole_from : has_whole (before ++ sent ∷ []) number ≡ true → ((is_number number (key_number sent.key) ≡ true) × (is_put (before ++ sent ∷ []) sent.key ≡ true)) ⊎ (has_whole before number ≡ true)
@@ -99,7 +97,7 @@ module _ (before : List SentValue) (sent : SentValue) (number : SampleNumber) wh
             let key = sample_is one.key sent.key is in
             inl (subst (λ k. is_number number (key_number k) ≡ true) key same, subst (λ k. is_put (before ++ sent ∷ []) k ≡ true) key put)
         | inr apart ↦ elim (Contains-append_cases before (sent ∷ []) one among) [
-          | inl there ↦ inr (any_from (λ (s : SentValue). is_number number (key_number s.key) && is_put before s.key) before one there (and_true _ _ same (sym (ap (has_sample (last_fragment (shape_of one.key))) (other_sample one.key before sent apart)) ∙ put)))
+          | inl there ↦ inr (any_from (λ (s : SentValue). is_number number (key_number s.key) && is_put before s.key) before one there (and_from _ _ same (sym (ap (has_sample (last_fragment (shape_of one.key))) (other_sample one.key before sent apart)) ∙ put)))
           | inr here ↦ elim (contains_cases sent [] one here) [
             | inl is ↦ absurd (let clash : true ≡ false = sym (own_sample sent.key) ∙ ap (λ (s : SentValue). is_sample s.key sent.key) is ∙ apart in cc)
             | inr none ↦ absurd (contains_none one none)
@@ -109,7 +107,7 @@ module _ (before : List SentValue) (sent : SentValue) (number : SampleNumber) wh
 
   -- with fragments by which a sample can be put together
   pub whole_here : is_put (before ++ sent ∷ []) sent.key ≡ true → has_whole (before ++ sent ∷ []) number ≡ cond (is_number (key_number sent.key) number) true (has_whole before number)
-  whole_here put = alike _ _ to (from (is_number (key_number sent.key) number) refl)
+  whole_here put = both_ways _ _ to (from (is_number (key_number sent.key) number) refl)
     where
       to : has_whole (before ++ sent ∷ []) number ≡ true → cond (is_number (key_number sent.key) number) true (has_whole before number) ≡ true
       to e = elim (whole_from e) [
@@ -124,12 +122,12 @@ module _ (before : List SentValue) (sent : SentValue) (number : SampleNumber) wh
       from : (b : Bool) → is_number (key_number sent.key) number ≡ b → cond b true (has_whole before number) ≡ true → has_whole (before ++ sent ∷ []) number ≡ true
       from true is e =
           let same : is_number number (key_number sent.key) ≡ true = ap (λ n. is_number n (key_number sent.key)) (sym (same_number (key_number sent.key) number is)) ∙ own_number (key_number sent.key) in
-          any_from passes (before ++ sent ∷ []) sent (Contains-append_right before (sent ∷ []) sent (contains_head sent [])) (and_true _ _ same put)
+          any_from passes (before ++ sent ∷ []) sent (Contains-append_right before (sent ∷ []) sent (contains_head sent [])) (and_from _ _ same put)
       from false is e = whole_stays e
 
   -- with others
   pub whole_not_here : is_put (before ++ sent ∷ []) sent.key ≡ false → has_whole (before ++ sent ∷ []) number ≡ has_whole before number
-  whole_not_here none = alike _ _ to whole_stays
+  whole_not_here none = both_ways _ _ to whole_stays
     where
       to : has_whole (before ++ sent ∷ []) number ≡ true → has_whole before number ≡ true
       to e = elim (whole_from e) [
@@ -139,7 +137,7 @@ module _ (before : List SentValue) (sent : SentValue) (number : SampleNumber) wh
 
   -- of a number of which one could be before
   pub whole_known : has_whole before (key_number sent.key) ≡ true → has_whole (before ++ sent ∷ []) number ≡ has_whole before number
-  whole_known known = alike _ _ to whole_stays
+  whole_known known = both_ways _ _ to whole_stays
     where
       to : has_whole (before ++ sent ∷ []) number ≡ true → has_whole before number ≡ true
       to e = elim (whole_from e) [ inl (same, put) ↦ ap (has_whole before) (same_number number (key_number sent.key) same) ∙ known | inr old ↦ old ]
@@ -242,7 +240,7 @@ module _ (all : List PieceAct) (sall : List SentValue) (same : Overhears all sal
   -- the two tests of an act with a piece
   tests_alike : (one : PieceAct) (piece : Piece) → IsFragmentAct one piece → (number : SampleNumber)
       → (is_number number (key_number (key_of one.act piece)) && is_put sall (key_of one.act piece)) ≡ (is_spoken_by one.act number.writer && is_whole all number.writer number.number (Some piece))
-  tests_alike one piece frag number = alike _ _ to from
+  tests_alike one piece frag number = both_ways _ _ to from
     where
       own : SampleNumber
       own = record { writer = origin_of one.act; number = piece.number }
@@ -251,8 +249,8 @@ module _ (all : List PieceAct) (sall : List SentValue) (same : Overhears all sal
       to e =
           let (is, put) = and_parts (is_number number (key_number (key_of one.act piece))) (is_put sall (key_of one.act piece)) e in
           let number_is : own ≡ number = sym (same_number number own is) in
-          let whole = and_true (piece.number == piece.number) _ ((Decides-eqb piece.number piece.number).1 refl) (sym (put_alike one piece) ∙ put) in
-          subst (λ (n : SampleNumber). (is_spoken_by one.act n.writer && is_whole all n.writer n.number (Some piece)) ≡ true) number_is (and_true _ _ (spoken_by_own one piece frag) whole)
+          let whole = and_from (piece.number == piece.number) _ ((Decides-eqb piece.number piece.number).1 refl) (sym (put_alike one piece) ∙ put) in
+          subst (λ (n : SampleNumber). (is_spoken_by one.act n.writer && is_whole all n.writer n.number (Some piece)) ≡ true) number_is (and_from _ _ (spoken_by_own one piece frag) whole)
 
       from : (is_spoken_by one.act number.writer && is_whole all number.writer number.number (Some piece)) ≡ true → (is_number number (key_number (key_of one.act piece)) && is_put sall (key_of one.act piece)) ≡ true
       from e =
@@ -264,7 +262,7 @@ module _ (all : List PieceAct) (sall : List SentValue) (same : Overhears all sal
           let second : ℕ → SampleNumber = λ n. record { writer = number.writer; number = n } in
           let number_is : own ≡ number = ap first writer ∙ ap second is in
           let back : (is_number own own && is_put sall (key_of one.act piece)) ≡ true =
-          and_true _ _ (own_number own) (put_alike one piece ∙ subst (λ (n : SampleNumber). is_some_payload (payloads_of n.number piece.shape (sent_by n.writer all)) ≡ true) (sym number_is) some) in
+          and_from _ _ (own_number own) (put_alike one piece ∙ subst (λ (n : SampleNumber). is_some_payload (payloads_of n.number piece.shape (sent_by n.writer all)) ≡ true) (sym number_is) some) in
           subst (λ (n : SampleNumber). (is_number n own && is_put sall (key_of one.act piece)) ≡ true) number_is back
 
   -- the test by what is sent, and the one by acts

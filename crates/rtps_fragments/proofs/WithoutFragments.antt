@@ -113,24 +113,6 @@ intake_stays recording all =
 
 -- ---- one datagram more
 
-read_next : {Y : Type 0} (f : List ℕ → Y) (xs : List (Bor (List ℕ))) (i : ℕ) (d : Bor (List ℕ)) → i < length xs
-    → map f (octets_of (take (i + 1) xs)) ≡ map f (octets_of (take i xs)) ++ f (get_or xs i d).now ∷ []
-read_next f xs i d lt =
-    ap (λ ys. map f (octets_of ys)) (take_more xs i d lt) ∙ ap (map f) (map-append (λ (datagram : Bor (List ℕ)). datagram.now) (take i xs) (get_or xs i d ∷ [])) ∙ map-append f (octets_of (take i xs)) ((get_or xs i d).now ∷ [])
-
--- what is taken in of a datagram as it is
-pub plain_more : (xs : List (Bor (List ℕ))) (i : ℕ) (d : Bor (List ℕ)) (tally : Tally) (acts announcing : List ActValue) → i < length xs → tally ≡ tally_of (reading_of (get_or xs i d).now)
-    → acts ≡ acts_of (reading_of (get_or xs i d).now) → announcing ≡ acts_of (reading_of (get_or xs i d).now)
-    → intake_more (intake_of (octets_of (take i xs))) tally acts announcing ≡ intake_of (octets_of (take (i + 1) xs))
-plain_more xs i d tally acts announcing lt tallied said announced =
-    let so_far = intake_of (octets_of (take i xs)) in
-    let next = sym (read_next (λ datagram. acts_of (reading_of datagram)) xs i d lt) in
-    let one : List Tally → Intake = λ t. record { tallies = t; acts = so_far.acts ++ acts ∷ []; announcing = so_far.announcing ++ announcing ∷ [] } in
-    let two : List (List ActValue) → Intake = λ a. record { tallies = (intake_of (octets_of (take (i + 1) xs))).tallies; acts = a; announcing = so_far.announcing ++ announcing ∷ [] } in
-    let three : List (List ActValue) → Intake = λ a. record { tallies = (intake_of (octets_of (take (i + 1) xs))).tallies; acts = (intake_of (octets_of (take (i + 1) xs))).acts; announcing = a } in
-    ap one (ap (λ t. so_far.tallies ++ t ∷ []) tallied ∙ sym (read_next (λ datagram. tally_of (reading_of datagram)) xs i d lt))
-    ∙ ap two (ap (λ a. so_far.acts ++ a ∷ []) said ∙ next) ∙ ap three (ap (λ a. so_far.announcing ++ a ∷ []) announced ∙ next)
-
 -- so many are taken in
 pub plain_count : (xs : List (Bor (List ℕ))) (i : ℕ) → i ≤ length xs → length (intake_of (octets_of (take i xs))).acts ≡ i
 plain_count xs i le = omega (arith, length-map (octets_of (take i xs)) (λ datagram. acts_of (reading_of datagram)), length-map (take i xs) (λ (datagram : Bor (List ℕ)). datagram.now), length-take-le i xs le)

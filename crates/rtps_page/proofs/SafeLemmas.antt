@@ -1,6 +1,6 @@
 -- What is written in place of markup has none, and a text of other octets stays as it is.
 use Rattle.std.proofs.Common.{◌≡◌, ◌+◌, ◌-◌, ◌<◌, ◌≤◌, ◌++◌, zero, suc, arith, drop, drop-drop, get_or, if◌then◌else◌, length, slice_index, take, ◌∷◌, [], ◌∙◌, ◌||◌, ◌⊎◌, ℕ, List, Bool, true, false, ap, ap₂, inl, inr, refl, subst, sym}
-use Rattle.std.proofs.lemmas.Bool.{cases_eq, ne_eqb}
+use Rattle.std.proofs.lemmas.Bool.{cases_eq, ne_eqb, false_from_ne_true}
 use Rattle.std.proofs.lemmas.List.{drop_more, length-drop}
 use Rattle.std.proofs.lemmas.List.Folds.{list_any-append}
 use Rattle.hex.specs.Hex.{encode_lower, encode_with}
@@ -60,17 +60,13 @@ run_stays before (octet ∷ text) (suc n) h within =
     let rest = run_stays before text n (λ k below. h (suc k) (omega arith)) (omega arith) in
     ap₂ (λ (x y : List ℕ). x ++ y) (octet_stays before octet (h 0 (omega arith))) rest
 
-never_true : (b : Bool) → (b ≡ true → ⊥) → b ≡ false
-never_true true h = absurd (h refl)
-never_true false h = refl
-
 -- the run from a place on
 pub run_from : (before text : List ℕ) (start n : ℕ) → ((k : ℕ) → 0 ≤ k → k < n → is_markup (slice_index (drop start text) k) ≡ true → ⊥) → start + n ≤ length text
     → safe_text before (drop start text) ≡ take (start + n - start) (drop start text) ++ safe_text before (drop (start + n) text)
 run_from before text start n h within =
     let far : n ≤ length (drop start text) = omega (arith, length-drop start text) in
     let size : n ≡ start + n - start = omega arith in
-    run_stays before (drop start text) n (λ k below. never_true (is_markup (slice_index (drop start text) k)) (h k (omega arith) below)) far
+    run_stays before (drop start text) n (λ k below. false_from_ne_true (is_markup (slice_index (drop start text) k)) (h k (omega arith) below)) far
     ∙ ap₂ (λ m l. take m (drop start text) ++ safe_text before l) size (drop-drop n start text)
 
 -- one octet more

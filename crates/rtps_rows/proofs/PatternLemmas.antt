@@ -6,16 +6,11 @@ use Rattle.std.proofs.lemmas.List.{length-append}
 use Rattle.std.proofs.lemmas.Bool.Decides.{Decides-eqb}
 use Rattle.std.proofs.lemmas.Slice.Eq.{ends_is, slice_eq-Decides}
 use Rattle.std.specs.Cmp.Lexicographic.{pointwise}
+use Rattle.std.specs.Cmp.{both_ways}
 use Rattle.rtps_rows.specs.Patterns.{FitsAsFilled, Fits, begins_with, ends_of, filled, fits, is_empty, is_plain, star}
 
 clash : {X : Type 0} → false ≡ true → X
 clash e = absurd (let no : false ≡ true = e in cc)
-
--- two tests that hold together are one
-pub together : (a b : Bool) → (a ≡ true → b ≡ true) → (b ≡ true → a ≡ true) → a ≡ b
-together true b h k = sym (h refl)
-together false true h k = k refl
-together false false h k = refl
 
 -- ---- a part without `*`
 
@@ -74,7 +69,7 @@ drop_whole (x ∷ part) rest = drop_whole part rest
 
 -- a part that is found at once is found as well as later
 pub star_taken : (part rest topic : List ℕ) → is_plain part ≡ true → fits (star ∷ (part ++ star ∷ rest)) (part ++ topic) ≡ fits (star ∷ rest) topic
-star_taken part rest topic plain = together _ _ onward back
+star_taken part rest topic plain = both_ways _ _ onward back
   where
     onward : fits (star ∷ (part ++ star ∷ rest)) (part ++ topic) ≡ true → fits (star ∷ rest) topic ≡ true
     onward fit =
@@ -145,14 +140,14 @@ failed_behind rest part behind left plain is none at =
 pub last_behind : (rest left : List ℕ) (r : Bool) → is_plain rest ≡ true → r ≡ pointwise eqb rest (drop (length left - length rest) left) → r ≡ fits (star ∷ rest) left
 last_behind rest left r plain is =
     let ends = ends_is Decides-eqb left rest r is in
-    together r (fits (star ∷ rest) left)
+    both_ways r (fits (star ∷ rest) left)
     (λ yes. subst (λ l. fits (star ∷ rest) l ≡ true) (sym (ends.0 yes)) (ends_fit rest (take (length left - length rest) left) plain))
     (λ fit. let found = plain_ends rest left plain fit in ends.1 found.0 found.1)
 
 pub whole : (pattern topic : List ℕ) (r : Bool) → is_plain pattern ≡ true → r ≡ pointwise eqb pattern topic → r ≡ fits pattern topic
 whole pattern topic r plain is =
     let same = slice_eq-Decides Decides-eqb pattern topic r is in
-    together r (fits pattern topic) (λ yes. subst (λ l. fits pattern l ≡ true) (same.0 yes) (plain_fits pattern plain)) (λ fit. same.1 (sym (plain_is pattern topic plain fit)))
+    both_ways r (fits pattern topic) (λ yes. subst (λ l. fits pattern l ≡ true) (same.0 yes) (plain_fits pattern plain)) (λ fit. same.1 (sym (plain_is pattern topic plain fit)))
 
 -- ---- the relation
 

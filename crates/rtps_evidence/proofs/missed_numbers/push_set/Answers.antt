@@ -1,9 +1,9 @@
 use Rattle.std.proofs.Common.{◌∙◌, ◌&&◌, ◌||◌, nat_le, nat_lt, ap, sym}
+use Rattle.std.proofs.Math.Bool.{or_assoc}
 use Rattle.rtps_ids.specs.NumberSet.{is_member}
 use Rattle.rtps_evidence.specs.Amount.{stretches_have}
 use Rattle.rtps_evidence.proofs.ClaimedLemmas.{has_one_more}
 use Rattle.rtps_evidence.proofs.MissedLemmas.{none_yet_in, set_end, set_range}
-use Rattle.rtps_evidence.proofs.StretchLemmas.{or_assoc}
 use Rattle.rtps_evidence.proofs.missed_numbers.push_set.Goals as goal
 
 pub apart-init : goal.apart-init

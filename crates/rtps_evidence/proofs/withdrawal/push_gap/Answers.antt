@@ -1,8 +1,14 @@
-use Rattle.std.proofs.Common.{◌∙◌, ◌||◌, ◌&&◌, nat_le, nat_lt, ap, sym}
+use Rattle.std.proofs.Common.{◌≡◌, ◌∙◌, ◌||◌, ◌&&◌, Bool, false, nat_le, nat_lt, true, ap, refl, sym}
 use Rattle.rtps_audit.specs.Speech.{is_in_gap_below}
 use Rattle.rtps_evidence.specs.Amount.{some_withdrawn}
-use Rattle.rtps_evidence.proofs.StretchLemmas.{gap_end, gap_range, shared_more}
+use Rattle.rtps_audit.proofs.Offered.{gap_end, gap_range}
 use Rattle.rtps_evidence.proofs.withdrawal.push_gap.Goals as goal
+
+-- a range more, where all are limited alike
+shared_more : (old limit a b : Bool) → ((old || (limit && a)) || (limit && b)) ≡ (old || (limit && (a || b)))
+shared_more true limit a b = refl
+shared_more false true a b = refl
+shared_more false false a b = refl
 
 pub apart-preserved : goal.apart-preserved
 apart-preserved c = λ n before.

@@ -2,8 +2,9 @@ use Rattle.std.proofs.Common.{◌∙◌, ap, arith, subst, take}
 use Rattle.rtps_audit.specs.Index.{IsIndexBy}
 use Rattle.rtps_audit.specs.Intake.{intake_of}
 use Rattle.rtps_audit.specs.declared.report.Counts.{Counts}
+use Rattle.rtps_audit.proofs.Offered.{intake_on}
 use Rattle.rtps_fragments.proofs.SampleSteps.{octets_of}
-use Rattle.rtps_fragments.proofs.WithoutFragments.{plain_count, plain_more, without_more}
+use Rattle.rtps_fragments.proofs.WithoutFragments.{plain_count, without_more}
 use Rattle.rtps_fragments.proofs.sample_index.plain_index.Goals as goal
 
 pub note-requires : goal.note-requires
@@ -20,7 +21,7 @@ loop-datagram-preserved c =
     let lt = c.loop-datagram-test.true in
     record {
       index = subst (λ intake. IsIndexBy intake c.note.new.self)
-          (plain_more recording i _ _ _ _ lt c.in_ok-tally.ensures.tally (c.acts.ensures ∙ c.in_ok-tally.ensures.acts) (c.acts-in-loop-datagram.ensures ∙ c.in_ok-tally.ensures.acts))
+          (intake_on recording i _ _ _ _ lt c.in_ok-tally.ensures.tally (c.acts.ensures ∙ c.in_ok-tally.ensures.acts) (c.acts-in-loop-datagram.ensures ∙ c.in_ok-tally.ensures.acts))
           (c.in_ok-note.ensures (intake_of (octets_of (take i recording))) c.loop-datagram.invariant.index);
       without = without_more recording i _ c.in_ok-tally.tally lt c.loop-datagram.invariant.without c.in_ok-tally.ensures.tally (omega (arith, c.if-tally-gt0.false));
     }

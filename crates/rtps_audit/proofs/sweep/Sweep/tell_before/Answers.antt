@@ -2,12 +2,12 @@ use Rattle.std.proofs.Common.{◌<◌, ◌∙◌, ap, arith, get_or, length, map
 use Rattle.std.proofs.lemmas.Bool.Decides.{nat_tests}
 use Rattle.std.proofs.lemmas.List.{get_or_read}
 use Rattle.std.proofs.lemmas.List.Elements.{AllWithin-more}
+use Rattle.std.proofs.lemmas.Bool.{or_left}
 use Rattle.rtps_audit.specs.Placed.{placed_value}
 use Rattle.rtps_audit.specs.Sweep.{TellsOf, is_told}
 use Rattle.rtps_audit.specs.declared.placed.Placed.{Placed}
 use Rattle.rtps_audit.proofs.PayloadHearing.{placed_next}
 use Rattle.rtps_audit.proofs.SweepLemmas.{heard_on}
-use Rattle.rtps_audit.proofs.WordLemmas.{or_left}
 use Rattle.rtps_audit.proofs.sweep.Sweep.tell_before.Goals as goal
 
 pub acts-preserved : goal.acts-preserved
