@@ -13,7 +13,7 @@ use Rattle.rtps_wire.specs.declared.header.Header.{Header}
 use Rattle.rtps_receiver.specs.Acts.{act_body, acts_behind, acts_of, acts_of_item, acts_with, gathered, state_at_start, state_behind}
 use Rattle.rtps_receiver.specs.Values.{ActBodyValue, ActValue}
 use Rattle.rtps_receiver.specs.declared.state.State.{State}
-use Rattle.rtps_audit.specs.Intake.{Intake, intake_more, intake_of}
+use Rattle.rtps_audit.specs.Intake.{Intake, intake_of}
 use Rattle.rtps_audit.specs.Speech.{acts_by_datagram}
 use Rattle.rtps_audit.proofs.Offered.{contains_cases, contains_head, contains_mapped, contains_none, contains_tail}
 use Rattle.rtps_fragments.specs.Announcing.{announcing_with}
