@@ -6,13 +6,11 @@ use Rattle.std.specs.Prelude.{Contains, ⊤, unwrap_or}
 use Rattle.std.specs.List.{All, cons_option, filter_map}
 use Rattle.std.specs.List.Sorted.{IsNonDecreasingBy}
 use Rattle.std.proofs.lemmas.List.Elements.{All-append, All-contains, All-contains_itself, All-cons, All-filter, All-head, All-nil, All-tail, All-weaker, Contains-append_cases, Contains-append_left, Contains-append_right, Contains-push}
-use Rattle.rtps_wire.specs.Reading.{reading_of}
-use Rattle.rtps_receiver.specs.Acts.{acts_of}
 use Rattle.rtps_receiver.specs.Values.{ActValue}
 use Rattle.rtps_discovery.specs.declared.matching.Pair.{Pair}
 use Rattle.rtps_audit.specs.Intake.{acts_together}
 use Rattle.rtps_audit.specs.Placed.{PlacedValue, answer_at, answer_of, answers_among, placed_at, placed_behind, placed_in, placed_value}
-use Rattle.rtps_audit.specs.Speech.{acts_by_datagram, base_for}
+use Rattle.rtps_audit.specs.Speech.{base_for}
 use Rattle.rtps_audit.specs.declared.answer.Answer.{Answer}
 use Rattle.rtps_audit.specs.declared.placed.Placed.{Placed}
 
@@ -56,14 +54,6 @@ read_next f xs i d lt = ap (map f) (map_next (λ datagram. datagram.now) xs i d 
 -- so many are read
 pub read_count : {Y : Type 0} (f : List ℕ → Y) (xs : List (Bor (List ℕ))) (i : ℕ) → i ≤ length xs → length (map f (octets_of (take i xs))) ≡ i
 read_count f xs i le = omega (arith, length-map (octets_of (take i xs)) f, length-map (take i xs) (λ (datagram : Bor (List ℕ)). datagram.now), length-take-le i xs le)
-
--- the acts of the next datagram of octets stand behind those of the datagrams so far
-pub placed_on : (xs : List (Bor (List ℕ))) (i : ℕ) (d : Bor (List ℕ)) (place : ℕ) (acts : List ActValue) → i < length xs → place ≡ i → acts ≡ acts_of (reading_of (get_or xs i d).now)
-    → placed_in (acts_by_datagram (octets_of (take i xs))) ++ placed_at (place + 1) acts ≡ placed_in (acts_by_datagram (octets_of (take (i + 1) xs)))
-placed_on xs i d place acts lt at said =
-    ap (λ l. placed_in (acts_by_datagram (octets_of (take i xs))) ++ placed_at (place + 1) l) said
-    ∙ placed_push (acts_by_datagram (octets_of (take i xs))) (acts_of (reading_of (get_or xs i d).now)) place (at ∙ sym (read_count (λ datagram. acts_of (reading_of datagram)) xs i (omega arith)))
-    ∙ ap placed_in (sym (read_next (λ datagram. acts_of (reading_of datagram)) xs i d lt))
 
 -- ---- their order
 
