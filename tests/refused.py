@@ -22,7 +22,7 @@ from program import ROOT, VIEWS, Counts, file_of, text_of
 from reference import words_of
 import make
 
-# The calls on a recording that grow or list what is announced, and the other ones.
+# The calls that are tried on a recording of many endpoints too, and the other ones.
 OF_ENDPOINTS = ['note', 'note_all', 'participants', 'endpoints', 'matched', 'pairs', 'build', 'audit']
 CALLS = ['walk', 'add_plain', 'add_merged', 'judge', 'judge_by_plain', 'judge_from_plain', 'judge_from_merged', 'index_judge',
          'index_judge_from', 'evidence', 'audit_from', 'put_u16', 'put_u32', 'put_number', 'write_list', 'write_message',

@@ -24,7 +24,7 @@ pub use Rattle.rtps_audit.proofs.DeliveryRuns.{Follows-append, place_within}
 pub use Rattle.rtps_audit.proofs.Sound.{reached-sound}
 pub use Rattle.rtps_audit.proofs.Verdicts.{runs_exist_where_founded}
 -- the numbers of a GAP, range by range; what is taken in of a datagram more
-pub use Rattle.rtps_audit.proofs.WordLemmas.{gap_end, gap_range}
+pub use Rattle.rtps_audit.proofs.WordLemmas.{gap_end, gap_range, is_in_gap_below}
 pub use Rattle.rtps_audit.proofs.IntakeLemmas.{intake_on}
 -- lists: what stands first or behind, what stands among what a function gives, what is below the greatest; tests of equal parts
 pub use Rattle.rtps_audit.proofs.PlacedActs.{contains_cases, contains_head, contains_none, contains_tail, kept_if_passed, kept_is_there, made_from, makes}

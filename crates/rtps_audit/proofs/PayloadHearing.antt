@@ -1,8 +1,7 @@
 -- What a reader hears of the payloads that are kept for numbers with two of them.
-use Rattle.std.proofs.Common.{ℕ, ◌≡◌, ◌≤◌, ◌<◌, ◌+◌, map, Bool, true, false, ◌&&◌, eq-eqb, List, [], ◌∷◌, ◌++◌, Option, Some, None, length, take, get_or, refl, sym, ◌∙◌, ap, subst, inl, inr, arith}
+use Rattle.std.proofs.Common.{ℕ, ◌≡◌, ◌≤◌, ◌<◌, Bool, true, false, ◌&&◌, eq-eqb, List, [], ◌∷◌, ◌++◌, Option, Some, None, length, take, get_or, refl, sym, ◌∙◌, ap, subst, inl, inr, arith}
 use Rattle.std.specs.Prelude.{◌≢◌, ◌==◌, ◌⊎◌, if◌then◌else◌, All, Contains, MatchOption}
 use Rattle.std.specs.List.Sorted.{IsNonDecreasingBy, IsPermutation}
-use Rattle.std.proofs.lemmas.List.{map-append, take_more}
 use Rattle.std.proofs.lemmas.List.Sorted.{Contains-permutation, IsPermutation-sym}
 use Rattle.std.proofs.lemmas.Bool.{cases_lt, eqb-true}
 use Rattle.std.proofs.lemmas.List.Elements.{All-contains, Contains-append_left, Contains-get_or, Contains-push, Contains-push_cases}
@@ -17,11 +16,10 @@ use Rattle.rtps_audit.specs.Delivery.{IsAsked, Word}
 use Rattle.rtps_audit.specs.Delivery.Word.{Told}
 use Rattle.rtps_audit.specs.Answered.{HearsTwo, IsHeard}
 use Rattle.rtps_audit.specs.PayloadConflict.{AreConflictsOf, AreSentIn, HasTwo, IsAnother, IsSentBy, number_in}
-use Rattle.rtps_audit.specs.Placed.{PlacedValue, is_from, placed_value}
+use Rattle.rtps_audit.specs.Placed.{PlacedValue, is_from}
 use Rattle.rtps_audit.specs.RunVerdict.{IsLeast}
 use Rattle.rtps_audit.specs.Speech.{word_of}
 use Rattle.rtps_audit.specs.declared.payload_conflict.AddressedPayload.{AddressedPayload}
-use Rattle.rtps_audit.specs.declared.placed.Placed.{Placed}
 use Rattle.rtps_audit.proofs.IndexSpeech.{if_some}
 use Rattle.rtps_audit.proofs.PayloadRuns.{lesser_before, taken}
 use Rattle.rtps_audit.proofs.PlacedLemmas.{both, bytes_eq-sym}
@@ -111,10 +109,6 @@ sent_moved from placed xs ys moved known = record {
   sent = λ e among. known.sent e (Contains-permutation ys xs e (IsPermutation-sym xs ys moved) among);
   all = λ at n x among asked says. let was = known.all at n x among asked says in (was.0, Contains-permutation xs ys was.0 moved was.1, was.2);
 }
-
--- the values of one act more
-pub placed_next : (acts : List Placed) (k : ℕ) (d : Placed) → k < length acts → map placed_value (take (k + 1) acts) ≡ map placed_value (take k acts) ++ placed_value (get_or acts k d) ∷ []
-placed_next acts k d within = ap (map placed_value) (take_more acts k d within) ∙ map-append placed_value (take k acts) (get_or acts k d ∷ [])
 
 -- ---- two payloads that a reader hears are two that it hears of what is kept
 

@@ -20,7 +20,7 @@ use Rattle.rtps_audit.specs.Delivery.{IsAsked, Word}
 use Rattle.rtps_audit.specs.PayloadConflict.{AreConflictsOf}
 use Rattle.rtps_audit.specs.Placed.{PlacedValue, answers_among, is_from, placed_in, placed_value}
 use Rattle.rtps_audit.specs.Speech.{natural, word_for, word_of}
-use Rattle.rtps_audit.specs.Sweep.{AreAsksOf, AreBehind, AreClaimsOf, HasAllBelow, HasHeard, HaveSame, Hears, IsAllKnown, IsSweptTo, answer_if_at, answers_at, is_told}
+use Rattle.rtps_audit.specs.Sweep.{AreAsksOf, AreBehind, AreClaimsOf, HasAllBelow, HasHeard, HaveSame, HasHeardOrUnasked, IsAllKnown, IsSweptTo, answer_if_at, answers_at, is_told}
 use Rattle.rtps_audit.specs.declared.answer.Answer.{Answer}
 use Rattle.rtps_audit.specs.declared.payload_conflict.PayloadConflicts.{PayloadConflicts}
 use Rattle.rtps_audit.specs.declared.placed.Placed.{Placed}
@@ -81,7 +81,7 @@ heard_on from old new writer reader placed p its tells known n asked small = (to
     ]
 
 -- before all acts, a set has what it hears if it has just what is not asked for
-pub hears_none : (from : ℕ) (set : ℕ → Bool) (writer reader : Guid) → ((n : ℕ) → 1 ≤ n → n < 2 ^ 63 - 1 → set n ≡ nat_lt n from) → Hears from set writer reader []
+pub hears_none : (from : ℕ) (set : ℕ → Bool) (writer reader : Guid) → ((n : ℕ) → 1 ≤ n → n < 2 ^ 63 - 1 → set n ≡ nat_lt n from) → HasHeardOrUnasked from set writer reader []
 hears_none from set writer reader has = record {
   passed = λ n positive lt small. has n positive small ∙ grind (arith, nat_tests);
   heard = λ n asked small. (
@@ -91,7 +91,7 @@ hears_none from set writer reader has = record {
 }
 
 pub hears_on : (from : ℕ) (old new : ℕ → Bool) (writer reader : Guid) (placed : List PlacedValue) (p : PlacedValue) → is_from writer p ≡ true
-    → TellsMore old new (λ n. is_heard_by p.act reader && is_some (word_of p.act.body n)) → Hears from old writer reader placed → Hears from new writer reader (placed ++ p ∷ [])
+    → TellsMore old new (λ n. is_heard_by p.act reader && is_some (word_of p.act.body n)) → HasHeardOrUnasked from old writer reader placed → HasHeardOrUnasked from new writer reader (placed ++ p ∷ [])
 hears_on from old new writer reader placed p its tells known = record {
   passed = λ n positive lt small. tells n positive small ∙ or_left (old n) _ (known.passed n positive lt small);
   heard = heard_on from old new writer reader placed p its tells known.heard;

@@ -9,10 +9,14 @@ use Rattle.rtps_ids.specs.Ranges.{IsRangeFrom, HasNoneFrom}
 use Rattle.rtps_wire.specs.declared.body.GapBody.{GapBody}
 use Rattle.rtps_ids.proofs.Offered.{member_decides, not_member}
 use Rattle.rtps_coverage.specs.Coverage.{TellsMore}
-use Rattle.rtps_audit.specs.Speech.{is_in_gap, is_in_gap_below}
+use Rattle.rtps_audit.specs.Speech.{is_below_list, is_in_gap}
 use Rattle.rtps_audit.specs.Delivery.{Word}
 
 -- ---- the numbers of a GAP, range by range
+
+-- of the numbers of a GAP, those that are below the base of its list or below another number
+abbrev pub is_in_gap_below : GapBody → ℕ → ℕ → Bool
+is_in_gap_below gap at n = is_below_list gap n || (is_member gap.list n && nat_lt n at)
 
 in_list : (set : NumberSetValue) (n : ℕ) → IsMember set (pos n) → is_member set n ≡ true
 in_list set n member = (member_decides set n).1 member

@@ -1,5 +1,5 @@
 -- What the calls that judge promise of their answers. own: the standard names no verdict; these are the words in which this
--- project answers. The verdict, and what a caller draws from it, are said together, so that each call promises all of it.
+-- project answers. The verdict, and what a caller draws from it, are said together.
 use Rattle.std.specs.Prelude.{ℕ, ℤ, pos, ◌≡◌, ◌≤◌, Contains, ◌↔◌, List, All}
 use Rattle.rtps_wire.specs.Values.{PayloadValue}
 use Rattle.rtps_audit.specs.Delivery.{Speech, DeliveryState, IsAsked, Ends, HasRun, Holds, last_announced_from}

@@ -1,7 +1,7 @@
 -- The acts of a recording, each with the datagram that it stands in; and of them the answers of each pair, and where endpoints
 -- are announced (DDSI-RTPS 2.5, 8.5.4 "The Simple Endpoint Discovery Protocol"). own: what one GUID said stands together, so that
 -- a pair costs no more than what its two said. A reader that is not announced yet may not be there, so what it did not get before
--- that says nothing.
+-- that says nothing. The lists of values by key, in which all of it is kept, stand first.
 use Rattle.std.specs.Prelude.{List, [], Option, Some, None, ℕ, pos, Bool, true, false, ◌+◌, ◌≡◌, ◌&&◌, ◌∷◌, ◌++◌, filter, map, cond}
 use Rattle.std.specs.BTreeMap.{BTreeMap, get}
 use Rattle.std.specs.Global.{Vec}

@@ -22,10 +22,6 @@ is_below_list gap n = nat_le gap.start n && nat_lt n gap.list.base
 abbrev pub is_in_gap : GapBody → ℕ → Bool
 is_in_gap gap n = is_below_list gap n || is_member gap.list n
 
--- those of them that are below the base of its list or below another number
-abbrev pub is_in_gap_below : GapBody → ℕ → ℕ → Bool
-is_in_gap_below gap at n = is_below_list gap n || (is_member gap.list n && nat_lt n at)
-
 -- what an act says of a number from 1 on. A HEARTBEAT says that the numbers below its first will not come; that of its
 -- last says nothing, since it may still come. A DATA_FRAG says what its sample is, where that was put together
 abbrev pub word_of : ActBodyValue → ℕ → Option Word

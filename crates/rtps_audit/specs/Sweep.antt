@@ -1,7 +1,7 @@
--- What one pass over the acts of a writer finds of its readers. own: the acts are gone through once for all readers, and each
--- reader is asked about where it answered, so that a reader costs its answers and no more. What is for each audience is kept once,
--- so that a reader costs a look at the sets of its four audiences, and not at all that they hear (DDSI-RTPS 2.5, 8.3.4 "The RTPS
--- Message Receiver").
+-- What was told of a writer's acts, and what answers claim: in one pass over the acts for all readers that are asked about, and
+-- in the plain form for one reader. own: each reader is asked about where it answered, so that a reader costs its answers and no
+-- more. What is for each audience is kept once: a reader costs a look at the sets of its four audiences (DDSI-RTPS 2.5, 8.3.4
+-- "The RTPS Message Receiver").
 use Rattle.std.specs.Prelude.{ℕ, Bool, true, ◌==◌, ◌≡◌, ◌≤◌, ◌<◌, ◌-◌, ◌^◌, ◌↔◌, if◌then◌else◌, max, List, filter, length, map, slice_index_or, take, Contains, Option, Some, None, false, [], ◌∷◌}
 use Rattle.std.specs.List.{All, AllWithin, filter_map, list_any}
 use Rattle.std.specs.BTreeMap.{BTreeMap, get}
@@ -66,7 +66,7 @@ abbrev pub HasHeard : ℕ → (ℕ → Bool) → Guid → Guid → List PlacedVa
 HasHeard from set writer reader placed = (n : ℕ) → IsAsked from n → n < 2 ^ 63 - 1 → (set n ≡ true) ↔ ((word : Word) × IsHeard writer reader placed n word)
 
 -- and it has those that are not asked for
-pub record Hears (from : ℕ) (set : ℕ → Bool) (writer reader : Guid) (placed : List PlacedValue) : Type 0 where
+pub record HasHeardOrUnasked (from : ℕ) (set : ℕ → Bool) (writer reader : Guid) (placed : List PlacedValue) : Type 0 where
   pub passed : (n : ℕ) → 1 ≤ n → n < from → n < 2 ^ 63 - 1 → set n ≡ true
   pub heard : HasHeard from set writer reader placed
 

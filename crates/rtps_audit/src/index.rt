@@ -84,8 +84,8 @@ impl<'a> Index<'a> {
         Ok(index)
     }
 
-    /// The acts from this GUID, by datagram and then by place: of a writer its DATA, HEARTBEAT and GAP, of a reader its
-    /// ACKNACK. It takes no memory.
+    /// The acts from this GUID, by datagram and then by place: of a writer its DATA, HEARTBEAT, GAP and, in
+    /// an index with samples, DATA_FRAG, of a reader its ACKNACK. It takes no memory.
     pub fn acts_of(&self, origin: Guid) -> &[Placed<'a>]
         ensures { (intake : Intake) → IsIndexBy intake self.now
             → map placed_value result.now ≡ filter (is_from origin) (placed_in intake.acts) }

@@ -37,28 +37,6 @@ pub(crate) struct PayloadConflicts<'x, 'a> {
     ghost in_range: { All IsInRange payloads.items },
 }
 
-/// The payload that an act tells: a DATA tells one, and a DATA_FRAG at which a sample was put together.
-fn spoken_in<'x, 'a>(act: &'x Act<'a>) -> Option<AddressedPayload<'x, 'a>>
-    ensures { MatchOption result
-        ((n : ℕ) (x : PayloadValue) → word_of (act_value act.now).body n ≢ Some (Word.Told x))
-        (λ entry. IsSentBy (act_value act.now) entry × IsInRange entry) }
-{
-    let (number, reader, payload) = match &act.body {
-        ActBody::Data(data) => (data.number, data.reader, &data.payload),
-        ActBody::DataFrag(fragment) => match &fragment.told {
-            Some(payload) => (fragment.number, fragment.reader, payload),
-            None => return None,
-        },
-        ActBody::Heartbeat(_) | ActBody::AckNack(_) | ActBody::Gap(_) => return None,
-    };
-    Some(AddressedPayload {
-        number: number.get().cast_unsigned(),
-        dest: &act.dest,
-        reader,
-        payload,
-    })
-}
-
 /// Whether two payloads are equal in kind and octets.
 fn is_same_payload(one: Payload<'_>, other: Payload<'_>) -> bool
     ensures { IsTrue result ↔ (payload_value one.entry ≡ payload_value other.entry) }
@@ -71,17 +49,31 @@ fn is_same_payload(one: Payload<'_>, other: Payload<'_>) -> bool
     }
 }
 
-/// The payload that an act tells, where its number is `from` or a greater one; None of any other act.
+/// The payload that an act tells, where its number is `from` or a greater one; None of any other act. A DATA tells one, and a
+/// DATA_FRAG at which a sample was put together.
 fn addressed<'x, 'a>(act: &'x Act<'a>, from: u64) -> Option<AddressedPayload<'x, 'a>>
     ensures { MatchOption result
         ((n : ℕ) (x : PayloadValue) → IsAsked from n → word_of (act_value act.now).body n ≢ Some (Word.Told x))
         (λ entry. IsSentBy (act_value act.now) entry × IsAsked from entry.number × IsInRange entry) }
 {
-    let entry = spoken_in(act)?;
-    if entry.number < from {
+    let (number, reader, payload) = match &act.body {
+        ActBody::Data(data) => (data.number, data.reader, &data.payload),
+        ActBody::DataFrag(fragment) => match &fragment.told {
+            Some(payload) => (fragment.number, fragment.reader, payload),
+            None => return None,
+        },
+        ActBody::Heartbeat(_) | ActBody::AckNack(_) | ActBody::Gap(_) => return None,
+    };
+    let number = number.get().cast_unsigned();
+    if number < from {
         return None;
     }
-    Some(entry)
+    Some(AddressedPayload {
+        number,
+        dest: &act.dest,
+        reader,
+        payload,
+    })
 }
 
 /// The payloads that these acts tell, whose number is `from` or a greater one, in the order of sending, and the last number

@@ -6,7 +6,7 @@ use crate::index::Index;
 use crate::payload_conflict::PayloadConflicts;
 use crate::placed::Placed;
 use crate::verdict::{Claims, Verdict};
-use crate::word::{add_row, add_told};
+use crate::word::{add_range, add_told};
 use rtps_coverage::{Coverage, MergedRanges};
 use rtps_discovery::Pair;
 use rtps_ids::{Guid, Memory, SeqNum};
@@ -32,7 +32,7 @@ impl<C: Coverage> ToldReader<C> {
     ghost use Rattle.rtps_receiver.specs.Values.{act_value};
     ghost use Rattle.rtps_audit.specs.Placed.{is_from, placed_value};
     ghost use Rattle.rtps_audit.specs.Speech.{word_of};
-    ghost use Rattle.rtps_audit.specs.Sweep.{AreBehind, Hears, IsToldUpTo};
+    ghost use Rattle.rtps_audit.specs.Sweep.{AreBehind, HasHeardOrUnasked, IsToldUpTo};
 
     /// Before all acts. The numbers from `from` on are asked for.
     fn new(alloc: Global, guid: Guid, from: SeqNum) -> Result<Self, Memory>
@@ -41,7 +41,7 @@ impl<C: Coverage> ToldReader<C> {
         ensures place { IfOk result (λ reader. reader.place ≡ 0) }
     {
         let mut told = C::empty(alloc);
-        add_row(&mut told, 1, from.get().cast_unsigned())?;
+        add_range(&mut told, 1, from.get().cast_unsigned())?;
         Ok(ToldReader {
             guid,
             told,
@@ -66,8 +66,8 @@ impl<C: Coverage> ToldReader<C> {
     fn tell_before(&mut self, acts: &[Placed<'_>], datagram: usize) -> Result<(), Memory>
         ensures guid { self.new.guid ≡ self.old.guid }
         ensures told { OnOk result ((from : ℕ) (writer : GuidValue) → All (λ at. is_from writer (placed_value at) ≡ true) acts.now
-            → IsToldUpTo (Hears from (C.covered self.old.told) writer self.old.guid) acts.now self.old.place datagram
-            → IsToldUpTo (Hears from (C.covered self.new.told) writer self.old.guid) acts.now self.new.place datagram) }
+            → IsToldUpTo (HasHeardOrUnasked from (C.covered self.old.told) writer self.old.guid) acts.now self.old.place datagram
+            → IsToldUpTo (HasHeardOrUnasked from (C.covered self.new.told) writer self.old.guid) acts.now self.new.place datagram) }
         ensures behind { OnOk result (IsNonDecreasingBy (λ at. at.datagram) acts.now → AreBehind acts.now self.new.place datagram) }
     {
         'acts: while self.place < acts.len() && acts[self.place].datagram < datagram {

@@ -29,7 +29,8 @@ pub struct Counts {
     pub refused: u64,
     /// Submessages that are skipped and are no fragments.
     pub skipped: u128,
-    /// NACK_FRAG, HEARTBEAT_FRAG and DATA_FRAG: numbers that they tell count as not told.
+    /// NACK_FRAG, HEARTBEAT_FRAG and DATA_FRAG, but those DATA_FRAG by which the index was told a sample: numbers that
+    /// they tell count as not told.
     pub fragments: u128,
     /// ACKNACKs for everyone, which answer nobody.
     pub undirected: u128,

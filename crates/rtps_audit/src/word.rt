@@ -16,14 +16,14 @@ pub(crate) fn add_told<C: Coverage>(told: &mut C, body: &ActBody<'_>) -> Result<
     match body {
         ActBody::Data(data) => {
             let number = data.number.get().cast_unsigned();
-            add_row(told, number, number + 1)
+            add_range(told, number, number + 1)
         }
-        ActBody::Heartbeat(heartbeat) => add_row(told, 1, heartbeat.first.get().cast_unsigned()),
+        ActBody::Heartbeat(heartbeat) => add_range(told, 1, heartbeat.first.get().cast_unsigned()),
         ActBody::Gap(gap) => add_gap(told, gap),
         ActBody::DataFrag(fragment) => match fragment.told {
             Some(_) => {
                 let number = fragment.number.get().cast_unsigned();
-                add_row(told, number, number + 1)
+                add_range(told, number, number + 1)
             }
             None => Ok(()),
         },
@@ -32,7 +32,7 @@ pub(crate) fn add_told<C: Coverage>(told: &mut C, body: &ActBody<'_>) -> Result<
 }
 
 /// Adds the numbers from `first` on and below `end`, as far as a set reaches. There may be none.
-pub(crate) fn add_row<C: Coverage>(told: &mut C, first: u64, end: u64) -> Result<(), Memory>
+pub(crate) fn add_range<C: Coverage>(told: &mut C, first: u64, end: u64) -> Result<(), Memory>
     requires positive { 1 ≤ first }
     requires in_range { end ≤ 2 ^ 63 }
     ensures { OnOk result (TellsMore (C.covered told.old) (C.covered told.new) (λ n. nat_le first n && nat_lt n end)) }
@@ -49,10 +49,10 @@ fn add_gap<C: Coverage>(told: &mut C, gap: &GapBody) -> Result<(), Memory>
     ensures { OnOk result (TellsMore (C.covered told.old) (C.covered told.new) (is_in_gap gap.now)) }
 {
     let base = gap.list.base().cast_unsigned();
-    add_row(told, gap.start.get().cast_unsigned(), base)?;
+    add_range(told, gap.start.get().cast_unsigned(), base)?;
     let mut at = 0;
     'listed: while let Some(members) = gap.list.range_from(at) {
-        add_row(told, members.start, members.end)?;
+        add_range(told, members.start, members.end)?;
         at = members.end;
     }
     Ok(())

@@ -7,7 +7,8 @@ use Rattle.rtps_audit.specs.PayloadConflict.{AreSentIn, IsInRange}
 use Rattle.rtps_audit.specs.Placed.{PlacedValue, placed_value}
 use Rattle.rtps_audit.specs.Speech.{announced_for}
 use Rattle.rtps_audit.proofs.Greatest.{greatest_more}
-use Rattle.rtps_audit.proofs.PayloadHearing.{none_sent, placed_next, sent_more, silent_more}
+use Rattle.rtps_audit.proofs.PayloadHearing.{none_sent, sent_more, silent_more}
+use Rattle.rtps_audit.proofs.PlacedActs.{map_next}
 use Rattle.rtps_audit.proofs.payload_conflict.collect.Goals as goal
 use Rattle.rtps_audit.proofs.payload_conflict.collect.Goals.{in-Some+in_ok-push, in_default}
 
@@ -21,7 +22,7 @@ loop-place-preserved c =
     let so_far = map placed_value (take k acts) in
     let old = c.loop-place.entries.items in
     let new = c.match-addressed.entries.items in
-    let next = placed_next acts k c.index-acts-place.result c.loop-place-test.true in
+    let next = map_next placed_value acts k c.index-acts-place.result c.loop-place-test.true in
     let more = greatest_more (λ (at : PlacedValue). announced_for writer at.act) so_far (placed_value here) in
     let last =
     c.max-last.ensures ∙ ap (λ m. max m c.announced_number.result) c.loop-place.invariant.last ∙ ap (max (last_among writer so_far)) c.announced_number.ensures.value

@@ -9,7 +9,7 @@ use Rattle.rtps_audit.specs.Answered.{IsFrontBy, IsToldAll, IsUntoldAmong, last_
 use Rattle.rtps_audit.specs.Intake.{intake_of}
 use Rattle.rtps_audit.specs.PayloadConflict.{AreConflictsOf}
 use Rattle.rtps_audit.specs.Placed.{is_from, placed_in, placed_value}
-use Rattle.rtps_audit.specs.Sweep.{AreClaimsOf, Hears, IsToldUpTo}
+use Rattle.rtps_audit.specs.Sweep.{AreClaimsOf, HasHeardOrUnasked, IsToldUpTo}
 use Rattle.rtps_audit.specs.declared.answer.Answer.{Answer}
 use Rattle.rtps_audit.proofs.ExactVerdicts.{exact_verdict}
 use Rattle.rtps_audit.proofs.IndexSpeech.{answers_counted}
@@ -29,7 +29,7 @@ loop-answer-init g c =
         record {
           within = omega (arith, c.in_ok-reader.ensures.place);
           before = λ k d low high. absurd (omega (arith, c.in_ok-reader.ensures.place));
-          tells = subst (λ p. Hears c.args.from (g.C.Coverage.covered c.in_ok-reader.reader.told) pair.writer pair.reader (map placed_value (take p c.acts_of-acts.result.now))) (sym c.in_ok-reader.ensures.place) (hears_none c.args.from _ pair.writer pair.reader c.in_ok-reader.ensures.told);
+          tells = subst (λ p. HasHeardOrUnasked c.args.from (g.C.Coverage.covered c.in_ok-reader.reader.told) pair.writer pair.reader (map placed_value (take p c.acts_of-acts.result.now))) (sym c.in_ok-reader.ensures.place) (hears_none c.args.from _ pair.writer pair.reader c.in_ok-reader.ensures.told);
         },
       );
       claims = record {
@@ -59,9 +59,9 @@ loop-answer-preserved g c =
     let covered = g.C.Coverage.covered in
     let before = old.heard.2 in
     let here = old.heard.1 k none (omega arith) lt in
-    let heard = subst (λ (r : Guid). IsToldUpTo (Hears from (covered c.loop-answer.reader.told) pair.writer r) acts c.loop-answer.reader.place answer.datagram) (sym old.guid)
+    let heard = subst (λ (r : Guid). IsToldUpTo (HasHeardOrUnasked from (covered c.loop-answer.reader.told) pair.writer r) acts c.loop-answer.reader.place answer.datagram) (sym old.guid)
     (record { within = before.within; before = λ i d low high. let early = before.before i d low high in omega arith; tells = before.tells }) in
-    let told = subst (λ (r : Guid). IsToldUpTo (Hears from (covered c.tell_before.new.self.told) pair.writer r) acts c.tell_before.new.self.place answer.datagram) old.guid
+    let told = subst (λ (r : Guid). IsToldUpTo (HasHeardOrUnasked from (covered c.tell_before.new.self.told) pair.writer r) acts c.tell_before.new.self.place answer.datagram) old.guid
     (c.in_ok-tell_before.ensures.told from pair.writer (acts_passed (is_from pair.writer) acts (placed_in intake.acts) are) heard) in
     let behind = c.in_ok-tell_before.ensures.behind (kept_in_order intake.acts (is_from pair.writer) acts are) in
     let least = front_least from (covered c.tell_before.new.self.told) c.front-front.result (omega (arith, ints)) (omega (arith, ints)) (omega (arith, ints)) told.tells.passed c.front-front.ensures in

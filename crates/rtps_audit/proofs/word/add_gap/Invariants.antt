@@ -1,6 +1,6 @@
 use Rattle.std.proofs.Common.{◌-◌, ◌^◌}
 use Rattle.rtps_coverage.specs.Coverage.{TellsMore}
-use Rattle.rtps_audit.specs.Speech.{is_in_gap_below}
+use Rattle.rtps_audit.proofs.WordLemmas.{is_in_gap_below}
 use Rattle.rtps_audit.proofs.word.add_gap.Given as goal
 
 -- the numbers below the list, and those of its ranges so far

@@ -1,8 +1,7 @@
 use Rattle.std.proofs.Common.{◌∙◌, ◌||◌, nat_le, nat_lt, ◌&&◌, ap, sym}
 use Rattle.std.proofs.Math.Bool.{or_assoc}
-use Rattle.rtps_audit.specs.Speech.{is_in_gap_below}
 use Rattle.rtps_evidence.specs.Amount.{stretches_have}
-use Rattle.rtps_audit.proofs.Offered.{gap_end, gap_range}
+use Rattle.rtps_audit.proofs.Offered.{gap_end, gap_range, is_in_gap_below}
 use Rattle.rtps_evidence.proofs.amount.push_gap.Goals as goal
 
 pub apart-preserved : goal.apart-preserved

@@ -1,5 +1,5 @@
 use Rattle.std.proofs.Common.{◌≡◌, ◌||◌, ◌-◌, ◌^◌, ℕ}
-use Rattle.rtps_audit.specs.Speech.{is_in_gap_below}
+use Rattle.rtps_audit.proofs.Offered.{is_in_gap_below}
 use Rattle.rtps_evidence.specs.Amount.{stretches_have}
 use Rattle.rtps_evidence.proofs.amount.push_gap.Given as goal
 

@@ -1,7 +1,6 @@
 use Rattle.std.proofs.Common.{◌≡◌, ◌∙◌, ◌||◌, ◌&&◌, Bool, false, nat_le, nat_lt, true, ap, refl, sym}
-use Rattle.rtps_audit.specs.Speech.{is_in_gap_below}
 use Rattle.rtps_evidence.specs.Amount.{some_withdrawn}
-use Rattle.rtps_audit.proofs.Offered.{gap_end, gap_range}
+use Rattle.rtps_audit.proofs.Offered.{gap_end, gap_range, is_in_gap_below}
 use Rattle.rtps_evidence.proofs.withdrawal.push_gap.Goals as goal
 
 -- a range more, where all are limited alike

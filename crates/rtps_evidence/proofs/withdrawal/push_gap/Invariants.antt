@@ -1,5 +1,5 @@
 use Rattle.std.proofs.Common.{◌≡◌, ◌&&◌, ◌||◌, ◌-◌, ◌^◌, ℕ, nat_lt}
-use Rattle.rtps_audit.specs.Speech.{is_in_gap_below}
+use Rattle.rtps_audit.proofs.Offered.{is_in_gap_below}
 use Rattle.rtps_evidence.specs.Amount.{some_withdrawn}
 use Rattle.rtps_evidence.proofs.withdrawal.push_gap.Given as goal
 

@@ -9,9 +9,9 @@ use Rattle.rtps_receiver.specs.Speech.{is_heard_by}
 use Rattle.rtps_receiver.specs.Values.{act_value}
 use Rattle.rtps_audit.specs.Placed.{placed_value}
 use Rattle.rtps_audit.specs.Speech.{word_of}
-use Rattle.rtps_audit.specs.Sweep.{Hears, IsToldUpTo}
+use Rattle.rtps_audit.specs.Sweep.{HasHeardOrUnasked, IsToldUpTo}
 use Rattle.rtps_audit.specs.declared.placed.Placed.{Placed}
-use Rattle.rtps_audit.proofs.PayloadHearing.{placed_next}
+use Rattle.rtps_audit.proofs.PlacedActs.{map_next}
 use Rattle.rtps_audit.proofs.SweepLemmas.{hears_on}
 use Rattle.rtps_audit.proofs.plain_judge.ToldReader.tell_before.Goals as goal
 
@@ -30,11 +30,11 @@ acts-preserved g c =
       guid = c.note.ensures.guid ∙ c.acts.invariant.guid;
       told = λ from writer from_it known.
           let old = c.acts.invariant.told from writer from_it known in
-          subst (λ p. IsToldUpTo (Hears from (covered c.note.new.self.told) writer reader) acts (p + 1) c.args.datagram) (sym c.note.ensures.place)
+          subst (λ p. IsToldUpTo (HasHeardOrUnasked from (covered c.note.new.self.told) writer reader) acts (p + 1) c.args.datagram) (sym c.note.ensures.place)
           (record {
             within = omega (arith, lt);
             before = AllWithin-more (λ (p : Placed). p.datagram < c.args.datagram) acts 0 place old.before (λ d. let same = ap (λ (p : Placed). p.datagram) (first d) in let early = c.if-acts-self.true in grind (arith, nat_tests));
-            tells = subst (Hears from (covered c.note.new.self.told) writer reader) (sym (placed_next acts place d lt)) (hears_on from (covered c.acts.self.told) (covered c.note.new.self.told) writer reader (map placed_value (take place acts)) (placed_value here) (from_it place d lt) told old.tells);
+            tells = subst (HasHeardOrUnasked from (covered c.note.new.self.told) writer reader) (sym (map_next placed_value acts place d lt)) (hears_on from (covered c.acts.self.told) (covered c.note.new.self.told) writer reader (map placed_value (take place acts)) (placed_value here) (from_it place d lt) told old.tells);
           });
     }
 

@@ -6,7 +6,7 @@ use Rattle.std.proofs.lemmas.Bool.{or_left}
 use Rattle.rtps_audit.specs.Placed.{placed_value}
 use Rattle.rtps_audit.specs.Sweep.{TellsOf, is_told}
 use Rattle.rtps_audit.specs.declared.placed.Placed.{Placed}
-use Rattle.rtps_audit.proofs.PayloadHearing.{placed_next}
+use Rattle.rtps_audit.proofs.PlacedActs.{map_next}
 use Rattle.rtps_audit.proofs.SweepLemmas.{heard_on}
 use Rattle.rtps_audit.proofs.sweep.Sweep.tell_before.Goals as goal
 
@@ -25,7 +25,7 @@ acts-preserved c =
           record {
             within = omega (arith, lt);
             before = AllWithin-more (λ (p : Placed). p.datagram < c.args.datagram) acts 0 place old.before (λ d. let same = ap (λ (p : Placed). p.datagram) (first d) in let early = c.if-acts-self.true in grind (arith, nat_tests));
-            tells = subst (TellsOf c.note.new.self writer) (sym (placed_next acts place d lt)) (λ reader. heard_on 1 (is_told c.acts.self.told reader) (is_told c.note.new.self reader) writer reader (map placed_value (take place acts)) (placed_value here) (from place d lt) (c.in_ok-note.ensures reader) (old.tells reader));
+            tells = subst (TellsOf c.note.new.self writer) (sym (map_next placed_value acts place d lt)) (λ reader. heard_on 1 (is_told c.acts.self.told reader) (is_told c.note.new.self reader) writer reader (map placed_value (take place acts)) (placed_value here) (from place d lt) (c.in_ok-note.ensures reader) (old.tells reader));
           };
       more = λ reader n positive small is. c.in_ok-note.ensures reader n positive small ∙ or_left _ _ (c.acts.invariant.more reader n positive small is);
     }
