@@ -31,3 +31,13 @@ pieces-preserved g c =
       subst (HasReadFront most c.feed.new.self) joined fed,
       λ before taken. subst (Consumes before _) joined (Consumes-trans before _ _ octets more (invariant.3 before taken) came.read),
     )
+
+pub returns-then-branch-eq0-clause-fed : goal.returns-then-branch-eq0-clause-fed
+returns-then-branch-eq0-clause-fed g c =
+    let octets = c.pieces.octets.items in
+    let came = c.in_ok-read_behind.ensures in
+    let more = drop (length octets) c.read_behind.new.octets.items in
+    let joined : octets ++ more ≡ c.read_behind.new.octets.items =
+    ap (λ (front : List ℕ). front ++ more) (sym came.front) ∙ take-append-drop (length octets) c.read_behind.new.octets.items in
+    let most = c.args.limits.datagrams in
+    subst (HasReadFront most c.feed.new.self) joined (subst (λ (l : List ℕ). HasReadFront most c.feed.new.self (l ++ more)) c.deref.ensures.value (c.in_ok-feed.ensures more))
