@@ -291,7 +291,7 @@ def main():
     if any(word.startswith('-') for word in words):
         raise SystemExit(__doc__)
     if not os.path.exists(options['--program']):
-        raise SystemExit(f'figures.py: there is no program {options["--program"]}: bin/rtps-audit --help builds it')
+        raise SystemExit(f'figures.py: there is no program {options["--program"]}: bin/build makes it')
     more = [Row(name, f'`{name}`', others=True) for name in words if split(name) and name not in listed]
     results = {}
     with tempfile.TemporaryDirectory() as room:

@@ -26,7 +26,7 @@ EXAMPLES = sorted(name for name in os.listdir(os.path.join(ROOT, 'examples')) if
 COMMANDS = 'bin/rtps-audit ', 'grep ', 'head '
 ANSWERS = re.compile(r'(pairs?|announced|acknowledged|payloads|received|missed|number|claimed|datagrams) ["0-9a-z]|\{"pairs"|[0-9a-f]{24}\.[0-9a-f]{8} ')
 LINKS = re.compile(r'\]\(([^)#]+)\)')
-NAMED = re.compile(r'`((?:bin|bench|tests|docs|examples|crates|package)/[a-zA-Z0-9_./-]+)`')
+NAMED = re.compile(r'`((?:bin|bench|tests|docs|examples|crates|package|release)/[a-zA-Z0-9_./-]+)`')
 
 
 def blocks_of(page):
