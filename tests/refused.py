@@ -18,19 +18,15 @@ import sys
 import tempfile
 
 sys.dont_write_bytecode = True
+from any_captures import fragment
+from captures import capture, udp
 from program import ROOT, VIEWS, Counts, file_of, text_of
-from reference import words_of
+from reference import recording_of, words_of
 import make
 
-# The calls that are tried on a recording of many endpoints too, and the other ones.
-OF_ENDPOINTS = ['note', 'note_all', 'participants', 'endpoints', 'matched', 'pairs', 'build', 'audit']
-CALLS = ['walk', 'add_plain', 'add_merged', 'judge', 'judge_by_plain', 'judge_from_plain', 'judge_from_merged', 'index_judge',
-         'index_judge_from', 'evidence', 'audit_from', 'put_u16', 'put_u32', 'put_number', 'write_list', 'write_message',
-         'read_recording', 'show_run', 'list_run', 'audit_run', 'audit_from_run', 'why_run', 'json_run',
-         'capture_read_recording', 'capture_show_run', 'fragments_any_run']
-# Those that hear what a writer says to readers that it names.
-OF_NAMED = ['build', 'judge', 'index_judge', 'evidence', 'audit', 'why_run']
-WORDS = ['read_words', 'read_words_from', 'read_help', 'read_refused_words']
+# The calls of the libraries, and those of them that hear what a writer says to readers that it names.
+CALLS = ['judge_plain', 'judge_merged', 'write_list', 'write_message']
+OF_NAMED = ['judge_plain', 'judge_merged']
 
 # Any request may go on.
 ALL = 1 << 62
@@ -39,13 +35,13 @@ ALL = 1 << 62
 MARK = 7654321
 
 
-def built(folder):
-    """the library that refuses a request"""
+def built(folder, name='refuse_requests'):
+    """the library that refuses a request, or another one of this folder"""
     rt = shutil.which('rt')
     kit = os.path.join(os.path.dirname(os.path.dirname(os.path.realpath(rt))), 'toolchain', 'bin', 'clang') if rt else ''
     compiler = [kit, '-nostdlib', '-fuse-ld=lld'] if os.path.exists(kit) else ['cc']
-    library = os.path.join(folder, 'refuse_requests.so')
-    subprocess.run([*compiler, '-O2', '-shared', '-fPIC', '-o', library, os.path.join(ROOT, 'tests', 'refuse_requests.c')], check=True)
+    library = os.path.join(folder, f'{name}.so')
+    subprocess.run([*compiler, '-O2', '-shared', '-fPIC', '-o', library, os.path.join(ROOT, 'tests', f'{name}.c')], check=True)
     return library
 
 
@@ -141,31 +137,37 @@ def in_fragments():
     return text_of(datagrams)
 
 
+def packets_in_fragments(datagrams):
+    """a capture in which each datagram comes in two fragments of its packet"""
+    frames = []
+    for number, datagram in enumerate(datagrams):
+        frames += [fragment(udp(datagram), place, size, number) for place, size in ((0, 16), (16, 1 << 16))]
+    return capture(frames)
+
+
 def of_calls(calls, recording):
-    """what is tried of the library: a name, the words, the input, what is wanted, how many requests may go on, and the mark"""
-    def one(call, name, text):
-        answer = f'{call}: Memory, and then as if it were the first\n', [], 0
-        return f'{call}{name}', [calls, 'refuse', call], text, answer, ALL if call in WORDS else 0, MARK
-    for call in OF_ENDPOINTS + CALLS + WORDS:
-        yield one(call, '', recording)
-    for call in OF_ENDPOINTS:
-        yield one(call, ' of 24 endpoints', many_endpoints())
-    for call in OF_NAMED:
-        yield one(call, ' of readers that are named', named_readers())
+    """what is tried of the libraries: a name, the words, the input, what is wanted, how many requests may go on, and the mark"""
+    for names, name, text in ((CALLS, '', recording), (OF_NAMED, ' of readers that are named', named_readers())):
+        for call in names:
+            yield f'{call}{name}', [calls, 'refuse', call], text, (f'{call}: Memory, and then as if it were the first\n', [], 0), 0, MARK
 
 
 def of_program(library, program, recording):
     """what is tried of the program: of a run on a recording, the requests may go on that are made until the FILE is opened"""
     nothing = '', ['rtps-audit: out of memory'], 3
-    for words in (['--help'], ['audit', '--help'], ['--version'], ['audit'], []):
+    refused = [['--help'], ['audit', '--help'], ['--version'], ['audit'], [], ['show', '--quiet'], ['audit', '--from', '0', '-']]
+    for words in refused:
         yield f"rtps-audit {' '.join(words)}", [program, *words], recording, nothing, ALL
-    for words in ['audit', 'absent.rec'], ['sample']:
+    for words in ['audit', 'absent.rec'], ['audit', '--from', '2', 'absent.rec'], ['sample']:
         yield f"rtps-audit {' '.join(words)}", [program, *words], b'', nothing, ALL
-    capture = file_of('examples', 'loopback.pcap')
+    loopback = file_of('examples', 'loopback.pcap')
     runs = [('', [*words_of(view), '-'], recording) for view in VIEWS]
     runs.append((' from 3 on', ['why', '--from', '3', '-'], recording))
     runs.append((' of a GAP whose list has 128 ranges', ['audit', '-'], many_ranges()))
-    runs.append((' of readers that are named', ['audit', '--json', '-'], named_readers()))
+    for words in ['list', '-'], ['audit', '-']:
+        runs.append((' of 24 endpoints', words, many_endpoints()))
+    for words in ['audit', '--json', '-'], ['why', '-']:
+        runs.append((' of readers that are named', words, named_readers()))
     runs.append((' with missed numbers', ['why', '--strict', '-'], file_of('examples', 'missed.rec')))
     for words in ['page'], ['check'], ['check', '--json']:
         runs.append(('', [*words, '-'], recording))
@@ -175,8 +177,10 @@ def of_program(library, program, recording):
     for words in ['show'], ['audit'], ['why'], ['audit', '--json'], ['page']:
         runs.append((' of samples in fragments', [*words, '--fragments', '-'], in_fragments()))
     runs.append((' of samples in fragments', ['check', '-'], in_fragments()))
-    runs.append((' of a capture', ['audit', '--max-datagrams', '6', '--max-octets', '100000', '-'], capture))
+    runs.append((' of a capture', ['audit', '--max-datagrams', '6', '--max-octets', '100000', '-'], loopback))
+    runs.append((' of a capture', ['show', '-'], loopback))
     runs.append((' of any capture', ['audit', '--any', '-'], file_of('examples', 'ipv6.pcapng')))
+    runs.append((' of packets in fragments', ['show', '--any', '-'], packets_in_fragments(recording_of(recording))))
     for name, words, text in runs:
         of_words = requests_of(library, [program, *words[:-1], 'absent.rec'])
         yield f"rtps-audit {' '.join(words)}{name}", [program, *words], text, nothing, of_words

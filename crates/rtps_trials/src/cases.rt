@@ -1,12 +1,8 @@
-//! Cases are lines `CALL WORD.. -> ANSWER`: a public call of a library, its arguments, and what it returns. Empty lines
-//! and lines that begin with # are skipped. The answers come from the standard, from the rules of the library, or from
-//! other programs.
+//! Cases are lines `CALL WORD.. -> ANSWER`: a public call of a library, its arguments, and what it returns. Other lines are
+//! skipped. The answers come from the standard, from the rules of the library, or from other programs.
 
-mod announcements;
-mod integers;
-mod messages;
-mod parameters;
-mod ranges;
+mod reading;
+mod writing;
 
 use crate::fault::Fault;
 use crate::words::Words;
@@ -16,52 +12,32 @@ use std::alloc::Global;
 pub(crate) fn count(alloc: Global, text: &str) -> Result<usize, Fault> {
     let mut count = 0usize;
     for line in text.split("\n") {
-        if !line.is_empty() && !line.starts_with("#") {
-            try_case(alloc, line)?;
+        if let Some((call, wanted)) = line.split_once(" -> ") {
+            try_case(alloc, call, wanted)?;
             count = count.saturating_add(1);
         }
     }
     Ok(count)
 }
 
-fn try_case(alloc: Global, line: &str) -> Result<(), Fault> {
-    let (call, wanted) = line.split_once(" -> ").ok_or(Fault::Words)?;
-    let mut words = Words::of(call);
-    let name = words.word();
-    let found = answer(alloc, name, &mut words)?;
-    if found.as_str() == wanted && words.is_empty() {
+fn try_case(alloc: Global, call: &str, wanted: &str) -> Result<(), Fault> {
+    let mut found = String::new(alloc);
+    answer(alloc, Words { left: call }, &mut found)?;
+    if found.as_str() == wanted {
         return Ok(());
     }
     let told = format!(in alloc; "{call}: wanted {wanted}, got {found}")?;
     Err(Fault::Case(told))
 }
 
-/// What a call returns for these arguments, as a text.
-fn answer(alloc: Global, call: &str, words: &mut Words<'_>) -> Result<String, Fault> {
-    match call {
-        "u16_at" | "u32_at" | "number_at" => integers::read_at(alloc, call, words),
-        "put_u16" | "put_u32" | "put_number" => integers::put(alloc, call, words),
-        "seq_num" => integers::seq_num(alloc, words),
-        "set" => integers::set(alloc, words),
-        "read_set" => integers::read_set(alloc, words),
-        "digits" => integers::digits(alloc, words),
-        "identities" => integers::identities(alloc),
-        "numbers" => messages::numbers(alloc, words),
-        "list" => parameters::list(alloc, words),
-        "first" => parameters::first(alloc, words),
-        "same_lists" => parameters::same_lists(alloc, words),
-        "read_text" | "read_guid" | "read_u32" => parameters::value(alloc, call, words),
-        "write_list" => parameters::write(alloc, words),
-        "endpoint" => announcements::endpoint(alloc, words),
-        "participant" => announcements::participant(alloc, words),
-        "note" => announcements::note(alloc, words),
-        "plain" | "merged" => ranges::ranges(alloc, call, words),
-        "least_outside" => ranges::least_of_two(alloc, words),
-        "even_then_odd" => ranges::even_then_odd(alloc),
-        "rewrite" => messages::rewritten(alloc, words),
-        "write_header" | "write_skipped" | "write_heartbeat" | "write_gap" | "write_data" => {
-            messages::written(alloc, call, words)
-        }
-        _ => Err(Fault::Words),
+/// Appends what a call returns.
+fn answer(alloc: Global, mut words: Words<'_>, text: &mut String) -> Result<(), Fault> {
+    match words.word() {
+        "list" => reading::list(alloc, words, text),
+        "endpoint" => reading::endpoint(alloc, words, text),
+        "participant" => reading::participant(alloc, words, text),
+        "merged" => reading::merged(alloc, words, text),
+        "write_list" => writing::list(alloc, words, text),
+        call => writing::message(alloc, call, words, text),
     }
 }

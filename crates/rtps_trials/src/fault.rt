@@ -1,7 +1,4 @@
 use rtps_ids::Memory;
-use rtps_params::ListFault;
-use rtps_tool::RecFault;
-use rtps_wire::WriteFault;
 use std::alloc::{AllocError, AllocFailed};
 use std::{fmt, io};
 
@@ -33,13 +30,13 @@ impl Fault {
 
 impl fmt::Display for Fault {
     fn fmt<W: fmt::Write>(&self, f: &mut fmt::Formatter<W>) -> fmt::Result {
-        match self {
-            Fault::Memory => write!(f, "out of memory"),
-            Fault::Stream => write!(f, "cannot read or write"),
-            Fault::Words => write!(f, "these words are not known, or this is no such recording"),
-            Fault::Case(text) => write!(f, "{text}"),
-            Fault::Differs(what) => write!(f, "{what}"),
-        }
+        f.write_str(match self {
+            Fault::Memory => "out of memory",
+            Fault::Stream => "cannot read or write",
+            Fault::Words => "these words are not known, or this is no such recording",
+            Fault::Case(text) => text.as_str(),
+            Fault::Differs(what) => what,
+        })
     }
 }
 
@@ -65,33 +62,6 @@ impl From<Memory> for Fault {
 impl From<fmt::Error> for Fault {
     fn from(_error: fmt::Error) -> Fault {
         Fault::Memory
-    }
-}
-
-impl From<RecFault> for Fault {
-    fn from(fault: RecFault) -> Fault {
-        match fault {
-            RecFault::Memory => Fault::Memory,
-            _ => Fault::Words,
-        }
-    }
-}
-
-impl From<WriteFault> for Fault {
-    fn from(fault: WriteFault) -> Fault {
-        match fault {
-            WriteFault::Memory => Fault::Memory,
-            _ => Fault::Differs("a message is not written"),
-        }
-    }
-}
-
-impl From<ListFault> for Fault {
-    fn from(fault: ListFault) -> Fault {
-        match fault {
-            ListFault::Memory => Fault::Memory,
-            _ => Fault::Differs("a list is not written"),
-        }
     }
 }
 

@@ -1,10 +1,9 @@
 //! Tries the libraries: what no contract says and no run of the program shows.
 //!
-//!     rtps_trials               tries all of standard input: cases, one in each line, an empty line, and a recording
-//!     rtps_trials judge         judges the recording on standard input in every way
-//!     rtps_trials change        judges it with each octet changed
-//!     rtps_trials refuse CALL   makes this call on it, and once more if it is refused memory
-//!     rtps_trials rewrite       writes each of its messages again from its items, and prints the results
+//!     rtps_trials               tries the cases of standard input, and judges the recording behind their first empty line
+//!     rtps_trials judge         judges each recording on standard input in every way; an empty line stands between two
+//!     rtps_trials refuse CALL   makes this call on a recording, and once more if it is refused memory
+//!     rtps_trials rewrite       writes each message of a recording again from its items, and prints the results
 //!     rtps_trials read N        reads each of its messages N times
 //!     rtps_trials write N       reads each of them once and writes it N times, if it can be written
 //!
@@ -12,21 +11,18 @@
 //! reading or writing fails.
 #![tactic(auto)]
 
-mod capture;
 mod cases;
-mod changed;
 mod fault;
 mod judged;
 mod recording;
 mod refusals;
-mod repeated;
 mod rewriting;
-mod streams;
 mod words;
 
 use fault::Fault;
-use rtps_tool::Recording;
-use std::io::Write;
+use std::alloc::Global;
+use std::fmt::Write;
+use std::io::Write as _;
 use std::process::ExitCode;
 use std::{env, io};
 
@@ -42,100 +38,40 @@ fn main(rt: HostRuntime) -> ExitCode {
 
 fn run(rt: &HostRuntime) -> Result<(), Fault> {
     let args = env::args(rt)?.collect::<Vec<String>>(rt.alloc())?;
+    let input = io::read_to_string(rt.alloc(), rt.stdin())?;
+    let mut text = String::new(rt.alloc());
     match (args.get(1), args.get(2)) {
-        (None, _) => try_all(rt),
-        (Some(mode), None) => try_recording(rt, mode.as_str()),
-        (Some(mode), Some(word)) => try_word(rt, mode.as_str(), word.as_str()),
+        (None, _) => try_all(rt.alloc(), input.as_str(), &mut text)?,
+        (Some(mode), word) => {
+            let word = word.map_or("", |word| word.as_str());
+            try_mode(rt.alloc(), (mode.as_str(), word), input.as_str(), &mut text)?;
+        }
     }
-}
-
-/// Tries the cases and the recording on standard input, and prints what was counted.
-fn try_all(rt: &HostRuntime) -> Result<(), Fault> {
-    let text = io::read_to_string(rt.alloc(), rt.stdin())?;
-    let (cases, text) = text.as_str().split_once("\n\n").ok_or(Fault::Words)?;
-    let count = cases::count(rt.alloc(), cases)?;
-    println!(rt; "cases: {count}")?;
-    let recording = recording::read(rt.alloc(), text)?;
-    try_judges(rt, &recording)?;
-    let capture = capture::of(rt.alloc(), &recording)?;
-    try_streams(rt, "a text", text.as_bytes())?;
-    try_streams(rt, "a capture", &capture)?;
-    for call in refusals::CALLS {
-        try_refused(rt, *call, text)?;
-    }
+    print!(rt; "{text}")?;
     Ok(())
 }
 
-/// Judges a recording as it is, and with each octet changed.
-fn try_judges(rt: &HostRuntime, recording: &Recording) -> Result<(), Fault> {
-    let rows = judged::count_rows(rt.alloc(), recording)?;
-    println!(rt; "rows that are judged alike in every way: {rows}")?;
-    let changed::Counted { settings, rows } = changed::count(rt.alloc(), recording)?;
-    println!(rt;
-        "octets set to 00, to ff or with the lowest bit turned: {settings}, with {rows} rows"
-    )?;
-    Ok(())
+/// Tries the cases and the recording of a text, and tells what was counted.
+fn try_all(alloc: Global, input: &str, text: &mut String) -> Result<(), Fault> {
+    let (cases, recording) = input.split_once("\n\n").ok_or(Fault::Words)?;
+    let count = cases::count(alloc, cases)?;
+    writeln!(text, "cases: {count}")?;
+    judged::judge_each(alloc, recording, text)?;
+    refusals::refuse_none(alloc, recording, text)
 }
 
-/// Lets reads and writes of a run fail, with a recording in one form.
-fn try_streams(rt: &HostRuntime, form: &str, input: &[u8]) -> Result<(), Fault> {
-    let reads = streams::count_reads(rt.alloc(), input)?;
-    let writes = streams::count_writes(rt.alloc(), input)?;
-    println!(rt; "{form}: {reads} failed reads, {writes} failed writes")?;
-    Ok(())
-}
-
-fn try_refused(rt: &HostRuntime, call: &str, text: &str) -> Result<(), Fault> {
-    let answer = match refusals::try_call(rt.alloc(), call, text)? {
-        true => "Memory, and then as if it were the first",
-        false => "as with ample memory",
-    };
-    println!(rt; "{call}: {answer}")?;
-    Ok(())
-}
-
-/// Runs a mode of one word on the recording on standard input.
-fn try_recording(rt: &HostRuntime, mode: &str) -> Result<(), Fault> {
-    let text = io::read_to_string(rt.alloc(), rt.stdin())?;
-    let recording = recording::read(rt.alloc(), text.as_str())?;
+/// Runs a mode, with its argument, on an input.
+fn try_mode(
+    alloc: Global,
+    (mode, word): (&str, &str),
+    input: &str,
+    text: &mut String,
+) -> Result<(), Fault> {
     match mode {
-        "judge" => {
-            let rows = judged::count_rows(rt.alloc(), &recording)?;
-            println!(rt; "{rows}")?;
-        }
-        "change" => {
-            let counted = changed::count(rt.alloc(), &recording)?;
-            println!(rt; "{}", counted.settings)?;
-        }
-        "rewrite" => return print_rewritten(rt, &recording),
-        _ => return Err(Fault::Words),
+        "judge" => judged::judge_each(alloc, input, text),
+        "refuse" => refusals::refuse(alloc, word, input, text),
+        "rewrite" => rewriting::rewrite_each(alloc, input, text),
+        "read" | "write" => rewriting::repeat(alloc, (mode, word), input, text),
+        _ => Err(Fault::Words),
     }
-    Ok(())
-}
-
-fn print_rewritten(rt: &HostRuntime, recording: &Recording) -> Result<(), Fault> {
-    for datagram in recording.datagrams() {
-        let outcome = rewriting::rewrite(rt.alloc(), datagram);
-        println!(rt; "{outcome}")?;
-    }
-    Ok(())
-}
-
-/// Runs a mode and its argument on the recording on standard input.
-fn try_word(rt: &HostRuntime, mode: &str, word: &str) -> Result<(), Fault> {
-    let text = io::read_to_string(rt.alloc(), rt.stdin())?;
-    if mode == "refuse" {
-        return try_refused(rt, word, text.as_str());
-    }
-    let Ok(times) = word.parse::<u32>() else {
-        return Err(Fault::Words);
-    };
-    let recording = recording::read(rt.alloc(), text.as_str())?;
-    let octets = match mode {
-        "read" => repeated::read(rt.alloc(), &recording, times)?,
-        "write" => repeated::write(rt.alloc(), &recording, times)?,
-        _ => return Err(Fault::Words),
-    };
-    println!(rt; "{octets}")?;
-    Ok(())
 }

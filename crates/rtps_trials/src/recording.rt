@@ -1,7 +1,6 @@
 use crate::fault::Fault;
 use rtps_discovery::Pair;
 use rtps_ids::{EntityId, Guid, GuidPrefix, SeqNum};
-use rtps_tool::{Recording, read_recording};
 use std::alloc::Global;
 
 /// The pair that most recordings announce.
@@ -21,19 +20,23 @@ pub(crate) fn second() -> SeqNum {
     SeqNum::new(2).unwrap_or(SeqNum::first())
 }
 
-/// The recording that a text spells.
-pub(crate) fn read(alloc: Global, text: &str) -> Result<Recording, Fault> {
-    Ok(read_recording(alloc, text.as_bytes())?)
+/// The octets of the lines of a text that are no comments.
+pub(crate) fn read(alloc: Global, text: &str) -> Result<Vec<Vec<u8>>, Fault> {
+    let mut datagrams = Vec::new(alloc);
+    for line in text.split("\n") {
+        if !line.is_empty() && !line.starts_with("#") {
+            let octets = hex::decode(alloc, line.as_bytes()).map_err(|_| Fault::Words)?;
+            datagrams.push(octets)?;
+        }
+    }
+    Ok(datagrams)
 }
 
 /// The datagrams of a recording.
-pub(crate) fn datagrams<'a>(
-    alloc: Global,
-    recording: &'a Recording,
-) -> Result<Vec<&'a [u8]>, Fault> {
+pub(crate) fn datagrams(alloc: Global, recording: &[Vec<u8>]) -> Result<Vec<&[u8]>, Fault> {
     let mut datagrams = Vec::new(alloc);
-    for datagram in recording.datagrams() {
-        datagrams.push(datagram)?;
+    for datagram in recording {
+        datagrams.push(datagram.as_slice())?;
     }
     Ok(datagrams)
 }

@@ -1,58 +1,29 @@
-//! Calls that may be refused memory. Each is made once with enough memory. Then it is made with its requests for memory
-//! counted, and one of them may be refused. If one is refused, the call is made a third time: it has to return what it
-//! returned first, and the refusal must have changed nothing.
+//! Calls that may be refused memory, and that no run of the program makes. Each is made once with enough memory. Then it is
+//! made with its requests for memory counted, and one of them may be refused. If one is refused, the call is made a third
+//! time: it has to return what it returned first, and the refusal must have changed nothing.
 
-mod answers;
-mod grown;
-mod inputs;
-mod noted;
-
-use crate::capture;
 use crate::fault::Fault;
-use crate::recording::{datagrams, read};
+use crate::recording::{PAIR, datagrams, read, second};
+use crate::rewriting::items_of;
+use rtps_audit::{MergedRanges, PlainRanges, Verdict, judge_from};
+use rtps_ids::{Memory, Order};
+use rtps_params::write_list;
+use rtps_wire::{Header, Item, write_message};
 use std::alloc::{AllocError, Global};
+use std::fmt::Write;
 
-/// All calls that can be tried. A call whose name begins with `capture_` gets the recording as a capture. A call whose name
-/// begins with `fragments_` gets a capture in which each packet comes in two fragments.
-pub(crate) const CALLS: &[&str] = &[
-    "note",
-    "note_all",
-    "participants",
-    "endpoints",
-    "matched",
-    "pairs",
-    "walk",
-    "add_plain",
-    "add_merged",
-    "judge",
-    "judge_by_plain",
-    "judge_from_plain",
-    "judge_from_merged",
-    "build",
-    "index_judge",
-    "index_judge_from",
-    "evidence",
-    "audit",
-    "audit_from",
-    "put_u16",
-    "put_u32",
-    "put_number",
-    "write_list",
-    "write_message",
-    "read_words",
-    "read_words_from",
-    "read_help",
-    "read_refused_words",
-    "read_recording",
-    "show_run",
-    "list_run",
-    "audit_run",
-    "audit_from_run",
-    "why_run",
-    "json_run",
-    "capture_read_recording",
-    "capture_show_run",
-    "fragments_any_run",
+/// All calls that can be tried.
+const CALLS: [&str; 4] = ["judge_plain", "judge_merged", "write_list", "write_message"];
+
+/// The octets before a call that appends.
+const BEFORE: &[u8] = b"before";
+
+/// Parameters with values of several sizes.
+const PARAMETERS: [(u16, &[u8]); 4] = [
+    (0x0005, b"pose"),
+    (0x0007, b"\x05\0\0\0Pose\0\0\0\0"),
+    (0x001a, b"\x02\0\0\0\0\0\0\0\0\0\0\0"),
+    (0x8001, &[7; 60]),
 ];
 
 /// `tests/refuse_requests.c` counts the requests between a request of this size and the next one of this size. Nothing
@@ -64,54 +35,95 @@ fn mark(alloc: Global) {
     let _room: Result<Vec<u8>, AllocError> = Vec::with_capacity(alloc, MARK);
 }
 
-/// Whether the call was refused memory. The recording is the text. An `Err` is another fault, or says that what the
-/// call returned differs.
-pub(crate) fn try_call(alloc: Global, call: &str, text: &str) -> Result<bool, Fault> {
-    if let Some(call) = call.strip_prefix("capture_") {
-        return try_capture(alloc, call, text);
+/// Makes each call. None is refused memory.
+pub(crate) fn refuse_none(alloc: Global, input: &str, text: &mut String) -> Result<(), Fault> {
+    for call in CALLS {
+        refuse(alloc, call, input, text)?;
     }
-    if let Some(call) = call.strip_prefix("fragments_") {
-        return try_fragments(alloc, call, text);
-    }
+    Ok(())
+}
+
+/// Makes a call, and tells whether it was refused memory.
+pub(crate) fn refuse(
+    alloc: Global,
+    call: &str,
+    input: &str,
+    text: &mut String,
+) -> Result<(), Fault> {
+    let octets = read(alloc, input)?;
+    let recording = datagrams(alloc, &octets)?;
+    let told = match is_refused(alloc, call, &recording)? {
+        true => "Memory, and then as if it were the first",
+        false => "as with ample memory",
+    };
+    writeln!(text, "{call}: {told}")?;
+    Ok(())
+}
+
+/// Whether a call was refused memory.
+fn is_refused(alloc: Global, call: &str, recording: &[&[u8]]) -> Result<bool, Fault> {
     match call {
-        "read_words" | "read_words_from" | "read_help" | "read_refused_words" => {
-            inputs::are_words_refused(alloc, call)
+        "judge_plain" | "judge_merged" => is_verdict_refused(alloc, call, recording),
+        "write_list" | "write_message" => {
+            let datagram = recording.get(0).ok_or(Fault::Words)?;
+            let (header, items) = items_of(alloc, datagram)?.map_err(|_| Fault::Words)?;
+            is_append_refused(alloc, call, &header, &items)
         }
-        "show_run"
-        | "list_run"
-        | "audit_run"
-        | "audit_from_run"
-        | "why_run"
-        | "json_run"
-        | "read_recording" => inputs::is_input_refused(alloc, call, text.as_bytes()),
-        "add_plain" | "add_merged" => grown::is_set_refused(alloc, call),
-        _ => try_datagrams(alloc, call, text),
+        _ => Err(Fault::Words),
     }
 }
 
-/// A call on a capture of the recording.
-fn try_capture(alloc: Global, call: &str, text: &str) -> Result<bool, Fault> {
-    let recording = read(alloc, text)?;
-    let capture = capture::of(alloc, &recording)?;
-    inputs::is_input_refused(alloc, call, &capture)
-}
-
-/// A call on a capture of the recording in fragments.
-fn try_fragments(alloc: Global, call: &str, text: &str) -> Result<bool, Fault> {
-    let recording = read(alloc, text)?;
-    let capture = capture::in_fragments(alloc, &recording)?;
-    inputs::is_input_refused(alloc, call, &capture)
-}
-
-/// A call on the datagrams of the recording.
-fn try_datagrams(alloc: Global, call: &str, text: &str) -> Result<bool, Fault> {
-    let recording = read(alloc, text)?;
-    let recording = datagrams(alloc, &recording)?;
+/// The verdict on the pair by the numbers from 2 on, with this kind of set.
+fn verdict(alloc: Global, call: &str, recording: &[&[u8]]) -> Result<Verdict, Memory> {
     match call {
-        "note" | "note_all" => noted::is_note_refused(alloc, call, &recording),
-        "walk" => noted::is_walk_refused(alloc, &recording),
-        "put_u16" | "put_u32" | "put_number" | "write_list" => grown::is_put_refused(alloc, call),
-        "write_message" => grown::is_message_refused(alloc, &recording),
-        _ => answers::is_refused(alloc, call, &recording),
+        "judge_plain" => judge_from::<PlainRanges>(alloc, recording, PAIR, second()),
+        _ => judge_from::<MergedRanges>(alloc, recording, PAIR, second()),
     }
+}
+
+fn is_verdict_refused(alloc: Global, call: &str, recording: &[&[u8]]) -> Result<bool, Fault> {
+    let wanted = verdict(alloc, call, recording)?;
+    for refused in [false, true] {
+        mark(alloc);
+        let found = verdict(alloc, call, recording);
+        mark(alloc);
+        match found {
+            Ok(found) if found == wanted => return Ok(refused),
+            Ok(_) => return Err(Fault::Differs("the answer is another after a refusal")),
+            Err(Memory) => {}
+        }
+    }
+    Err(Fault::Memory)
+}
+
+/// Appends to octets, and returns whether that fails.
+fn fails(call: &str, header: &Header, items: &[Item<'_>], out: &mut Vec<u8>) -> bool {
+    match call {
+        "write_list" => write_list(&PARAMETERS, Order::Little, out).is_err(),
+        _ => write_message(header, items, out).is_err(),
+    }
+}
+
+/// Whether a call that appends was refused memory. Then it has to leave the octets as they were.
+fn is_append_refused(
+    alloc: Global,
+    call: &str,
+    header: &Header,
+    items: &[Item<'_>],
+) -> Result<bool, Fault> {
+    let mut wanted = Vec::from_slice(alloc, BEFORE)?;
+    let mut tried = Vec::from_slice(alloc, BEFORE)?;
+    let _ = fails(call, header, items, &mut wanted);
+    for refused in [false, true] {
+        mark(alloc);
+        let failed = fails(call, header, items, &mut tried);
+        mark(alloc);
+        if !failed && tried == wanted {
+            return Ok(refused);
+        }
+        if !failed || tried.as_slice() != BEFORE {
+            return Err(Fault::Differs("a refusal changes the octets"));
+        }
+    }
+    Err(Fault::Memory)
 }

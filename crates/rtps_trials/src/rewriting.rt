@@ -1,115 +1,103 @@
-//! A message is read, written again from its items, and read back.
+//! Messages are read, and written again from their items. The contract says that what is written reads back as the items.
 
-use rtps_wire::{Header, Item, Items, Refusal, WireFault, WriteFault, write_message};
-use std::alloc::{AllocError, Global};
-use std::{fmt, slice};
+use crate::fault::Fault;
+use crate::recording::read;
+use rtps_wire::{Header, Item, Items, Refusal, write_message};
+use std::alloc::Global;
+use std::fmt::Write;
+use std::slice;
 
-/// Why a message is not written again.
-#[derive(Clone, Copy)]
-pub(crate) enum Unwritten {
-    Refused(WireFault),
-    Fault(WriteFault),
-}
-
-impl From<AllocError> for Unwritten {
-    fn from(_error: AllocError) -> Unwritten {
-        Unwritten::Fault(WriteFault::Memory)
-    }
-}
-
-/// What becomes of a message.
-#[derive(Clone, Copy)]
-pub(crate) enum Outcome {
-    /// It is written with the same octets.
-    Same,
-    /// It is written with other octets. They read back as the same header and items.
-    Otherwise,
-    /// It is written, and does not read back.
-    Differs,
-    /// It is not written.
-    Not(Unwritten),
-}
-
-impl fmt::Display for Outcome {
-    fn fmt<W: fmt::Write>(&self, f: &mut fmt::Formatter<W>) -> fmt::Result {
-        match self {
-            Outcome::Same => write!(f, "the same octets"),
-            Outcome::Otherwise => write!(f, "other octets, the same items"),
-            Outcome::Differs => write!(f, "other items"),
-            Outcome::Not(Unwritten::Refused(fault)) => write!(f, "not read, {fault}"),
-            Outcome::Not(Unwritten::Fault(fault)) => write!(f, "not written, {fault}"),
-        }
-    }
-}
+/// What is read of a datagram: the header and all items, or the refusal.
+type Read<'a> = Result<(Header, Vec<Item<'a>>), Refusal>;
 
 /// The header and the items of a datagram.
-pub(crate) fn items_of<'a>(
-    alloc: Global,
-    datagram: &'a [u8],
-) -> Result<(Header, Vec<Item<'a>>), Unwritten> {
+pub(crate) fn items_of<'a>(alloc: Global, datagram: &'a [u8]) -> Result<Read<'a>, Fault> {
     let (header, found) = match Items::open(datagram) {
         Ok(opened) => opened,
-        Err(refusal) => return Err(Unwritten::Refused(refusal.fault)),
+        Err(refusal) => return Ok(Err(refusal)),
     };
     let mut items = Vec::new(alloc);
     for item in found {
         match item {
             Ok(item) => items.extend_from_slice(slice::from_ref(&item))?,
-            Err(refusal) => return Err(Unwritten::Refused(refusal.fault)),
+            Err(refusal) => return Ok(Err(refusal)),
         }
     }
-    Ok((header, items))
+    Ok(Ok((header, items)))
 }
 
-pub(crate) fn rewrite(alloc: Global, datagram: &[u8]) -> Outcome {
-    match written_again(alloc, datagram) {
-        Ok(written) => compare(datagram, written.as_slice()),
-        Err(unwritten) => Outcome::Not(unwritten),
+/// Appends for each message whether the same octets are written again.
+pub(crate) fn rewrite_each(alloc: Global, input: &str, text: &mut String) -> Result<(), Fault> {
+    let recording = read(alloc, input)?;
+    for datagram in &recording {
+        rewrite(alloc, datagram, text)?;
     }
+    Ok(())
 }
 
-fn written_again(alloc: Global, datagram: &[u8]) -> Result<Vec<u8>, Unwritten> {
-    let (header, items) = items_of(alloc, datagram)?;
-    let mut written = Vec::new(alloc);
-    match write_message(&header, items.as_slice(), &mut written) {
-        Ok(()) => Ok(written),
-        Err(fault) => Err(Unwritten::Fault(fault)),
-    }
-}
-
-fn compare(read: &[u8], written: &[u8]) -> Outcome {
-    if !have_same_items(read, written) {
-        Outcome::Differs
-    } else if read == written {
-        Outcome::Same
-    } else {
-        Outcome::Otherwise
-    }
-}
-
-/// Whether two datagrams have the same header and the same items, at any places, and no refusal.
-fn have_same_items(one: &[u8], other: &[u8]) -> bool {
-    let (Ok((header, items)), Ok((other_header, mut others))) = (
-        Items::open(one),
-        Items::open(other),
-    ) else {
-        return false;
+fn rewrite(alloc: Global, datagram: &[u8], text: &mut String) -> Result<(), Fault> {
+    let (header, items) = match items_of(alloc, datagram)? {
+        Ok(found) => found,
+        Err(refusal) => return Ok(writeln!(text, "not read, {}", refusal.fault)?),
     };
-    if header != other_header {
-        return false;
+    let mut written = Vec::new(alloc);
+    match write_message(&header, &items, &mut written) {
+        Ok(()) if written.as_slice() == datagram => writeln!(text, "the same octets")?,
+        Ok(()) => writeln!(text, "other octets")?,
+        Err(fault) => writeln!(text, "not written, {fault}")?,
     }
-    for item in items {
-        if !are_same(&item, &others.next()) {
-            return false;
-        }
-    }
-    others.next().is_none()
+    Ok(())
 }
 
-/// Whether both are items, and say the same.
-fn are_same(one: &Result<Item<'_>, Refusal>, other: &Option<Result<Item<'_>, Refusal>>) -> bool {
-    match (one, other) {
-        (Ok(one), Some(Ok(other))) => one.order == other.order && one.body == other.body,
-        _ => false,
+/// Reads or writes each message that can be read so many times, so that the time can be measured. Appends how many octets
+/// were written.
+pub(crate) fn repeat(
+    alloc: Global,
+    (mode, times): (&str, &str),
+    input: &str,
+    text: &mut String,
+) -> Result<(), Fault> {
+    let recording = read(alloc, input)?;
+    let times = times.parse::<u32>().map_err(|_| Fault::Words)?;
+    let mut octets = 0u64;
+    for datagram in &recording {
+        let more = match mode {
+            "read" => read_many(datagram, times),
+            _ => write_many(alloc, datagram, times)?,
+        };
+        octets = octets.saturating_add(more);
     }
+    writeln!(text, "{octets}")?;
+    Ok(())
+}
+
+/// The sum of the places of the last item.
+fn read_many(datagram: &[u8], times: u32) -> u64 {
+    let mut octets = 0u64;
+    for _ in 0..times {
+        if let Ok((_, items)) = Items::open(datagram) {
+            let last = items.last();
+            octets = octets.saturating_add(match last {
+                Some(Ok(item)) => item.at as u64,
+                _ => 0,
+            });
+        }
+    }
+    octets
+}
+
+/// Writes each time over what was written before.
+fn write_many(alloc: Global, datagram: &[u8], times: u32) -> Result<u64, Fault> {
+    let Ok((header, items)) = items_of(alloc, datagram)? else {
+        return Ok(0);
+    };
+    let mut written = Vec::new(alloc);
+    let mut octets = 0u64;
+    for _ in 0..times {
+        written.clear();
+        if write_message(&header, &items, &mut written).is_ok() {
+            octets = octets.saturating_add(written.len() as u64);
+        }
+    }
+    Ok(octets)
 }

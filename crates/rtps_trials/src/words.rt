@@ -2,88 +2,62 @@
 
 use crate::fault::Fault;
 use rtps_ids::Order;
-use std::alloc::{AllocError, Global};
+use std::alloc::Global;
+use std::fmt::Write;
 
 /// The words that are left.
-#[derive(Drop)]
+#[derive(Clone, Copy)]
 pub(crate) struct Words<'a> {
-    left: &'a str,
+    pub left: &'a str,
 }
 
 impl<'a> Words<'a> {
-    pub(crate) fn of(text: &'a str) -> Words<'a> {
-        Words { left: text }
-    }
-
-    pub(crate) fn is_empty(&self) -> bool {
-        self.left.is_empty()
-    }
-
     /// The next word, or an empty one after the last.
     pub(crate) fn word(&mut self) -> &'a str {
         let left = self.left;
-        let (word, rest) = match left.split_once(" ") {
-            Some(two) => two,
-            None => (left, ""),
-        };
+        let (word, rest) = left.split_once(" ").unwrap_or((left, ""));
         self.left = rest;
         word
     }
 
-    pub(crate) fn number(&mut self) -> Result<u64, Fault> {
-        number_of(self.word())
+    /// A number; 0 if the word is none.
+    pub(crate) fn number(&mut self) -> i64 {
+        self.word().parse::<i64>().unwrap_or(0)
     }
 
-    /// A number that may be below 0.
-    pub(crate) fn signed(&mut self) -> Result<i64, Fault> {
-        match self.word().parse::<i64>() {
-            Ok(number) => Ok(number),
-            Err(_) => Err(Fault::Words),
-        }
-    }
-
-    /// `big` or `little`.
-    pub(crate) fn order(&mut self) -> Result<Order, Fault> {
-        match self.word() {
-            "big" => Ok(Order::Big),
-            "little" => Ok(Order::Little),
-            _ => Err(Fault::Words),
-        }
-    }
-
-    /// Octets as digits; `-` for none, and `xN` for N octets of 7.
+    /// Octets as digits, or `xN` for N octets of 7.
     pub(crate) fn octets(&mut self, alloc: Global) -> Result<Vec<u8>, Fault> {
         let word = self.word();
-        if word == "-" {
-            return Ok(Vec::new(alloc));
-        }
-        if let Some(count) = word.strip_prefix("x") {
-            return sevens(alloc, number_of(count)?);
-        }
-        match hex::decode(alloc, word.as_bytes()) {
-            Ok(octets) => Ok(octets),
-            Err(_) => Err(Fault::Words),
-        }
+        let Some(count) = word.strip_prefix("x") else {
+            return hex::decode(alloc, word.as_bytes()).map_err(|_| Fault::Words);
+        };
+        let mut octets = Vec::new(alloc);
+        let count = count.parse::<u16>().unwrap_or(0);
+        octets.resize(usize::from(count), 7)?;
+        Ok(octets)
     }
 }
 
-fn number_of(word: &str) -> Result<u64, Fault> {
-    match word.parse::<u64>() {
-        Ok(number) => Ok(number),
-        Err(_) => Err(Fault::Words),
+/// The order of this name.
+pub(crate) fn order_of(word: &str) -> Order {
+    match word {
+        "little" => Order::Little,
+        _ => Order::Big,
     }
 }
 
-fn sevens(alloc: Global, count: u64) -> Result<Vec<u8>, Fault> {
-    let mut octets = Vec::new(alloc);
-    octets.resize(count.min(100_000) as usize, 7)?;
-    Ok(octets)
-}
-
-/// Octets as digits, or only their number if there are more than 100.
-pub(crate) fn octets_text(alloc: Global, octets: &[u8]) -> Result<String, AllocError> {
-    if octets.len() > 100 {
-        return format!(in alloc; "{} octets", octets.len());
+/// Appends octets as digits. Of more than 100 only the first 24 are told, and how many there are.
+pub(crate) fn push_octets(octets: &[u8], text: &mut String) -> Result<(), Fault> {
+    let shown = if octets.len() > 100 {
+        &octets[..24]
+    } else {
+        octets
+    };
+    for octet in shown {
+        write!(text, "{octet:02x}")?;
     }
-    hex::encode(alloc, octets)
+    if shown.len() < octets.len() {
+        write!(text, ".. {}", octets.len())?;
+    }
+    Ok(())
 }
