@@ -37,14 +37,18 @@ class Asked:
 
     def findings(self, rows, missed, counts, reasons):
         """what a report has or lacks against what is asked, beside complete rows, a line for each: of so many rows, of which
-        so many have missed numbers, of its counts by name, and of the reasons for which frames were ignored"""
+        so many have missed numbers, of its counts by name, and of the reasons for which frames were ignored, with the link type
+        of the first one whose link is not read"""
         lines = [f'pairs {rows}, expected {self.expect}'] if self.expect is not None and rows < self.expect else []
         if not self.strict:
             return lines
         lines += ['pairs 0'] if rows == 0 else []
         found = [('pairs with missed numbers', missed), *((name, counts[name]) for name in ('fragments', 'unsettled')),
-                 *((name, reasons.get(name, 0)) for name in ('pieces', 'cut'))]
-        return lines + [f'{name} {count}' for name, count in found if count]
+                 *((name, reasons.get(name, 0)) for name in ('pieces', 'cut', 'links'))]
+        lines += [f'{name} {count}' for name, count in found if count]
+        if reasons.get('links', 0) and reasons['link'] is not None:
+            lines[-1] += f", the first of type {reasons['link']}"
+        return lines
 
 
 PLAIN = Asked()

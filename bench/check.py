@@ -214,6 +214,8 @@ NOTES = [
      "record at the writer's side, and see that tcpdump drops nothing: they may have samples or announcements"),
     ('cut', 'frame is cut', 'frames are cut',
      'record whole frames, without a snap length (tcpdump -s), and end tcpdump with Ctrl-C'),
+    ('links', 'frame is of a link that is not read', 'frames are of links that are not read',
+     'record on an Ethernet, loopback or raw IP interface, or with tcpdump -i any'),
     ('other', 'frame carries no UDP over IP', 'frames carry no UDP over IP',
      'nothing is to be done: ARP, TCP and ICMP are such frames'),
     ('fragments', 'fragment is of a sample that is not whole', 'fragments are of samples that are not whole',
@@ -225,12 +227,20 @@ NOTES = [
 ]
 
 
+def noted(counts, name, one, many):
+    """how many there are; of frames of links that are not read also the link type of the first, where it has one"""
+    told = amount(counts[name], one, many)
+    if name != 'links' or counts['link'] is None:
+        return told
+    return told + (', of type ' if counts[name] == 1 else ', the first of type ') + grouped(counts['link'])
+
+
 def notes(rows, counts):
     counts = counts | {'unsure': total(rows, unsure)}
     lines = []
     for name, one, many, advice in NOTES:
         if counts.get(name, 0):
-            lines += [amount(counts[name], one, many), '  -> ' + advice]
+            lines += [noted(counts, name, one, many), '  -> ' + advice]
     return lines
 
 
@@ -249,8 +259,8 @@ def because(rows, counts, expected):
         numbers = amount(total(missed, lambda row: row['missed']), 'number was missed', 'numbers were missed')
         reasons.append(f"{numbers} in {amount(len(missed), 'pair', 'pairs')}")
     for name, one, many, _ in NOTES:
-        if name in ('pieces', 'cut', 'fragments', 'unsettled') and counts.get(name, 0):
-            reasons.append(amount(counts[name], one, many))
+        if name in ('pieces', 'cut', 'links', 'fragments', 'unsettled') and counts.get(name, 0):
+            reasons.append(noted(counts, name, one, many))
     return reasons
 
 

@@ -15,6 +15,7 @@ import sys
 import tempfile
 from typing import Callable, NamedTuple
 
+from capture_writer import summed
 from figures import PROGRAM, announcement, frame, one_pair, reader_at, robot
 from make import A, B, WRITER, ack_nack, header, heartbeat, to
 
@@ -40,9 +41,10 @@ def block(number, datagram):
 
 
 def parts_of(number, datagram):
-    """two frames, each with half of the packet"""
+    """two frames, each with half of a packet whose UDP checksum is right"""
     whole = frame(datagram)[RECORD:]
     link, packet, inner = whole[:LINK], whole[LINK:LINK + PACKET], whole[LINK + PACKET:]
+    inner = summed(inner, packet[12:16], packet[16:20])
     half = len(inner) // 16 * 8
     for place, part in ((0x2000, inner[:half]), (half // 8, inner[half:])):
         head = packet[:2] + (PACKET + len(part)).to_bytes(2, 'big') + (number % 65536).to_bytes(2, 'big') + place.to_bytes(2, 'big') + packet[8:]
@@ -122,7 +124,7 @@ ROWS = {
     'limit': (Run([], 'limit', limit), Run(ANY, 'limit', limit)),
     'robot_pcapng': (Run([], 'robot', robot), Run(ANY, 'robot_pcapng', robot, SECTION + INTERFACE, block)),
     'limit_pcapng': (Run([], 'limit', limit), Run(ANY, 'limit_pcapng', limit, SECTION + INTERFACE, block)),
-    'halves': (Run([], 'large', large), Run(ANY, 'halves', large, CLASSIC, halves)),
+    'halves': (Run([], 'large', large), Run(ANY, 'summed_halves', large, CLASSIC, halves)),
     'robot_fragments': (Run([], 'robot', robot), Run(FRAGMENTS, 'robot', robot)),
     'limit_fragments': (Run([], 'limit', limit), Run(FRAGMENTS, 'limit', limit)),
     'fragments': (Run(LIMIT, 'gibibyte', lambda: samples(10737, False)), Run(LIMIT + FRAGMENTS, 'gibibyte_in_fragments', lambda: samples(10737, True))),

@@ -21,6 +21,8 @@
     reference.py texts PROGRAM [COUNT [SEED]]
                                            the same on COUNT random texts, most of which are no recordings, that come
                                            through a pipe in pieces
+    reference.py captures PROGRAM [COUNT [SEED]]
+                                           the same on COUNT random captures, without and with `--any`
 
 It is written for clearness: every verdict of a small recording is found by trying what a reader may take
 (`verdict_by_runs`), and so are the numbers that it received (`received_by_runs`); those of a large one by the plain
@@ -32,10 +34,11 @@ import subprocess
 import sys
 import tempfile
 
-import any_capture
+import capture_reader
 from asked import GREATEST, PLAIN, Asked, asked_by
 from check import because, check_lines
 from fragments import by_writer, payloads_told, placed_samples, without_sample
+from random_captures import some_capture
 from random_recordings import A, B, START, some_asked, some_checked, some_delivery, some_input, text_of_datagrams
 
 READ = {0x06, 0x07, 0x08, 0x09, 0x0c, 0x0e, 0x15}
@@ -264,50 +267,16 @@ def recording_of(text, limits=USUAL):
     return datagrams
 
 
-CAPTURES = {'a1b2c3d4': 'big', 'a1b23c4d': 'big', 'd4c3b2a1': 'little', '4d3cb2a1': 'little'}
+def mode_of(any_form):
+    return capture_reader.ANY if any_form else capture_reader.PLAIN
 
 
-def payload_of(link, frame):
-    """the datagram that a frame of a capture gives, or None"""
-    packet = frame
-    if link == 1:
-        if len(frame) < 14 or frame[12:14] != b'\x08\x00':
-            return None
-        packet = frame[14:]
-    if len(packet) < 20 or packet[0] >> 4 != 4:
+def capture_of(octets, limits=USUAL, any_form=False):
+    """the reading of a capture, or its first fault; None of what is no capture, or has too many octets"""
+    mode = mode_of(any_form)
+    if len(octets) > limits[1] or not capture_reader.is_capture(octets, mode):
         return None
-    header, total = (packet[0] & 15) * 4, number(packet[2:4], 'be')
-    if header < 20 or total < header + 8 or total > len(packet):
-        return None
-    more_fragments, offset = packet[6] & 0x20, number(packet[6:8], 'be') & 0x1fff
-    if more_fragments or offset or packet[9] != 17:
-        return None
-    udp = packet[header:total]
-    size = number(udp[4:6], 'be')
-    return udp[8:size] if 8 <= size <= len(udp) else None
-
-
-def capture_of(file, limits=USUAL):
-    """datagrams of a capture and how many frames were ignored, or the last line that is written to standard error"""
-    order = CAPTURES[file[:4].hex()]
-    if len(file) < 24 or int.from_bytes(file[4:6], order) != 2:
-        return 'bad capture'
-    link = int.from_bytes(file[20:24], order) % 65536
-    if link not in (1, 101):
-        return 'bad capture'
-    at, frame, datagrams = 24, 0, []
-    while at < len(file):
-        frame += 1
-        size = int.from_bytes(file[at + 8:at + 12], order)
-        if len(file) < at + 16 or len(file) < at + 16 + size:
-            return f'frame {frame}: cut'
-        payload = payload_of(link, file[at + 16:at + 16 + size])
-        if payload is not None:
-            if len(datagrams) == limits[0]:
-                return 'too many datagrams'
-            datagrams.append(payload)
-        at += 16 + size
-    return datagrams, frame - len(datagrams)
+    return capture_reader.read_capture(octets, mode, limits[0])
 
 
 def input_of(octets, limits=USUAL, any_form=False):
@@ -315,13 +284,66 @@ def input_of(octets, limits=USUAL, any_form=False):
 
     Under `--any` the ignored frames are told by their reasons.
     """
-    if any_form and len(octets) <= limits[1] and any_capture.is_capture(octets):
-        reading = any_capture.read_any(octets, limits[0])
-        return reading if isinstance(reading, str) else (reading.datagrams, reading.counts())
-    if len(octets) <= limits[1] and octets[:4].hex() in CAPTURES:
-        return capture_of(octets, limits)
-    datagrams = recording_of(octets, limits)
-    return datagrams if isinstance(datagrams, str) else (datagrams, None)
+    reading = capture_of(octets, limits, any_form)
+    if reading is None:
+        datagrams = recording_of(octets, limits)
+        return datagrams if isinstance(datagrams, str) else (datagrams, None)
+    if isinstance(reading, capture_reader.Fault):
+        return reading.line
+    counts = reading.counts()
+    return reading.datagrams, counts if any_form else counts['ignored']
+
+
+def first_link(octets, limits=USUAL):
+    """the link type of the first frame of a capture whose link is not read; None where its interface is not declared"""
+    reading = capture_of(octets, limits, True)
+    return reading.link if isinstance(reading, capture_reader.Reading) else None
+
+
+# ---- what is told of an input that is refused, before the line of its fault
+
+TSHARK = "tshark -r IN -Y 'udp && !icmp' -T fields -e udp.payload >OUT makes a recording of it"
+
+
+def of_form(name, octets, any_form):
+    """what an input is, where it is not read, and what reads it"""
+    if octets[:2] == b'\x1f\x8b':
+        yield f'a gzip file; gunzip -c {name} | rtps-audit audit - reads what it holds'
+    if not any_form and octets[:4] == capture_reader.SECTION:
+        yield 'a pcapng file; --any reads it'
+
+
+def of_link(octets, any_form):
+    number = capture_reader.link_type_of(octets)
+    if number is None or number in capture_reader.LINKS[mode_of(any_form)]:
+        return []
+    by_any = number in capture_reader.LINKS[capture_reader.ANY]
+    return [f"frames of link type {number}; {'--any reads them' if by_any else TSHARK}"]
+
+
+def of_fault(octets, limits, any_form):
+    fault = capture_of(octets, limits, any_form)
+    if not isinstance(fault, capture_reader.Fault):
+        return []
+    if fault.damaged:
+        return [f'frame {fault.damaged} is damaged, or two captures are in one file (mergecap joins them)']
+    is_cut = not any_form and fault.line.endswith(': cut')
+    return ['the capture ends within a frame; --any reads what is whole'] if is_cut else []
+
+
+def of_limit(octets, limits):
+    most, what = (limits[1], 'octets') if len(octets) > limits[1] else (limits[0], 'datagrams')
+    return f'more than {most} {what}; --max-{what} N raises this limit'
+
+
+def told_of(name, octets, limits=USUAL, any_form=False):
+    """the lines on standard error where an input is refused"""
+    line = input_of(octets, limits, any_form)
+    if not isinstance(line, str):
+        return []
+    told = [*of_form(name, octets, any_form), *of_fault(octets, limits, any_form), *of_link(octets, any_form)]
+    told += [of_limit(octets, limits)] if line == capture_reader.TOO_MANY else []
+    return [f'rtps-audit: {name}: {reason}' for reason in told] + [f'rtps-audit: {line}']
 
 
 def show(datagrams, fragments=False):
@@ -946,13 +968,13 @@ def findings(datagrams, asked, reasons):
     return asked.findings(len(rows) - 2, missed, dict(zip(counts[::2], map(int, counts[1::2]))), reasons)
 
 
-def answer_as(view, text, asked, limits=USUAL, any_form=False):
-    """text, lines on standard error and status of the program; what is asked is for reports alone, but for fragments, which
-    `show` has too"""
+def answer_as(view, text, asked, limits=USUAL, any_form=False, name='-'):
+    """text, lines on standard error and status of the program for the input of this name; what is asked is for reports alone,
+    but for fragments, which `show` has too"""
     any_form = any_form or asked.strict
     read = input_of(text, limits, any_form)
     if isinstance(read, str):
-        return '', [f'rtps-audit: {read}'], 2
+        return '', told_of(name, text, limits, any_form), 2
     datagrams, ignored = read
     if view not in REPORTS:
         lines = show(datagrams, asked.fragments) if view == 'show' else list_text(datagrams)
@@ -960,9 +982,17 @@ def answer_as(view, text, asked, limits=USUAL, any_form=False):
     lines = json_lines(datagrams, asked, ignored) if view == 'json' else VIEWS[view](datagrams, asked)
     if view != 'json' and ignored is not None:
         lines[-1] += f" ignored {ignored['ignored'] if any_form else ignored}"
-    found = findings(datagrams, asked, ignored if isinstance(ignored, dict) else {})
+    found = findings(datagrams, asked, reasons_of(text, ignored, limits))
     unclean = any(' complete ' not in line for line in audit(datagrams, asked)[1:-1])
     return ''.join(line + '\n' for line in lines), [f'rtps-audit: not clean: {line}' for line in found], int(unclean or bool(found))
+
+
+def reasons_of(octets, ignored, limits=USUAL):
+    """the frames that were ignored by their reasons, where these are told, and the link type of the first one of a link that is not
+    read"""
+    if not isinstance(ignored, dict):
+        return {}
+    return ignored | {'link': first_link(octets, limits) if ignored['links'] else None}
 
 
 def answer(view, text, first=1, limits=USUAL, any_form=False):
@@ -993,7 +1023,7 @@ def check(octets, asked, as_json=False, limits=USUAL):
     rows, all_rows = checked_rows(datagrams, observed), checked_rows(datagrams, Asked(asked.first, asked.topics, fragments=True))
     report = report_values(datagrams, observed) | (ignored or {})
     # A datagram of one octet is refused, and is no reason to look at it.
-    counts = report | {'refused': report['refused'] - sum(len(d) < 2 for d in datagrams)}
+    counts = report | reasons_of(octets, ignored, limits) | {'refused': report['refused'] - sum(len(d) < 2 for d in datagrams)}
     reasons = because(rows, counts, asked.expect or 0)
     if as_json:
         head = {'status': 'unclean' if reasons else 'clean', 'because': reasons}
@@ -1034,8 +1064,8 @@ def runs(count, seed):
     return int(differing > 0)
 
 
-def kept(text):
-    with tempfile.NamedTemporaryFile(delete=False, suffix='.rec') as f:
+def kept(text, suffix='.rec'):
+    with tempfile.NamedTemporaryFile(delete=False, suffix=suffix) as f:
         f.write(text)
     return f.name
 
@@ -1056,14 +1086,14 @@ def answers(rng, text):
     for flag in [], ['--json']:
         asked = some_checked(rng)
         printed, status = check(text, asked, bool(flag))
-        yield ['check', *flag, *asked.words()], (printed, [], status)
+        yield ['check', *flag, *asked.words()], (printed, told_of('-', text, any_form=True), status)
 
 
 def differing_in_answers(rng, program, text):
     """the command lines whose answers differ from those of the program"""
     for words, (want, told, status) in answers(rng, text):
         got = subprocess.run(program.split() + words + ['-'], input=text, capture_output=True)
-        if got.stdout.decode() != want or got.returncode != status or status < 2 and got.stderr.decode().splitlines() != told:
+        if (got.stdout.decode(), got.stderr.decode().splitlines(), got.returncode) != (want, told, status):
             yield ' '.join(words)
 
 
@@ -1130,12 +1160,6 @@ def some_lines(rng, long):
     return text[:-1] if text and rng.random() < 0.4 else text
 
 
-def passed_limit(octets, limits):
-    """the line that tells of standard input which limit it passes"""
-    most, what = (limits[1], 'octets') if len(octets) > limits[1] else (limits[0], 'datagrams')
-    return f'rtps-audit: -: more than {most} {what}; --max-{what} N raises this limit\n'
-
-
 def in_pieces(rng, program, words, text):
     child = subprocess.Popen(program.split() + words, stdin=subprocess.PIPE, stdout=subprocess.PIPE, stderr=subprocess.PIPE, bufsize=0)
     at, most = 0, rng.choice([1, 3, 50, 1 << 16, 1 << 20]) if len(text) < 2000 else rng.choice([30000, 65536, 131071, 1 << 20])
@@ -1158,11 +1182,7 @@ def texts(program, count, seed):
         words = ['--max-datagrams', str(limits[0]), '--max-octets', str(limits[1])] if limits != USUAL else []
         found = recording_of(text, limits)
         faulty += isinstance(found, str)
-        told = f'rtps-audit: {found}\n' if isinstance(found, str) else ''
-        if found == 'too many datagrams':
-            told = passed_limit(text, limits) + told
-        if told and text.startswith(b'\n\r\r\n'):
-            told = 'rtps-audit: -: a pcapng file; editcap -F pcap IN OUT makes a capture of it\n' + told
+        told = ''.join(line + '\n' for line in told_of('-', text, limits))
         for view in ('show', 'why', 'json'):
             want, status = answer(view, text, limits=limits)
             if in_pieces(rng, program, [*words_of(view), *words, '-'], text) != (want, told, status):
@@ -1172,13 +1192,52 @@ def texts(program, count, seed):
     return int(differing > 0)
 
 
+# ---- random captures
+
+def asked_of_capture(rng, octets):
+    """command lines without their FILE, each with its view, what is asked, the limits, and whether any capture is read"""
+    limits = USUAL if rng.random() < 0.9 else (rng.choice([1, 2, 3, 5]), rng.choice([USUAL[1], max(1, len(octets) + rng.randrange(-2, 3))]))
+    words = ['--max-datagrams', str(limits[0]), '--max-octets', str(limits[1])] if limits != USUAL else []
+    other = rng.choice(['audit', 'why', 'list', 'json'])
+    for view, any_form in (('show', False), ('json', False), ('show', True), ('json', True), (other, True)):
+        strict = view in REPORTS and any_form and rng.random() < 0.3
+        yield words_of(view) + words + (['--strict'] if strict else ['--any'] if any_form else []), view, Asked(strict=strict), limits, any_form
+
+
+def answers_of_capture(rng, octets):
+    """command lines without their FILE, each with what the program should print, and its status"""
+    for words, view, asked, limits, any_form in asked_of_capture(rng, octets):
+        yield words, answer_as(view, octets, asked, limits, any_form)
+    if rng.random() < 0.3:
+        printed, status = check(octets, Asked())
+        yield ['check'], (printed, told_of('-', octets, any_form=True), status)
+
+
+def captures(program, count, seed):
+    rng, differing, refused, datagrams = random.Random(seed), 0, 0, [0, 0]
+    for k in range(count):
+        octets = some_capture(rng)
+        for words, wanted in answers_of_capture(rng, octets):
+            got = subprocess.run(program.split() + words + ['-'], input=octets, capture_output=True)
+            if (got.stdout.decode(), got.stderr.decode().splitlines(), got.returncode) != wanted:
+                differing += 1
+                file = kept(octets, '.pcap')
+                print(f"{' '.join(words)} differs on capture {k}, kept in {file}", flush=True)
+            refused += wanted[2] == 2
+        for any_form in (False, True):
+            reading = capture_of(octets, any_form=any_form)
+            datagrams[any_form] += len(reading.datagrams) if isinstance(reading, capture_reader.Reading) else 0
+    print(f'{count} captures, {differing} differences; {datagrams[0]} datagrams without --any, {datagrams[1]} with it; {refused} runs refused')
+    return int(differing > 0)
+
+
 def main():
     if sys.argv[1] == 'runs':
         count, seed = (int(word) for word in sys.argv[2:4] + ['1000', '1'][len(sys.argv[2:4]):])
         return runs(count, seed)
-    if sys.argv[1] in ('compare', 'texts'):
+    if sys.argv[1] in ('compare', 'texts', 'captures'):
         count = int(sys.argv[3]) if len(sys.argv) > 3 else 1000
-        run = compare if sys.argv[1] == 'compare' else texts
+        run = {'compare': compare, 'texts': texts, 'captures': captures}[sys.argv[1]]
         return run(sys.argv[2], count, int(sys.argv[4]) if len(sys.argv) > 4 else 1)
     words = sys.argv[2:-1]
     if sys.argv[1] == 'check':
@@ -1187,7 +1246,7 @@ def main():
         sys.stdout.write(text)
         return status
     with open(sys.argv[-1], 'rb') as f:
-        text, told, status = answer_as(sys.argv[1], f.read(), asked_by(words), any_form='--any' in words)
+        text, told, status = answer_as(sys.argv[1], f.read(), asked_by(words), any_form='--any' in words, name=sys.argv[-1])
     sys.stdout.write(text)
     sys.stderr.write(''.join(line + '\n' for line in told))
     return status

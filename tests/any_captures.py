@@ -3,7 +3,7 @@
 
     tests/any_captures.py PROGRAM
 
-What is wanted was worked out, or is what the second implementation, bench/any_capture.py, says. Each group prints a line
+What is wanted was worked out, or is what the second implementation, bench/capture_reader.py, says. Each group prints a line
 with what was counted. The last line is 'N passed, M failed'.
 """
 import glob
@@ -17,102 +17,55 @@ import sys
 
 sys.dont_write_bytecode = True
 import program
-import any_capture
+import capture_reader
 import reference
-from captures import (BASE, DATAGRAM, ETHERNET, FRAMED, HEADER, RAW_IP, SHOWN, audited, capture, ethernet, packet, record, start, udp,
-                      with_octets)
+from capture_writer import (ETHERNET, HOST, RAW_IP, block, capture, cooked_1, cooked_2, enhanced, ethernet, extension, fragment, fragment_6,
+                            interface, old, packet, packet_6, pcapng, record, section, simple, start, summed, tagged, udp, udp_4, udp_6)
+from captures import BASE, DATAGRAM, FRAMED, HEADER, SHOWN, audited, with_octets
 from program import ROOT, file_of, text_of
+from random_captures import some_capture
 
 ANY = ('--any',)
-LINKS = (0, 108, 1, 101, 113, 276, 228, 229)
-
-
-# ---- what writes the forms
-
-def fragment(octets, at, size, identification=1, more=None, source=1, offset=None):
-    """A packet of version 4 with so many octets of another one's payload, from a place on."""
-    part = octets[at:at + size]
-    more = at + size < len(octets) if more is None else more
-    place = (at // 8 if offset is None else offset) | (0x2000 if more else 0)
-    return (b'\x45\0' + (20 + len(part)).to_bytes(2, 'big') + identification.to_bytes(2, 'big') + place.to_bytes(2, 'big')
-            + b'\x40\x11\0\0\x7f\0\0' + bytes([source]) + b'\x7f\0\0\1' + part)
-
-
-def packet_6(rest, following=17, size=None):
-    size = len(rest) if size is None else size
-    return b'\x60\0\0\0' + size.to_bytes(2, 'big') + bytes([following, 64]) + bytes(15) + b'\1' + bytes(15) + b'\1' + rest
-
-
-def extension(following, rest, units=0):
-    return bytes([following, units]) + bytes(6 + 8 * units) + rest
-
-
-def fragment_6(octets, at, size, identification=1, more=None, following=17):
-    part = octets[at:at + size]
-    more = at + size < len(octets) if more is None else more
-    return packet_6(bytes([following, 0]) + (at | more).to_bytes(2, 'big') + identification.to_bytes(4, 'big') + part, 44)
-
-
-def tagged(inner, kinds=(0x8100,), kind=0x0800):
-    tags = b''.join(tag.to_bytes(2, 'big') + b'\0\7' for tag in kinds)
-    return b'\xff' * 6 + b'\2\0\0\0\0\1' + tags + kind.to_bytes(2, 'big') + inner
-
-
-def cooked_1(inner, kind=0x0800):
-    return b'\0\0\0\1\0\6\2\0\0\0\0\1\0\0' + kind.to_bytes(2, 'big') + inner
-
-
-def cooked_2(inner, kind=0x0800):
-    return kind.to_bytes(2, 'big') + bytes(18) + inner
-
-
-def block(kind, body, order='little', size=None):
-    body += bytes(-len(body) % 4)
-    size = (len(body) + 12 if size is None else size).to_bytes(4, order)
-    return kind.to_bytes(4, order) + size + body + size
-
-
-def section(order='little', major=1):
-    body = (0x1a2b3c4d).to_bytes(4, order) + major.to_bytes(2, order) + bytes(2) + b'\xff' * 8
-    return block(0x0a0d0d0a, body, order)
-
-
-def interface(link=RAW_IP, order='little', snap=0):
-    return block(1, link.to_bytes(2, order) + bytes(2) + snap.to_bytes(4, order), order)
-
-
-def enhanced(frame, number=0, order='little', size=None):
-    size = len(frame) if size is None else size
-    words = number, 0, 0, size, len(frame)
-    return block(6, b''.join(word.to_bytes(4, order) for word in words) + frame, order)
-
-
-def simple(frame, order='little', original=None):
-    return block(3, (len(frame) if original is None else original).to_bytes(4, order) + frame, order)
-
-
-def old(frame, number=0, order='little'):
-    words = (number, 2), (0, 2), (0, 4), (0, 4), (len(frame), 4), (len(frame), 4)
-    return block(2, b''.join(word.to_bytes(size, order) for word, size in words) + frame, order)
-
-
-def pcapng(frames, link=RAW_IP, order='little', write=enhanced):
-    return section(order) + interface(link, order) + b''.join(write(frame, order=order) for frame in frames)
+DAMAGED = 'rtps-audit: FILE: frame {} is damaged, or two captures are in one file (mergecap joins them)\n'
+MOST_CAPTURED = 262144
 
 
 # ---- what was worked out by hand
 
-INNER = udp(DATAGRAM)                       # the UDP header of the base packet and its octets
-F1, F2 = fragment(INNER, 0, 40), fragment(INNER, 40, 20)
-OTHER_END = INNER[:39] + b'\x7f' + INNER[40:]
-CHANGED = INNER[:20] + b'\x7f' + INNER[21:-1] + b'\x7f'
+# The UDP header of the base packet and its octets, and the same with their checksum; so over IPv6.
+INNER, SUMMED, SUMMED_6 = udp(DATAGRAM), udp_4(DATAGRAM), udp_6(DATAGRAM)
 
 
-def fragments_of(*names):
-    """frames of F1, F2 and their kin, by their names"""
-    known = {'F1': F1, 'F2': F2, 'G2': fragment(INNER, 40, 20, 2), 'H1': fragment(OTHER_END, 0, 40),
-             'I1': fragment(CHANGED, 0, 40), 'I2': fragment(CHANGED, 40, 20), 'J2': fragment(INNER[:-1] + b'\x7f', 40, 20)}
-    return [known[name] for name in names]
+def halves(inner, identification=1):
+    return [fragment(inner, at, size, identification) for at, size in ((0, 40), (40, 20))]
+
+
+def thirds(inner, identification=1):
+    return [fragment(inner, at, size, identification) for at, size in ((0, 24), (24, 24), (48, len(inner) - 48))]
+
+
+def pieces_by_name(inner, write):
+    """fragments F1, F2 and their kin: of another identification, with another end, with other octets in both, with another last
+    octet, with a checksum that is wrong. `write` gives the checksum, or leaves it out"""
+    changed = write(inner[:20] + b'\x7f' + inner[21:-1] + b'\x7f')
+    wrong = inner[:6] + bytes([inner[6] ^ 1, 1]) + inner[8:]
+    whole = {'F': halves(inner), 'G': halves(inner, 2), 'H': halves(inner[:39] + b'\x7f' + inner[40:]), 'I': halves(changed),
+             'J': halves(inner[:-1] + b'\x7f'), 'K': halves(wrong)}
+    return {f'{name}{place}': piece for name, pieces in whole.items() for place, piece in enumerate(pieces, 1)}
+
+
+# Names of frames, and how many datagrams they give and how many are ignored: with the checksum 0, and with the right one.
+PIECES = (
+    ('F1 F2', (1, 0), (1, 0)), ('F2 F1', (1, 0), (1, 0)), ('F1', (0, 1), (0, 1)), ('F1 F1 F2 F2', (1, 0), (1, 0)),
+    ('F1 G2', (0, 2), (0, 2)), ('H1 F1 F2', (1, 1), (1, 1)), ('F1 F2 I1 I2', (2, 0), (2, 0)), ('F1 F2 F1 F2', (2, 0), (2, 0)),
+    ('F1 F2 F2', (1, 0), (1, 0)), ('F1 F2 F1 J2', (2, 0), (1, 1)), ('K1 F2', (0, 2), (0, 2)), ('F1 J2', (1, 0), (0, 2)),
+    # The two of one packet and then those of another, each twice: the copy of the first one's end is not taken for the other's.
+    ('F1 F1 F2 F2 I1 I1 I2 I2', None, (2, 0)), ('F2 F2 F1 F1 I2 I2 I1 I1', None, (2, 0)),
+    # A head is lost. The end that stands alone is dropped, for it comes first.
+    ('F2 I1 I2', None, (1, 1)), ('F1 I1 I2', (1, 1), (1, 1)), ('F2 F2 I1 I1 I2 I2 F1 F2', None, (2, 1)),
+    # Wrong sums drop one piece each time.
+    ('J2 F1 F2', None, (1, 1)), ('F2 J2 F1', (1, 1), (0, 3)), ('F1 J2 F2', None, (0, 3)), ('K1 F2 F1', (1, 1), (1, 1)),
+)
 
 
 def agreed(tests, name, octets, counts):
@@ -126,49 +79,164 @@ def rows(tests):
         tests.answers(name, 'show', octets, SHOWN, words=ANY)
         agreed(tests, name, octets, (1, 0, 0))
     agreed(tests, 'a header alone', BASE[:24], (0, 0, 0))
-    for names, datagrams, ignored in (('F1 F2', 1, 0), ('F2 F1', 1, 0), ('F1', 0, 1), ('F1 F1 F2 F2', 1, 0), ('F1 G2', 0, 2), ('H1 F1 F2', 1, 1),
-                                      ('F1 F2 I1 I2', 2, 0), ('F1 F2 F1 F2', 2, 0), ('F1 F2 F1 J2', 2, 0), ('F1 F2 F2', 1, 0)):
-        agreed(tests, names, capture(fragments_of(*names.split())), (datagrams, 0, ignored))
-    tests.answers('F1 F2', 'show', capture([F1, F2]), SHOWN, words=ANY)
     good, six = packet(DATAGRAM), packet_6(INNER)
     for kinds in ((0x8100,), (0x88a8, 0x8100), (0x9100,) * 5):
         agreed(tests, f'tags {kinds}', capture([tagged(good, kinds)], ETHERNET), (1, 0, 0))
     agreed(tests, 'ARP', with_octets(FRAMED, 24 + 16 + 12, '0806'), (0, 0, 1))
     sixes = {'raw IP': capture([six]), 'raw IPv6': capture([six], 229), 'Ethernet': capture([ethernet(six, 0x86dd)], ETHERNET),
-             'hop-by-hop': capture([packet_6(extension(17, INNER), 0)]), 'fragments': capture([fragment_6(INNER, 40, 20), fragment_6(INNER, 0, 40)]),
+             'hop-by-hop': capture([packet_6(extension(17, INNER), 0)]),
+             'fragments': capture([fragment_6(SUMMED_6, 40, 20), fragment_6(SUMMED_6, 0, 40)]),
              'a fragment alone that is whole': capture([packet_6(bytes([17, 0, 0, 6, 0, 0, 0, 9]) + INNER, 44)])}
     for name, octets in sixes.items():
         agreed(tests, f'IPv6: {name}', octets, (1, 0, 0))
         tests.answers(f'IPv6: {name}', 'show', octets, SHOWN, words=ANY)
-    for link, frame in ((113, cooked_1(good)), (276, cooked_2(good)), (0, b'\2\0\0\0' + good), (108, b'\0\0\0\2' + good), (228, good)):
+    for link, frame in ((113, cooked_1(good)), (276, cooked_2(good)), (0, b'\2\0\0\0' + good), (0, b'\0\0\0\2' + good),
+                        (108, b'\0\0\0\2' + good), (228, good)):
         agreed(tests, f'link type {link}', capture([frame], link), (1, 0, 0))
     for order, write in itertools.product(('little', 'big'), (enhanced, simple, old)):
         agreed(tests, f'pcapng, {order}, {write.__name__}', pcapng([good], order=order, write=write), (1, 0, 0))
-    two = section() + interface(ETHERNET) + interface(189) + enhanced(ethernet(good)) + enhanced(b'usb', 1)
-    agreed(tests, 'two interfaces', two, (1, 0, 1))
     agreed(tests, 'base without its last octet', BASE[:-1], (0, 0, 1))
     agreed(tests, 'pcapng without its last octet', pcapng([good])[:-1], (0, 0, 1))
     tests.refuses('a section alone that is none', bytes.fromhex('0a0d0d0a'), 'bad capture', words=ANY)
-    tests.holds('the reasons', {'ignored': 4, 'pieces': 1, 'cut': 2, 'other': 1}, counts_of(tests, capture([F1, good[:-1], b'\x50']) + b'\0' * 3))
+    tests.holds('the reasons', {'ignored': 4, 'pieces': 1, 'cut': 2, 'other': 1, 'links': 0},
+                counts_of(tests, capture([halves(INNER)[0], good[:-1], b'\x50']) + b'\0' * 3))
     tests.answers('a text', 'audit', text_of([DATAGRAM]), audited(1, 0, 0).replace(' ignored 0', ''), words=ANY)
     print('rows worked out by hand')
 
 
+def pieces(tests):
+    # The words of the pseudo-header, of the UDP header and of the octets are 0x60307 in all, so 0x030d with the carry.
+    tests.holds('the checksum of the base packet', 0xffff - 0x030d, int.from_bytes(SUMMED[6:8], 'big'))
+    plain, right = pieces_by_name(INNER, lambda inner: inner), pieces_by_name(SUMMED, lambda inner: summed(inner, HOST, HOST))
+    for names, without, with_sum in PIECES:
+        for what, known, counts in (('no checksum', plain, without), ('a checksum', right, with_sum)):
+            if counts is not None:
+                agreed(tests, f'{names} with {what}', capture([known[name] for name in names.split()]), (counts[0], 0, counts[1]))
+    for inner in (INNER, SUMMED):
+        tests.answers('F1 F2', 'show', capture(halves(inner)), SHOWN, words=ANY)
+    lying = [udp(DATAGRAM, size) for size in (0, 7, 61, 65535)]
+    for inner in (*lying, *(summed(one, HOST, HOST) for one in lying)):
+        agreed(tests, f'a UDP length of {inner[4:6].hex()}', capture(halves(inner)), (0, 0, 2))
+    shorter = summed(udp(DATAGRAM[:-12], 48) + DATAGRAM[-12:], HOST, HOST)
+    agreed(tests, 'a UDP length that is shorter', capture(halves(shorter[:6] + summed(shorter[:48], HOST, HOST)[6:8] + shorter[8:])), (1, 1, 0))
+    agreed(tests, 'IPv6 without a checksum', capture([fragment_6(INNER, 0, 40), fragment_6(INNER, 40, 20)]), (0, 0, 2))
+    three = [udp_4(DATAGRAM[:-1] + bytes([number])) for number in range(3)]
+    sent = [piece for inner in three for piece in thirds(inner) for _ in range(2)]
+    agreed(tests, 'three packets of three pieces, each frame twice', capture(sent), (3, 0, 0))
+    agreed(tests, 'the same without the first piece of the first', capture(sent[2:]), (2, 0, 2))
+    print(f'rows of pieces: {len(PIECES)}')
+
+
+def pieces_of_other_sizes(tests):
+    """two packets of one identification, of which the first lacks a piece and has more octets than the other, or fewer"""
+    rng = random.Random(6)
+    short, long = udp_4(rng.randbytes(52)), udp_4(rng.randbytes(72))
+    for first, second in ((short, long), (long, short)):
+        for lacking in range(3):
+            sent = [piece for place, piece in enumerate(thirds(first)) if place != lacking] + thirds(second)
+            agreed(tests, f'{len(first)} octets without piece {lacking}, then {len(second)}', capture(sent), (1, 1, 2))
+    print('pieces of packets of two sizes: 6')
+
+
 def counts_of(tests, octets):
     told = json.loads(tests.run('json', octets, ANY)[0])
-    return {name: told[name] for name in ('ignored', 'pieces', 'cut', 'other')}
+    return {name: told[name] for name in ('ignored', 'pieces', 'cut', 'other', 'links')}
+
+
+# ---- each fragment recorded twice, as on a bond, a bridge or a VLAN; identifications that come again
+
+def recorded_twice(tests):
+    rng = random.Random(64)
+    for lacking in (None, 0, 1):
+        frames, wanted, ignored = [], [], 0
+        for turn in range(4):
+            for identification in range(64):
+                # In each of its pieces are octets that no other packet has.
+                payload = DATAGRAM[:8] + rng.randbytes(12) + DATAGRAM[20:-4] + rng.randbytes(4 + rng.randrange(40))
+                sent = thirds(udp_4(payload), identification)
+                if lacking is not None and rng.random() < 0.3:
+                    del sent[lacking]
+                    ignored += 2
+                else:
+                    wanted.append(payload)
+                frames += [piece for piece in sent for _ in range(2)]
+        octets = capture(frames)
+        name = f'64 identifications four times, each frame twice, some packets without piece {lacking}'
+        tests.holds(name, (len(wanted), ignored), counted(tests, octets))
+        tests.holds(name, tests.run('show', text_of(wanted)), tests.run('show', octets, ANY))
+        tests.agrees(name, octets, ('json',), ANY)
+    print('recorded twice: 3 captures of 256 packets')
+
+
+# ---- links that are not read
+
+def links(tests):
+    good = packet(DATAGRAM)
+    two = section() + interface(ETHERNET) + interface(189) + enhanced(ethernet(good)) + enhanced(b'usb', 1)
+    undeclared = section() + interface() + enhanced(good) + enhanced(good, 1) + enhanced(good, 2 ** 32 - 1)
+    forgotten = section() + interface() + enhanced(good) + section('big') + simple(good, 'big') + interface(147, 'big') + enhanced(good, 0, 'big')
+    for name, octets, datagrams, count, number in (('USB', two, 1, 1, 189), ('an interface that is not declared', undeclared, 1, 2, None),
+                                                   ('interfaces of a section before', forgotten, 1, 2, None)):
+        agreed(tests, name, octets, (datagrams, 0, count))
+        tests.holds(name, {'ignored': count, 'pieces': 0, 'cut': 0, 'other': 0, 'links': count}, counts_of(tests, octets))
+        told = f'links {count}' + (f', the first of type {number}' if number else '')
+        tests.holds(f'--strict: {name}', (audited(datagrams, 0, count), f'rtps-audit: not clean: pairs 0\nrtps-audit: not clean: {told}\n', 1),
+                    tests.run('audit', octets, ('--strict',)))
+        checks(tests, name, octets)
+    print('links: 3')
+
+
+def checks(tests, name, octets):
+    """`check` and `check --json` are what the second implementation says"""
+    for flags in (), ('--json',):
+        printed, status = reference.check(octets, reference.Asked(), bool(flags))
+        error = ''.join(line + '\n' for line in reference.told_of(tests.file.name, octets, any_form=True))
+        tests.holds(f'check {flags}: {name}', (printed, error, status), tests.run('check', octets, flags))
+
+
+# ---- damage: a captured length that no recorder writes
+
+def damage(tests):
+    good, long = packet(DATAGRAM), bytes(MOST_CAPTURED)
+    agreed(tests, 'a frame of the most octets', capture([good, long]), (1, 0, 1))
+    agreed(tests, 'a block of the most octets', pcapng([good, long]), (1, 0, 1))
+    one_capture = start() + record(good, time=(1700000000, 5))
+    files = {
+        'one octet more': (2, capture([good, long + b'\0'])),
+        'a length past the end of the file': (2, capture([good]) + record(good, size=MOST_CAPTURED + 1)),
+        'the greatest length': (1, start() + record(b'', size=2 ** 32 - 1)),
+        # The header of the second capture is a record of no octets, and what is behind it one of 1,700,000,000.
+        'two captures in one file': (3, one_capture * 2),
+        'an Enhanced Packet Block': (2, pcapng([good, long + b'\0'])),
+        'an old Packet Block': (1, section() + interface() + old(long + b'\0')),
+        'a Simple Packet Block': (1, section() + interface() + simple(long + b'\0', original=2 ** 32 - 1)),
+        'a block whose frame passes it': (2, pcapng([good]) + enhanced(good, size=MOST_CAPTURED + 1)),
+        'a link that is not read': (1, section() + interface(189) + enhanced(b'', size=2 ** 32 - 1)),
+    }
+    for name, (frame, octets) in files.items():
+        tests.refuses(name, octets, 'bad capture', DAMAGED.format(frame), ANY)
+        tests.agrees(name, octets, words=ANY)
+        checks(tests, name, octets)
+    agreed(tests, 'a Simple Packet Block of fewer octets', section() + interface(snap=MOST_CAPTURED) + simple(long + b'\0'), (0, 0, 1))
+    agreed(tests, 'a record whose header is cut', capture([good]) + record(b'', size=2 ** 32 - 1)[:15], (1, 0, 1))
+    agreed(tests, 'a block that passes the file', pcapng([good]) + enhanced(b'', size=2 ** 32 - 1)[:-1], (1, 0, 1))
+    tests.passes('damage behind too many datagrams', capture([good, good]) + record(b'', size=2 ** 32 - 1), 1, 'datagrams', ANY + ('--max-datagrams', '1'))
+    # Without --any the length alone is no fault.
+    tests.answers('without --any: one octet more', 'audit', capture([good, long + b'\0']), audited(1, 0, 1))
+    print(f'damage: {len(files) + 7}')
 
 
 # ---- each cut, and each octet of the headers changed
 
 def forms():
     good, six = packet(DATAGRAM), packet_6(extension(60, extension(17, INNER, 1)), 0)
-    parts = [fragment_6(INNER, 0, 40), fragment_6(INNER, 40, 20)]
+    parts = [fragment_6(SUMMED_6, 0, 40), fragment_6(SUMMED_6, 40, 20)]
+    first, last = halves(SUMMED)
     mixed = (section('big') + block(5, b'statistics', 'big') + interface(113, 'big') + simple(cooked_1(good), 'big', 300)
              + section() + interface(ETHERNET, snap=100) + interface(276) + old(tagged(good)) + enhanced(cooked_2(parts[1], 0x86dd), 1)
              + block(0xbad, b'') + enhanced(tagged(parts[0], (0x88a8, 0x8100), 0x86dd), 0))
     return {'Ethernet': capture([tagged(good), ethernet(parts[0], 0x86dd), ethernet(parts[1], 0x86dd)], ETHERNET), 'loopback': capture([b'\2\0\0\0' + good], 0, 'big'),
-            'cooked': capture([cooked_1(six, 0x86dd)], 113), 'cooked 2': capture([cooked_2(good)], 276), 'raw': capture([F1, six, F2]), 'pcapng': mixed}
+            'cooked': capture([cooked_1(six, 0x86dd)], 113), 'cooked 2': capture([cooked_2(good)], 276), 'raw': capture([first, six, last]), 'pcapng': mixed}
 
 
 def cut_and_changed(tests):
@@ -200,19 +268,14 @@ def split(rng, octets, count):
     return list(zip([0] + cuts, [to - at for at, to in zip([0] + cuts, cuts + [len(octets)])]))
 
 
-def both(octets, at, size, key, more=None):
-    """a fragment of version 4 or 6, by its key"""
-    write = fragment if key % 2 else fragment_6
-    return write(octets, at, size, key // 2 + 1, more)
-
-
 def orders(tests):
     rng, frames, wanted = random.Random(5), [], []
     for count in range(2, 6):
         for order in itertools.permutations(range(count)):
             payload = DATAGRAM + rng.randbytes(60)
-            pieces = split(rng, udp(payload), count)
-            frames += [both(udp(payload), *pieces[i], len(wanted)) for i in order]
+            write, inner = (fragment, udp_4(payload)) if len(wanted) % 2 else (fragment_6, udp_6(payload))
+            pieces = split(rng, inner, count)
+            frames += [write(inner, *pieces[i], len(wanted)) for i in order]
             wanted.append(payload)
     octets = capture(frames)
     tests.agrees('each order of up to five fragments', octets, words=ANY)
@@ -230,7 +293,7 @@ def asks_strictly(tests, name, octets):
 
 
 def strictly(tests):
-    pieces, cut = capture(fragments_of('F1', 'G2')), capture(fragments_of('F1', 'F2'))
+    pieces, cut = capture([halves(SUMMED)[0], halves(SUMMED, 2)[1]]), capture(halves(SUMMED))
     told = 'rtps-audit: not clean: pairs 0\nrtps-audit: not clean: '
     tests.holds('--strict of pieces', (audited(0, 0, 2), f'{told}pieces 2\n', 1), tests.run('audit', pieces, ('--strict',)))
     tests.holds('--strict of a cut file', (audited(0, 0, 2), f'{told}pieces 1\nrtps-audit: not clean: cut 1\n', 1), tests.run('audit', cut[:-1], ('--strict',)))
@@ -246,10 +309,12 @@ def counted(tests, octets):
 
 
 def some_fragments(rng, key):
-    """fragments of packets of one key, with repeats, overlaps, other ends and lost ones"""
+    """fragments of packets of one key, with repeats, overlaps, other ends, lost ones and wrong checksums"""
+    write, summed_udp = (fragment, udp_4) if key % 2 else (fragment_6, udp_6)
     frames = []
     for _ in range(rng.randrange(1, 4)):
-        inner = udp(DATAGRAM + rng.randbytes(rng.randrange(40)), rng.choice([None, None, None, 4]))
+        payload = DATAGRAM + rng.randbytes(rng.randrange(40))
+        inner = summed_udp(payload) if rng.random() < 0.85 else udp(payload, rng.choice([None, 4]))
         pieces = split(rng, inner, rng.randrange(2, 6))
         for at, size in rng.sample(pieces, len(pieces)):
             change = rng.random()
@@ -258,7 +323,7 @@ def some_fragments(rng, key):
             if change < 0.16:
                 at, size = max(0, at - 8 * rng.randrange(3)), size + 8 * rng.randrange(3)
             more = None if rng.random() < 0.95 else rng.random() < 0.5
-            frames += [both(inner, at, size, key, more)] * (1 if rng.random() < 0.85 else 2)
+            frames += [write(inner, at, size, key // 2 + 1, more)] * (1 if rng.random() < 0.85 else 2)
     return frames
 
 
@@ -277,59 +342,28 @@ def random_fragments(tests):
     print('random fragments: 6 captures of 300 keys')
 
 
-def some_any_frame(rng):
-    payload = rng.choice([b'', HEADER, DATAGRAM, rng.randbytes(rng.randrange(60))])
-    words = {name: rng.randrange(values) for name, values in
-             (('total', 80), ('fragment', 65536), ('protocol', 256), ('version', 16), ('words', 16), ('size', 80)) if rng.random() < 0.06}
-    inner = udp(payload)
-    kind, frame = rng.choice([(0x0800, packet(payload, **words)), (0x86dd, packet_6(inner)), (0x86dd, packet_6(extension(17, inner, rng.randrange(2)), rng.choice([0, 43, 60]))),
-                              (0x0800, fragment(inner, 8 * rng.randrange(3), 8 * rng.randrange(9))), (0x86dd, fragment_6(inner, 8 * rng.randrange(3), 8 * rng.randrange(9)))])
-    frame = bytearray(frame + bytes(rng.choice([0, 0, 4])))
-    if rng.random() < 0.1 and frame:
-        frame[rng.randrange(len(frame))] = rng.randrange(256)
-    return kind, bytes(frame)
-
-
-def linked(rng, link, kind, frame):
-    if rng.random() < 0.1:
-        kind = rng.choice([0x0800, 0x86dd, 0x0806, 0x8100])
-    tags = tuple(rng.choice([0x8100, 0x88a8, 0x9100]) for _ in range(rng.choice([0, 0, 1, 2])))
-    whole = {0: b'\2\0\0\0' + frame, 108: b'\0\0\0\2' + frame, 1: tagged(frame, tags, kind), 113: cooked_1(frame, kind), 276: cooked_2(frame, kind)}.get(link, frame)
-    return whole[:rng.randrange(len(whole) + 1)] if rng.random() < 0.05 else whole
-
-
 def random_captures(tests):
     rng = random.Random(56)
-    for i in range(150):
-        order, links = rng.choice(['little', 'big']), rng.choices(LINKS + (147,), k=3)
-        frames = [(n, linked(rng, links[n], *some_any_frame(rng))) for n in (rng.randrange(3) for _ in range(rng.randrange(30)))]
-        if i % 2:
-            octets = capture([frame for n, frame in frames if n == 0], links[0], order)
-        else:
-            octets = section(order) + b''.join(interface(link, order, rng.choice([0, 0, 60])) for link in links)
-            for n, frame in frames:
-                octets += rng.choice([lambda: enhanced(frame, n, order), lambda: old(frame, n, order), lambda: simple(frame, order), lambda: block(4, frame, order)])()
-        if rng.random() < 0.2:
-            octets = octets[:rng.randrange(len(octets) + 1)]
-        if rng.random() < 0.3 and octets:
-            octets = with_octets(octets, rng.randrange(len(octets)), f'{rng.randrange(256):02x}')
+    for i in range(300):
+        octets = some_capture(rng)
         tests.agrees(f'random capture {i}', octets, ('show', 'json'), ANY)
-        if i < 50 and not isinstance(reference.input_of(octets, any_form=True), str):
+        if i < 100 and not isinstance(reference.input_of(octets, any_form=True), str):
             asks_strictly(tests, f'random capture {i}', octets)
-    print('random captures: 150')
+            checks(tests, f'random capture {i}', octets)
+    print('random captures: 300')
 
 
 # ---- limits, and what is much
 
 def limits(tests):
     one = record(packet(b'')) * 2
-    octets = capture([F1, F2]) + one
+    octets = capture(halves(SUMMED)) + one
     tests.answers('at most 3 datagrams', 'audit', octets, audited(3, 2, 0), words=ANY + ('--max-datagrams', '3'))
     tests.passes('at most 2 datagrams', octets, 2, 'datagrams', ANY + ('--max-datagrams', '2'))
     tests.passes('at most as many octets less one', octets, len(octets) - 1, 'octets', ANY + ('--max-octets', str(len(octets) - 1)))
-    keys = b''.join(record(fragment(INNER, 0, 8, key % 65536, source=key // 65536)) for key in range(300000))
-    tests.holds('300,000 keys of one fragment each', {'ignored': 300000, 'pieces': 300000, 'cut': 0, 'other': 0}, counts_of(tests, start() + keys))
-    whole = udp(bytes(65507))
+    keys = b''.join(record(fragment(INNER, 0, 8, key % 65536, source=HOST[:3] + bytes([key // 65536]))) for key in range(300000))
+    tests.holds('300,000 keys of one fragment each', {'ignored': 300000, 'pieces': 300000, 'cut': 0, 'other': 0, 'links': 0}, counts_of(tests, start() + keys))
+    whole = udp_4(bytes(65507))
     pieces = [record(fragment(whole, at, 8)) for at in range(0, 65515, 8)]
     for name, frames in (('in order', pieces), ('in the other order', pieces[::-1])):
         tests.holds(f'a packet of {len(pieces)} fragments {name}', (1, 0), counted(tests, start() + b''.join(frames)))
@@ -374,7 +408,7 @@ def compare_datagrams(tests, name):
     """the datagrams of a capture are those that tshark finds"""
     words = ['tshark', '-r', name, '-o', 'ip.defragment:TRUE', '-o', 'ipv6.defragment:TRUE', '-Y', 'udp && !icmp && !icmpv6', '-T', 'fields', '-e', 'udp.payload']
     told = subprocess.run(words, capture_output=True, check=True).stdout.decode().split()
-    mine = any_capture.read_any(file_of(name)).datagrams
+    mine = capture_reader.read_capture(file_of(name), capture_reader.ANY).datagrams
     tests.holds(f'{os.path.basename(name)}: as tshark', told, [datagram.hex() for datagram in mine if datagram])
     shown = tests.run('show', file_of(name), ANY)[0]
     tests.holds(f'{os.path.basename(name)}: show', tests.run('show', text_of(mine))[0], shown)
@@ -382,4 +416,5 @@ def compare_datagrams(tests, name):
 
 
 if __name__ == '__main__':
-    sys.exit(program.main(__doc__, (rows, cut_and_changed, orders, strictly, random_fragments, random_captures, limits, hints, stored)))
+    sys.exit(program.main(__doc__, (rows, pieces, pieces_of_other_sizes, recorded_twice, links, damage, cut_and_changed, orders, strictly,
+                                     random_fragments, random_captures, limits, hints, stored)))

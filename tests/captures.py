@@ -14,6 +14,7 @@ import sys
 sys.dont_write_bytecode = True
 import program
 import reference
+from capture_writer import ETHERNET, MICROSECONDS, NANOSECONDS, RAW_IP, capture, ethernet, packet, record, start, udp
 from program import VIEWS, file_of
 
 A, B = b'\xaa' * 12, b'\xbb' * 12
@@ -23,41 +24,7 @@ DATAGRAM = HEADER + HEARTBEAT
 SHOWN = ('datagram 1 version 2.5 vendor 0000 prefix aaaaaaaaaaaaaaaaaaaaaaaa\n'
          'heartbeat 20 le reader 00000000 writer 00000103 first 1 last 0 count 1 final 0 live 0 '
          'from aaaaaaaaaaaaaaaaaaaaaaaa to all time none\n')
-ETHERNET, RAW_IP = 1, 101
 CUT = 'rtps-audit: FILE: the capture ends within a frame; --any reads what is whole\n'
-MICROSECONDS, NANOSECONDS = 0xa1b2c3d4, 0xa1b23c4d
-
-
-def start(link=RAW_IP, order='little', magic=MICROSECONDS, major=2, minor=4):
-    numbers = (magic, 4), (major, 2), (minor, 2), (0, 4), (0, 4), (65535, 4), (link, 4)
-    return b''.join(value.to_bytes(size, order) for value, size in numbers)
-
-
-def record(frame, order='little', size=None, original=None):
-    size = len(frame) if size is None else size
-    numbers = 0, 0, size, len(frame) if original is None else original
-    return b''.join(value.to_bytes(4, order) for value in numbers) + frame
-
-
-def udp(payload, size=None):
-    size = len(payload) + 8 if size is None else size
-    return (7400).to_bytes(2, 'big') * 2 + size.to_bytes(2, 'big') + b'\0\0' + payload
-
-
-def packet(payload, options=b'', total=None, fragment=0, protocol=17, version=4, words=None, size=None):
-    words = 5 + len(options) // 4 if words is None else words
-    inner = udp(payload, size)
-    total = 20 + len(options) + len(inner) if total is None else total
-    return (bytes([version * 16 + words, 0]) + total.to_bytes(2, 'big') + b'\0\0' + fragment.to_bytes(2, 'big')
-            + bytes([64, protocol]) + b'\0\0' + b'\x7f\0\0\1' * 2 + options + inner)
-
-
-def ethernet(inner, kind=0x0800):
-    return b'\xff' * 6 + b'\2\0\0\0\0\1' + kind.to_bytes(2, 'big') + inner
-
-
-def capture(frames, link=RAW_IP, order='little', magic=MICROSECONDS):
-    return start(link, order, magic) + b''.join(record(frame, order) for frame in frames)
 
 
 def last_line(datagrams, refused, ignored):

@@ -16,7 +16,7 @@ import xml.etree.ElementTree
 sys.dont_write_bytecode = True
 import program
 import reference
-from captures import capture, packet
+from capture_writer import capture, packet
 from program import ROOT, file_of, text_of
 from random_recordings import A, B, parameter, u
 from reference import GREATEST

@@ -14,7 +14,8 @@ import time
 import tty
 
 sys.dont_write_bytecode = True
-import captures
+from captures import DATAGRAM
+from capture_writer import capture, packet
 from program import Counts
 
 # How many seconds a run waits that is to be long, also where the machine is slow to start it.
@@ -80,9 +81,9 @@ def on_a_terminal(tests, program, sample, report):
                 told.startswith(READING) and told.endswith(WIPE + b'rtps-audit: line 7: bad hex\n'))
     status, _, told = run(program, sample, LONG, ('why', '-'))
     tests.holds('a long run of why', (0, True), (status, told.startswith(READING) and told.endswith(JUDGING + WIPE)))
-    capture = captures.capture([captures.packet(captures.DATAGRAM), b'', b''])
+    octets = capture([packet(DATAGRAM), b'', b''])
     for words, line in ((('audit', '-'), b'rtps-audit: -: ignored 2; --any may read these frames\n'), (('audit', '--any', '-'), b'')):
-        status, _, told = run(program, capture, 0, words)
+        status, _, told = run(program, octets, 0, words)
         tests.holds(f'{" ".join(words)} of a capture with ignored frames', (0, True, bool(line)), (status, told.endswith(line), b'ignored' in told))
     status, _, told = run(program, sample, LONG, ('list', '-'))
     tests.holds('a long run of list', (0, True), (status, told.startswith(READING) and told.endswith(WIPE)))

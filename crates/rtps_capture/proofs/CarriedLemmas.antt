@@ -5,43 +5,47 @@ use Rattle.std.specs.Ordering.{is_eq}
 use Rattle.std.proofs.Math.Seq.{drop-append-add}
 use Rattle.std.proofs.lemmas.List.{length-append}
 use Rattle.std.proofs.lemmas.Cmp.{eq_by_cmp_equiv}
-use Rattle.rtps_capture.specs.AnyCapture.{AnyAnswer, Collected, all_noted, answer_of, answered, any_read, collected, contents_in, noted, nothing, opened_read, or_fault, with_contents, with_frame}
-use Rattle.rtps_capture.specs.AnyFrames.{AnyUnread, StandsInFile, any_frames_left, any_opened}
+use Rattle.rtps_capture.specs.Capture.{Answer, Collected, all_noted, answer_of, answered, capture_read, collected, contents_in, noted, nothing, opened_read, with_contents, with_frame, with_link, with_rest}
+use Rattle.rtps_capture.specs.Frames.{StandsInFile, Unread as UnreadPart, frames_left, opened}
 use Rattle.rtps_capture.specs.Assembly.{Joined, key_cmp, taken_piece}
 use Rattle.rtps_capture.specs.Datagrams.{moved}
 use Rattle.rtps_capture.specs.Packets.{StandsIn}
 use Rattle.rtps_capture.specs.Pieces.{piece_of}
-use Rattle.rtps_capture.specs.Sent.{AllWereCarried, StandsAmong, WasCarried}
-use Rattle.rtps_capture.specs.declared.any_capture.AnyFault.{AnyFault}
-use Rattle.rtps_capture.specs.declared.any_capture.AnyFault.TheVariants as fault
-use Rattle.rtps_capture.specs.declared.any_frames.AnyFrame.{AnyFrame}
-use Rattle.rtps_capture.specs.declared.any_frames.AnyFrame.TheVariants.{Frame, NoFrame, Rest, BadBlock, CutFrame}
-use Rattle.rtps_capture.specs.declared.datagram.ByteRange.{ByteRange}
+use Rattle.rtps_capture.specs.Sent.{AllWereCarried, StandsAmong, WasCarried, contents_among}
+use Rattle.rtps_capture.specs.declared.capture.CaptureFault.{CaptureFault}
+use Rattle.rtps_capture.specs.declared.capture.CaptureFault.TheVariants as fault
+use Rattle.rtps_capture.specs.declared.captures.Captures.{Captures}
+use Rattle.rtps_capture.specs.declared.captures.Captures.TheVariants.{Any, Classic}
+use Rattle.rtps_capture.specs.declared.frames.CapturedFrame.{CapturedFrame}
+use Rattle.rtps_capture.specs.declared.frames.Frame.{Frame}
+use Rattle.rtps_capture.specs.declared.frames.Frame.TheVariants.{Captured, Unread, NoFrame, Rest, BadBlock, Damaged, CutFrame}
+use Rattle.rtps_capture.specs.declared.byte_range.ByteRange.{ByteRange}
 use Rattle.rtps_capture.specs.declared.packet.Contents.{Contents}
 use Rattle.rtps_capture.specs.declared.packet.Contents.TheVariants as contents
 use Rattle.rtps_capture.specs.declared.fragment.Fragment.{Fragment}
 use Rattle.rtps_capture.specs.declared.fragment.FragmentKey.{FragmentKey}
-use Rattle.rtps_capture.proofs.AnyFrameLemmas.{AllStand, left_stand}
+use Rattle.rtps_capture.proofs.FrameLemmas.{AllStand, left_stand}
 use Rattle.rtps_capture.proofs.AssemblyLemmas.{key_total}
 use Rattle.rtps_capture.proofs.ComingLemmas.{slice_range-append}
+use Rattle.rtps_capture.proofs.Offered.{or_fault_ok}
 use Rattle.rtps_capture.proofs.PacketLemmas.{in_file}
 use Rattle.rtps_capture.proofs.SentLemmas.{AreOf, IsOf, JoinedSound, change_key, taken_sound}
 
 -- a datagram stands in the file and what is behind it, and was carried
-abbrev pub IsSound : List ℕ → List AnyFrame → List ℕ → ByteRange → Type 0
+abbrev pub IsSound : List ℕ → List Contents → List ℕ → ByteRange → Type 0
 IsSound file frames behind range =
     (range.from ≤ range.to) × (range.to ≤ length file + length behind) × WasCarried file frames (slice_range (file ++ behind) range.from range.to)
 
-abbrev pub AreSound : List ℕ → List AnyFrame → List ℕ → List ByteRange → Type 0
+abbrev pub AreSound : List ℕ → List Contents → List ℕ → List ByteRange → Type 0
 AreSound file frames behind [] = Unit {0}
 AreSound file frames behind (range ∷ ranges) = IsSound file frames behind range × AreSound file frames behind ranges
 
-pub record Sound (file : List ℕ) (frames : List AnyFrame) (so_far : Collected) : Type 0 where
+pub record Sound (file : List ℕ) (frames : List Contents) (so_far : Collected) : Type 0 where
   pub keys : (key : FragmentKey) → AreOf file frames key (so_far.making key).making
   pub carried : AreSound file frames so_far.behind so_far.datagrams
 
 -- what stands there stays, whatever comes behind it
-one_grown : (file : List ℕ) (frames : List AnyFrame) (behind more : List ℕ) (range : ByteRange) → IsSound file frames behind range → IsSound file frames (behind ++ more) range
+one_grown : (file : List ℕ) (frames : List Contents) (behind more : List ℕ) (range : ByteRange) → IsSound file frames behind range → IsSound file frames (behind ++ more) range
 one_grown file frames behind more range sound =
     let size = length-append behind more in
     let front = length-append file behind in
@@ -49,16 +53,16 @@ one_grown file frames behind more range sound =
     ap (λ (l : List ℕ). slice_range l range.from range.to) (sym (append_assoc file behind more)) ∙ slice_range-append range.from range.to (file ++ behind) more sound.0 (omega (arith, sound.1, front)) in
     (sound.0, omega (arith, sound.1, size), subst (WasCarried file frames) (sym same) sound.2)
 
-grown : (file : List ℕ) (frames : List AnyFrame) (behind more : List ℕ) (ranges : List ByteRange) → AreSound file frames behind ranges → AreSound file frames (behind ++ more) ranges
+grown : (file : List ℕ) (frames : List Contents) (behind more : List ℕ) (ranges : List ByteRange) → AreSound file frames behind ranges → AreSound file frames (behind ++ more) ranges
 grown file frames behind more [] all = tt
 grown file frames behind more (range ∷ ranges) all = (one_grown file frames behind more range all.0, grown file frames behind more ranges all.1)
 
-pushed : (file : List ℕ) (frames : List AnyFrame) (behind : List ℕ) (ranges : List ByteRange) (range : ByteRange) → AreSound file frames behind ranges → IsSound file frames behind range
+pushed : (file : List ℕ) (frames : List Contents) (behind : List ℕ) (ranges : List ByteRange) (range : ByteRange) → AreSound file frames behind ranges → IsSound file frames behind range
     → AreSound file frames behind (ranges ++ range ∷ [])
 pushed file frames behind [] range all one = (one, tt)
 pushed file frames behind (first ∷ ranges) range all one = (all.0, pushed file frames behind ranges range all.1 one)
 
-with_option : (file : List ℕ) (frames : List AnyFrame) (behind : List ℕ) (ranges : List ByteRange) (datagram : Option ByteRange) → AreSound file frames behind ranges
+with_option : (file : List ℕ) (frames : List Contents) (behind : List ℕ) (ranges : List ByteRange) (datagram : Option ByteRange) → AreSound file frames behind ranges
     → IfSome datagram (IsSound file frames behind) → AreSound file frames behind (ranges ++ option_to_list datagram)
 with_option file frames behind ranges None all one = subst (AreSound file frames behind) (sym (append-nil ranges)) all
 with_option file frames behind ranges (Some range) all one = pushed file frames behind ranges range all one
@@ -74,7 +78,7 @@ in_packet file behind packet range =
     ap₂ (λ (n : ℕ) (l : List ℕ). drop (n + range.from) l) (sym size) all ∙ drop-append-add (file ++ behind) packet range.from in
     let width : (at + range.to) - (at + range.from) ≡ range.to - range.from = omega arith in ap₂ (λ (k : ℕ) (l : List ℕ). take k l) width front
 
-given_behind : (file : List ℕ) (frames : List AnyFrame) (behind packet : List ℕ) (datagram : Option ByteRange)
+given_behind : (file : List ℕ) (frames : List Contents) (behind packet : List ℕ) (datagram : Option ByteRange)
     → IfSome datagram (λ range. (range.from ≤ range.to) × (range.to ≤ length packet) × WasCarried file frames (slice_range packet range.from range.to))
     → IfSome (moved (length file + length behind) datagram) (IsSound file frames (behind ++ packet))
 given_behind file frames behind packet None gives = tt
@@ -82,9 +86,9 @@ given_behind file frames behind packet (Some range) gives =
     let size = length-append behind packet in
     (omega (arith, gives.0), omega (arith, gives.1, size), subst (WasCarried file frames) (sym (in_packet file behind packet range)) gives.2)
 
-fragment_sound : (file : List ℕ) (frames : List AnyFrame) (so_far : Collected) (fragment : Fragment) → StandsAmong file frames (contents.Fragment fragment)
-    → Sound file frames so_far → Sound file frames (with_contents file so_far (contents.Fragment fragment))
-fragment_sound file frames so_far fragment stands sound = record {
+fragment_sound : (file : List ℕ) (frames : List Contents) (time : Option ℕ) (so_far : Collected) (fragment : Fragment) → StandsAmong frames (contents.Fragment fragment)
+    → Sound file frames so_far → Sound file frames (with_contents file time so_far (contents.Fragment fragment))
+fragment_sound file frames time so_far fragment stands sound = record {
   keys = λ other. by other (is_eq (key_cmp fragment.key other)) refl;
   carried = with_option file frames (so_far.behind ++ joined.packet) so_far.datagrams (moved (length file + length so_far.behind) joined.taken.datagram)
       (grown file frames so_far.behind joined.packet so_far.datagrams sound.carried)
@@ -92,7 +96,7 @@ fragment_sound file frames so_far fragment stands sound = record {
 }
   where
     joined : Joined
-    joined = taken_piece file (so_far.making fragment.key) (piece_of fragment)
+    joined = taken_piece file fragment.key (so_far.making fragment.key) (piece_of fragment)
 
     one : IsOf file frames fragment.key (piece_of fragment)
     one = record {
@@ -113,70 +117,105 @@ fragment_sound file frames so_far fragment stands sound = record {
     by other true is = change_key file frames fragment.key other joined.making.making is left.are
     by other false is = sound.keys other
 
-contents_sound : (file : List ℕ) (frames : List AnyFrame) (so_far : Collected) (contents : Contents) → StandsAmong file frames contents → StandsIn (length file) contents
-    → Sound file frames so_far → Sound file frames (with_contents file so_far contents)
-contents_sound file frames so_far (contents.Datagram range) stands within sound =
+contents_sound : (file : List ℕ) (frames : List Contents) (time : Option ℕ) (so_far : Collected) (contents : Contents) → StandsAmong frames contents → StandsIn (length file) contents
+    → Sound file frames so_far → Sound file frames (with_contents file time so_far contents)
+contents_sound file frames time so_far (contents.Datagram range) stands within sound =
     let same = slice_range-append range.from range.to file so_far.behind within.0 within.1 in
     record {
       keys = sound.keys;
       carried = pushed file frames so_far.behind so_far.datagrams range sound.carried (within.0, omega (arith, within.1), inl (range, stands, same));
     }
-contents_sound file frames so_far (contents.Fragment fragment) stands within sound = fragment_sound file frames so_far fragment stands sound
-contents_sound file frames so_far contents.Cut stands within sound = record { keys = sound.keys; carried = sound.carried }
-contents_sound file frames so_far contents.Other stands within sound = record { keys = sound.keys; carried = sound.carried }
+contents_sound file frames time so_far (contents.Fragment fragment) stands within sound = fragment_sound file frames time so_far fragment stands sound
+contents_sound file frames time so_far contents.Cut stands within sound = record { keys = sound.keys; carried = sound.carried }
+contents_sound file frames time so_far contents.Other stands within sound = record { keys = sound.keys; carried = sound.carried }
 
-pub step_sound : (file : List ℕ) (frames seen after : List AnyFrame) (most : ℕ) (so_far next : Collected) (frame : AnyFrame) → frames ≡ seen ++ frame ∷ after
-    → StandsInFile (length file) frame → Sound file frames so_far → noted file most so_far frame ≡ Ok next → Sound file frames next
+-- all that these frames contain stands among so many
+abbrev pub StandAmong : Captures → List ℕ → List Contents → List Frame → Type 0
+StandAmong captures file all [] = Unit {0}
+StandAmong captures file all (Captured frame ∷ frames) = StandsAmong all (contents_in captures file frame) × StandAmong captures file all frames
+StandAmong captures file all (other ∷ frames) = StandAmong captures file all frames
+
+-- a frame that contains what stands there
+captured_sound : (captures : Captures) (file : List ℕ) (frames : List Contents) (most : ℕ) (so_far next : Collected) (frame : CapturedFrame)
+    → StandsAmong frames (contents_in captures file frame) → StandsInFile (length file) (Captured frame) → Sound file frames so_far
+    → noted captures file most so_far (Captured frame) ≡ Ok next → Sound file frames next
 unfolding noted collected
-step_sound file frames seen after most so_far next (Frame link range) among stands sound is = by (nat_lt most (length there.datagrams)) is
+captured_sound captures file frames most so_far next frame among stands sound is = by (nat_lt most (length there.datagrams)) is
   where
     there : Collected
-    there = collected file so_far (contents_in file link range)
+    there = collected file frame.time so_far (contents_in captures file frame)
 
     one : Sound file frames (with_frame so_far)
     one = record { keys = sound.keys; carried = sound.carried }
 
     sound_there : Sound file frames there
-    sound_there = contents_sound file frames (with_frame so_far) (contents_in file link range) (seen, link, range, after, among, refl) (in_file file link range stands.0 stands.1) one
+    sound_there = contents_sound file frames frame.time (with_frame so_far) (contents_in captures file frame) among (in_file captures file frame stands.0 stands.1) one
 
     by : (over : Bool) → (if over then Err fault.TooMany else Ok there) ≡ Ok next → Sound file frames next
     by true same = let no = same in cc
     by false same = let found : there ≡ next = cc in subst (Sound file frames) found sound_there
-step_sound file frames seen after most so_far next NoFrame among stands sound is = let same : so_far ≡ next = cc in subst (Sound file frames) same sound
-step_sound file frames seen after most so_far next Rest among stands sound is =
-    let same : collected file so_far contents.Cut ≡ next = cc in subst (Sound file frames) same (record { keys = sound.keys; carried = sound.carried })
-step_sound file frames seen after most so_far next BadBlock among stands sound is = let no = is in cc
-step_sound file frames seen after most so_far next CutFrame among stands sound is = let no = is in cc
+
+rest_sound : (captures : Captures) (file : List ℕ) (frames : List Contents) (so_far next : Collected) → Sound file frames so_far
+    → with_rest captures file so_far ≡ Ok next → Sound file frames next
+unfolding collected
+rest_sound Classic file frames so_far next sound is = let no = is in cc
+rest_sound Any file frames so_far next sound is =
+    let same : collected file None so_far contents.Cut ≡ next = cc in subst (Sound file frames) same (record { keys = sound.keys; carried = sound.carried })
 
 -- all that are still to come keep it sound
-sound_all : (file : List ℕ) (frames : List AnyFrame) (most : ℕ) (rest seen : List AnyFrame) (so_far last : Collected) → frames ≡ seen ++ rest
-    → AllStand (length file) rest → Sound file frames so_far → all_noted file most so_far rest ≡ Ok last → Sound file frames last
-sound_all file frames most [] seen so_far last among stand sound is = let same : so_far ≡ last = cc in subst (Sound file frames) same sound
-sound_all file frames most (frame ∷ rest) seen so_far last among stand sound is =
-    by (noted file most so_far frame) refl is
-    (λ next one. sound_all file frames most rest (seen ++ frame ∷ []) next last (among ∙ sym (append_assoc seen (frame ∷ []) rest)) stand.1 one)
-  where
-    by : (result : Result Collected AnyFault) → noted file most so_far frame ≡ result → or_fault result (λ more. all_noted file most more rest) ≡ Ok last
-        → ((next : Collected) → Sound file frames next → all_noted file most next rest ≡ Ok last → Sound file frames last) → Sound file frames last
-    by (Ok next) was holds more = more next (step_sound file frames seen rest most so_far next frame among stand.0 sound was) holds
-    by (Err fault) was holds more = let no = holds in cc
+sound_all : (captures : Captures) (file : List ℕ) (frames : List Contents) (most : ℕ) (rest : List Frame) (so_far last : Collected)
+    → StandAmong captures file frames rest → AllStand (length file) rest → Sound file frames so_far → all_noted captures file most so_far rest ≡ Ok last → Sound file frames last
+unfolding noted
+sound_all captures file frames most [] so_far last among stand sound is = let same : so_far ≡ last = cc in subst (Sound file frames) same sound
+sound_all captures file frames most (Captured frame ∷ rest) so_far last among stand sound is =
+    let first = or_fault_ok (noted captures file most so_far (Captured frame)) (λ one. all_noted captures file most one rest) last is in
+    sound_all captures file frames most rest first.0 last among.1 stand.1 (captured_sound captures file frames most so_far first.0 frame among.0 stand.0 sound first.1) first.2
+sound_all captures file frames most (Unread link ∷ rest) so_far last among stand sound is =
+    sound_all captures file frames most rest (with_link (with_frame so_far) link) last among stand.1 (record { keys = sound.keys; carried = sound.carried }) is
+sound_all captures file frames most (NoFrame ∷ rest) so_far last among stand sound is = sound_all captures file frames most rest so_far last among stand.1 sound is
+sound_all captures file frames most (Rest ∷ rest) so_far last among stand sound is =
+    let first = or_fault_ok (with_rest captures file so_far) (λ one. all_noted captures file most one rest) last is in
+    sound_all captures file frames most rest first.0 last among stand.1 (rest_sound captures file frames so_far first.0 sound first.1) first.2
+sound_all captures file frames most (BadBlock ∷ rest) so_far last among stand sound is = let no = is in cc
+sound_all captures file frames most (Damaged ∷ rest) so_far last among stand sound is = let no = is in cc
+sound_all captures file frames most (CutFrame ∷ rest) so_far last among stand sound is = let no = is in cc
 
-all_carried : (file : List ℕ) (frames : List AnyFrame) (behind : List ℕ) (ranges : List ByteRange) → AreSound file frames behind ranges → AllWereCarried file frames behind ranges
+-- the contents of frames stand among the contents of all
+all_among : (captures : Captures) (file : List ℕ) (seen : List Contents) (rest : List Frame) → StandAmong captures file (seen ++ contents_among captures file rest) rest
+all_among captures file seen [] = tt
+all_among captures file seen (Captured frame ∷ rest) =
+    let one = contents_in captures file frame in
+    let more = contents_among captures file rest in (
+      (seen, more, refl),
+      subst (λ (all : List Contents). StandAmong captures file all rest) (append_assoc seen (one ∷ []) more) (all_among captures file (seen ++ one ∷ []) rest),
+    )
+all_among captures file seen (Unread link ∷ rest) = all_among captures file seen rest
+all_among captures file seen (NoFrame ∷ rest) = all_among captures file seen rest
+all_among captures file seen (Rest ∷ rest) = all_among captures file seen rest
+all_among captures file seen (BadBlock ∷ rest) = all_among captures file seen rest
+all_among captures file seen (Damaged ∷ rest) = all_among captures file seen rest
+all_among captures file seen (CutFrame ∷ rest) = all_among captures file seen rest
+
+all_carried : (file : List ℕ) (frames : List Contents) (behind : List ℕ) (ranges : List ByteRange) → AreSound file frames behind ranges → AllWereCarried file frames behind ranges
 all_carried file frames behind [] sound = tt
 all_carried file frames behind (range ∷ ranges) sound = (sound.0.2, all_carried file frames behind ranges sound.1)
 
-pub each_carried : (most : ℕ) (file : List ℕ) (unread : AnyUnread) (answer : AnyAnswer) → any_opened file ≡ Some unread → any_read most file ≡ Ok answer
-    → AllWereCarried unread.octets (any_frames_left unread) answer.behind answer.datagrams
-unfolding any_read
-each_carried most file unread answer opened is = by (all_noted unread.octets most nothing (any_frames_left unread)) refl (sym (ap (opened_read most) opened) ∙ is)
+pub each_carried : (captures : Captures) (most : ℕ) (file : List ℕ) (unread : UnreadPart) (answer : Answer) → opened captures file ≡ Some unread
+    → capture_read captures most file ≡ Ok answer
+    → AllWereCarried unread.octets (contents_among captures unread.octets (frames_left unread)) answer.behind answer.datagrams
+unfolding capture_read
+each_carried captures most file unread answer begins is = by (all_noted captures unread.octets most nothing left) refl (sym (ap (opened_read captures most) begins) ∙ is)
   where
-    frames : List AnyFrame
-    frames = any_frames_left unread
+    left : List Frame
+    left = frames_left unread
 
-    by : (result : Result Collected AnyFault) → all_noted unread.octets most nothing frames ≡ result → answered result ≡ Ok answer
+    frames : List Contents
+    frames = contents_among captures unread.octets left
+
+    by : (result : Result Collected CaptureFault) → all_noted captures unread.octets most nothing left ≡ result → answered result ≡ Ok answer
         → AllWereCarried unread.octets frames answer.behind answer.datagrams
     by (Err fault) was holds = let no = holds in cc
     by (Ok last) was holds =
         let same : answer_of last ≡ answer = cc in
-        let sound = sound_all unread.octets frames most frames [] nothing last refl (left_stand unread) (record { keys = λ key. tt; carried = tt }) was in
-        subst (λ (a : AnyAnswer). AllWereCarried unread.octets frames a.behind a.datagrams) same (all_carried unread.octets frames last.behind last.datagrams sound.carried)
+        let sound = sound_all captures unread.octets frames most left nothing last (all_among captures unread.octets [] left) (left_stand unread) (record { keys = λ key. tt; carried = tt }) was in
+        subst (λ (a : Answer). AllWereCarried unread.octets frames a.behind a.datagrams) same (all_carried unread.octets frames last.behind last.datagrams sound.carried)

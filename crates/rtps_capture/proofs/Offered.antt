@@ -6,14 +6,15 @@ use Rattle.std.proofs.lemmas.Bool.Decides.{nat_tests}
 use Rattle.std.proofs.lemmas.List.{length-append, take-append-le}
 use Rattle.rtps_ids.specs.Octets.{number_of}
 use Rattle.rtps_ids.specs.declared.order.Order.TheVariants.{Big}
-use Rattle.rtps_capture.specs.AnyCapture.{AnyAnswer, Collected, all_noted, answered, any_read, collected, contents_in, limited, noted, nothing, opened_read, or_fault}
-use Rattle.rtps_capture.specs.AnyFrames.{AnyUnread, any_frames_left, any_opened}
+use Rattle.rtps_capture.specs.Capture.{Answer, Collected, all_noted, answered, capture_read, collected, contents_in, limited, noted, nothing, opened_read, or_fault}
+use Rattle.rtps_capture.specs.Frames.{Unread as UnreadPart, frames_left, opened}
 use Rattle.rtps_capture.specs.Blocks.{is_pcapng}
 use Rattle.rtps_capture.specs.Opening.{order_of}
-use Rattle.rtps_capture.specs.declared.any_capture.AnyFault.{AnyFault}
-use Rattle.rtps_capture.specs.declared.any_capture.AnyFault.TheVariants as fault
-use Rattle.rtps_capture.specs.declared.any_frames.AnyFrame.{AnyFrame}
-use Rattle.rtps_capture.specs.declared.any_frames.AnyFrame.TheVariants.{Frame, NoFrame, Rest, BadBlock, CutFrame}
+use Rattle.rtps_capture.specs.declared.capture.CaptureFault.{CaptureFault}
+use Rattle.rtps_capture.specs.declared.capture.CaptureFault.TheVariants as fault
+use Rattle.rtps_capture.specs.declared.captures.Captures.{Captures}
+use Rattle.rtps_capture.specs.declared.frames.Frame.{Frame}
+use Rattle.rtps_capture.specs.declared.frames.Frame.TheVariants.{Captured, Unread, NoFrame, Rest, BadBlock, Damaged, CutFrame}
 
 pub order_of-append : (start more : List ℕ) → 4 ≤ length start → order_of (start ++ more) ≡ order_of start
 unfolding order_of
@@ -52,39 +53,44 @@ limited_within most more one so_far within is = by (nat_lt most (length one.data
         let all : limited more one ≡ Ok one = rw few refl in
         all ∙ sym same ∙ is
 
-noted_within : (file : List ℕ) (most more : ℕ) (before so_far : Collected) (frame : AnyFrame) → most ≤ more
-    → noted file most before frame ≡ Ok so_far → noted file more before frame ≡ Ok so_far
+noted_within : (captures : Captures) (file : List ℕ) (most more : ℕ) (before so_far : Collected) (frame : Frame) → most ≤ more
+    → noted captures file most before frame ≡ Ok so_far → noted captures file more before frame ≡ Ok so_far
 unfolding noted
-noted_within file most more before so_far (Frame link range) within is = limited_within most more (collected file before (contents_in file link range)) so_far within is
-noted_within file most more before so_far NoFrame within is = is
-noted_within file most more before so_far Rest within is = is
-noted_within file most more before so_far BadBlock within is = absurd cc
-noted_within file most more before so_far CutFrame within is = absurd cc
+noted_within captures file most more before so_far (Captured frame) within is =
+    limited_within most more (collected file frame.time before (contents_in captures file frame)) so_far within is
+noted_within captures file most more before so_far (Unread link) within is = is
+noted_within captures file most more before so_far NoFrame within is = is
+noted_within captures file most more before so_far Rest within is = is
+noted_within captures file most more before so_far BadBlock within is = absurd cc
+noted_within captures file most more before so_far Damaged within is = absurd cc
+noted_within captures file most more before so_far CutFrame within is = absurd cc
 
 -- what is behind a result is told only if that is no fault
-or_fault_ok : (is : Result Collected AnyFault) (more : Collected → Result Collected AnyFault) (so_far : Collected) → or_fault is more ≡ Ok so_far
+pub or_fault_ok : (is : Result Collected CaptureFault) (more : Collected → Result Collected CaptureFault) (so_far : Collected) → or_fault is more ≡ Ok so_far
     → (before : Collected) × (is ≡ Ok before) × (more before ≡ Ok so_far)
 or_fault_ok (Ok before) more so_far is = (before, refl, is)
 or_fault_ok (Err e) more so_far is = absurd cc
 
-all_noted_within : (file : List ℕ) (most more : ℕ) (before so_far : Collected) (frames : List AnyFrame) → most ≤ more
-    → all_noted file most before frames ≡ Ok so_far → all_noted file more before frames ≡ Ok so_far
-all_noted_within file most more before so_far [] within is = is
-all_noted_within file most more before so_far (frame ∷ frames) within is =
-    let first = or_fault_ok (noted file most before frame) (λ one. all_noted file most one frames) so_far is in
-    ap (λ one. or_fault one (λ now. all_noted file more now frames)) (noted_within file most more before first.0 frame within first.1)
-    ∙ all_noted_within file most more first.0 so_far frames within first.2
+all_noted_within : (captures : Captures) (file : List ℕ) (most more : ℕ) (before so_far : Collected) (frames : List Frame) → most ≤ more
+    → all_noted captures file most before frames ≡ Ok so_far → all_noted captures file more before frames ≡ Ok so_far
+all_noted_within captures file most more before so_far [] within is = is
+all_noted_within captures file most more before so_far (frame ∷ frames) within is =
+    let first = or_fault_ok (noted captures file most before frame) (λ one. all_noted captures file most one frames) so_far is in
+    ap (λ one. or_fault one (λ now. all_noted captures file more now frames)) (noted_within captures file most more before first.0 frame within first.1)
+    ∙ all_noted_within captures file most more first.0 so_far frames within first.2
 
-told : (is : Result Collected AnyFault) (answer : AnyAnswer) → answered is ≡ Ok answer → (so_far : Collected) × (is ≡ Ok so_far)
+told : (is : Result Collected CaptureFault) (answer : Answer) → answered is ≡ Ok answer → (so_far : Collected) × (is ≡ Ok so_far)
 told (Ok so_far) answer is = (so_far, refl)
 told (Err e) answer is = absurd cc
 
-pub any_read-within : (most more : ℕ) (file : List ℕ) (answer : AnyAnswer) → most ≤ more → any_read most file ≡ Ok answer → any_read more file ≡ Ok answer
-unfolding any_read
-any_read-within most more file answer within is = by (any_opened file) is
+pub capture_read-within : (captures : Captures) (most more : ℕ) (file : List ℕ) (answer : Answer) → most ≤ more → capture_read captures most file ≡ Ok answer
+    → capture_read captures more file ≡ Ok answer
+unfolding capture_read
+capture_read-within captures most more file answer within is = by (opened captures file) is
   where
-    by : (opened : Option AnyUnread) → opened_read most opened ≡ Ok answer → opened_read more opened ≡ Ok answer
+    by : (found : Option UnreadPart) → opened_read captures most found ≡ Ok answer → opened_read captures more found ≡ Ok answer
     by None none = absurd cc
     by (Some unread) read =
-        let all = told (all_noted unread.octets most nothing (any_frames_left unread)) answer read in
-        ap answered (all_noted_within unread.octets most more nothing all.0 (any_frames_left unread) within all.1 ∙ sym all.1) ∙ read
+        let left = frames_left unread in
+        let all = told (all_noted captures unread.octets most nothing left) answer read in
+        ap answered (all_noted_within captures unread.octets most more nothing all.0 left within all.1 ∙ sym all.1) ∙ read

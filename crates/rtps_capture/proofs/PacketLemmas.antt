@@ -1,13 +1,18 @@
 -- What a frame contains stands in the frame.
 use Rattle.std.proofs.Common.{◌≡◌, ℕ, ◌+◌, ◌-◌, ◌≤◌, Bool, true, false, List, length, drop, take, refl, arith}
-use Rattle.std.specs.Prelude.{◌==◌, ◌&&◌, ◌/◌, ◌%◌, ◌*◌, nat_le, nat_lt, if◌then◌else◌, slice_index, slice_range, None, Option, Some}
+use Rattle.std.specs.Prelude.{◌==◌, ◌&&◌, ◌/◌, ◌%◌, ◌*◌, nat_le, nat_lt, if◌then◌else◌, slice_index, slice_range}
+use Rattle.std.specs.Option.{unwrap_or}
+use Rattle.std.specs.Prelude.{Option, Some, None}
 use Rattle.std.proofs.lemmas.Bool.Decides.{nat_tests}
 use Rattle.std.proofs.lemmas.List.{length-drop, length-take}
-use Rattle.rtps_capture.specs.AnyCapture.{contents_in}
+use Rattle.rtps_capture.specs.Capture.{contents_in}
 use Rattle.rtps_capture.specs.Datagrams.{header_size, is_no_fragment, number_at, total_size}
-use Rattle.rtps_capture.specs.Packets.{StandsIn, can_be_fragment, carried_behind, carried_by, carried_by_version, carried_of, carried_typed, contents_behind, contents_carried, contents_of, contents_of_ipv4, contents_of_ipv6, contents_of_whole, contents_of_whole_ipv4, fragment_of, is_ipv4_udp, is_ipv6_udp, is_within, key_4, key_6, moved_contents, packet_of, size_of_ipv6, udp_within}
+use Rattle.rtps_capture.specs.Packets.{StandsIn, can_be_fragment, carried_behind, carried_by, carried_at, carried_typed, contents_behind, contents_carried, contents_of, contents_of_ipv4, contents_of_ipv6, contents_of_whole, contents_of_whole_ipv4, contents_read, fragment_of, is_plain, size_in_front, whole_or_other, is_ipv4_udp, is_ipv6_udp, is_within, key_4, key_6, moved_contents, packet_of, size_of_ipv6, udp_within}
 use Rattle.rtps_capture.specs.Passed.{extension_passed, is_tag, last_header, tag_passed}
-use Rattle.rtps_capture.specs.declared.datagram.ByteRange.{ByteRange}
+use Rattle.rtps_capture.specs.declared.byte_range.ByteRange.{ByteRange}
+use Rattle.rtps_capture.specs.declared.captures.Captures.{Captures}
+use Rattle.rtps_capture.specs.declared.captures.Captures.TheVariants.{Any, Classic}
+use Rattle.rtps_capture.specs.declared.frames.CapturedFrame.{CapturedFrame}
 use Rattle.rtps_capture.specs.declared.layout.ethernet.TheConstants as ethernet
 use Rattle.rtps_capture.specs.declared.layout.cooked_1.TheConstants as cooked_1
 use Rattle.rtps_capture.specs.declared.layout.cooked_2.TheConstants as cooked_2
@@ -133,20 +138,17 @@ by_stands version at size within = by (version == packet_4.VERSION) (version == 
     by false true = within
     by false false = tt
 
-by_version_stands : (frame : List ℕ) (at : ℕ) → is_within (length frame) (carried_by_version frame at)
-by_version_stands frame at = by (nat_lt at (length frame)) refl
+at_stands : (frame : List ℕ) (at : ℕ) (only : Option ℕ) → is_within (length frame) (carried_at frame at only)
+at_stands frame at only = by (nat_lt at (length frame)) refl (version == unwrap_or only version)
   where
-    by : (there : Bool) → nat_lt at (length frame) ≡ there → is_within (length frame) (if there then carried_by (slice_index frame at / 16) at else Unfinished)
-    by true is = by_stands (slice_index frame at / 16) at (length frame) (grind (arith, nat_tests))
-    by false is = tt
+    version : ℕ
+    version = slice_index frame at / 16
 
-of_stands : (version : ℕ) (frame : List ℕ) → is_within (length frame) (carried_of version frame)
-of_stands version frame = by (nat_lt 0 (length frame)) (slice_index frame 0 / 16 == version)
-  where
-    by : (some same : Bool) → is_within (length frame) (if some then (if same then carried_by version 0 else Foreign) else Unfinished)
-    by true true = by_stands version 0 (length frame) (omega arith)
-    by true false = tt
-    by false same = tt
+    by : (there : Bool) → nat_lt at (length frame) ≡ there → (same : Bool)
+        → is_within (length frame) (if there then (if same then carried_by version at else Foreign) else Unfinished)
+    by true is true = by_stands version at (length frame) (grind (arith, nat_tests))
+    by true is false = tt
+    by false is same = tt
 
 typed_stands : (last : Header) (size : ℕ) → last.at ≤ size → is_within size (carried_typed last)
 typed_stands last size within = by (last.kind == ethernet.IPV4) (last.kind == ethernet.IPV6) (is_tag last.kind)
@@ -174,10 +176,10 @@ unfolding packet_of
 packet_within link.Ethernet frame = header_stands ethernet.TYPE ethernet.SIZE frame
 packet_within link.Cooked1 frame = header_stands cooked_1.TYPE cooked_1.SIZE frame
 packet_within link.Cooked2 frame = header_stands cooked_2.TYPE cooked_2.SIZE frame
-packet_within link.Loopback frame = by_version_stands frame loopback.SIZE
-packet_within link.Raw frame = by_version_stands frame 0
-packet_within link.RawIpv4 frame = of_stands packet_4.VERSION frame
-packet_within link.RawIpv6 frame = of_stands packet_6.VERSION frame
+packet_within link.Loopback frame = at_stands frame loopback.SIZE None
+packet_within link.Raw frame = at_stands frame 0 None
+packet_within link.RawIpv4 frame = at_stands frame 0 (Some packet_4.VERSION)
+packet_within link.RawIpv6 frame = at_stands frame 0 (Some packet_6.VERSION)
 
 moved_stands : (by size total : ℕ) (contents : Contents) → by + size ≤ total → StandsIn size contents → StandsIn total (moved_contents by contents)
 moved_stands by size total (contents.Datagram range) le stands = (omega (arith, stands.0), omega (arith, stands.1))
@@ -194,11 +196,26 @@ contents_stand kind frame = by (packet_of kind frame) (packet_within kind frame)
     by Unfinished within = tt
     by Foreign within = tt
 
+whole_stands_read : (size : ℕ) (contents : Contents) → StandsIn size contents → StandsIn size (whole_or_other contents)
+whole_stands_read size (contents.Datagram range) stands = stands
+whole_stands_read size (contents.Fragment fragment) stands = tt
+whole_stands_read size contents.Cut stands = tt
+whole_stands_read size contents.Other stands = tt
+
+read_stands : (captures : Captures) (kind : LinkType) (frame : List ℕ) → StandsIn (length frame) (contents_read captures kind frame)
+unfolding contents_read
+read_stands Any kind frame = contents_stand kind frame
+read_stands Classic kind frame = by (is_plain (size_in_front kind) (packet_of kind frame))
+  where
+    by : (plain : Bool) → StandsIn (length frame) (if plain then whole_or_other (contents_of kind frame) else contents.Other)
+    by true = whole_stands_read (length frame) (contents_of kind frame) (contents_stand kind frame)
+    by false = tt
+
 -- what a frame contains stands in the file
-pub in_file : (file : List ℕ) (kind : Option LinkType) (range : ByteRange) → range.from ≤ range.to → range.to ≤ length file → StandsIn (length file) (contents_in file kind range)
+pub in_file : (captures : Captures) (file : List ℕ) (frame : CapturedFrame) → frame.range.from ≤ frame.range.to → frame.range.to ≤ length file
+    → StandsIn (length file) (contents_in captures file frame)
 unfolding contents_in
-in_file file None range ordered within = tt
-in_file file (Some kind) range ordered within =
-    let size : length (slice_range file range.from range.to) ≡ range.to - range.from = simp (length-take, length-drop) (omega arith) in
-    moved_stands range.from (length (slice_range file range.from range.to)) (length file) (contents_of kind (slice_range file range.from range.to)) (omega (arith, size))
-    (contents_stand kind (slice_range file range.from range.to))
+in_file captures file frame ordered within =
+    let octets = slice_range file frame.range.from frame.range.to in
+    let size : length octets ≡ frame.range.to - frame.range.from = simp (length-take, length-drop) (omega arith) in
+    moved_stands frame.range.from (length octets) (length file) (contents_read captures frame.link octets) (omega (arith, size)) (read_stands captures frame.link octets)

@@ -3,6 +3,8 @@ use Rattle.std.proofs.Common.{◌≡◌, ℕ, zero, suc, ◌+◌, ◌<◌, ◌�
 use Rattle.std.specs.Prelude.{IfSome, None, Option, Some, if◌then◌else◌, nat_le, ◌==◌, ◌&&◌}
 use Rattle.std.proofs.lemmas.Bool.Decides.{nat_tests}
 use Rattle.rtps_capture.specs.Passed.{behind_extension, extension_passed, extension_size, is_atomic, is_extension, last_by, last_within, tag_passed}
+use Rattle.rtps_ids.specs.declared.order.Order.{Order}
+use Rattle.rtps_capture.specs.Options.{is_passed, next_option, option_at, option_passed}
 use Rattle.rtps_capture.specs.declared.layout.extension.TheConstants as extension
 use Rattle.rtps_capture.specs.declared.passed.Header.{Header}
 
@@ -87,3 +89,13 @@ extensions_lead_on packet header =
     by true true fragment = extension_leads_on packet header (extension_size packet header.at) (omega arith)
     by true false true = extension_leads_on packet header extension.SIZE (omega arith)
     by true false false = tt
+
+pub options_lead_on : (order : Order) (code : ℕ) (options : List ℕ) → LeadsOn (option_passed order code options) (length options)
+options_lead_on order code options header = by (is_passed code options header) (nat_le (next_option order options header.at) (length options)) refl
+  where
+    by : (passed fits : Bool) → nat_le (next_option order options header.at) (length options) ≡ fits
+        → IfSome (if passed && fits then Some (option_at order options (next_option order options header.at)) else None)
+        (λ behind. (header.at < behind.at) × (behind.at ≤ length options))
+    by true true is = (omega arith, grind (arith, nat_tests))
+    by true false is = tt
+    by false fits is = tt

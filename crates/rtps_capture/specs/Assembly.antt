@@ -1,23 +1,24 @@
 -- How the fragments of IP are put together. RFC 791 "Internet Protocol", 2.3 "Function Description"; RFC 8200 "Internet Protocol,
 -- Version 6", 4.5 "Fragment Header".
--- own: a packet gives its datagram at the frame that completes it. A fragment that equals one of the packet in the making
--- changes nothing; one that equals one of the last packet given is not counted as ignored, since a frame may be recorded
--- twice. Of a packet whose UDP header is wrong the fragments are ignored.
-use Rattle.std.specs.Prelude.{ℕ, ◌+◌, ◌≡◌, ◌≤◌, not, Bool, if◌then◌else◌, List, [], length, count_by, Option, Some, None}
+-- own: a packet gives its datagram at the frame that completes it, if its UDP header is right and its checksum is: an identification that
+-- came again could join the parts of two packets. Where it is not, the oldest piece goes, and the packet waits for more. A piece that
+-- equals one of the packet in the making changes nothing; one that equals one of the last packet given is not counted as ignored, since a
+-- frame may be recorded twice.
+use Rattle.std.specs.Prelude.{ℕ, ◌+◌, ◌≡◌, ◌≤◌, ◌&&◌, not, nat_le, Bool, if◌then◌else◌, List, [], length, count_by, drop, take, Option, Some, None}
 use Rattle.std.specs.List.{sum_by}
 use Rattle.std.specs.Option.{unwrap_or}
 use Rattle.std.specs.Ordering.{nat_cmp, ordering_then, is_eq}
 use Rattle.std.specs.declared.cmp.Ordering.{Ordering}
 use Rattle.std.specs.BTreeMap.{BTreeMap, get, values}
-use Rattle.rtps_capture.specs.Packets.{udp_within}
-use Rattle.rtps_capture.specs.Pieces.{fills, is_fresh, is_repeat, joined, pieces_with}
+use Rattle.rtps_capture.specs.Checksum.{is_right}
+use Rattle.rtps_capture.specs.Datagrams.{number_at}
+use Rattle.rtps_capture.specs.Pieces.{fills, in_order, is_repeat, joined, pieces_with}
 use Rattle.rtps_capture.specs.declared.assembly.Making.{Making}
 use Rattle.rtps_capture.specs.declared.assembly.Taken.{Taken}
-use Rattle.rtps_capture.specs.declared.datagram.ByteRange.{ByteRange}
+use Rattle.rtps_capture.specs.declared.byte_range.ByteRange.{ByteRange}
 use Rattle.rtps_capture.specs.declared.fragment.Address.{Address}
-use Rattle.rtps_capture.specs.declared.packet.Contents.{Contents}
-use Rattle.rtps_capture.specs.declared.packet.Contents.TheVariants as contents
 use Rattle.rtps_capture.specs.declared.fragment.FragmentKey.{FragmentKey}
+use Rattle.rtps_capture.specs.declared.layout.udp.TheConstants as udp
 use Rattle.rtps_capture.specs.declared.pieces.Piece.{Piece}
 
 -- what is left behind one fragment more: the fragments of its key, the octets of the packet if that gives its datagram now, and
@@ -31,60 +32,57 @@ pub record Joined : Type 0 where
 abbrev pub fresh_making : Making
 fresh_making = record { making = []; given = [] }
 
--- 1 or 0
-abbrev pub one_if : Bool → ℕ
-one_if fresh = if fresh then 1 else 0
+-- the length that the UDP header tells which begins a packet, its own octets included
+abbrev pub udp_length : List ℕ → ℕ
+udp_length packet = number_at udp.LENGTH packet
 
--- the datagram that contents are
-abbrev pub datagram_in : Contents → Option ByteRange
-datagram_in (contents.Datagram range) = Some range
-datagram_in (contents.Fragment fragment) = None
-datagram_in contents.Cut = None
-datagram_in contents.Other = None
+-- a UDP header begins the packet, which has all of its datagram, and the checksum is right
+unfoldable pub has_right_datagram : FragmentKey → List ℕ → Bool
+has_right_datagram key packet =
+    nat_le udp.SIZE (length packet) && nat_le udp.SIZE (udp_length packet) && nat_le (udp_length packet) (length packet)
+    && is_right key (take (udp_length packet) packet)
 
 -- where the datagram stands in a whole packet
-unfoldable pub datagram_of_whole : List ℕ → Option ByteRange
-datagram_of_whole packet = datagram_in (udp_within packet (record { from = 0; to = length packet }))
+abbrev pub datagram_of_whole : FragmentKey → List ℕ → Option ByteRange
+datagram_of_whole key packet = if has_right_datagram key packet then Some (record { from = udp.SIZE; to = udp_length packet }) else None
 
--- a packet that is whole, with its datagram: the packet in the making is the last one given
-abbrev pub given_with : List ℕ → Making → Bool → Option ByteRange → Joined
-given_with file making fresh None = record {
-  making = record { making = []; given = making.given };
-  packet = [];
-  taken = record { fresh = one_if fresh; settled = count_by is_fresh making.making; other = length making.making; datagram = None };
-}
-given_with file making fresh (Some range) = record {
-  making = record { making = []; given = making.making };
-  packet = joined file making.making;
-  taken = record { fresh = one_if fresh; settled = count_by is_fresh making.making; other = 0; datagram = Some range };
-}
-
--- a packet that is whole: its octets are those of its fragments, one after another
-unfoldable pub given : List ℕ → Making → Bool → Joined
-given file making fresh = given_with file making fresh (datagram_of_whole (joined file making.making))
-
--- a fragment that is no repeat in the making, once it is there
-abbrev pub joined_with : List ℕ → Making → Bool → Joined
-joined_with file making fresh =
-    if fills 0 making.making then given file making fresh
-    else record {
-      making = making;
-      packet = [];
-      taken = record { fresh = one_if fresh; settled = 0; other = 0; datagram = None };
-    }
-
--- it is no repeat of the last packet given
+-- a piece is no repeat of the last packet given
 abbrev pub is_new : List ℕ → Making → Piece → Bool
 is_new file making piece = not (is_repeat file piece making.given)
 
--- one fragment more
-unfoldable pub taken_piece : List ℕ → Making → Piece → Joined
-taken_piece file making piece =
+-- a packet that is whole, with its datagram: the packet in the making is the last one given
+abbrev pub given_with : List ℕ → Making → ℕ → List ℕ → Option ByteRange → Joined
+given_with file making fresh packet None = record {
+  making = record { making = drop 1 making.making; given = making.given };
+  packet = [];
+  taken = record { fresh = fresh; settled = 0; datagram = None };
+}
+given_with file making fresh packet (Some range) = record {
+  making = record { making = []; given = making.making };
+  packet = packet;
+  taken = record { fresh = fresh; settled = count_by (is_new file making) making.making; datagram = Some range };
+}
+
+-- the octets of the packet in the making, one piece after another
+abbrev pub packet_of : List ℕ → List Piece → List ℕ
+packet_of file pieces = joined file (in_order pieces)
+
+-- a packet that is whole
+unfoldable pub given : List ℕ → FragmentKey → Making → ℕ → Joined
+given file key making fresh = given_with file making fresh (packet_of file making.making) (datagram_of_whole key (packet_of file making.making))
+
+-- a piece that is no repeat in the making, once it is there
+abbrev pub joined_with : List ℕ → FragmentKey → Making → ℕ → Joined
+joined_with file key making fresh =
+    if fills 0 (in_order making.making) then given file key making fresh
+    else record { making = making; packet = []; taken = record { fresh = fresh; settled = 0; datagram = None } }
+
+-- one piece more of this key
+unfoldable pub taken_piece : List ℕ → FragmentKey → Making → Piece → Joined
+taken_piece file key making piece =
     if is_repeat file piece making.making
-    then record { making = making; packet = []; taken = record { fresh = 0; settled = 0; other = 0; datagram = None } }
-    else joined_with file
-    (record { making = pieces_with (record piece { fresh = is_new file making piece }) making.making; given = making.given })
-    (is_new file making piece)
+    then record { making = making; packet = []; taken = record { fresh = 0; settled = 0; datagram = None } }
+    else joined_with file key (record { making = pieces_with piece making.making; given = making.given }) (if is_new file making piece then 1 else 0)
 
 -- how one address stands to another
 abbrev pub address_cmp : Address → Address → Ordering
@@ -116,7 +114,7 @@ TakesFragment joined key taken old new packet =
 
 -- each fragment is counted once at most
 abbrev pub IsBounded : Taken → ℕ → ℕ → Type 0
-IsBounded taken old new = (new + taken.settled ≤ old + 1) × (new + taken.other ≤ old + 1) × (taken.fresh ≤ 1)
+IsBounded taken old new = (new + taken.settled ≤ old + 1) × (taken.fresh ≤ 1)
 
 -- this is what is left
 abbrev pub IsJoined : Joined → Taken → Making → List ℕ → Type 0

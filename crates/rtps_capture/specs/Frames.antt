@@ -1,93 +1,256 @@
--- The frames of a capture. PCAP Capture File Format (IETF draft), 5 "Packet Record".
--- own: a capture that ends within a frame is cut at that frame. The frames before it are told all the same, so that who
--- reads them can say at which one it is cut.
-use Rattle.std.specs.Prelude.{ℕ, zero, suc, ◌+◌, ◌-◌, ◌≡◌, ◌<◌, ◌≤◌, ◌&&◌, nat_le, nat_lt, Bool, true, false, if◌then◌else◌, List, [], ◌∷◌, length, drop, Option, Some, None, IfSome}
+-- The frames of a capture of either form. PCAP Capture File Format (IETF draft), 4 "File Header" and 5 "Packet Record"; PCAP Now
+-- Generic Capture File Format (IETF draft), 4 "Block Definitions".
+-- own: behind a record or a block that is not whole, or cannot be, nothing is read, since what is there cannot be found. A frame with
+-- more octets than tools capture of one cannot be; of classic captures alone any number of octets is taken.
+use Rattle.std.specs.Prelude.{ℕ, zero, suc, ◌+◌, ◌-◌, ◌≡◌, ◌==◌, ◌≤◌, ◌<◌, min, nat_le, nat_lt, Bool, false, if◌then◌else◌, List, [], ◌∷◌, ◌++◌, length, slice_get, slice_range, Option, Some, None, IfSome}
 use Rattle.std.specs.Iterator.{YieldsFirst}
-use Rattle.rtps_ids.specs.Octets.{number_of}
 use Rattle.rtps_ids.specs.declared.order.Order.{Order}
-use Rattle.rtps_capture.specs.Datagrams.{datagram_at}
-use Rattle.rtps_capture.specs.Opening.{link_of, order_of}
+use Rattle.rtps_ids.specs.declared.order.Order.TheVariants.{Big}
+use Rattle.rtps_capture.specs.Blocks.{block_at, four_at, two_at}
+use Rattle.rtps_capture.specs.LinkTypes.{link_read, link_type_numbered}
+use Rattle.rtps_capture.specs.Opening.{link_type_in, order_of}
+use Rattle.rtps_capture.specs.Options.{offset_told, resolution_told}
+use Rattle.rtps_capture.specs.Times.{block_time, fractions_of, pair_at, record_time}
+use Rattle.rtps_capture.specs.declared.blocks.Block.{Block}
+use Rattle.rtps_capture.specs.declared.blocks.Block.TheVariants.{Whole, Unfinished, Bad}
+use Rattle.rtps_capture.specs.declared.blocks.Interface.{Interface}
+use Rattle.rtps_capture.specs.declared.blocks.WholeBlock.{WholeBlock}
+use Rattle.rtps_capture.specs.declared.byte_range.ByteRange.{ByteRange}
+use Rattle.rtps_capture.specs.declared.captures.Captures.{Captures}
+use Rattle.rtps_capture.specs.declared.captures.Captures.TheVariants.{Classic, Any}
 use Rattle.rtps_capture.specs.declared.frames.Frame.{Frame}
-use Rattle.rtps_capture.specs.declared.frames.Frame.TheVariants.{Datagram, Ignored, Cut}
+use Rattle.rtps_capture.specs.declared.frames.Frame.TheVariants.{Captured, Unread as UnreadFrame, NoFrame, Rest, BadBlock, Damaged, CutFrame}
+use Rattle.rtps_capture.specs.declared.frames.Frames.{Frames}
+use Rattle.rtps_capture.specs.declared.frames.Records.{Records}
+use Rattle.rtps_capture.specs.declared.layout.block.TheConstants as block
 use Rattle.rtps_capture.specs.declared.layout.file.TheConstants as file_header
-use Rattle.rtps_capture.specs.declared.layout.record.TheConstants.{CAPTURED, SIZE}
-use Rattle.rtps_capture.specs.declared.opening.Link.{Link}
-use Rattle.rtps_capture.specs.declared.datagram.ByteRange.{ByteRange}
+use Rattle.rtps_capture.specs.declared.layout.interface.TheConstants as interface
+use Rattle.rtps_capture.specs.declared.layout.packet_block.TheConstants as packet_block
+use Rattle.rtps_capture.specs.declared.layout.record.TheConstants as frame_header
+use Rattle.rtps_capture.specs.declared.link_type.LinkType.{LinkType}
 
--- how many octets of a frame were captured, by its header, which these octets begin with
-abbrev pub captured : Order → List ℕ → ℕ
-captured order rest = number_of order 4 (drop CAPTURED rest)
-
--- a header and all that was captured of its frame are there
-abbrev pub is_whole : Order → List ℕ → Bool
-is_whole order rest = nat_le SIZE (length rest) && nat_le (captured order rest) (length rest - SIZE)
-
--- where the frame stands whose header is at this place of a file
-abbrev pub frame_at : Order → List ℕ → ℕ → ByteRange
-frame_at order file at = record { from = at + SIZE; to = at + SIZE + captured order (drop at file) }
-
--- From this place on, a file is these frames, each behind its header, and then it ends, or is cut within a frame.
-abbrev pub HasFrames : Order → List ℕ → ℕ → List ByteRange → Bool → Type 0
-HasFrames order file at [] false = length file ≤ at
-HasFrames order file at [] true = (at < length file) × (is_whole order (drop at file) ≡ false)
-HasFrames order file at (frame ∷ frames) cut =
-    (at < length file) × (is_whole order (drop at file) ≡ true) × (frame ≡ frame_at order file at) × HasFrames order file frame.to frames cut
-
--- what a frame gives
-abbrev pub given : Option ByteRange → Frame
-given (Some datagram) = Datagram datagram
-given None = Ignored
-
--- what a frame at this place gives
-abbrev pub given_at : Link → List ℕ → ByteRange → Frame
-given_at link file frame = given (datagram_at link file frame)
-
--- what is still unread of a capture: its octets from this place on
+-- what is still unread of a capture: its octets from this place on, what the records of a classic one are, and the interfaces of
+-- the section so far
 pub record Unread : Type 0 where
+  pub captures : Captures
   pub octets : List ℕ
   pub at : ℕ
   pub order : Order
-  pub link : Link
+  pub records : Option Records
+  pub interfaces : List Interface
 
--- what the frame at the front gives, and what `more` has behind it; behind a frame that is cut there is nothing
-abbrev pub frames_with : (ℕ → List Frame) → Order → Link → List ℕ → ℕ → Bool → List Frame
-frames_with more order link file at true = given_at link file (frame_at order file at) ∷ more (frame_at order file at).to
-frames_with more order link file at false = Cut ∷ []
+-- no frame has so many octets: the file is damaged there, or is two files in one
+abbrev pub is_damaged : Captures → ℕ → Bool
+is_damaged Classic size = false
+is_damaged Any size = nat_lt frame_header.MOST size
 
--- at most so many frames
-unfoldable pub frames_within : ℕ → Order → Link → List ℕ → ℕ → List Frame
-frames_within zero order link file at = []
-frames_within (suc n) order link file at =
-    if nat_lt at (length file) then frames_with (frames_within n order link file) order link file at (is_whole order (drop at file)) else []
+-- a frame of this link type, if that is read
+abbrev pub frame_of_link : Interface → Option ℕ → ByteRange → Option LinkType → Frame
+frame_of_link interface ticks range None = UnreadFrame (Some interface.link)
+frame_of_link interface ticks range (Some link) = Captured (record { link = link; range = range; time = block_time interface ticks })
 
--- all of them: a frame has at least one octet, that of its header
-unfoldable pub frames_from : Order → Link → List ℕ → ℕ → List Frame
-frames_from order link file at = frames_within (length file - at) order link file at
+-- a frame of this interface, if the section declared it
+abbrev pub frame_of_interface : Option ℕ → ByteRange → Option Interface → Frame
+frame_of_interface ticks range None = UnreadFrame None
+frame_of_interface ticks range (Some interface) = frame_of_link interface ticks range (link_type_numbered interface.link)
 
--- what the frames give that are still to come
-abbrev pub frames_left : Unread → List Frame
-frames_left unread = frames_from unread.order unread.link unread.octets unread.at
+-- the frame of so many octets that begins a range, where the range has them
+unfoldable pub framed : Option Interface → Option ℕ → ℕ → ByteRange → Frame
+framed interface ticks size range =
+    if is_damaged Any size then Damaged
+    else if nat_le size (range.to - range.from) then frame_of_interface ticks (record { from = range.from; to = range.from + size }) interface
+    else CutFrame
 
--- what there is to read behind the header of a file, if that is one of a capture that is read
-abbrev pub opened_with : List ℕ → Order → Option Link → Option Unread
-opened_with file order None = None
-opened_with file order (Some link) = Some (record { octets = file; at = file_header.SIZE; order = order; link = link })
+-- the most octets that an interface captures of a frame; 0 is no limit
+abbrev pub snap_of : Option Interface → ℕ
+snap_of None = 0
+snap_of (Some interface) = interface.snap
 
--- a capture whose octets are in this order, with its frames still unread
-abbrev pub opened_by : List ℕ → Option Order → Option Unread
-opened_by file None = None
-opened_by file (Some order) = opened_with file order (link_of order file)
+-- how many octets of a frame of this length a Simple Packet Block has, with room for so many: the interface limits them
+abbrev pub simple_size : ℕ → ℕ → ℕ → ℕ
+simple_size snap original room = min original (if snap == 0 then room else min snap room)
 
--- a capture with its frames still unread, where these octets are one
-unfoldable pub opened : List ℕ → Option Unread
-opened file = opened_by file (order_of file)
+-- where the body of a block begins that is at this place
+abbrev pub body_at : ℕ → ℕ
+body_at at = at + block.BODY
 
--- a datagram stands within so many octets
-abbrev pub StandsWithin : ℕ → Frame → Type 0
-StandsWithin size (Datagram place) = (place.from ≤ place.to) × (place.to ≤ size)
-StandsWithin size Ignored = Unit {0}
-StandsWithin size Cut = Unit {0}
+-- where it ends
+abbrev pub body_end : WholeBlock → ℕ
+body_end whole = whole.to - block.REPETITION
 
--- what is next was given, and what is behind it is left; a datagram stands within the capture, which stays as it is
+-- the frame of a block whose interface has this number; they count from 0
+abbrev pub packet_framed : List Interface → ℕ → WholeBlock → List ℕ → ℕ → Frame
+packet_framed interfaces number whole file at =
+    framed (slice_get interfaces number) (Some (pair_at whole.order file (body_at at + packet_block.TICKS)))
+    (four_at whole.order file (body_at at + packet_block.CAPTURED)) (record { from = body_at at + packet_block.FIXED; to = body_end whole })
+
+-- the frame of a Simple Packet Block
+abbrev pub simple_framed : Option Interface → WholeBlock → List ℕ → ℕ → Frame
+simple_framed first whole file at =
+    framed first None (simple_size (snap_of first) (four_at whole.order file (body_at at)) (body_end whole - (body_at at + packet_block.SIMPLE)))
+    (record { from = body_at at + packet_block.SIMPLE; to = body_end whole })
+
+-- what a block at this place gives
+unfoldable pub frame_of_block : List Interface → WholeBlock → List ℕ → ℕ → Frame
+frame_of_block interfaces whole file at =
+    if whole.kind == block.ENHANCED then packet_framed interfaces (four_at whole.order file (body_at at)) whole file at
+    else if whole.kind == block.OLD then packet_framed interfaces (two_at whole.order file (body_at at)) whole file at
+    else if whole.kind == block.SIMPLE then simple_framed (slice_get interfaces 0) whole file at
+    else NoFrame
+
+-- the interface that a block declares at this place: two fields, and two of its options
+abbrev pub interface_of : WholeBlock → List ℕ → ℕ → Interface
+interface_of whole file at = record {
+  link = two_at whole.order file (body_at at + interface.LINK);
+  snap = four_at whole.order file (body_at at + interface.SNAP);
+  resolution = resolution_told whole.order (slice_range file (body_at at + interface.FIXED) (body_end whole));
+  offset = offset_told whole.order (slice_range file (body_at at + interface.FIXED) (body_end whole));
+}
+
+-- the interfaces behind a block: a section begins with none
+unfoldable pub interfaces_behind : List Interface → WholeBlock → List ℕ → ℕ → List Interface
+interfaces_behind interfaces whole file at =
+    if whole.kind == block.SECTION then []
+    else if whole.kind == block.INTERFACE then interfaces ++ interface_of whole file at ∷ []
+    else interfaces
+
+-- what one record or block gives, and what is unread behind it
+pub record Step : Type 0 where
+  pub gives : Frame
+  pub next : Unread
+
+-- all is read
+abbrev pub ended : Unread → Unread
+ended unread = record unread { at = length unread.octets }
+
+-- this gives so much, and behind it nothing is read
+abbrev pub end_with : Frame → Unread → Step
+end_with frame unread = record { gives = frame; next = ended unread }
+
+-- this is what the step gives, and what it leaves
+abbrev pub TakesStep : Step → Frame → Unread → Type 0
+TakesStep step frame unread = (frame ≡ step.gives) × (unread ≡ step.next)
+
+-- a block
+abbrev pub step_of_block : Unread → Block → Step
+step_of_block unread Unfinished = end_with Rest unread
+step_of_block unread Bad = end_with BadBlock unread
+step_of_block unread (Whole whole) = record {
+  gives = frame_of_block unread.interfaces whole unread.octets unread.at;
+  next = record unread {
+    at = whole.to;
+    order = whole.order;
+    interfaces = interfaces_behind unread.interfaces whole unread.octets unread.at;
+  };
+}
+
+-- where the octets of a record begin
+abbrev pub frame_from : Unread → ℕ
+frame_from unread = unread.at + frame_header.SIZE
+
+-- a record of a classic capture that has so many octets of a frame
+abbrev pub step_of_sized : Unread → Records → ℕ → Step
+step_of_sized unread records size =
+    if is_damaged unread.captures size then end_with Damaged unread
+    else if nat_le size (length unread.octets - frame_from unread) then record {
+      gives = Captured (record {
+        link = records.link;
+        range = record { from = frame_from unread; to = frame_from unread + size };
+        time = Some (record_time records.fractions unread.order unread.octets unread.at);
+      });
+      next = record unread { at = frame_from unread + size };
+    }
+    else end_with Rest unread
+
+-- a record
+abbrev pub step_of_record : Unread → Records → Step
+step_of_record unread records =
+    if nat_le (frame_from unread) (length unread.octets)
+    then step_of_sized unread records (four_at unread.order unread.octets (unread.at + frame_header.CAPTURED))
+    else end_with Rest unread
+
+-- by the form of the file
+abbrev pub step_by : Unread → Option Records → Step
+step_by unread None = step_of_block unread (block_at unread.order unread.octets unread.at)
+step_by unread (Some records) = step_of_record unread records
+
+-- one record or block
+unfoldable pub step_of : Unread → Step
+step_of unread = step_by unread unread.records
+
+-- what at most so many records or blocks give
+unfoldable pub steps_within : ℕ → Unread → List Frame
+steps_within zero unread = []
+steps_within (suc n) unread =
+    if nat_lt unread.at (length unread.octets) then (step_of unread).gives ∷ steps_within n (step_of unread).next else []
+
+-- what all of them give: each has one octet at least
+unfoldable pub frames_left : Unread → List Frame
+frames_left unread = steps_within (length unread.octets - unread.at) unread
+
+-- These are what a file gives from here on, and then it ends.
+abbrev pub HasFrames : Unread → List Frame → Type 0
+HasFrames unread [] = length unread.octets ≤ unread.at
+HasFrames unread (frame ∷ frames) =
+    (unread.at < length unread.octets) × (frame ≡ (step_of unread).gives) × HasFrames (step_of unread).next frames
+
+-- a classic capture whose frames are of this link type
+abbrev pub classic_with : Captures → List ℕ → Order → Option LinkType → Option Unread
+classic_with captures file order None = None
+classic_with captures file order (Some link) = Some (record {
+  captures = captures;
+  octets = file;
+  at = file_header.SIZE;
+  order = order;
+  records = Some (record { link = link; fractions = fractions_of order file });
+  interfaces = [];
+})
+
+-- the link type of this number, if it is told and read
+abbrev pub link_by : Captures → Option ℕ → Option LinkType
+link_by captures None = None
+link_by captures (Some number) = link_read captures number
+
+-- a pcapng file whose first block is this one: it is a section header
+abbrev pub section_opened : List ℕ → Block → Option Unread
+section_opened file Unfinished = None
+section_opened file Bad = None
+section_opened file (Whole whole) =
+    if whole.kind == block.SECTION
+    then Some (record { captures = Any; octets = file; at = whole.to; order = whole.order; records = None; interfaces = [] })
+    else None
+
+-- a capture of the form that its first four octets tell; of classic captures alone one of the other form is none
+abbrev pub opened_by : Captures → List ℕ → Option Order → Option Unread
+opened_by Classic file None = None
+opened_by Any file None = section_opened file (block_at Big file 0)
+opened_by captures file (Some order) = classic_with captures file order (link_by captures (link_type_in order file))
+
+-- a capture with its frames still unread, where these octets are one of those that are read
+unfoldable pub opened : Captures → List ℕ → Option Unread
+opened captures file = opened_by captures file (order_of file)
+
+-- a frame stands within so many octets
+abbrev pub StandsInFile : ℕ → Frame → Type 0
+StandsInFile size (Captured frame) = (frame.range.from ≤ frame.range.to) × (frame.range.to ≤ size)
+StandsInFile size (UnreadFrame link) = Unit {0}
+StandsInFile size NoFrame = Unit {0}
+StandsInFile size Rest = Unit {0}
+StandsInFile size BadBlock = Unit {0}
+StandsInFile size Damaged = Unit {0}
+StandsInFile size CutFrame = Unit {0}
+
+-- what these frames are unread of a file
+abbrev pub unread_of : List ℕ → Frames → Unread
+unread_of file frames = record {
+  captures = frames.captures;
+  octets = file;
+  at = frames.at;
+  order = frames.order;
+  records = frames.records;
+  interfaces = frames.interfaces.items;
+}
+
+-- what is next was given, and what is behind it is left; a frame stands within the file
 abbrev pub GivesNext : Unread → Option Frame → Unread → Type 0
-GivesNext old result new = YieldsFirst frames_left old result new × IfSome result (StandsWithin (length old.octets)) × (new.octets ≡ old.octets)
+GivesNext old result new = YieldsFirst frames_left old result new × IfSome result (StandsInFile (length old.octets))

@@ -1,7 +1,7 @@
 -- The numbers of the layout, as the tables of the standards have them: each stands here and in `layout` alone. PCAP Capture
 -- File Format (IETF draft), 4 "File Header" and 5 "Packet Record"; IEEE 802.3, 3.1.1 "Packet format"; RFC 791 "Internet
 -- Protocol", 3.1 "Internet Header Format"; RFC 768 "User Datagram Protocol", "Format".
-use Rattle.std.specs.Prelude.{◌≡◌}
+use Rattle.std.specs.Prelude.{◌≡◌, ◌^◌}
 use Rattle.rtps_capture.specs.declared.layout.file.TheConstants as file
 use Rattle.rtps_capture.specs.declared.layout.record.TheConstants as frame_header
 use Rattle.rtps_capture.specs.declared.layout.ethernet.TheConstants as ethernet
@@ -18,15 +18,21 @@ use Rattle.rtps_capture.specs.declared.layout.block.TheConstants as block
 use Rattle.rtps_capture.specs.declared.layout.section.TheConstants as section
 use Rattle.rtps_capture.specs.declared.layout.interface.TheConstants as interface
 use Rattle.rtps_capture.specs.declared.layout.packet_block.TheConstants as packet_block
+use Rattle.rtps_capture.specs.declared.layout.option.TheConstants as option
+use Rattle.rtps_capture.specs.declared.layout.time.TheConstants as time
 
 -- The header of a file (PCAP Capture File Format, 4 "File Header"), the two numbers that it begins with, the major version of
--- those that are read, and the link types LINKTYPE_ETHERNET and LINKTYPE_RAW, of the 2^16 that there are.
+-- those that are read, and how many link types there are.
 abbrev pub file_is : Type 0
-file_is = (file.SIZE ≡ 24) × (file.MAJOR ≡ 4) × (file.LINK ≡ 20) × (file.MICROSECONDS ≡ 0xa1b2c3d4) × (file.NANOSECONDS ≡ 0xa1b23c4d) × (file.VERSION ≡ 2) × (file.LINKS ≡ 0x10000) × (file.ETHERNET ≡ 1) × (file.RAW_IP ≡ 101)
+file_is = (file.SIZE ≡ 24) × (file.MAJOR ≡ 4) × (file.LINK ≡ 20) × (file.MICROSECONDS ≡ 0xa1b2c3d4) × (file.NANOSECONDS ≡ 0xa1b23c4d) × (file.VERSION ≡ 2) × (file.LINKS ≡ 0x10000)
 
--- The header of a frame (PCAP Capture File Format, 5 "Packet Record").
+-- The header of a frame (PCAP Capture File Format, 5 "Packet Record"). own: 262,144 octets are the most that tools capture of one.
 abbrev pub record_is : Type 0
-record_is = (frame_header.SIZE ≡ 16) × (frame_header.CAPTURED ≡ 8)
+record_is = (frame_header.SIZE ≡ 16) × (frame_header.SECONDS ≡ 0) × (frame_header.FRACTION ≡ 4) × (frame_header.CAPTURED ≡ 8) × (frame_header.MOST ≡ 262144)
+
+-- A second and a microsecond in nanoseconds.
+abbrev pub time_is : Type 0
+time_is = (time.SECOND ≡ 10 ^ 9) × (time.MICROSECOND ≡ 10 ^ 3)
 
 -- The header of an Ethernet frame (IEEE 802.3, 3.1.1 "Packet format"), the type of one that carries IPv4, and that of one that
 -- carries IPv6 (RFC 2464, 3 "Frame Format").
@@ -42,7 +48,7 @@ packet_is = (packet.LEAST ≡ 20) × (packet.TOTAL ≡ 2) × (packet.FRAGMENT �
 
 -- The header of UDP (RFC 768, "Format").
 abbrev pub udp_is : Type 0
-udp_is = (udp.SIZE ≡ 8) × (udp.LENGTH ≡ 4)
+udp_is = (udp.SIZE ≡ 8) × (udp.LENGTH ≡ 4) × (udp.CHECKSUM ≡ 6)
 
 -- The link types that are read from any capture: LINKTYPE_NULL, LINKTYPE_ETHERNET, LINKTYPE_RAW, LINKTYPE_LOOP,
 -- LINKTYPE_LINUX_SLL, LINKTYPE_IPV4, LINKTYPE_IPV6, LINKTYPE_LINUX_SLL2.
@@ -77,4 +83,8 @@ block_is = (block.LEAST ≡ 12) × (block.LENGTH ≡ 4) × (block.BODY ≡ 8) ×
 -- "Simple Packet Block").
 abbrev pub blocks_are : Type 0
 blocks_are = (section.FIXED ≡ 16) × (section.MAGIC ≡ 8) × (section.MAJOR ≡ 12) × (section.BYTE_ORDER ≡ 0x1a2b3c4d) × (section.VERSION ≡ 1)
-    × (interface.FIXED ≡ 8) × (interface.LINK ≡ 0) × (interface.SNAP ≡ 4) × (packet_block.FIXED ≡ 20) × (packet_block.CAPTURED ≡ 12) × (packet_block.SIMPLE ≡ 4)
+    × (interface.FIXED ≡ 8) × (interface.LINK ≡ 0) × (interface.SNAP ≡ 4) × (packet_block.FIXED ≡ 20) × (packet_block.TICKS ≡ 4) × (packet_block.CAPTURED ≡ 12) × (packet_block.SIMPLE ≡ 4)
+
+-- An option of a block (3.5 "Options"), the end of options, if_tsresol and if_tsoffset (4.2), and the resolution where none is told.
+abbrev pub option_is : Type 0
+option_is = (option.VALUE ≡ 4) × (option.LENGTH ≡ 2) × (option.END ≡ 0) × (option.RESOLUTION ≡ 9) × (option.OFFSET ≡ 14) × (option.USUAL_RESOLUTION ≡ 6)

@@ -1,13 +1,13 @@
 -- How a capture begins. PCAP Capture File Format (IETF draft), 4 "File Header".
--- own: every minor version is taken, since later ones only add, and a capture is taken on one interface whose frames are
--- Ethernet frames or IP packets.
+-- own: every minor version is taken, since later ones only add.
 use Rattle.std.specs.Prelude.{ℕ, ◌==◌, ◌||◌, ◌%◌, nat_lt, Bool, if◌then◌else◌, List, length, drop, take, Option, Some, None}
 use Rattle.rtps_ids.specs.Octets.{number_of}
 use Rattle.rtps_ids.specs.declared.order.Order.{Order}
 use Rattle.rtps_ids.specs.declared.order.Order.TheVariants.{Big, Little}
-use Rattle.rtps_capture.specs.declared.layout.file.TheConstants.{ETHERNET, LINK, LINKS, MAJOR, MICROSECONDS, NANOSECONDS, RAW_IP, SIZE, VERSION}
-use Rattle.rtps_capture.specs.declared.opening.Link.{Link}
-use Rattle.rtps_capture.specs.declared.opening.Link.TheVariants.{Ethernet, RawIp}
+use Rattle.rtps_capture.specs.LinkTypes.{link_read}
+use Rattle.rtps_capture.specs.declared.captures.Captures.TheVariants.{Classic}
+use Rattle.rtps_capture.specs.declared.layout.file.TheConstants.{LINK, LINKS, MAJOR, MICROSECONDS, NANOSECONDS, SIZE, VERSION}
+use Rattle.rtps_capture.specs.declared.link_type.LinkType.{LinkType}
 
 -- the two numbers that captures begin with
 abbrev pub is_magic : ℕ → Bool
@@ -40,29 +40,16 @@ link_type_by (Some order) file = link_type_in order file
 abbrev pub link_type_of : List ℕ → Option ℕ
 link_type_of file = link_type_by (order_of file) file
 
--- the link types that are read
-abbrev pub link_numbered : ℕ → Option Link
-link_numbered number = if number == ETHERNET then Some Ethernet else if number == RAW_IP then Some RawIp else None
-
--- the link of this number, if it is one that is read
-abbrev pub link_by : Option ℕ → Option Link
-link_by None = None
-link_by (Some number) = link_numbered number
-
--- what the frames are
-abbrev pub link_of : Order → List ℕ → Option Link
-link_of order file = link_by (link_type_in order file)
-
 -- this link type, unless it is one that is read
-abbrev pub unless_read : ℕ → Option Link → Option ℕ
+abbrev pub unless_read : ℕ → Option LinkType → Option ℕ
 unless_read number None = Some number
 unless_read number (Some link) = None
 
 -- the number of a link type that is not read
 abbrev pub unread_by : Option ℕ → Option ℕ
 unread_by None = None
-unread_by (Some number) = unless_read number (link_numbered number)
+unread_by (Some number) = unless_read number (link_read Classic number)
 
--- the link type of a capture of that version whose frames are not read
+-- the link type of a capture of that version that is not read as a classic one
 abbrev pub unread_link_type_of : List ℕ → Option ℕ
 unread_link_type_of file = unread_by (link_type_of file)

@@ -4,11 +4,16 @@
 -- own: headers are read from the front, the fields of a header before its lengths, and what is met first decides: that it is no
 -- UDP over IP or cannot be, or that the captured octets end. So a packet that was captured in part is not taken for another
 -- protocol, nor the other way round.
-use Rattle.std.specs.Prelude.{ℕ, ◌+◌, ◌-◌, ◌*◌, ◌/◌, ◌%◌, ◌==◌, ◌≤◌, ◌&&◌, ◌||◌, not, nat_le, nat_lt, Bool, if◌then◌else◌, List, length, drop, take, slice_index}
+-- own: of classic captures alone those datagrams are taken whose packet is one of version 4 that was sent whole and stands behind the
+-- frame's own header at once; all else is one kind.
+use Rattle.std.specs.Prelude.{ℕ, ◌+◌, ◌-◌, ◌*◌, ◌/◌, ◌%◌, ◌==◌, ◌≤◌, ◌&&◌, ◌||◌, not, nat_le, nat_lt, Bool, false, if◌then◌else◌, List, length, drop, take, slice_index, Option, Some, None}
+use Rattle.std.specs.Option.{unwrap_or}
 use Rattle.rtps_ids.specs.Octets.{number_of}
 use Rattle.rtps_ids.specs.declared.order.Order.TheVariants.{Big}
 use Rattle.rtps_capture.specs.Datagrams.{header_size, is_no_fragment, is_udp, number_at, total_size}
 use Rattle.rtps_capture.specs.Passed.{extension_passed, is_extension, is_tag, last_header, tag_passed}
+use Rattle.rtps_capture.specs.declared.captures.Captures.{Captures}
+use Rattle.rtps_capture.specs.declared.captures.Captures.TheVariants.{Classic, Any}
 use Rattle.rtps_capture.specs.declared.layout.cooked_1.TheConstants as cooked_1
 use Rattle.rtps_capture.specs.declared.layout.cooked_2.TheConstants as cooked_2
 use Rattle.rtps_capture.specs.declared.layout.ethernet.TheConstants as ethernet
@@ -27,20 +32,18 @@ use Rattle.rtps_capture.specs.declared.packet.Contents.TheVariants as contents
 use Rattle.rtps_capture.specs.declared.fragment.Fragment.{Fragment}
 use Rattle.rtps_capture.specs.declared.fragment.FragmentKey.{FragmentKey}
 use Rattle.rtps_capture.specs.declared.passed.Header.{Header}
-use Rattle.rtps_capture.specs.declared.datagram.ByteRange.{ByteRange}
+use Rattle.rtps_capture.specs.declared.byte_range.ByteRange.{ByteRange}
 
 -- the packet of this version that begins there
 abbrev pub carried_by : ℕ → ℕ → Carried
 carried_by version at = if version == packet_4.VERSION then Ipv4 at else if version == packet_6.VERSION then Ipv6 at else Foreign
 
--- the high half of a packet's first octet tells its version
-abbrev pub carried_by_version : List ℕ → ℕ → Carried
-carried_by_version frame at = if nat_lt at (length frame) then carried_by (slice_index frame at / 16) at else Unfinished
-
--- the frame is a packet of this version
-abbrev pub carried_of : ℕ → List ℕ → Carried
-carried_of version frame =
-    if nat_lt 0 (length frame) then (if slice_index frame 0 / 16 == version then carried_by version 0 else Foreign) else Unfinished
+-- the high half of a packet's first octet tells its version, which may be limited to one
+abbrev pub carried_at : List ℕ → ℕ → Option ℕ → Carried
+carried_at frame at only =
+    if nat_lt at (length frame)
+    then (if slice_index frame at / 16 == unwrap_or only (slice_index frame at / 16) then carried_by (slice_index frame at / 16) at else Foreign)
+    else Unfinished
 
 -- what a type says of what is behind it; a tag is passed if the frame has all of it
 abbrev pub carried_typed : Header → Carried
@@ -61,10 +64,10 @@ unfoldable pub packet_of : LinkType → List ℕ → Carried
 packet_of link.Ethernet frame = carried_behind ethernet.TYPE ethernet.SIZE frame
 packet_of link.Cooked1 frame = carried_behind cooked_1.TYPE cooked_1.SIZE frame
 packet_of link.Cooked2 frame = carried_behind cooked_2.TYPE cooked_2.SIZE frame
-packet_of link.Loopback frame = carried_by_version frame loopback.SIZE
-packet_of link.Raw frame = carried_by_version frame 0
-packet_of link.RawIpv4 frame = carried_of packet_4.VERSION frame
-packet_of link.RawIpv6 frame = carried_of packet_6.VERSION frame
+packet_of link.Loopback frame = carried_at frame loopback.SIZE None
+packet_of link.Raw frame = carried_at frame 0 None
+packet_of link.RawIpv4 frame = carried_at frame 0 (Some packet_4.VERSION)
+packet_of link.RawIpv6 frame = carried_at frame 0 (Some packet_6.VERSION)
 
 -- four octets as a number
 abbrev pub number_4_at : ℕ → List ℕ → ℕ
@@ -205,6 +208,31 @@ contents_carried frame Foreign = contents.Other
 -- what a frame contains
 abbrev pub contents_of : LinkType → List ℕ → Contents
 contents_of link frame = contents_carried frame (packet_of link frame)
+
+-- how many octets a frame of a classic capture has in front of its packet
+abbrev pub size_in_front : LinkType → ℕ
+size_in_front link.Ethernet = ethernet.SIZE
+size_in_front other = 0
+
+-- a packet of version 4 that begins there
+abbrev pub is_plain : ℕ → Carried → Bool
+is_plain at (Ipv4 from) = from == at
+is_plain at (Ipv6 from) = false
+is_plain at Unfinished = false
+is_plain at Foreign = false
+
+-- a datagram in one packet, or another thing
+abbrev pub whole_or_other : Contents → Contents
+whole_or_other (contents.Datagram range) = contents.Datagram range
+whole_or_other (contents.Fragment fragment) = contents.Other
+whole_or_other contents.Cut = contents.Other
+whole_or_other contents.Other = contents.Other
+
+-- what a frame contains for these captures
+unfoldable pub contents_read : Captures → LinkType → List ℕ → Contents
+contents_read Any link frame = contents_of link frame
+contents_read Classic link frame =
+    if is_plain (size_in_front link) (packet_of link frame) then whole_or_other (contents_of link frame) else contents.Other
 
 -- the packet begins within so many octets
 abbrev pub is_within : ℕ → Carried → Type 0

@@ -1,9 +1,10 @@
 -- How the fragments of IP are put together. RFC 791 "Internet Protocol", 2.3 "Function Description"; RFC 8200 "Internet Protocol,
 -- Version 6", 4.5 "Fragment Header".
--- own: a sender may use an identification again, and a recorder may record a frame twice. So a piece that is equal to one that
--- is there is a repeat, and one that cannot be of the packet in the making begins another packet.
-use Rattle.std.specs.Prelude.{ℕ, suc, ◌+◌, ◌-◌, ◌≡◌, ◌==◌, ◌≤◌, ◌<◌, ◌^◌, ◌&&◌, ◌||◌, not, nat_eq, nat_le, nat_lt, Bool, true, false, if◌then◌else◌, List, [], ◌∷◌, ◌++◌, length, drop, take, slice_index_or, Option, Some, None}
-use Rattle.std.specs.List.{list_any}
+-- own: a sender may use an identification again, and a recorder may record a frame twice or miss it. So a piece that is equal to
+-- one that is there is a repeat, and while a new piece clashes with those that are there, the oldest of them goes.
+use Rattle.std.specs.Prelude.{ℕ, ◌+◌, ◌-◌, ◌≡◌, ◌==◌, ◌≤◌, ◌<◌, ◌^◌, ◌&&◌, ◌||◌, not, nat_eq, nat_le, nat_lt, Bool, true, false, if◌then◌else◌, List, [], ◌∷◌, ◌++◌, drop, map, take}
+use Rattle.std.specs.BTreeMap.{BTreeMap}
+use Rattle.std.specs.List.{AllByRecursion, list_any}
 use Rattle.std.specs.Cmp.Lexicographic.{pointwise}
 use mathlib.Core.Bool.{beq}
 use Rattle.rtps_capture.specs.Packets.{fragment_size}
@@ -17,7 +18,6 @@ piece_of fragment = record {
   start = fragment.start;
   end = fragment.start + fragment_size fragment;
   more = fragment.more;
-  fresh = true;
 }
 
 -- how many octets a piece has
@@ -43,28 +43,32 @@ abbrev pub stands_before : Piece → Piece → Bool
 stands_before one other =
     nat_lt one.start other.start && nat_le one.end other.start && (one.more || (not other.more && one.end == other.end))
 
--- the pieces with another in front of them
-abbrev pub behind_piece : Piece → Option (List Piece) → Option (List Piece)
-behind_piece piece None = None
-behind_piece piece (Some pieces) = Some (piece ∷ pieces)
+-- no packet has both: they overlap, they name two ends, or one reaches past the end that the other names
+abbrev pub clashes : Piece → Piece → Bool
+clashes one other = not (stands_before one other || stands_before other one)
 
--- The pieces of a packet in their order, with another one at its place; None where it overlaps one of them, names another end
--- than one of them, or has one of them reach past the end.
-abbrev pub with_piece : Piece → List Piece → Option (List Piece)
-with_piece piece [] = Some (piece ∷ [])
-with_piece piece (first ∷ pieces) =
-    if nat_lt first.start piece.start then (if stands_before first piece then behind_piece first (with_piece piece pieces) else None)
-    else if stands_before piece first then Some (piece ∷ first ∷ pieces)
-    else None
+-- it clashes with one of these
+abbrev pub clashes_with : List Piece → Piece → Bool
+clashes_with pieces piece = list_any (clashes piece) pieces
 
--- the pieces behind it that there are; where there are none, it begins another packet
-abbrev pub or_alone : Piece → Option (List Piece) → List Piece
-or_alone piece None = piece ∷ []
-or_alone piece (Some pieces) = pieces
+-- what is left of these pieces, the oldest of which is the first, for a new one: those behind the last one that it clashes with
+abbrev pub left_for : Piece → List Piece → List Piece
+left_for piece [] = []
+left_for piece (oldest ∷ pieces) = if clashes_with (oldest ∷ pieces) piece then left_for piece pieces else oldest ∷ pieces
 
--- the pieces in the making with another one
+-- the pieces in the making with a new one
 abbrev pub pieces_with : Piece → List Piece → List Piece
-pieces_with piece pieces = or_alone piece (with_piece piece pieces)
+pieces_with piece pieces = left_for piece pieces ++ piece ∷ []
+
+-- a piece among others, in front of those that do not begin before it
+abbrev pub put_in_order : Piece → List Piece → List Piece
+put_in_order piece [] = piece ∷ []
+put_in_order piece (first ∷ pieces) = if nat_lt first.start piece.start then first ∷ put_in_order piece pieces else piece ∷ first ∷ pieces
+
+-- the pieces in the order in which they stand in the packet
+abbrev pub in_order : List Piece → List Piece
+in_order [] = []
+in_order (piece ∷ pieces) = put_in_order piece (in_order pieces)
 
 -- the pieces have all octets from a place on to the end: the first one begins there, each other one where the one before it
 -- ends, and the last one has nothing behind it
@@ -78,47 +82,27 @@ abbrev pub joined : List ℕ → List Piece → List ℕ
 joined file [] = []
 joined file (piece ∷ pieces) = piece_octets file piece ++ joined file pieces
 
--- how many pieces are no repeats of the last packet that was given
-abbrev pub is_fresh : Piece → Bool
-is_fresh piece = piece.fresh
-
--- this piece stands before each of these
-abbrev pub StandsBeforeAll : Piece → List Piece → Type 0
-StandsBeforeAll piece [] = Unit {0}
-StandsBeforeAll piece (next ∷ pieces) = (stands_before piece next ≡ true) × StandsBeforeAll piece pieces
-
 -- the pieces can be of one packet, and stand in its order
 abbrev pub IsInOrder : List Piece → Type 0
 IsInOrder [] = Unit {0}
-IsInOrder (piece ∷ pieces) = StandsBeforeAll piece pieces × IsInOrder pieces
-
--- how many pieces begin before a place
-abbrev pub place_of : ℕ → List Piece → ℕ
-place_of start [] = 0
-place_of start (piece ∷ pieces) = if nat_lt piece.start start then suc (place_of start pieces) else 0
-
--- it stands behind the piece before this place, and before the one behind it
-abbrev pub can_stand : ℕ → Piece → List Piece → Bool
-can_stand place piece pieces =
-    (place == 0 || stands_before (slice_index_or pieces (place - 1) piece) piece)
-    && (nat_le (length pieces) place || stands_before piece (slice_index_or pieces place piece))
+IsInOrder (piece ∷ pieces) = AllByRecursion (λ next. stands_before piece next ≡ true) pieces × IsInOrder pieces
 
 -- a piece ends behind its beginning, and not past what 32 bits count
 abbrev pub IsSmall : Piece → Type 0
 IsSmall piece = (piece.start ≤ piece.end) × (piece.end < 2 ^ 32)
-
--- each of them is so
-abbrev pub AreSmall : List Piece → Type 0
-AreSmall [] = Unit {0}
-AreSmall (piece ∷ pieces) = IsSmall piece × AreSmall pieces
 
 -- how many octets the pieces have
 abbrev pub sizes : List Piece → ℕ
 sizes [] = 0
 sizes (piece ∷ pieces) = piece_size piece + sizes pieces
 
--- pieces that can be of one packet, with so many octets
-pub record AreKept (pieces : List Piece) (held : ℕ) : Type 0 where
-  pub ordered : IsInOrder pieces
-  pub small : AreSmall pieces
-  pub held_is : held ≡ sizes pieces
+-- a piece with the place where it begins
+abbrev pub placed : Piece → ℕ × Piece
+placed piece = (piece.start, piece)
+
+-- pieces that can be of one packet, by the places where they begin, with so many octets
+pub record AreKept (pieces : List Piece) (by_place : BTreeMap ℕ Piece) (held : ℕ) : Type 0 where
+  pub ordered : IsInOrder (in_order pieces)
+  pub small : AllByRecursion IsSmall (in_order pieces)
+  pub placed_are : by_place.entries ≡ map placed (in_order pieces)
+  pub held_is : held ≡ sizes (in_order pieces)

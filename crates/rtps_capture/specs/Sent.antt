@@ -1,34 +1,46 @@
 -- What a datagram of any capture is, whoever collects it: what some packet carried whose octets stand in the file. RFC 791
 -- "Internet Protocol", 2.3 "Function Description"; RFC 8200, 4.5 "Fragment Header"; RFC 768 "User Datagram Protocol", "Format".
 -- own: a reader that told of a datagram which no packet carried would be no evidence.
-use Rattle.std.specs.Prelude.{ℕ, ◌+◌, ◌≡◌, ◌≤◌, ◌⊎◌, true, false, List, [], ◌∷◌, ◌++◌, length, slice_range, Option, Some, Ok}
+use Rattle.std.specs.Prelude.{ℕ, ◌+◌, ◌≡◌, ◌≤◌, ◌<◌, ◌⊎◌, true, false, List, [], ◌∷◌, ◌++◌, length, slice_range, take, Some, None, Ok}
+use Rattle.std.specs.List.{AllByRecursion}
 use Rattle.std.specs.Ordering.{is_eq}
-use Rattle.rtps_capture.specs.AnyCapture.{AnyAnswer, any_read, contents_in}
-use Rattle.rtps_capture.specs.AnyFrames.{AnyUnread, any_frames_left, any_opened}
-use Rattle.rtps_capture.specs.Assembly.{key_cmp}
-use Rattle.rtps_capture.specs.Datagrams.{number_at}
+use Rattle.rtps_capture.specs.Capture.{Answer, capture_read, contents_in}
+use Rattle.rtps_capture.specs.Frames.{Unread, frames_left, opened}
+use Rattle.rtps_capture.specs.Assembly.{datagram_of_whole, key_cmp, packet_of, taken_piece, udp_length}
+use Rattle.rtps_capture.specs.Checksum.{is_right}
 use Rattle.rtps_capture.specs.Packets.{fragment_size}
-use Rattle.rtps_capture.specs.declared.any_frames.AnyFrame.{AnyFrame}
-use Rattle.rtps_capture.specs.declared.any_frames.AnyFrame.TheVariants.{Frame}
-use Rattle.rtps_capture.specs.declared.datagram.ByteRange.{ByteRange}
+use Rattle.rtps_capture.specs.Pieces.{clashes_with, fills, in_order, is_repeat, is_same}
+use Rattle.rtps_capture.specs.declared.frames.Frame.{Frame}
+use Rattle.rtps_capture.specs.declared.frames.Frame.TheVariants.{Captured}
+use Rattle.rtps_capture.specs.declared.captures.Captures.{Captures}
+use Rattle.rtps_capture.specs.declared.assembly.Making.{Making}
+use Rattle.rtps_capture.specs.declared.byte_range.ByteRange.{ByteRange}
 use Rattle.rtps_capture.specs.declared.layout.udp.TheConstants as udp
-use Rattle.rtps_capture.specs.declared.link_type.LinkType.{LinkType}
 use Rattle.rtps_capture.specs.declared.packet.Contents.{Contents}
 use Rattle.rtps_capture.specs.declared.packet.Contents.TheVariants as contents
 use Rattle.rtps_capture.specs.declared.fragment.Fragment.{Fragment}
 use Rattle.rtps_capture.specs.declared.fragment.FragmentKey.{FragmentKey}
+use Rattle.rtps_capture.specs.declared.pieces.Piece.{Piece}
 
--- one of these frames contains this
-abbrev pub StandsAmong : List ℕ → List AnyFrame → Contents → Type 0
-StandsAmong file frames contents =
-    (before : List AnyFrame) × (link : Option LinkType) × (range : ByteRange) × (after : List AnyFrame)
-    × (frames ≡ before ++ Frame link range ∷ after) × (contents_in file link range ≡ contents)
+-- what a frame contains, if its link type is read
+abbrev pub contents_told : Captures → List ℕ → Frame → List Contents
+contents_told captures file (Captured frame) = contents_in captures file frame ∷ []
+contents_told captures file other = []
+
+-- what these frames contain, in their order
+abbrev pub contents_among : Captures → List ℕ → List Frame → List Contents
+contents_among captures file [] = []
+contents_among captures file (frame ∷ frames) = contents_told captures file frame ++ contents_among captures file frames
+
+-- one of the frames contains this
+abbrev pub StandsAmong : List Contents → Contents → Type 0
+StandsAmong frames contents = (before : List Contents) × (after : List Contents) × (frames ≡ before ++ contents ∷ after)
 
 -- these fragments stand in frames, and all have this key
-abbrev pub AreFragments : List ℕ → List AnyFrame → FragmentKey → List Fragment → Type 0
-AreFragments file frames key [] = Unit {0}
-AreFragments file frames key (fragment ∷ fragments) =
-    (is_eq (key_cmp fragment.key key) ≡ true) × StandsAmong file frames (contents.Fragment fragment) × AreFragments file frames key fragments
+abbrev pub AreFragments : List Contents → FragmentKey → List Fragment → Type 0
+AreFragments frames key [] = Unit {0}
+AreFragments frames key (fragment ∷ fragments) =
+    (is_eq (key_cmp fragment.key key) ≡ true) × StandsAmong frames (contents.Fragment fragment) × AreFragments frames key fragments
 
 -- They go on from a place without a gap: the first one begins there, each other one where the one before it ends, and the last one
 -- has no more behind it.
@@ -42,34 +54,79 @@ abbrev pub put_together : List ℕ → List Fragment → List ℕ
 put_together file [] = []
 put_together file (fragment ∷ fragments) = slice_range file fragment.range.from fragment.range.to ++ put_together file fragments
 
--- the payload of a packet of these octets: what is behind the UDP header, up to the end that its length tells
-abbrev pub IsPayload : List ℕ → List ℕ → Type 0
-IsPayload packet payload =
-    (udp.SIZE ≤ number_at udp.LENGTH packet) × (number_at udp.LENGTH packet ≤ length packet)
-    × (payload ≡ slice_range packet udp.SIZE (number_at udp.LENGTH packet))
+-- the payload of a packet of this key with these octets: what is behind the UDP header, up to the end that its length tells, where
+-- the checksum is right
+abbrev pub IsPayload : FragmentKey → List ℕ → List ℕ → Type 0
+IsPayload key packet payload =
+    (udp.SIZE ≤ udp_length packet) × (udp_length packet ≤ length packet) × (is_right key (take (udp_length packet) packet) ≡ true)
+    × (payload ≡ slice_range packet udp.SIZE (udp_length packet))
 
 -- it stands whole in one frame
-abbrev pub IsInOneFrame : List ℕ → List AnyFrame → List ℕ → Type 0
+abbrev pub IsInOneFrame : List ℕ → List Contents → List ℕ → Type 0
 IsInOneFrame file frames payload =
-    (range : ByteRange) × StandsAmong file frames (contents.Datagram range) × (payload ≡ slice_range file range.from range.to)
+    (range : ByteRange) × StandsAmong frames (contents.Datagram range) × (payload ≡ slice_range file range.from range.to)
 
--- its packet came in fragments of one key, which go on from 0
-abbrev pub IsInFragments : List ℕ → List AnyFrame → List ℕ → Type 0
+-- its packet came in fragments of one key, which go on from 0, and its checksum is right
+abbrev pub IsInFragments : List ℕ → List Contents → List ℕ → Type 0
 IsInFragments file frames payload =
-    (key : FragmentKey) × (fragments : List Fragment) × AreFragments file frames key fragments × GoOn 0 fragments
-    × IsPayload (put_together file fragments) payload
+    (key : FragmentKey) × (fragments : List Fragment) × AreFragments frames key fragments × GoOn 0 fragments
+    × IsPayload key (put_together file fragments) payload
 
 -- some packet carried it
-abbrev pub WasCarried : List ℕ → List AnyFrame → List ℕ → Type 0
+abbrev pub WasCarried : List ℕ → List Contents → List ℕ → Type 0
 WasCarried file frames payload = IsInOneFrame file frames payload ⊎ IsInFragments file frames payload
 
 -- each of these datagrams was carried: their ranges are of the file and the octets behind it
-abbrev pub AllWereCarried : List ℕ → List AnyFrame → List ℕ → List ByteRange → Type 0
+abbrev pub AllWereCarried : List ℕ → List Contents → List ℕ → List ByteRange → Type 0
 AllWereCarried file frames behind [] = Unit {0}
 AllWereCarried file frames behind (range ∷ ranges) =
     WasCarried file frames (slice_range (file ++ behind) range.from range.to) × AllWereCarried file frames behind ranges
 
 -- each datagram that is told of a capture was carried by a packet whose octets stand in it
 pub record EachWasCarried : Type 0 where
-  pub carried : (most : ℕ) (file : List ℕ) (unread : AnyUnread) (answer : AnyAnswer) → any_opened file ≡ Some unread → any_read most file ≡ Ok answer
-      → AllWereCarried unread.octets (any_frames_left unread) answer.behind answer.datagrams
+  pub carried : (captures : Captures) (most : ℕ) (file : List ℕ) (unread : Unread) (answer : Answer) → opened captures file ≡ Some unread
+      → capture_read captures most file ≡ Ok answer
+      → AllWereCarried unread.octets (contents_among captures unread.octets (frames_left unread)) answer.behind answer.datagrams
+
+-- what a key has behind these pieces of it, which come one after another
+abbrev pub behind_pieces : List ℕ → FragmentKey → Making → List Piece → Making
+behind_pieces file key making [] = making
+behind_pieces file key making (piece ∷ pieces) = behind_pieces file key (taken_piece file key making piece).making pieces
+
+-- none of them gives a datagram
+abbrev pub GiveNone : List ℕ → FragmentKey → Making → List Piece → Type 0
+GiveNone file key making [] = Unit {0}
+GiveNone file key making (piece ∷ pieces) =
+    ((taken_piece file key making piece).taken.datagram ≡ None) × GiveNone file key (taken_piece file key making piece).making pieces
+
+-- each of these pieces clashes with none that came before it: these seen, and those in front of it
+abbrev pub AreApart : List Piece → List Piece → Type 0
+AreApart seen [] = Unit {0}
+AreApart seen (piece ∷ pieces) = (clashes_with seen piece ≡ false) × AreApart (seen ++ piece ∷ []) pieces
+
+-- the piece has an octet
+abbrev pub HasOctet : Piece → Type 0
+HasOctet piece = piece.start < piece.end
+
+-- a piece that waits is none of these, and has an octet
+abbrev pub IsOther : List ℕ → List Piece → Piece → Type 0
+IsOther file pieces old = HasOctet old × AllByRecursion (λ piece. is_same file piece old ≡ false) pieces
+
+-- These pieces, in the order in which they come, are those of one packet: no two clash, each has an octet, and they have all octets of
+-- the packet. None of them waits.
+pub record ArePacket (file : List ℕ) (waiting pieces : List Piece) : Type 0 where
+  pub apart : AreApart [] pieces
+  pub octets : AllByRecursion HasOctet pieces
+  pub whole : fills 0 (in_order pieces) ≡ true
+  pub others : AllByRecursion (IsOther file pieces) waiting
+
+-- Each whole packet is given. Where its pieces come one after another for their key, and have a right datagram, it is given at the
+-- last of them with its octets, whatever waited, unless one of them gave another datagram before. A repeat of a piece that waits
+-- changes nothing.
+pub record EachPacketIsGiven : Type 0 where
+  pub given : (file : List ℕ) (key : FragmentKey) (making : Making) (pieces : List Piece) (last : Piece) (range : ByteRange)
+      → ArePacket file making.making (pieces ++ last ∷ []) → datagram_of_whole key (packet_of file (pieces ++ last ∷ [])) ≡ Some range → GiveNone file key making pieces
+      → let joined = taken_piece file key (behind_pieces file key making pieces) last in
+      (joined.taken.datagram ≡ Some range) × (joined.packet ≡ packet_of file (pieces ++ last ∷ []))
+  pub repeated : (file : List ℕ) (key : FragmentKey) (making : Making) (piece : Piece) → is_repeat file piece making.making ≡ true
+      → ((taken_piece file key making piece).making ≡ making) × ((taken_piece file key making piece).taken.datagram ≡ None)

@@ -4,11 +4,13 @@ ghost use Rattle.rtps_capture.specs.Packets.{fragment_size};
 ghost use Rattle.rtps_capture.specs.Pieces.{piece_of as piece_of_lem};
 ghost use Rattle.rtps_capture.specs.declared.fragment.FragmentKey.{FragmentKey as KeyValue};
 
-use crate::datagram::ByteRange;
+use crate::byte_range::ByteRange;
+use crate::checksum::is_right;
 use crate::fragment::{Fragment, FragmentKey};
-use crate::packet::{Contents, udp_within};
+use crate::layout::udp;
+use crate::octet_number::two_octets;
 use crate::pieces::{Piece, Pieces, piece_of};
-use rtps_ids::Memory;
+use rtps_ids::{Memory, Order};
 use std::alloc::Global;
 use std::collections::BTreeMap;
 
@@ -17,11 +19,9 @@ use std::collections::BTreeMap;
 pub(crate) struct Taken {
     /// 1 where it is no repeat, and else 0.
     pub(crate) fresh: usize,
-    /// How many fragments that are no repeats are of a packet that is whole now.
+    /// How many fragments that are no repeats are of a packet that gives its datagram now.
     pub(crate) settled: usize,
-    /// How many fragments are of a packet that is whole now and carries no datagram.
-    pub(crate) other: usize,
-    /// Where the datagram stands of a packet that is whole now, among the octets of the packet.
+    /// Where the datagram stands of a packet that gives it now, among the octets of the packet.
     pub(crate) datagram: Option<ByteRange>,
 }
 
@@ -44,80 +44,91 @@ impl Making {
         }
     }
 
-    /// Takes one fragment more. The octets of a packet that is whole now and carries a datagram are put into `packet`.
+    /// Takes one fragment more of this key. The octets of a packet that gives its datagram now are put into `packet`.
     #[tactic(auto, unfolding(crate::specs::Assembly::taken_piece))]
-    fn take(&mut self, file: &[u8], piece: Piece, packet: &mut Vec<u8>) -> Result<Taken, Memory>
+    fn take(
+        &mut self,
+        file: &[u8],
+        key: &FragmentKey,
+        piece: Piece,
+        packet: &mut Vec<u8>,
+    ) -> Result<Taken, Memory>
         requires ordered { piece.start ≤ piece.end }
         requires none { packet.old.items ≡ [] }
-        ensures taken { IfOk result (λ taken. IsJoined (taken_piece file.now self.old piece) taken self.new packet.new.items) }
+        ensures taken { IfOk result (λ taken. IsJoined (taken_piece file.now key.now self.old piece) taken self.new packet.new.items) }
         ensures within { IfOk result (λ taken. StandsInPacket packet.new.items taken.datagram) }
     {
         if self.making.has(file, &piece) {
             return Ok(Taken {
                 fresh: 0,
                 settled: 0,
-                other: 0,
                 datagram: None,
             });
         }
-        let fresh = !self.given.has(file, &piece);
-        self.making.join(Piece { fresh, ..piece })?;
+        let fresh = usize::from(!self.given.has(file, &piece));
+        self.making.join(piece)?;
         if self.making.is_whole() {
-            return self.give(file, fresh, packet);
+            return self.give(file, key, fresh, packet);
         }
         Ok(Taken {
-            fresh: usize::from(fresh),
+            fresh,
             settled: 0,
-            other: 0,
             datagram: None,
         })
     }
 
-    /// Gives the packet in the making, which is whole.
+    /// Gives the packet in the making, which is whole, if it is right.
     #[tactic(auto, unfolding(crate::specs::Assembly::given))]
-    fn give(&mut self, file: &[u8], fresh: bool, packet: &mut Vec<u8>) -> Result<Taken, Memory>
+    fn give(
+        &mut self,
+        file: &[u8],
+        key: &FragmentKey,
+        fresh: usize,
+        packet: &mut Vec<u8>,
+    ) -> Result<Taken, Memory>
         requires { packet.old.items ≡ [] }
-        ensures taken { IfOk result (λ taken. IsJoined (given file.now self.old fresh) taken self.new packet.new.items) }
+        ensures taken { IfOk result (λ taken. IsJoined (given file.now key.now self.old fresh) taken self.new packet.new.items) }
         ensures within { IfOk result (λ taken. StandsInPacket packet.new.items taken.datagram) }
     {
-        let settled = self.making.count_fresh();
         self.making.append_to(file, packet)?;
-        if let Some(range) = datagram_of_whole(packet) {
-            std::mem::swap(&mut self.making, &mut self.given);
-            self.making.clear();
+        let datagram = datagram_of_whole(key, packet);
+        if datagram.is_none() {
+            packet.clear();
+            self.making.drop_oldest();
             return Ok(Taken {
-                fresh: usize::from(fresh),
-                settled,
-                other: 0,
-                datagram: Some(range),
+                fresh,
+                settled: 0,
+                datagram,
             });
         }
-        packet.clear();
-        let other = self.making.len();
+        let settled = self.making.count_new(file, &self.given);
+        std::mem::swap(&mut self.making, &mut self.given);
         self.making.clear();
         Ok(Taken {
-            fresh: usize::from(fresh),
+            fresh,
             settled,
-            other,
-            datagram: None,
+            datagram,
         })
     }
 }
 
-/// Where the datagram stands in a whole packet of these octets.
-#[tactic(auto, unfolding(crate::specs::Assembly::datagram_of_whole))]
-fn datagram_of_whole(packet: &[u8]) -> Option<ByteRange>
-    ensures datagram { result ≡ datagram_of_whole_lem packet.now }
+/// Where the datagram stands in a whole packet of these octets, if they have a right one.
+#[tactic(auto, unfolding(crate::specs::Assembly::has_right_datagram))]
+fn datagram_of_whole(key: &FragmentKey, packet: &[u8]) -> Option<ByteRange>
+    ensures datagram { result ≡ datagram_of_whole_lem key.now packet.now }
     ensures within { IfSome result (λ range. (range.from ≤ range.to) × (range.to ≤ length packet.now)) }
 {
-    let range = ByteRange {
-        from: 0,
-        to: packet.len(),
-    };
-    match udp_within(packet, range) {
-        Contents::Datagram(datagram) => Some(datagram),
-        _ => None,
+    if packet.len() < udp::SIZE {
+        return None;
     }
+    let size = usize::from(two_octets(Order::Big, packet, udp::LENGTH));
+    if size < udp::SIZE || size > packet.len() || !is_right(key, &packet[..size]) {
+        return None;
+    }
+    Some(ByteRange {
+        from: udp::SIZE,
+        to: size,
+    })
 }
 
 /// The fragments of all keys.
@@ -138,8 +149,8 @@ impl Assembly {
         }
     }
 
-    /// Takes one fragment more, whose range is one of the file. The octets of a packet that is whole now and carries a
-    /// datagram are put into `packet`.
+    /// Takes one fragment more, whose range is one of the file. The octets of a packet that gives its datagram now are put into
+    /// `packet`.
     pub(crate) fn take(
         &mut self,
         file: &[u8],
@@ -148,16 +159,16 @@ impl Assembly {
     ) -> Result<Taken, Memory>
         requires stands { fragment.now.start + fragment_size fragment.now < 2 ^ 32 }
         requires none { packet.old.items ≡ [] }
-        ensures taken { IfOk result (λ taken. TakesFragment (taken_piece file.now (making_of self.old.makings fragment.now.key) (piece_of_lem fragment.now)) fragment.now.key taken self.old.makings self.new.makings packet.new.items) }
+        ensures taken { IfOk result (λ taken. TakesFragment (taken_piece file.now fragment.now.key (making_of self.old.makings fragment.now.key) (piece_of_lem fragment.now)) fragment.now.key taken self.old.makings self.new.makings packet.new.items) }
         ensures within { IfOk result (λ taken. StandsInPacket packet.new.items taken.datagram) }
         ensures waiting { IfOk result (λ taken. IsBounded taken (waiting self.old.makings) (waiting self.new.makings)) }
     {
         let piece = piece_of(fragment);
         if let Some(making) = self.makings.get_mut(&fragment.key) {
-            return making.take(file, piece, packet);
+            return making.take(file, &fragment.key, piece, packet);
         }
         let mut making = Making::new(self.alloc);
-        let taken = making.take(file, piece, packet)?;
+        let taken = making.take(file, &fragment.key, piece, packet)?;
         self.makings.insert(fragment.key, making)?;
         Ok(taken)
     }

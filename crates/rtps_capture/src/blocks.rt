@@ -2,7 +2,6 @@ ghost use Rattle.std.specs.Prelude.{◌≡◌, ◌≤◌, ◌+◌, length};
 ghost use Rattle.rtps_capture.specs.Blocks.{BlockStands, block_at as block_at_lem, block_with as block_with_lem, fixed_size as fixed_size_lem, is_pcapng as is_pcapng_lem, order_told as order_told_lem};
 
 use crate::layout::{block, interface, packet_block, section};
-use crate::link_type::LinkType;
 use crate::octet_number::{four_octets, two_octets};
 use rtps_ids::Order;
 
@@ -29,10 +28,14 @@ pub(crate) struct WholeBlock {
 /// An interface of a section.
 #[derive(Clone, Copy)]
 pub(crate) struct Interface {
-    /// What its frames are, if they are read.
-    pub(crate) link: Option<LinkType>,
+    /// The link type of its frames.
+    pub(crate) link: u32,
     /// The most octets that are captured of a frame; 0 is no limit.
     pub(crate) snap: u32,
+    /// How fine its times are: the units of a second as a power of 10, and from 128 on as one of 2.
+    pub(crate) resolution: u8,
+    /// How many seconds are added to its times, in two's complement.
+    pub(crate) offset: u64,
 }
 
 /// Whether a file begins as a pcapng file does: with the type of a section header.

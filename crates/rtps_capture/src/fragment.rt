@@ -1,40 +1,40 @@
 ghost use Rattle.std.specs.Prelude.{◌≡◌, ◌≤◌, ◌<◌, ◌+◌, ◌^◌, length};
 ghost use Rattle.rtps_capture.specs.Packets.{StandsIn, address_4_at, address_at, fragment_of as fragment_of_lem, key_4, key_6};
 
-use crate::datagram::ByteRange;
+use crate::byte_range::ByteRange;
 use crate::layout::{extension, packet, packet_6};
 use crate::octet_number::{four_octets, two_octets};
 use crate::packet::Contents;
 use rtps_ids::Order;
 
 /// A part of a packet that was sent in several (RFC 791, 2.3 "Function Description"; RFC 8200, 4.5 "Fragment Header").
-#[derive(Clone, Copy, PartialEq, Eq, Debug)]
-pub struct Fragment {
-    pub key: FragmentKey,
+#[derive(Clone, Copy)]
+pub(crate) struct Fragment {
+    pub(crate) key: FragmentKey,
     /// Where its octets begin among those of the packet.
-    pub start: usize,
+    pub(crate) start: usize,
     /// Whether the packet has more octets behind these.
-    pub more: bool,
+    pub(crate) more: bool,
     /// Where its octets stand in the frame.
-    pub range: ByteRange,
+    pub(crate) range: ByteRange,
 }
 
 /// What the fragments of one packet have in common, beside the protocol, which is UDP.
-#[derive(Clone, Copy, PartialEq, Eq, PartialOrd, Ord, Debug)]
-pub struct FragmentKey {
-    pub identification: u32,
-    pub version: u8,
-    pub source: Address,
-    pub destination: Address,
+#[derive(Clone, Copy, PartialEq, Eq, PartialOrd, Ord)]
+pub(crate) struct FragmentKey {
+    pub(crate) identification: u32,
+    pub(crate) version: u8,
+    pub(crate) source: Address,
+    pub(crate) destination: Address,
 }
 
 /// An address of IP as numbers of four octets. One of version 4 is the first number, and the others are 0.
-#[derive(Clone, Copy, PartialEq, Eq, PartialOrd, Ord, Debug)]
-pub struct Address {
-    pub first: u32,
-    pub second: u32,
-    pub third: u32,
-    pub fourth: u32,
+#[derive(Clone, Copy, PartialEq, Eq, PartialOrd, Ord)]
+pub(crate) struct Address {
+    pub(crate) first: u32,
+    pub(crate) second: u32,
+    pub(crate) third: u32,
+    pub(crate) fourth: u32,
 }
 
 /// The fragment, if it can be one: with more behind it it has eights of octets, and it does not reach past the most that a

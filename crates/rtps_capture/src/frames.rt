@@ -1,138 +1,292 @@
-ghost use Rattle.std.specs.Prelude.{◌≡◌, ◌≤◌, drop, false, length, true, IfSome, MatchOption};
-ghost use Rattle.std.specs.Iterator.{item_count};
-ghost use Rattle.rtps_capture.specs.Datagrams.{datagram_at};
-ghost use Rattle.rtps_capture.specs.Frames.{GivesNext, StandsWithin, frame_at as frame_at_lem, frames_left, given_at, is_whole, opened};
+ghost use Rattle.std.specs.Prelude.{◌≡◌, ◌≤◌, ◌<◌, ◌+◌, length, IfOk, IfSome, MatchOption, None, Some};
+ghost use Rattle.rtps_capture.specs.Blocks.{BlockStands, block_at as block_at_lem};
+ghost use Rattle.rtps_capture.specs.Frames.{GivesNext, StandsInFile, TakesStep, end_with, opened, frame_of_block as frame_of_block_lem, frame_of_interface as frame_of_interface_lem, framed as framed_lem, interface_of as interface_of_lem, interfaces_behind, is_damaged as is_damaged_lem, simple_size as simple_size_lem, snap_of as snap_of_lem, step_of_block, step_of_record, unread_of};
+ghost use Rattle.rtps_capture.specs.declared.blocks.Block.TheVariants.{Whole};
 
-use crate::datagram::{ByteRange, datagram_of_frame};
-use crate::layout::{file, record};
-use crate::opening::{Link, capture_order, link_of};
-use rtps_ids::{Order, u32_at};
-use std::marker::Model;
+use crate::blocks::{Block, Interface, WholeBlock, block_at};
+use crate::byte_range::ByteRange;
+use crate::captures::Captures;
+use crate::layout::{block, file, interface, packet_block, record};
+use crate::link_type::{LinkType, link_read, link_type_numbered};
+use crate::octet_number::{four_octets, two_octets};
+use crate::opening::{capture_order, link_type_in};
+use crate::options::{offset_told, resolution_told};
+use crate::times::{Fractions, block_time, fractions_of, pair_at, record_time};
+use rtps_ids::{Memory, Order};
+use std::alloc::Global;
 
-/// What a frame of a capture gives.
-#[derive(Clone, Copy, PartialEq, Eq, Debug)]
-pub enum Frame {
-    /// A UDP datagram, which stands at this place of the capture.
-    Datagram(ByteRange),
-    /// Nothing: it carries no whole UDP datagram of IPv4 that was sent in one packet.
-    Ignored,
-    /// The capture ends within it.
-    Cut,
+/// What the next record or block of a capture gives.
+#[derive(Clone, Copy)]
+pub(crate) enum Frame {
+    Captured(CapturedFrame),
+    /// A frame of this link type, which is not read; None where the section did not declare its interface.
+    Unread(Option<u32>),
+    /// A block that has no frame.
+    NoFrame,
+    /// The file ends within a record or a block.
+    Rest,
+    /// A block that cannot be.
+    BadBlock,
+    /// A frame that would have more octets than are captured of one.
+    Damaged,
+    /// A block whose frame passes the block's end.
+    CutFrame,
 }
 
-/// What the frames of a capture give that are still unread, in their order. After one that is cut there is none.
+/// A frame whose link type is read.
+#[derive(Clone, Copy)]
+pub(crate) struct CapturedFrame {
+    pub(crate) link: LinkType,
+    /// Where it stands in the file.
+    pub(crate) range: ByteRange,
+    /// When it was captured, in nanoseconds since 1970, if that is told.
+    pub(crate) time: Option<u64>,
+}
+
+/// What the records of a classic file are.
+#[derive(Clone, Copy)]
+pub(crate) struct Records {
+    pub(crate) link: LinkType,
+    pub(crate) fractions: Fractions,
+}
+
+/// A place in a capture, in front of the frames that are still unread. Each call gets the octets of the capture.
 #[derive(Drop)]
-pub struct Frames<'a> {
-    octets: &'a [u8],
-    // Where the header of the next frame begins.
+pub(crate) struct Frames {
+    captures: Captures,
+    /// Where the next record or block begins.
     at: usize,
+    /// The order of the numbers in the headers.
     order: Order,
-    link: Link,
+    /// None of a pcapng file.
+    records: Option<Records>,
+    /// The interfaces of the section so far.
+    interfaces: Vec<Interface>,
 }
 
-impl<'a> Model for Frames<'a> {
-    ghost use Rattle.rtps_capture.specs.Frames.{Unread};
-
-    ghost Value = { Unread };
-
-    ghost view = { λ frames. record { octets = frames.octets.now; at = frames.at; order = frames.order; link = frames.link } };
+/// Whether no frame has so many octets.
+#[inline]
+fn is_damaged(captures: Captures, size: usize) -> bool
+    ensures { result ≡ is_damaged_lem captures size }
+{
+    match captures {
+        Captures::Classic => false,
+        Captures::Any => size > record::MOST,
+    }
 }
 
-impl<'a> Frames<'a> {
-    /// Reads the header of a capture, of any length, and leaves its frames to be read (PCAP Capture File Format, 4 "File
-    /// Header"). None where it is no capture: the header is cut, or does not begin with one of the two numbers, or its
-    /// major version is not 2, or its link type is another than those of [`Link`].
-    #[tactic(auto, unfolding(crate::specs::Frames::opened))]
-    pub fn open(octets: &'a [u8]) -> Option<Frames<'a>>
-        ensures opened { result ≡ opened octets.now }
-        ensures few { IfSome result (λ frames. length (frames_left frames) ≤ length octets.now) }
-        ensures octets { IfSome result (λ frames. frames.octets ≡ octets.now) }
+/// The frame of this interface, if the section declared it, that was captured at so many units of its clock.
+#[inline]
+fn frame_of_interface(interface: Option<Interface>, ticks: Option<u64>, range: ByteRange) -> Frame
+    ensures { result ≡ frame_of_interface_lem ticks range interface }
+{
+    let Some(interface) = interface else {
+        return Frame::Unread(None);
+    };
+    let Some(link) = link_type_numbered(interface.link) else {
+        return Frame::Unread(Some(interface.link));
+    };
+    let time = match ticks {
+        Some(ticks) => block_time(interface, ticks),
+        None => None,
+    };
+    Frame::Captured(CapturedFrame { link, range, time })
+}
+
+/// The frame of so many octets that begins a range.
+#[tactic(auto, unfolding(crate::specs::Frames::framed))]
+#[inline]
+fn framed(interface: Option<Interface>, ticks: Option<u64>, size: usize, range: ByteRange) -> Frame
+    requires { range.from ≤ range.to }
+    ensures framed { result ≡ framed_lem interface ticks size range }
+    ensures within { StandsInFile range.to result }
+{
+    if is_damaged(Captures::Any, size) {
+        return Frame::Damaged;
+    }
+    if size > range.to - range.from {
+        return Frame::CutFrame;
+    }
+    let to = range.from + size;
+    frame_of_interface(interface, ticks, ByteRange { to, ..range })
+}
+
+/// How many octets of a frame a Simple Packet Block has that has room for so many.
+#[inline]
+fn simple_size(first: Option<Interface>, original: u32, room: usize) -> usize
+    ensures { result ≡ simple_size_lem (snap_of_lem first) original room }
+{
+    let limit = match first {
+        Some(interface) if interface.snap != 0 => room.min(interface.snap as usize),
+        _ => room,
+    };
+    limit.min(original as usize)
+}
+
+/// What the block gives that begins at this place.
+#[tactic(auto, unfolding(crate::specs::Frames::frame_of_block))]
+#[inline]
+fn frame_of_block(interfaces: &[Interface], whole: WholeBlock, octets: &[u8], at: usize) -> Frame
+    requires { BlockStands at octets.now (Whole whole) }
+    ensures gives { result ≡ frame_of_block_lem interfaces.now whole octets.now at }
+    ensures within { StandsInFile (length octets.now) result }
+{
+    let body = at + block::BODY;
+    let to = whole.to - block::REPETITION;
+    let number = match whole.kind {
+        block::ENHANCED => four_octets(whole.order, octets, body) as usize,
+        block::OLD => usize::from(two_octets(whole.order, octets, body)),
+        block::SIMPLE => {
+            let first = interfaces.first().copied();
+            let from = body + packet_block::SIMPLE;
+            let original = four_octets(whole.order, octets, body);
+            let size = simple_size(first, original, to - from);
+            return framed(first, None, size, ByteRange { from, to });
+        }
+        _ => return Frame::NoFrame,
+    };
+    let from = body + packet_block::FIXED;
+    let ticks = pair_at(whole.order, octets, body + packet_block::TICKS);
+    let captured = four_octets(whole.order, octets, body + packet_block::CAPTURED) as usize;
+    let interface = interfaces.get(number).copied();
+    framed(interface, Some(ticks), captured, ByteRange { from, to })
+}
+
+/// The interface that the block at this place declares.
+fn interface_of(whole: WholeBlock, octets: &[u8], at: usize) -> Interface
+    requires stands { BlockStands at octets.now (Whole whole) }
+    requires room { at + 20 ≤ whole.to }
+    ensures { result ≡ interface_of_lem whole octets.now at }
+{
+    let body = at + block::BODY;
+    let options = &octets[body + interface::FIXED..whole.to - block::REPETITION];
+    Interface {
+        link: u32::from(two_octets(whole.order, octets, body + interface::LINK)),
+        snap: four_octets(whole.order, octets, body + interface::SNAP),
+        resolution: resolution_told(whole.order, options),
+        offset: offset_told(whole.order, options),
+    }
+}
+
+/// Keeps the interfaces that are there behind a block: a section begins with none. `Memory` leaves them as they are.
+#[tactic(auto, unfolding(crate::specs::Frames::interfaces_behind))]
+fn keep_interfaces(
+    interfaces: &mut Vec<Interface>,
+    whole: WholeBlock,
+    octets: &[u8],
+    at: usize,
+) -> Result<(), Memory>
+    requires { BlockStands at octets.now (Whole whole) }
+    ensures { IfOk result (λ _. interfaces.new.items ≡ interfaces_behind interfaces.old.items whole octets.now at) }
+{
+    if whole.kind == block::SECTION {
+        interfaces.clear();
+        return Ok(());
+    }
+    if whole.kind == block::INTERFACE {
+        interfaces.push(interface_of(whole, octets, at))?;
+    }
+    Ok(())
+}
+
+impl Frames {
+    /// Reads the header of a capture, of any length, and leaves its frames to be read. None where it is none of those that are
+    /// read: the header of a classic one is cut, of another major version or of a link type that is not read, or the
+    /// first block is not a whole header of a section that is read.
+    #[tactic(auto, unfolding(crate::specs::Frames::opened, crate::specs::Opening::link_type_in))]
+    pub(crate) fn open(alloc: Global, captures: Captures, octets: &[u8]) -> Option<Frames>
+        ensures opened { MatchOption result (opened captures octets.now ≡ None) (λ frames. opened captures octets.now ≡ Some (unread_of octets.now frames)) }
     {
-        let order = capture_order(octets)?;
-        let link = link_of(order, octets)?;
-        Some(Frames {
-            octets,
-            at: file::SIZE,
-            order,
-            link,
+        if let Some(order) = capture_order(octets) {
+            let link = link_read(captures, link_type_in(order, octets)?)?;
+            return Some(Frames {
+                captures,
+                at: file::SIZE,
+                order,
+                records: Some(Records {
+                    link,
+                    fractions: fractions_of(order, octets),
+                }),
+                interfaces: Vec::new(alloc),
+            });
+        }
+        match (captures, block_at(Order::Big, octets, 0)) {
+            (Captures::Any, Block::Whole(whole)) if whole.kind == block::SECTION => Some(Frames {
+                captures,
+                at: whole.to,
+                order: whole.order,
+                records: None,
+                interfaces: Vec::new(alloc),
+            }),
+            _ => None,
+        }
+    }
+
+    /// What the next record or block gives. None after the last one, and after one behind which nothing is read. After
+    /// `Memory` nothing is promised of what is unread.
+    pub(crate) fn next_frame(&mut self, octets: &[u8]) -> Result<Option<Frame>, Memory>
+        ensures { IfOk result (λ item. GivesNext (unread_of octets.now self.old) item (unread_of octets.now self.new)) }
+    {
+        if self.at >= octets.len() {
+            return Ok(None);
+        }
+        match self.records {
+            Some(records) => Ok(Some(self.next_record(octets, records))),
+            None => Ok(Some(self.next_block(octets)?)),
+        }
+    }
+
+    /// Gives this, and nothing behind it.
+    fn end_with(&mut self, frame: Frame, octets: &[u8]) -> Frame
+        ensures { TakesStep (end_with frame (unread_of octets.now self.old)) result (unread_of octets.now self.new) }
+    {
+        self.at = octets.len();
+        frame
+    }
+
+    /// What the next record of a classic capture gives.
+    #[inline]
+    fn next_record(&mut self, octets: &[u8], records: Records) -> Frame
+        requires { self.old.at < length octets.now }
+        ensures step { TakesStep (step_of_record (unread_of octets.now self.old) records) result (unread_of octets.now self.new) }
+        ensures within { StandsInFile (length octets.now) result }
+    {
+        let room = octets.len() - self.at;
+        if room < record::SIZE {
+            return self.end_with(Frame::Rest, octets);
+        }
+        let size = four_octets(self.order, octets, self.at + record::CAPTURED) as usize;
+        if is_damaged(self.captures, size) {
+            return self.end_with(Frame::Damaged, octets);
+        }
+        if size > room - record::SIZE {
+            return self.end_with(Frame::Rest, octets);
+        }
+        let from = self.at + record::SIZE;
+        let time = record_time(records.fractions, self.order, octets, self.at);
+        self.at = from + size;
+        Frame::Captured(CapturedFrame {
+            link: records.link,
+            range: ByteRange { from, to: self.at },
+            time: Some(time),
         })
     }
-}
 
-impl<'a> Iterator for Frames<'a> {
-    type Item = Frame;
-
-    ghost next_gives = { GivesNext };
-
-    ghost remaining = { item_count frames_left };
-
-    /// What the next frame gives. After the last frame, and after one that is cut, it answers None for good.
-    #[inline]
-    fn next(&mut self) -> Option<Frame> {
-        if self.at >= self.octets.len() {
-            return None;
-        }
-        match frame_at(self.order, self.octets, self.at) {
-            Some(frame) => {
-                self.at = frame.to;
-                Some(frame_given(self.link, self.octets, frame))
-            }
-            None => {
-                self.at = self.octets.len();
-                Some(Frame::Cut)
-            }
-        }
+    /// What the next block of a pcapng file gives.
+    fn next_block(&mut self, octets: &[u8]) -> Result<Frame, Memory>
+        requires { self.old.at < length octets.now }
+        ensures step { IfOk result (λ frame. TakesStep (step_of_block (unread_of octets.now self.old) (block_at_lem self.old.order octets.now self.old.at)) frame (unread_of octets.now self.new)) }
+        ensures within { IfOk result (λ frame. StandsInFile (length octets.now) frame) }
+    {
+        let whole = match block_at(self.order, octets, self.at) {
+            Block::Whole(whole) => whole,
+            Block::Unfinished => return Ok(self.end_with(Frame::Rest, octets)),
+            Block::Bad => return Ok(self.end_with(Frame::BadBlock, octets)),
+        };
+        let frame = frame_of_block(&self.interfaces, whole, octets, self.at);
+        keep_interfaces(&mut self.interfaces, whole, octets, self.at)?;
+        self.order = whole.order;
+        self.at = whole.to;
+        Ok(frame)
     }
-}
-
-/// Where the frame stands whose header begins at this place, if both are whole.
-#[inline]
-pub(crate) fn frame_at(order: Order, octets: &[u8], at: usize) -> Option<ByteRange>
-    requires { at ≤ length octets.now }
-    ensures { MatchOption result
-        (is_whole order (drop at octets.now) ≡ false)
-        (λ frame. (is_whole order (drop at octets.now) ≡ true) × (frame ≡ frame_at_lem order octets.now at)) }
-{
-    let rest = &octets[at..];
-    if rest.len() < record::SIZE {
-        return None;
-    }
-    let captured = u32_at(order, rest, record::CAPTURED)? as usize;
-    if captured > rest.len() - record::SIZE {
-        return None;
-    }
-    let from = at + record::SIZE;
-    Some(ByteRange {
-        from,
-        to: from + captured,
-    })
-}
-
-/// What the frame at this place gives.
-#[inline]
-fn frame_given(link: Link, octets: &[u8], frame: ByteRange) -> Frame
-    requires ordered { frame.from ≤ frame.to }
-    requires within { frame.to ≤ length octets.now }
-    ensures given { result ≡ given_at link octets.now frame }
-    ensures within { StandsWithin (length octets.now) result }
-{
-    match datagram_given(link, octets, frame) {
-        Some(place) => Frame::Datagram(place),
-        None => Frame::Ignored,
-    }
-}
-
-/// Where the datagram stands that the frame at this place gives, if it gives one.
-#[inline]
-pub(crate) fn datagram_given(link: Link, octets: &[u8], frame: ByteRange) -> Option<ByteRange>
-    requires ordered { frame.from ≤ frame.to }
-    requires within { frame.to ≤ length octets.now }
-    ensures given { result ≡ datagram_at link octets.now frame }
-    ensures within { IfSome result (λ place. (place.from ≤ place.to) × (place.to ≤ length octets.now)) }
-{
-    let place = datagram_of_frame(link, &octets[frame.from..frame.to])?;
-    Some(ByteRange {
-        from: frame.from + place.from,
-        to: frame.from + place.to,
-    })
 }

@@ -16,10 +16,6 @@ pub(crate) mod file {
     pub(crate) const VERSION: u16 = 2;
     /// How many link types there are: the field has other things above them.
     pub(crate) const LINKS: u32 = 0x10000;
-    /// Frames of Ethernet (LINKTYPE_ETHERNET).
-    pub(crate) const ETHERNET: u32 = 1;
-    /// Frames that are IP packets (LINKTYPE_RAW).
-    pub(crate) const RAW_IP: u32 = 101;
 }
 
 /// The link types whose frames are read from any capture (the registry of link types of the PCAP Capture File Format).
@@ -45,8 +41,21 @@ pub(crate) mod link_type {
 /// The header of a frame (PCAP Capture File Format, 5 "Packet Record").
 pub(crate) mod record {
     pub(crate) const SIZE: usize = 16;
+    /// When it was captured, in seconds since 1970 began (UTC).
+    pub(crate) const SECONDS: usize = 0;
+    /// The fraction of a second behind these.
+    pub(crate) const FRACTION: usize = 4;
     /// How many octets of the frame were captured.
     pub(crate) const CAPTURED: usize = 8;
+    /// The most octets that tools capture of a frame (MAXIMUM_SNAPLEN of libpcap).
+    pub(crate) const MOST: usize = 262_144;
+}
+
+/// Times in nanoseconds.
+pub(crate) mod time {
+    pub(crate) const SECOND: u64 = 1_000_000_000;
+
+    pub(crate) const MICROSECOND: u64 = 1_000;
 }
 
 /// The header of an Ethernet frame (IEEE 802.3, 3.1.1 "Packet format").
@@ -162,6 +171,8 @@ pub(crate) mod udp {
     pub(crate) const SIZE: usize = 8;
 
     pub(crate) const LENGTH: usize = 4;
+
+    pub(crate) const CHECKSUM: usize = 6;
 }
 
 /// The blocks of a pcapng file (PCAP Now Generic Capture File Format, 3 "General File Structure").
@@ -210,10 +221,27 @@ pub(crate) mod interface {
     pub(crate) const SNAP: usize = 4;
 }
 
+/// The options of a block (PCAP Now Generic Capture File Format, 3.5 "Options"), counted from the option's first octet.
+pub(crate) mod option {
+    pub(crate) const LENGTH: usize = 2;
+    /// Where its value begins.
+    pub(crate) const VALUE: usize = 4;
+    /// The code of the end of options.
+    pub(crate) const END: u16 = 0;
+    /// The code of an interface's resolution (if_tsresol).
+    pub(crate) const RESOLUTION: u16 = 9;
+    /// The code of its offset (if_tsoffset).
+    pub(crate) const OFFSET: u16 = 14;
+    /// The resolution where none is told: microseconds.
+    pub(crate) const USUAL_RESOLUTION: u8 = 6;
+}
+
 /// The fields of the blocks that have a frame, counted from the first octet of their body.
 pub(crate) mod packet_block {
     /// The size of the fields in front of the frame, in an Enhanced Packet Block and in a Packet Block.
     pub(crate) const FIXED: usize = 20;
+    /// Two words that say when the frame was captured, in units of its interface: the high half comes first in both orders.
+    pub(crate) const TICKS: usize = 4;
 
     pub(crate) const CAPTURED: usize = 12;
     /// The size of the field in front of the frame in a Simple Packet Block: the frame's own length.

@@ -1,33 +1,30 @@
-//! Captures, as `tcpdump` writes them: their frames, and where the UDP datagrams of these stand. Any capture is read by a call of
-//! its own, which also puts packets together that came in fragments.
+//! Captures, as `tcpdump` writes them: the UDP datagrams that their frames carry, where these stand, and when they were captured.
+//! Of any capture also those are told whose packets came in fragments, which are put together.
 #![tactic(auto)]
 
-mod any_capture;
-mod any_frames;
 mod assembly;
 mod blocks;
+mod byte_range;
+mod capture;
 mod capture_octets;
-mod cursor;
-mod datagram;
+mod captures;
+mod checksum;
 mod fragment;
 mod frames;
-mod front;
 pub mod laws;
 mod layout;
 mod link_type;
 mod octet_number;
 mod opening;
+mod options;
 mod packet;
 mod passed;
 mod pieces;
+mod times;
 
-pub use any_capture::{AnyFault, AnyReading, read_any, read_any_behind};
 pub use blocks::is_pcapng;
-pub use cursor::{Cursor, NextFrame};
-pub use datagram::ByteRange;
-pub use fragment::{Address, Fragment, FragmentKey};
-pub use frames::{Frame, Frames};
-pub use front::AnyFront;
+pub use byte_range::ByteRange;
+pub use capture::{CaptureFault, CaptureReading, read_capture};
+pub use captures::Captures;
 pub use link_type::{LinkType, link_type_numbered};
-pub use opening::{CAPTURE_HEADER_SIZE, Link, capture_order, unread_link_type};
-pub use packet::{Contents, contents_of};
+pub use opening::{CAPTURE_HEADER_SIZE, capture_order, unread_link_type};

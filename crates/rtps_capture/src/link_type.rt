@@ -1,6 +1,7 @@
 ghost use Rattle.std.specs.Prelude.{◌≡◌};
-ghost use Rattle.rtps_capture.specs.LinkTypes.{link_type_numbered as link_type_numbered_lem};
+ghost use Rattle.rtps_capture.specs.LinkTypes.{link_read as link_read_lem, link_type_numbered as link_type_numbered_lem};
 
+use crate::captures::Captures;
 use crate::layout::link_type;
 
 /// What the frames of an interface are, of those that are read from any capture.
@@ -35,5 +36,15 @@ pub fn link_type_numbered(number: u32) -> Option<LinkType>
         link_type::COOKED_1 => Some(LinkType::Cooked1),
         link_type::COOKED_2 => Some(LinkType::Cooked2),
         _ => None,
+    }
+}
+
+/// What the frames of this link type are, if they are read from these captures.
+pub(crate) fn link_read(captures: Captures, number: u32) -> Option<LinkType>
+    ensures { result ≡ link_read_lem captures number }
+{
+    match captures {
+        Captures::Classic if number != link_type::ETHERNET && number != link_type::RAW => None,
+        Captures::Classic | Captures::Any => link_type_numbered(number),
     }
 }

@@ -1,21 +1,14 @@
 ghost use Rattle.std.specs.Prelude.{◌≡◌};
-ghost use Rattle.rtps_capture.specs.Opening.{is_magic as is_magic_lem, link_numbered as link_numbered_lem, link_of as link_of_lem, link_type_in as link_type_in_lem, order_of, unread_link_type_of};
+ghost use Rattle.rtps_capture.specs.Opening.{is_magic as is_magic_lem, link_type_in as link_type_in_lem, order_of, unread_link_type_of};
 ghost use Rattle.rtps_capture.specs.declared.layout.file.TheConstants.{SIZE};
 
+use crate::captures::Captures;
 use crate::layout::file;
+use crate::link_type::link_read;
 use rtps_ids::{Order, u16_at, u32_at};
 
 /// How many octets of a capture tell whether it is one that is read: those of its header.
 pub const CAPTURE_HEADER_SIZE: usize = file::SIZE;
-
-/// What the frames of a capture are.
-#[derive(Clone, Copy, PartialEq, Eq, Debug)]
-pub enum Link {
-    /// Ethernet frames (IEEE 802.3).
-    Ethernet,
-    /// IP packets with nothing in front of them.
-    RawIp,
-}
 
 /// The order of the numbers in the headers of a capture, by its first four octets; None where they begin no capture
 /// (PCAP Capture File Format, 4 "File Header").
@@ -43,35 +36,16 @@ fn is_magic(number: u32) -> bool
     number == file::MICROSECONDS || number == file::NANOSECONDS
 }
 
-/// The link type of a capture whose frames are not read, for who refuses it. None where the octets begin no capture of
-/// major version 2, or do not reach to its header's end, and where its frames are read (PCAP Capture File Format, 4 "File
-/// Header").
+/// The link type of a capture that is none of [`Captures::Classic`] for it, for who refuses it. None where the octets begin no
+/// capture of major version 2, or do not reach to its header's end, and where its frames are read (PCAP Capture File Format, 4
+/// "File Header").
 pub fn unread_link_type(octets: &[u8]) -> Option<u32>
     ensures { result ≡ unread_link_type_of octets.now }
 {
     let number = link_type_in(capture_order(octets)?, octets)?;
-    match link_numbered(number) {
+    match link_read(Captures::Classic, number) {
         Some(_) => None,
         None => Some(number),
-    }
-}
-
-/// What the frames of a file are whose numbers lie in this order. None where its header is cut, of another major
-/// version, or of another link type.
-pub(crate) fn link_of(order: Order, octets: &[u8]) -> Option<Link>
-    ensures { result ≡ link_of_lem order octets.now }
-{
-    link_numbered(link_type_in(order, octets)?)
-}
-
-/// What the frames of this link type are, if they are read.
-fn link_numbered(number: u32) -> Option<Link>
-    ensures { result ≡ link_numbered_lem number }
-{
-    match number {
-        file::ETHERNET => Some(Link::Ethernet),
-        file::RAW_IP => Some(Link::RawIp),
-        _ => None,
     }
 }
 

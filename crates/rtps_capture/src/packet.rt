@@ -1,7 +1,8 @@
 ghost use Rattle.std.specs.Prelude.{◌≡◌, ◌≤◌, ◌<◌, ◌+◌, ◌-◌, ◌^◌, length};
-ghost use Rattle.rtps_capture.specs.Packets.{StandsIn, packet_of as packet_of_lem, carried_behind as carried_behind_lem, carried_by as carried_by_lem, contents_of as contents_of_lem, contents_of_ipv4 as contents_of_ipv4_lem, contents_of_ipv6 as contents_of_ipv6_lem, is_ipv6_udp as is_ipv6_udp_lem, is_within, carried_by_version as carried_by_version_lem, carried_of as carried_of_lem, contents_of_whole as contents_of_whole_lem, moved_contents, udp_within as udp_within_lem};
+ghost use Rattle.rtps_capture.specs.Packets.{StandsIn, packet_of as packet_of_lem, carried_behind as carried_behind_lem, carried_at as carried_at_lem, contents_of as contents_of_lem, contents_of_ipv4 as contents_of_ipv4_lem, contents_of_ipv6 as contents_of_ipv6_lem, is_ipv6_udp as is_ipv6_udp_lem, is_within, contents_of_whole as contents_of_whole_lem, contents_read as contents_read_lem, moved_contents, size_in_front as size_in_front_lem, udp_within as udp_within_lem};
 
-use crate::datagram::ByteRange;
+use crate::byte_range::ByteRange;
+use crate::captures::Captures;
 use crate::fragment::{Fragment, fragment_of, key_4_of, key_6_of};
 use crate::layout::{cooked_1, cooked_2, ethernet, extension, loopback, packet, packet_6, udp};
 use crate::link_type::LinkType;
@@ -10,8 +11,8 @@ use crate::passed::{Header, behind_extensions, behind_tags, is_extension, is_tag
 use rtps_ids::Order;
 
 /// What a frame contains.
-#[derive(Clone, Copy, PartialEq, Eq, Debug)]
-pub enum Contents {
+#[derive(Clone, Copy)]
+pub(crate) enum Contents {
     /// A UDP datagram in one packet, which stands there in the frame.
     Datagram(ByteRange),
     /// A part of a packet that was sent in several.
@@ -36,7 +37,7 @@ enum Carried {
 /// What a frame contains. Its headers are read from the front, the fields of a header before its lengths, and what is met
 /// first decides: that it is no UDP over IP or cannot be, or that the captured octets end.
 #[inline]
-pub fn contents_of(link: LinkType, frame: &[u8]) -> Contents
+pub(crate) fn contents_of(link: LinkType, frame: &[u8]) -> Contents
     ensures contents { result ≡ contents_of_lem link frame.now }
     ensures within { StandsIn (length frame.now) result }
 {
@@ -45,6 +46,37 @@ pub fn contents_of(link: LinkType, frame: &[u8]) -> Contents
         Carried::Ipv6(at) => moved(at, contents_of_ipv6(&frame[at..])),
         Carried::Unfinished => Contents::Cut,
         Carried::Foreign => Contents::Other,
+    }
+}
+
+/// What a frame contains for these captures.
+#[tactic(auto, unfolding(crate::specs::Packets::contents_read))]
+#[inline]
+pub(crate) fn contents_read(captures: Captures, link: LinkType, frame: &[u8]) -> Contents
+    ensures contents { result ≡ contents_read_lem captures link frame.now }
+    ensures within { StandsIn (length frame.now) result }
+{
+    match captures {
+        Captures::Any => contents_of(link, frame),
+        Captures::Classic => match packet_of(link, frame) {
+            Carried::Ipv4(at) if at == size_in_front(link) => {
+                match moved(at, contents_of_ipv4(&frame[at..])) {
+                    Contents::Datagram(range) => Contents::Datagram(range),
+                    _ => Contents::Other,
+                }
+            }
+            _ => Contents::Other,
+        },
+    }
+}
+
+/// How many octets a frame of a classic capture has in front of its packet.
+fn size_in_front(link: LinkType) -> usize
+    ensures { result ≡ size_in_front_lem link }
+{
+    match link {
+        LinkType::Ethernet => ethernet::SIZE,
+        _ => 0,
     }
 }
 
@@ -81,52 +113,31 @@ fn packet_of(link: LinkType, frame: &[u8]) -> Carried
         LinkType::Ethernet => carried_behind(ethernet::TYPE, ethernet::SIZE, frame),
         LinkType::Cooked1 => carried_behind(cooked_1::TYPE, cooked_1::SIZE, frame),
         LinkType::Cooked2 => carried_behind(cooked_2::TYPE, cooked_2::SIZE, frame),
-        LinkType::Loopback => carried_by_version(frame, loopback::SIZE),
-        LinkType::Raw => carried_by_version(frame, 0),
-        LinkType::RawIpv4 => carried_of(packet::VERSION, frame),
-        LinkType::RawIpv6 => carried_of(packet_6::VERSION, frame),
+        LinkType::Loopback => carried_at(frame, loopback::SIZE, None),
+        LinkType::Raw => carried_at(frame, 0, None),
+        LinkType::RawIpv4 => carried_at(frame, 0, Some(packet::VERSION)),
+        LinkType::RawIpv6 => carried_at(frame, 0, Some(packet_6::VERSION)),
     }
 }
 
-/// The packet of this version that begins there, if the version is one of IP.
+/// The packet that begins there, of the version that the high half of its first octet tells, if it may be of that one.
 #[inline]
-fn carried_by(version: u8, at: usize) -> Carried
-    ensures { result ≡ carried_by_lem version at }
-{
-    if version == packet::VERSION {
-        return Carried::Ipv4(at);
-    }
-    if version == packet_6::VERSION {
-        return Carried::Ipv6(at);
-    }
-    Carried::Foreign
-}
-
-/// The packet that begins there, of the version that the high half of its first octet tells.
-#[inline]
-fn carried_by_version(frame: &[u8], at: usize) -> Carried
-    ensures carried { result ≡ carried_by_version_lem frame.now at }
+fn carried_at(frame: &[u8], at: usize, only: Option<u8>) -> Carried
+    ensures carried { result ≡ carried_at_lem frame.now at only }
     ensures within { is_within (length frame.now) result }
 {
     if frame.len() <= at {
         return Carried::Unfinished;
     }
-    carried_by(frame[at] / 16, at)
-}
-
-/// The packet that the frame is, if it is one of this version.
-#[inline]
-fn carried_of(version: u8, frame: &[u8]) -> Carried
-    ensures carried { result ≡ carried_of_lem version frame.now }
-    ensures within { is_within (length frame.now) result }
-{
-    if frame.is_empty() {
-        return Carried::Unfinished;
-    }
-    if frame[0] / 16 != version {
+    let version = frame[at] / 16;
+    if version != only.unwrap_or(version) {
         return Carried::Foreign;
     }
-    carried_by(version, 0)
+    match version {
+        packet::VERSION => Carried::Ipv4(at),
+        packet_6::VERSION => Carried::Ipv6(at),
+        _ => Carried::Foreign,
+    }
 }
 
 /// The packet behind a header of this size, whose type stands there, and behind its tags.

@@ -1,10 +1,11 @@
-ghost use Rattle.std.specs.Prelude.{◌≡◌, ◌≤◌, ◌<◌, ◌+◌, ◌-◌, ◌^◌, ◌++◌, [], length, count_by, OnOk};
-ghost use Rattle.rtps_capture.specs.Pieces.{IsInOrder, can_stand as can_stand_lem, fills, is_fresh, is_repeat as is_repeat_lem, is_same as is_same_lem, joined, piece_octets as piece_octets_lem, piece_of as piece_of_lem, piece_size, pieces_with, place_of as place_of_lem, stands_before as stands_before_lem};
+ghost use Rattle.std.specs.Prelude.{◌≡◌, ◌≤◌, ◌<◌, ◌+◌, ◌-◌, ◌^◌, ◌++◌, ◌∷◌, [], drop, false, not, count_by, OnOk};
+ghost use Rattle.rtps_capture.specs.Pieces.{clashes_with, fills, in_order, is_repeat, is_same as is_same_lem, joined, piece_octets as piece_octets_lem, piece_of as piece_of_lem, pieces_with, stands_before as stands_before_lem};
 ghost use Rattle.rtps_capture.specs.Packets.{fragment_size};
 
 use crate::fragment::Fragment;
 use rtps_ids::Memory;
 use std::alloc::Global;
+use std::collections::{BTreeMap, VecDeque};
 use std::marker::Model;
 
 /// A fragment that is kept.
@@ -18,8 +19,6 @@ pub(crate) struct Piece {
     pub(crate) end: u32,
     /// Whether the packet has more octets behind these.
     pub(crate) more: bool,
-    /// Whether it is no repeat of one of the last packet that was given.
-    pub(crate) fresh: bool,
 }
 
 /// The fragment, whose range is one of the file, as it is kept.
@@ -33,7 +32,6 @@ pub(crate) fn piece_of(fragment: &Fragment) -> Piece
         start: fragment.start as u32,
         end: (fragment.start + size) as u32,
         more: fragment.more,
-        fresh: true,
     }
 }
 
@@ -71,45 +69,11 @@ fn stands_before(one: &Piece, other: &Piece) -> bool
         && (one.more || (!other.more && one.end == other.end))
 }
 
-/// How many pieces of a packet begin before this place.
-fn place_of(pieces: &[Piece], start: u32) -> usize
-    ensures place { IsInOrder pieces.now → result ≡ place_of_lem start pieces.now }
-    ensures within { result ≤ length pieces.now }
-{
-    let mut low = 0;
-    let mut high = pieces.len();
-    while low < high {
-        let middle = low + (high - low) / 2;
-        if pieces[middle].start < start {
-            low = middle + 1;
-        } else {
-            high = middle;
-        }
-    }
-    low
-}
-
-/// Whether a piece is a repeat of one of these, which are of one packet.
-pub(crate) fn is_repeat(file: &[u8], pieces: &[Piece], piece: &Piece) -> bool
-    ensures { IsInOrder pieces.now → result ≡ is_repeat_lem file.now piece.now pieces.now }
-{
-    let place = place_of(pieces, piece.start);
-    place < pieces.len() && is_same(file, piece, &pieces[place])
-}
-
-/// Whether a piece can stand at this place among those of one packet: behind the one before it, and before the one behind it.
-fn can_stand(pieces: &[Piece], place: usize, piece: &Piece) -> bool
-    requires { place ≤ length pieces.now }
-    ensures { result ≡ can_stand_lem place piece.now pieces.now }
-{
-    (place == 0 || stands_before(&pieces[place - 1], piece))
-        && (pieces.len() <= place || stands_before(piece, &pieces[place]))
-}
-
-/// Pieces that can be of one packet, in its order.
+/// Pieces that can be of one packet, in the order in which they came.
 #[derive(Drop)]
 pub(crate) struct Pieces {
-    items: Vec<Piece>,
+    came: VecDeque<Piece>,
+    by_place: BTreeMap<u32, Piece>,
     // How many octets they have.
     held: usize,
 }
@@ -121,9 +85,9 @@ impl Model for Pieces {
 
     ghost Value = { List PieceValue };
 
-    ghost view = { λ pieces. pieces.items.items };
+    ghost view = { λ pieces. pieces.came.items };
 
-    ghost invariant = { λ pieces. AreKept pieces.items.items pieces.held };
+    ghost invariant = { λ pieces. AreKept pieces.came.items pieces.by_place pieces.held };
 }
 
 impl Pieces {
@@ -131,66 +95,96 @@ impl Pieces {
         ensures { result ≡ [] }
     {
         Pieces {
-            items: Vec::new(alloc),
+            came: VecDeque::new(alloc),
+            by_place: BTreeMap::new(alloc),
             held: 0,
         }
     }
 
-    pub(crate) fn len(&self) -> usize
-        ensures { result ≡ length self.now }
-    {
-        self.items.len()
-    }
-
     /// Whether a piece is a repeat of one of these.
     pub(crate) fn has(&self, file: &[u8], piece: &Piece) -> bool
-        ensures { result ≡ is_repeat_lem file.now piece.now self.now }
+        ensures { result ≡ is_repeat file.now piece.now self.now }
     {
-        is_repeat(file, &self.items, piece)
+        match self.by_place.get(&piece.start) {
+            Some(there) => is_same(file, piece, there),
+            None => false,
+        }
     }
 
-    /// Adds a piece that is no repeat. Where it cannot be of the packet, the pieces are dropped, and it begins another one.
+    /// Whether no packet has this piece and all of these: it does not stand between its neighbours.
+    fn clashes(&self, piece: &Piece) -> bool
+        ensures { result ≡ clashes_with self.now piece.now }
+    {
+        if let Some((_, before)) = self.by_place.range(..piece.start).next_back() {
+            if !stands_before(before, piece) {
+                return true;
+            }
+        }
+        match self.by_place.range(piece.start..).next() {
+            Some((_, behind)) => !stands_before(piece, behind),
+            None => false,
+        }
+    }
+
+    /// Adds a piece that is no repeat. The oldest pieces go as long as it clashes with one of them.
     pub(crate) fn join(&mut self, piece: Piece) -> Result<(), Memory>
         requires { piece.start ≤ piece.end }
         ensures { OnOk result (self.new ≡ pieces_with piece self.old) }
     {
-        let place = place_of(&self.items, piece.start);
-        let size = (piece.end - piece.start) as usize;
-        if can_stand(&self.items, place, &piece) {
-            self.items.insert(place, piece)?;
-            self.held += size;
-            return Ok(());
+        while self.clashes(&piece) {
+            self.drop_oldest();
         }
-        self.items.clear();
-        self.held = 0;
-        self.items.push(piece)?;
-        self.held = size;
+        self.add(piece)
+    }
+
+    /// Adds a piece that clashes with none of these.
+    fn add(&mut self, piece: Piece) -> Result<(), Memory>
+        requires ordered { piece.start ≤ piece.end }
+        requires apart { clashes_with self.old piece ≡ false }
+        ensures { OnOk result (self.new ≡ self.old ++ piece ∷ []) }
+    {
+        self.came.reserve(1)?;
+        self.by_place.insert(piece.start, piece)?;
+        self.came.push_back_reserved(piece);
+        self.held += (piece.end - piece.start) as usize;
         Ok(())
+    }
+
+    /// Drops the piece that came first.
+    pub(crate) fn drop_oldest(&mut self)
+        ensures { self.new ≡ drop 1 self.old }
+    {
+        if let Some(oldest) = self.came.pop_front() {
+            self.by_place.remove(&oldest.start);
+            self.held -= (oldest.end - oldest.start) as usize;
+        }
     }
 
     /// Whether they have all octets of the packet.
     pub(crate) fn is_whole(&self) -> bool
-        ensures { result ≡ fills 0 self.now }
+        ensures { result ≡ fills 0 (in_order self.now) }
     {
-        if self.items.is_empty() {
-            return false;
+        match self.by_place.last_key_value() {
+            Some((_, last)) => !last.more && self.held == last.end as usize,
+            None => false,
         }
-        let last = &self.items[self.items.len() - 1];
-        !last.more && self.held == last.end as usize
     }
 
-    /// How many of them are no repeats.
-    pub(crate) fn count_fresh(&self) -> usize
-        ensures { result ≡ count_by is_fresh self.now }
+    /// How many of them are no repeats of these others.
+    pub(crate) fn count_new(&self, file: &[u8], others: &Pieces) -> usize
+        ensures { result ≡ count_by (λ piece. not (is_repeat file.now piece others.now)) self.now }
     {
-        self.items.iter().filter(|piece| piece.fresh).count()
+        self.came
+            .iter()
+            .filter(|piece| !others.has(file, piece))
+            .count()
     }
 
-    /// Appends their octets, one after another.
+    /// Appends their octets, one piece after another in the order of the packet.
     pub(crate) fn append_to(&self, file: &[u8], out: &mut Vec<u8>) -> Result<(), Memory>
-        ensures { OnOk result (out.new.items ≡ out.old.items ++ joined file.now self.now) }
+        ensures { OnOk result (out.new.items ≡ out.old.items ++ joined file.now (in_order self.now)) }
     {
-        for piece in &self.items {
+        for piece in self.by_place.values() {
             out.extend_from_slice(piece_octets(file, piece))?;
         }
         Ok(())
@@ -199,7 +193,8 @@ impl Pieces {
     pub(crate) fn clear(&mut self)
         ensures { self.new ≡ [] }
     {
-        self.items.clear();
+        self.came.clear();
+        self.by_place.clear();
         self.held = 0;
     }
 }

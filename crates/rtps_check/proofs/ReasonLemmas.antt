@@ -10,7 +10,7 @@ use Rattle.rtps_text.specs.WhyText.{facts_of_rows}
 use Rattle.rtps_text.specs.declared.findings.FewRows.{FewRows}
 use Rattle.rtps_text.specs.declared.findings.Findings.{Findings}
 use Rattle.rtps_text.specs.declared.text.Ending.TheVariants.{Clean, Unclean, Unmet}
-use Rattle.rtps_check.specs.Causes.{cause, causes_of, empty_cause, few_cause, findings_in, incomplete_words, missed_cause}
+use Rattle.rtps_check.specs.Causes.{cause, causes_of, empty_cause, few_cause, findings_in, incomplete_words, links_cause, missed_cause}
 use Rattle.rtps_check.specs.GroupedNumber.{WordsValue, amount_text}
 use Rattle.rtps_check.specs.Laws.{TellsWhyUnclean}
 use Rattle.rtps_check.specs.Notes.{cut_words, fragments_words, pieces_words, unsettled_words}
@@ -73,14 +73,16 @@ nothing_found totals findings e =
     let missed = both_empty (missed_cause totals.missed findings.missed) _ incomplete.1 in
     let pieces = both_empty (cause findings.pieces pieces_words) _ missed.1 in
     let cut = both_empty (cause findings.cut cut_words) _ pieces.1 in
-    let last = both_empty (cause findings.fragments fragments_words) (cause findings.unsettled unsettled_words) cut.1 in (
+    let links = both_empty (links_cause findings.links) _ cut.1 in
+    let last = both_empty (cause findings.fragments fragments_words) (cause findings.unsettled unsettled_words) links.1 in (
       no_cause _ incomplete_words incomplete.0,
       and_from _ _ (not_few findings.few few.0)
           (and_from _ _ (not_empty findings.empty empty.0)
           (and_from _ _ (not_missed totals.missed findings.missed missed.0)
           (and_from _ _ (no_cause findings.fragments fragments_words last.0)
           (and_from _ _ (no_cause findings.unsettled unsettled_words last.1)
-          (and_from _ _ (no_cause findings.pieces pieces_words pieces.0) (no_cause findings.cut cut_words cut.0)))))),
+          (and_from _ _ (no_cause findings.pieces pieces_words pieces.0)
+          (and_from _ _ (no_cause findings.cut cut_words cut.0) (if_some (findings.links.number == 0) _ links.0))))))),
     )
 
 -- all pairs are complete, and nothing is found: no reason

@@ -3,10 +3,11 @@ use Rattle.std.specs.Prelude.{ℕ, ◌-◌, ◌++◌, ◌==◌, Bool, if◌then�
 use Rattle.rtps_text.specs.Findings.{no_findings}
 use Rattle.rtps_text.specs.declared.findings.FewRows.{FewRows}
 use Rattle.rtps_text.specs.declared.findings.Findings.{Findings}
+use Rattle.rtps_text.specs.declared.recording.Links.{Links}
 use Rattle.rtps_text.specs.declared.text.Ending.{Ending}
 use Rattle.rtps_text.specs.declared.text.Ending.TheVariants.{Clean, Unclean, Unmet}
 use Rattle.rtps_check.specs.GroupedNumber.{WordsValue, amount_text, grouped}
-use Rattle.rtps_check.specs.Notes.{cut_words, fragments_words, listed, pieces_words, unsettled_words}
+use Rattle.rtps_check.specs.Notes.{cut_words, fragments_words, links_text, listed, pieces_words, unsettled_words}
 use Rattle.rtps_check.specs.declared.totals.Totals.{Totals}
 
 -- what is found by an ending
@@ -31,6 +32,10 @@ missed_words = record { one = codes "number was missed"; many = codes "numbers w
 abbrev pub cause : ℕ → WordsValue → List (List ℕ)
 cause number words = if number == 0 then [] else amount_text number words ∷ []
 
+-- frames of links that are not read
+abbrev pub links_cause : Links → List (List ℕ)
+links_cause links = if links.number == 0 then [] else links_text links ∷ []
+
 -- there is no pair
 abbrev pub empty_cause : Bool → List (List ℕ)
 empty_cause empty = if empty then codes "there is no pair" ∷ [] else []
@@ -50,7 +55,8 @@ missed_cause numbers pairs =
 abbrev pub unread_causes : Findings → List (List ℕ)
 unread_causes findings =
     cause findings.pieces pieces_words
-    ++ (cause findings.cut cut_words ++ (cause findings.fragments fragments_words ++ cause findings.unsettled unsettled_words))
+    ++ (cause findings.cut cut_words
+    ++ (links_cause findings.links ++ (cause findings.fragments fragments_words ++ cause findings.unsettled unsettled_words)))
 
 -- all of them, for rows of which this is counted
 abbrev pub causes_of : Totals → Findings → List (List ℕ)

@@ -4,10 +4,11 @@ use Rattle.std.specs.Prelude.{ℕ, ◌-◌, ◌++◌, ◌==◌, nat_le, if◌the
 use Rattle.std.specs.List.{flat_map}
 use Rattle.rtps_audit.specs.declared.report.Counts.{Counts}
 use Rattle.rtps_evidence.specs.Explanation.{ExplanationValue}
-use Rattle.rtps_text.specs.Recording.{cut_of, pieces_of}
+use Rattle.rtps_text.specs.Recording.{cut_of, links_of, pieces_of}
+use Rattle.rtps_text.specs.declared.recording.Links.{Links}
 use Rattle.rtps_text.specs.declared.recording.Reasons.{Reasons}
 use Rattle.rtps_check.specs.ByTopic.{topics_of}
-use Rattle.rtps_check.specs.GroupedNumber.{WordsValue, amount_text}
+use Rattle.rtps_check.specs.GroupedNumber.{WordsValue, amount_text, grouped}
 use Rattle.rtps_check.specs.TopicTable.{topic_name}
 
 -- texts with a separator between each two
@@ -54,6 +55,18 @@ pieces_words =
 abbrev pub cut_words : WordsValue
 cut_words = record { one = codes "frame is cut"; many = codes "frames are cut" }
 
+-- for frames whose link type is not read
+abbrev pub links_words : WordsValue
+links_words = record { one = codes "frame is of a link that is not read"; many = codes "frames are of links that are not read" }
+
+-- and the link type of the first of so many, where it is known
+abbrev pub first_type : ℕ → Option ℕ → List ℕ
+first_type number None = []
+first_type number (Some first) = (if number == 1 then codes ", of type " else codes ", the first of type ") ++ grouped first
+
+abbrev pub links_text : Links → List ℕ
+links_text links = amount_text links.number links_words ++ first_type links.number links.first
+
 -- for frames of something else
 abbrev pub other_words : WordsValue
 other_words = record { one = codes "frame carries no UDP over IP"; many = codes "frames carry no UDP over IP" }
@@ -84,6 +97,12 @@ pieces_note number =
 abbrev pub cut_note : ℕ → List ℕ
 cut_note number = note number cut_words (codes "record whole frames, without a snap length (tcpdump -s), and end tcpdump with Ctrl-C")
 
+-- of frames whose link type is not read
+abbrev pub links_note : Links → List ℕ
+links_note links =
+    if links.number == 0 then []
+    else links_text links ++ codes "\n  -> record on an Ethernet, loopback or raw IP interface, or with tcpdump -i any\n"
+
 -- of frames of something else
 abbrev pub other_note : ℕ → List ℕ
 other_note number = note number other_words (codes "nothing is to be done: ARP, TCP and ICMP are such frames")
@@ -104,7 +123,8 @@ refused_note number = note number refused_words (codes "rtps-audit show prints r
 
 -- what was not read of a recording: the frames, by kind
 abbrev pub frame_notes : Option Reasons → List ℕ
-frame_notes reasons = pieces_note (pieces_of reasons) ++ (cut_note (cut_of reasons) ++ other_note (other_of reasons))
+frame_notes reasons =
+    pieces_note (pieces_of reasons) ++ (cut_note (cut_of reasons) ++ (links_note (links_of reasons) ++ other_note (other_of reasons)))
 
 -- and what its datagrams have
 abbrev pub count_notes : Counts → ℕ → List ℕ

@@ -1,12 +1,14 @@
 ghost use Rattle.std.specs.Prelude.{◌≡◌, ◌++◌, OnOk, IfOk, map};
 ghost use Rattle.std.specs.String.{string_bytes};
 ghost use Rattle.rtps_check.specs.GroupedNumber.{words_value};
-ghost use Rattle.rtps_check.specs.Causes.{cause, causes_of as causes_of_lem, empty_cause, few_cause, findings_in as findings_in_lem, incomplete_words as incomplete_words_lem, last_line, missed_cause, missed_words as missed_words_lem, pair_words as pair_words_lem, unread_causes};
+ghost use Rattle.rtps_check.specs.Causes.{cause, causes_of as causes_of_lem, empty_cause, few_cause, findings_in as findings_in_lem, incomplete_words as incomplete_words_lem, last_line, links_cause, missed_cause, missed_words as missed_words_lem, pair_words as pair_words_lem, unread_causes};
 
 use crate::grouped_number::{Words, push_amount, push_grouped};
-use crate::notes::{cut_words, fragments_words, pieces_words, push_listed, unsettled_words};
+use crate::notes::{
+    cut_words, fragments_words, pieces_words, push_links_text, push_listed, unsettled_words,
+};
 use crate::totals::Totals;
-use rtps_text::{Ending, FewRows, Findings};
+use rtps_text::{Ending, FewRows, Findings, Links};
 use std::alloc::{AllocError, Global};
 
 /// What is found by an ending.
@@ -114,6 +116,19 @@ fn push_missed(
     Ok(())
 }
 
+/// Appends how many frames have a link type that is not read, and that of the first; nothing where there is none.
+fn push_links(alloc: Global, causes: &mut Vec<String>, links: Links) -> Result<(), AllocError>
+    ensures { OnOk result (map string_bytes causes.new.items ≡ map string_bytes causes.old.items ++ links_cause links) }
+{
+    if links.number == 0 {
+        return Ok(());
+    }
+    let mut text = String::new(alloc);
+    push_links_text(&mut text, links)?;
+    causes.push(text)?;
+    Ok(())
+}
+
 /// Appends what was not read of the recording.
 fn push_unread(
     alloc: Global,
@@ -124,6 +139,7 @@ fn push_unread(
 {
     push_cause(alloc, causes, u128::from(findings.pieces), pieces_words())?;
     push_cause(alloc, causes, u128::from(findings.cut), cut_words())?;
+    push_links(alloc, causes, findings.links)?;
     push_cause(alloc, causes, findings.fragments, fragments_words())?;
     push_cause(
         alloc,

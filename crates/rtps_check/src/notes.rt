@@ -4,15 +4,15 @@ ghost use Rattle.std.specs.String.{string_bytes};
 ghost use Rattle.rtps_evidence.specs.Explanation.{explanation_value};
 ghost use Rattle.rtps_check.specs.ByTopic.{topics_of as topics_of_lem};
 ghost use Rattle.rtps_check.specs.GroupedNumber.{words_value};
-ghost use Rattle.rtps_check.specs.Notes.{count_notes, cut_note, cut_words as cut_words_lem, fragments_note, fragments_words as fragments_words_lem, frame_notes, left_out_line, left_out_text, listed, note, other_note, other_words as other_words_lem, pieces_note, pieces_words as pieces_words_lem, refused_note, refused_words as refused_words_lem, short_in as short_in_lem, unsettled_note, unsettled_words as unsettled_words_lem, unsure_note, unsure_words as unsure_words_lem};
+ghost use Rattle.rtps_check.specs.Notes.{count_notes, cut_note, cut_words as cut_words_lem, fragments_note, fragments_words as fragments_words_lem, first_type, frame_notes, left_out_line, left_out_text, links_note, links_text, links_words as links_words_lem, listed, note, other_note, other_words as other_words_lem, pieces_note, pieces_words as pieces_words_lem, refused_note, refused_words as refused_words_lem, short_in as short_in_lem, unsettled_note, unsettled_words as unsettled_words_lem, unsure_note, unsure_words as unsure_words_lem};
 ghost use Rattle.rtps_check.specs.TopicTable.{topic_name as topic_name_lem};
 
 use crate::by_topic::topics_of;
-use crate::grouped_number::{Words, push_amount};
+use crate::grouped_number::{Words, push_amount, push_grouped};
 use crate::topic_table::topic_name;
 use rtps_audit::Counts;
 use rtps_evidence::Explanation;
-use rtps_text::Reasons;
+use rtps_text::{Links, Reasons};
 use std::alloc::{AllocError, Global};
 
 /// Appends texts with a separator between each two.
@@ -119,6 +119,52 @@ pub(crate) fn cut_words() -> Words
         one: "frame is cut",
         many: "frames are cut",
     }
+}
+
+/// The words for frames whose link type is not read.
+fn links_words() -> Words
+    ensures { words_value result ≡ links_words_lem }
+{
+    Words {
+        one: "frame is of a link that is not read",
+        many: "frames are of links that are not read",
+    }
+}
+
+/// Appends the link type of the first of so many frames, where it is known.
+fn push_first_type(text: &mut String, links: Links) -> Result<(), AllocError>
+    ensures { OnOk result (string_bytes text.new ≡ string_bytes text.old ++ first_type links.number links.first) }
+{
+    let Some(first) = links.first else {
+        return Ok(());
+    };
+    if links.number == 1 {
+        text.push_str(", of type ")?;
+    } else {
+        text.push_str(", the first of type ")?;
+    }
+    push_grouped(text, u128::from(first))
+}
+
+/// Appends how many frames have a link type that is not read, and that of the first.
+pub(crate) fn push_links_text(text: &mut String, links: Links) -> Result<(), AllocError>
+    ensures { OnOk result (string_bytes text.new ≡ string_bytes text.old ++ links_text links) }
+{
+    push_amount(text, u128::from(links.number), links_words())?;
+    push_first_type(text, links)
+}
+
+/// Appends the note on them; nothing where there is none.
+fn push_links(text: &mut String, links: Links) -> Result<(), AllocError>
+    ensures { OnOk result (string_bytes text.new ≡ string_bytes text.old ++ links_note links) }
+{
+    if links.number == 0 {
+        return Ok(());
+    }
+    push_links_text(text, links)?;
+    text.push_str(
+        "\n  -> record on an Ethernet, loopback or raw IP interface, or with tcpdump -i any\n",
+    )
 }
 
 /// The words for other frames.
@@ -272,6 +318,7 @@ pub(crate) fn push_frames(text: &mut String, reasons: Option<Reasons>) -> Result
     };
     push_pieces(text, u128::from(reasons.pieces))?;
     push_cut(text, u128::from(reasons.cut))?;
+    push_links(text, reasons.links)?;
     push_other(text, u128::from(reasons.other))
 }
 

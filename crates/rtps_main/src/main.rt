@@ -251,9 +251,19 @@ fn tell_of_input(
         Captures::Classic => tell_any(rt, file, seen.front(), *fault),
         Captures::Any => tell_unread(rt, file, seen.front()),
     }
-    if matches!(fault, RecFault::TooMany) {
-        tell_limit(rt, choice, file, seen.octets);
+    match fault {
+        RecFault::TooMany => tell_limit(rt, choice, file, seen.octets),
+        RecFault::Damaged { frame } => tell_damage(rt, file, *frame),
+        _ => {}
     }
+}
+
+/// Prints at which frame a capture is damaged, and what else may be so.
+fn tell_damage(rt: &HostRuntime, file: &str, frame: u64) {
+    let _ = writeln!(
+        rt.stderr(),
+        "rtps-audit: {file}: frame {frame} is damaged, or two captures are in one file (mergecap joins them)"
+    );
 }
 
 /// Prints the limit that an input is above, and the option that raises it. So many octets were read; the limit of

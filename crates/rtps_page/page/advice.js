@@ -252,7 +252,7 @@ function tooFewPairs({ rows, options }) {
 
 function ignoredFrames({ counts, options }) {
   if (!isAbove(counts.ignored || 0, 0)) return null;
-  const kinds = ['pieces', 'cut', 'other'].filter((name) => counts[name] !== undefined).map((name) => `${name} ${counted(counts[name])}`);
+  const kinds = ['pieces', 'cut', 'other', 'links'].filter((name) => counts[name] !== undefined).map((name) => `${name} ${counted(counts[name])}`);
   return {
     count: plural(counts.ignored, 'frame ignored', 'frames ignored'),
     means: `They gave no datagram${kinds.length ? ` (${kinds.join(', ')})` : ''}: samples or announcements may be in them. ARP, TCP and `

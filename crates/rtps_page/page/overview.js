@@ -161,6 +161,7 @@ const MEANINGS = {
   pieces: 'ignored frames that are pieces of packets that never came whole',
   cut: 'ignored frames whose captured octets end too early',
   other: 'ignored frames that carry no UDP over IP',
+  links: 'ignored frames of links that are not read',
 };
 
 function showCounts(report) {

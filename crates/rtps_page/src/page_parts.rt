@@ -6,7 +6,7 @@ pub(crate) const HEAD: &str = "\
 <html lang=\"en\">\n\
 <head>\n\
 <meta charset=\"utf-8\">\n\
-<meta http-equiv=\"Content-Security-Policy\" content=\"default-src 'none'; style-src 'sha256-enYgoXRT/G0PzIRirf8CEM28Fhw4eE54Vq1XbcE16AE='; script-src 'sha256-hC2KsasgTdKc6ko3xOdPgznnygFpeC9B8UTpn2WWcd0=' 'sha256-cDsLkF+fVtmAPxY30r6qoaikQVMRjMdNFNIKOmplYBA=' 'sha256-mJRlMQ/tTVtaxS1hcTqKtLafDG2Qsx2IjOY2uSjjow0=' 'sha256-xdEzlNEeICrer3qbFUfgwCtmg9ZDPq42E4bqU6apqA8=' 'sha256-cH578LKKGXHXOedZZv3YodMAsgIWzkQUyVlzjS6BpJA=' 'sha256-MW1SO3tdmHKiaLw8ZATRgwXqqXuf/e00UWfvy8UI2Pg=' 'sha256-Lb6QuKCPEHfJ+L7+sAu5XS1o6YvzIy94dXgiziZ4hTM=' 'sha256-aQRHS7bdGjBAGOi81N+WUopBRJRGwI5A8/s5r5+VODY=' 'sha256-2g33eBKhYklrFLVFG3umGVbvJUcicIx6MdIw2fc9QGQ=' 'sha256-yzEnTDGIDLMZkdiHV0nen5L44p7VQ9WGXqz1leJvtq0='; base-uri 'none'; form-action 'none'\">\n\
+<meta http-equiv=\"Content-Security-Policy\" content=\"default-src 'none'; style-src 'sha256-enYgoXRT/G0PzIRirf8CEM28Fhw4eE54Vq1XbcE16AE='; script-src 'sha256-hC2KsasgTdKc6ko3xOdPgznnygFpeC9B8UTpn2WWcd0=' 'sha256-cDsLkF+fVtmAPxY30r6qoaikQVMRjMdNFNIKOmplYBA=' 'sha256-uwADOMDPFlSumjTHXORp1u3LgQpNDCW3fk2OvkzCqZg=' 'sha256-xdEzlNEeICrer3qbFUfgwCtmg9ZDPq42E4bqU6apqA8=' 'sha256-3zNhondsbJ5y45fEQ9G2LmaEoJ4Jxrie6PFzcRhvE9c=' 'sha256-MW1SO3tdmHKiaLw8ZATRgwXqqXuf/e00UWfvy8UI2Pg=' 'sha256-Lb6QuKCPEHfJ+L7+sAu5XS1o6YvzIy94dXgiziZ4hTM=' 'sha256-aQRHS7bdGjBAGOi81N+WUopBRJRGwI5A8/s5r5+VODY=' 'sha256-2g33eBKhYklrFLVFG3umGVbvJUcicIx6MdIw2fc9QGQ=' 'sha256-yzEnTDGIDLMZkdiHV0nen5L44p7VQ9WGXqz1leJvtq0='; base-uri 'none'; form-action 'none'\">\n\
 <meta name=\"viewport\" content=\"width=device-width, initial-scale=1\">\n\
 <meta name=\"color-scheme\" content=\"light dark\">\n\
 <meta name=\"referrer\" content=\"no-referrer\">\n\
@@ -764,7 +764,7 @@ todo: 'See below which endpoints have no match, and what keeps them apart.',\n\
 }\n\
 function ignoredFrames({ counts, options }) {\n\
 if (!isAbove(counts.ignored || 0, 0)) return null;\n\
-const kinds = ['pieces', 'cut', 'other'].filter((name) => counts[name] !== undefined).map((name) => `${name} ${counted(counts[name])}`);\n\
+const kinds = ['pieces', 'cut', 'other', 'links'].filter((name) => counts[name] !== undefined).map((name) => `${name} ${counted(counts[name])}`);\n\
 return {\n\
 count: plural(counts.ignored, 'frame ignored', 'frames ignored'),\n\
 means: `They gave no datagram${kinds.length ? ` (${kinds.join(', ')})` : ''}: samples or announcements may be in them. ARP, TCP and `\n\
@@ -1070,6 +1070,7 @@ ignored: 'frames of the capture that gave no datagram',\n\
 pieces: 'ignored frames that are pieces of packets that never came whole',\n\
 cut: 'ignored frames whose captured octets end too early',\n\
 other: 'ignored frames that carry no UDP over IP',\n\
+links: 'ignored frames of links that are not read',\n\
 };\n\
 function showCounts(report) {\n\
 const list = countNames(report).map((name) => make('div', null,\n\

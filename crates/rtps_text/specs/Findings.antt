@@ -3,7 +3,7 @@
 -- complete.
 use Rattle.std.specs.Prelude.{ℕ, Bool, false, ◌==◌, ◌&&◌, not, nat_le, if◌then◌else◌, is_none, Option, None, Some}
 use Rattle.rtps_text.specs.Asked.{AskedValue}
-use Rattle.rtps_text.specs.Recording.{cut_of, pieces_of}
+use Rattle.rtps_text.specs.Recording.{cut_of, links_of, no_links, pieces_of}
 use Rattle.rtps_text.specs.declared.findings.Facts.{Facts}
 use Rattle.rtps_text.specs.declared.findings.FewRows.{FewRows}
 use Rattle.rtps_text.specs.declared.findings.Findings.{Findings}
@@ -30,18 +30,19 @@ findings_of asked facts =
       unsettled = when asked.strict facts.counts.unsettled;
       pieces = when asked.strict (pieces_of facts.reasons);
       cut = when asked.strict (cut_of facts.reasons);
+      links = if asked.strict then links_of facts.reasons else no_links;
     }
 
 -- nothing
 abbrev pub no_findings : Findings
-no_findings = record { few = None; empty = false; missed = 0; fragments = 0; unsettled = 0; pieces = 0; cut = 0 }
+no_findings = record { few = None; empty = false; missed = 0; fragments = 0; unsettled = 0; pieces = 0; cut = 0; links = no_links }
 
 -- nothing is found
 abbrev pub are_none : Findings → Bool
 are_none findings =
     is_none findings.few
     && (not findings.empty
-    && ((findings.missed == 0) && ((findings.fragments == 0) && ((findings.unsettled == 0) && ((findings.pieces == 0) && (findings.cut == 0))))))
+    && ((findings.missed == 0) && ((findings.fragments == 0) && ((findings.unsettled == 0) && ((findings.pieces == 0) && ((findings.cut == 0) && (findings.links.number == 0)))))))
 
 -- how a run ends by what is found, and by whether each row is complete
 abbrev pub ending_by : Findings → Bool → Ending

@@ -164,7 +164,8 @@ ignored_members (Some ignored) = (codes "ignored", count_json ignored) ∷ []
 -- for which reasons they gave none, where any capture was read
 abbrev pub reasons_members : Option Reasons → List Member
 reasons_members None = []
-reasons_members (Some reasons) = (codes "pieces", count_json reasons.pieces) ∷ (codes "cut", count_json reasons.cut) ∷ (codes "other", count_json reasons.other) ∷ []
+reasons_members (Some reasons) = (codes "pieces", count_json reasons.pieces) ∷ (codes "cut", count_json reasons.cut) ∷ (codes "other", count_json reasons.other)
+    ∷ (codes "links", count_json reasons.links.number) ∷ []
 
 -- what was counted
 abbrev pub counts_members : Counts → List Member

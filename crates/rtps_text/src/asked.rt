@@ -14,7 +14,8 @@ pub struct Asked<'a> {
     /// How many rows it has to have, or more; None where any number will do.
     pub expect: Option<u64>,
     /// Whether it also has to have a row, no row with missed numbers, and nothing that is left out of the recording: no
-    /// fragments, no unsettled GUIDs, and, where any capture was read, no frame that was ignored as a piece or as cut.
+    /// fragments, no unsettled GUIDs, and, where any capture was read, no frame that was ignored as a piece, as cut, or for its
+    /// link type.
     pub strict: bool,
     /// What becomes of samples that come in fragments.
     pub fragments: Fragments,

@@ -1,10 +1,10 @@
 ghost use Rattle.std.specs.Prelude.{◌≡◌, Option};
 ghost use Rattle.rtps_text.specs.Asked.{asked_value};
 ghost use Rattle.rtps_text.specs.Findings.{are_none, ending_by, few_of as few_of_lem, findings_of as findings_of_lem, no_findings};
-ghost use Rattle.rtps_text.specs.Recording.{cut_of, pieces_of};
+ghost use Rattle.rtps_text.specs.Recording.{cut_of, links_of, no_links as no_links_lem, pieces_of};
 
 use crate::asked::Asked;
-use crate::recording::Reasons;
+use crate::recording::{Links, Reasons};
 use crate::text::Ending;
 use rtps_audit::Counts;
 
@@ -33,6 +33,8 @@ pub struct Findings {
     pub pieces: u64,
     /// Frames of a capture whose octets end before their packet does, or within which the file ends.
     pub cut: u64,
+    /// Frames of a capture whose link type is not read.
+    pub links: Links,
 }
 
 /// What is known of a report, to hold it against what was asked.
@@ -61,6 +63,7 @@ impl Findings {
             unsettled: 0,
             pieces: 0,
             cut: 0,
+            links: no_links(),
         }
     }
 
@@ -75,6 +78,7 @@ impl Findings {
             && self.unsettled == 0
             && self.pieces == 0
             && self.cut == 0
+            && self.links.number == 0
     }
 }
 
@@ -107,6 +111,26 @@ fn findings_of(asked: &Asked<'_>, facts: &Facts) -> Findings
         unsettled: facts.counts.unsettled,
         pieces: pieces_in(facts.reasons),
         cut: cut_in(facts.reasons),
+        links: links_in(facts.reasons),
+    }
+}
+
+fn no_links() -> Links
+    ensures { result ≡ no_links_lem }
+{
+    Links {
+        number: 0,
+        first: None,
+    }
+}
+
+/// Those that were ignored for their link type.
+fn links_in(reasons: Option<Reasons>) -> Links
+    ensures { result ≡ links_of reasons }
+{
+    match reasons {
+        Some(reasons) => reasons.links,
+        None => no_links(),
     }
 }
 

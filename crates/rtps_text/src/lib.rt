@@ -14,7 +14,7 @@ pub use asked::Asked;
 pub use datagram_list::{DatagramList, Datagrams};
 pub use datagram_span::{DatagramSpan, make_room, push_octets, push_span};
 pub use findings::{Facts, FewRows, Findings, ending_of};
-pub use recording::{Reasons, Recording};
+pub use recording::{Links, Reasons, Recording};
 pub use rtps_audit::{Unwatched, Watch};
 pub use rtps_fragments::Fragments;
 pub use rtps_rows::Rows;

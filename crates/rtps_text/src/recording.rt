@@ -17,6 +17,16 @@ pub struct Reasons {
     pub cut: u64,
     /// They carry no UDP over IP.
     pub other: u64,
+    /// Their interface is not declared, or its link type is not read.
+    pub links: Links,
+}
+
+/// Frames whose link type is not read.
+#[derive(Clone, Copy, PartialEq, Eq, Debug)]
+pub struct Links {
+    pub number: u64,
+    /// The link type of the first of them; None where there is none, or its interface is not declared.
+    pub first: Option<u32>,
 }
 
 /// Datagrams in the order in which they were sent, and of a capture how many of its frames were ignored.
@@ -67,7 +77,7 @@ impl Recording {
     {
         Recording {
             list: DatagramList::at_spans(octets, spans),
-            ignored: Some(reasons.pieces + reasons.cut + reasons.other),
+            ignored: Some(reasons.pieces + reasons.cut + reasons.other + reasons.links.number),
             reasons: Some(reasons),
         }
     }

@@ -1,5 +1,3 @@
-pub mod AnyCaptureLemmas
-pub mod CaptureFrontLemmas
 pub mod CaptureLemmas
 pub mod LimitsLemmas
 pub mod LinesLemmas

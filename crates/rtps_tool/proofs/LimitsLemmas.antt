@@ -2,25 +2,21 @@
 use Rattle.std.proofs.Common.{◌≡◌, ℕ, ◌+◌, ◌<◌, ◌≤◌, true, false, Bool, List, [], ◌∷◌, length, Option, Some, None, Result, Ok, Err, refl, sym, ap, ◌∙◌, inl, inr, arith}
 use Rattle.std.specs.Prelude.{if◌then◌else◌, ◌||◌, is_some, nat_lt}
 use Rattle.std.proofs.lemmas.Bool.Decides.{nat_tests}
-use Rattle.rtps_ids.specs.declared.order.Order.{Order}
-use Rattle.rtps_capture.specs.AnyCapture.{AnyAnswer, any_read}
+use Rattle.rtps_capture.specs.Capture.{Answer, capture_read}
 use Rattle.rtps_capture.specs.Blocks.{is_pcapng}
-use Rattle.rtps_capture.specs.Frames.{Unread, frames_left, opened}
 use Rattle.rtps_capture.specs.Opening.{order_of}
-use Rattle.rtps_capture.specs.declared.any_capture.AnyFault.{AnyFault}
-use Rattle.rtps_capture.specs.declared.frames.Frame.{Frame}
-use Rattle.rtps_capture.proofs.Offered.{any_read-within}
+use Rattle.rtps_capture.specs.declared.capture.CaptureFault.{CaptureFault}
+use Rattle.rtps_capture.proofs.Offered.{capture_read-within}
 use Rattle.rtps_digits.specs.Pairs.{octets_of}
 use Rattle.rtps_text.specs.Recording.{RecordingValue}
-use Rattle.rtps_tool.specs.Forms.{begins_capture, recording_in, recording_in_any_form, recording_in_form, recording_within}
+use Rattle.rtps_tool.specs.Forms.{begins_capture, recording_in, recording_in_form, recording_within}
 use Rattle.rtps_tool.specs.Laws.{StaysWithin, TextsStayTexts}
 use Rattle.rtps_tool.specs.Lines.{lines_of}
-use Rattle.rtps_tool.specs.RecordingAnyCapture.{recording_of_any, recording_told}
-use Rattle.rtps_tool.specs.RecordingCapture.{datagrams_among, recording_of_capture, recording_of_frames, recording_opened}
+use Rattle.rtps_tool.specs.RecordingCapture.{recording_of_capture, recording_told}
 use Rattle.rtps_tool.specs.RecordingText.{line_fault, recording_of_lines, recording_of_text, without_frames}
 use Rattle.rtps_tool.specs.Unfinished.{with_front}
-use Rattle.rtps_tool.specs.declared.captures.Captures.{Captures}
-use Rattle.rtps_tool.specs.declared.captures.Captures.TheVariants.{Any, Classic}
+use Rattle.rtps_capture.specs.declared.captures.Captures.{Captures}
+use Rattle.rtps_capture.specs.declared.captures.Captures.TheVariants.{Any, Classic}
 use Rattle.rtps_tool.specs.declared.faults.RecFault.{RecFault}
 use Rattle.rtps_tool.specs.declared.faults.RecFault.TheVariants.{TooMany}
 use Rattle.rtps_tool.specs.declared.runs.Limits.{Limits}
@@ -67,57 +63,32 @@ text_within most more text recording within is =
     let taken = taken_lines (recording_of_lines most 1 0 (lines_of text)) recording is in
     ap without_frames (lines_within most more 1 0 (lines_of text) taken.0 within taken.1 ∙ sym taken.1) ∙ is
 
--- of a capture
+-- a recording within a limit is no fault
 few_by : (past : Bool) (whole : Result RecordingValue RecFault) (recording : RecordingValue) → (if past then Err TooMany else whole) ≡ Ok recording
     → (past ≡ false) × (whole ≡ Ok recording)
 few_by true whole recording is = absurd cc
 few_by false whole recording is = (refl, is)
 
-frames_within : (most more : ℕ) (file : List ℕ) (frames : List Frame) (recording : RecordingValue) → most ≤ more → recording_of_frames most file frames ≡ Ok recording
-    → recording_of_frames more file frames ≡ Ok recording
-unfolding recording_of_frames
-frames_within most more file frames recording within is =
-    let fine = few_by (nat_lt most (length (datagrams_among file frames))) _ recording is in
-    let size = fine.0 in
-    let few : nat_lt more (length (datagrams_among file frames)) ≡ false = grind (arith, nat_tests) in
-    rw few fine.1
+-- of a capture
+told_recording : (captures : Captures) (file : List ℕ) (is : Result Answer CaptureFault) (recording : RecordingValue) → recording_told captures file is ≡ Ok recording
+    → (answer : Answer) × (is ≡ Ok answer)
+told_recording captures file (Ok answer) recording is = (answer, refl)
+told_recording captures file (Err fault) recording is = absurd cc
 
-capture_within : (most more : ℕ) (file : List ℕ) (recording : RecordingValue) → most ≤ more → recording_of_capture most file ≡ Ok recording
-    → recording_of_capture more file ≡ Ok recording
+capture_within : (captures : Captures) (most more : ℕ) (file : List ℕ) (recording : RecordingValue) → most ≤ more → recording_of_capture captures most file ≡ Ok recording
+    → recording_of_capture captures more file ≡ Ok recording
 unfolding recording_of_capture
-capture_within most more file recording within is = by (opened file) is
-  where
-    by : (unread : Option Unread) → recording_opened most file unread ≡ Ok recording → recording_opened more file unread ≡ Ok recording
-    by None none = absurd cc
-    by (Some unread) some = frames_within most more file (frames_left unread) recording within some
+capture_within captures most more file recording within is =
+    let answer = told_recording captures file (capture_read captures most file) recording is in
+    ap (recording_told captures file) (capture_read-within captures most more file answer.0 within answer.1 ∙ sym answer.1) ∙ is
 
--- of any capture
-told_recording : (file : List ℕ) (is : Result AnyAnswer AnyFault) (recording : RecordingValue) → recording_told file is ≡ Ok recording
-    → (answer : AnyAnswer) × (is ≡ Ok answer)
-told_recording file (Ok answer) recording is = (answer, refl)
-told_recording file (Err fault) recording is = absurd cc
-
-any_within : (most more : ℕ) (file : List ℕ) (recording : RecordingValue) → most ≤ more → recording_of_any most file ≡ Ok recording
-    → recording_of_any more file ≡ Ok recording
-unfolding recording_of_any
-any_within most more file recording within is =
-    let answer = told_recording file (any_read most file) recording is in
-    ap (recording_told file) (any_read-within most more file answer.0 within answer.1 ∙ sym answer.1) ∙ is
-
-form_within : (most more : ℕ) (form : Option Order) (input : List ℕ) (recording : RecordingValue) → most ≤ more → recording_in_form most form input ≡ Ok recording
-    → recording_in_form more form input ≡ Ok recording
-form_within most more None input recording within is = text_within most more input recording within is
-form_within most more (Some order) input recording within is = capture_within most more input recording within is
-
-any_form_within : (most more : ℕ) (is_capture : Bool) (input : List ℕ) (recording : RecordingValue) → most ≤ more → recording_in_any_form most is_capture input ≡ Ok recording
-    → recording_in_any_form more is_capture input ≡ Ok recording
-any_form_within most more false input recording within is = text_within most more input recording within is
-any_form_within most more true input recording within is = any_within most more input recording within is
-
-in_within : (most more : ℕ) (captures : Captures) (input : List ℕ) (recording : RecordingValue) → most ≤ more → recording_in captures most input ≡ Ok recording
+in_within : (captures : Captures) (most more : ℕ) (input : List ℕ) (recording : RecordingValue) → most ≤ more → recording_in captures most input ≡ Ok recording
     → recording_in captures more input ≡ Ok recording
-in_within most more Classic input recording within is = form_within most more (order_of input) input recording within is
-in_within most more Any input recording within is = any_form_within most more (begins_capture Any input) input recording within is
+in_within captures most more input recording within = by (begins_capture captures input)
+  where
+    by : (is_capture : Bool) → recording_in_form captures most is_capture input ≡ Ok recording → recording_in_form captures more is_capture input ≡ Ok recording
+    by false is = text_within most more input recording within is
+    by true is = capture_within captures most more input recording within is
 
 -- an input that is a recording has no more octets than it may
 few_octets : (limits : Limits) (captures : Captures) (input : List ℕ) (recording : RecordingValue) → recording_within limits captures input ≡ Ok recording → length input ≤ limits.octets
@@ -130,7 +101,7 @@ stays_within limits greater captures input recording within is =
     let few = few_octets limits captures input recording is in
     let fine = sym (recording_of-within limits captures input few) ∙ is in
     recording_of-within greater captures input (omega (arith, within.octets, few))
-    ∙ in_within limits.datagrams greater.datagrams captures input recording within.datagrams fine
+    ∙ in_within captures limits.datagrams greater.datagrams input recording within.datagrams fine
 
 -- a text stands for the same whatever captures are read
 pub texts_stay : TextsStayTexts

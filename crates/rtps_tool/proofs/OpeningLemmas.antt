@@ -12,7 +12,7 @@ use Rattle.rtps_capture.specs.Opening.{order_of}
 use Rattle.rtps_tool.specs.Laws.{NoTextBeginsAsACapture}
 use Rattle.rtps_tool.specs.Lines.{is_line_feed, parts_of, onto_first_line, lines_of}
 use Rattle.rtps_tool.specs.RecordingText.{is_datagram_line, line_fault, recording_of_lines, recording_of_text, without_frames}
-use Rattle.rtps_tool.specs.declared.captures.Captures.TheVariants.{Any, Classic}
+use Rattle.rtps_capture.specs.declared.captures.Captures.TheVariants.{Any, Classic}
 use Rattle.rtps_tool.specs.declared.faults.RecFault.{RecFault}
 use Rattle.rtps_tool.specs.declared.faults.RecFault.TheVariants.{BadHex, TooLong, TooMany}
 use Rattle.rtps_tool.proofs.RecordingLemmas.{recording_of_lines-faulty, recording_of_lines-skipped}

@@ -13,9 +13,9 @@ use Rattle.rtps_tool.specs.RecordingText.{recording_of_lines, without_frames}
 use Rattle.rtps_tool.specs.RunFaults.{run_fault_of}
 use Rattle.rtps_tool.specs.Runs.{Reads, ReadsRecording, FailsReading}
 use Rattle.rtps_tool.specs.Unfinished.{ReadsOn, recording_behind}
-use Rattle.rtps_tool.specs.declared.captures.Captures.{Captures}
+use Rattle.rtps_capture.specs.declared.captures.Captures.{Captures}
 use Rattle.rtps_tool.specs.declared.faults.RecFault.{RecFault}
-use Rattle.rtps_tool.specs.declared.faults.RecFault.TheVariants.{BadHex, TooLong, TooMany, Memory, BadCapture, CutCapture}
+use Rattle.rtps_tool.specs.declared.faults.RecFault.TheVariants.{BadHex, TooLong, TooMany, Memory, BadCapture, CutCapture, Damaged}
 use Rattle.rtps_tool.specs.declared.runs.Limits.{Limits}
 use Rattle.rtps_tool.proofs.UnfinishedLemmas.{begins_capture-append, recording_behind-start, recording_of-text, recording_of-past}
 use Rattle.rtps_tool.proofs.RecordingLemmas.{IsFaultOf-without_frames}
@@ -126,6 +126,7 @@ FailsReading-text limits captures a b text TooMany reads faulty = record { text 
 FailsReading-text limits captures a b text Memory reads faulty = tt
 FailsReading-text limits captures a b text BadCapture reads faulty = record { text = text; reads = reads; faulty = faulty; readable = λ same. cc }
 FailsReading-text limits captures a b text (CutCapture frame) reads faulty = record { text = text; reads = reads; faulty = faulty; readable = λ same. cc }
+FailsReading-text limits captures a b text (Damaged frame) reads faulty = record { text = text; reads = reads; faulty = faulty; readable = λ same. cc }
 
 pub FailsReading-end : (limits : Limits) (captures : Captures) (a b : Option (List ℕ)) (total : ℕ) (told : List ℕ → Result (List (List ℕ)) RecFault) (fault : RecFault)
     → HasRead limits captures a b total told → IsAtEnd b → total ≤ limits.octets → IsFaultOf (told []) fault → FailsReading limits captures a b (run_fault_of fault)

@@ -4,7 +4,7 @@ use Rattle.std.proofs.lemmas.List.{append_assoc, append-nil, length-append, nil_
 use Rattle.rtps_digits.specs.Pairs.{octets_of}
 use Rattle.rtps_tool.specs.RecordingText.{recording_of_lines, is_datagram_line, line_fault, unless_faulty, without_frames}
 use Rattle.rtps_tool.specs.declared.faults.RecFault.{RecFault}
-use Rattle.rtps_tool.specs.declared.faults.RecFault.TheVariants.{BadHex, TooLong, TooMany, Memory, BadCapture, CutCapture}
+use Rattle.rtps_tool.specs.declared.faults.RecFault.TheVariants.{BadHex, TooLong, TooMany, Memory, BadCapture, CutCapture, Damaged}
 use Rattle.rtps_tool.specs.Outcomes.{IsFaultOf}
 use Rattle.rtps_tool.specs.Lines.{lines_of}
 use Rattle.rtps_tool.specs.Unfinished.{with_front}
@@ -17,6 +17,7 @@ IsFaultOf-without_frames r TooMany is = ap without_frames is
 IsFaultOf-without_frames r Memory is = tt
 IsFaultOf-without_frames r BadCapture is = ap without_frames is
 IsFaultOf-without_frames r (CutCapture frame) is = ap without_frames is
+IsFaultOf-without_frames r (Damaged frame) is = ap without_frames is
 
 pub with_front-none : (r : Result (List (List ℕ)) RecFault) → with_front [] r ≡ r
 with_front-none (Ok datagrams) = refl
@@ -117,6 +118,7 @@ IsFaultOf-with_front most number done line lines TooMany h = ap (with_front done
 IsFaultOf-with_front most number done line lines Memory h = tt
 IsFaultOf-with_front most number done line lines BadCapture h = ap (with_front done) (recording_of_lines-err most number (length done) line lines BadCapture h)
 IsFaultOf-with_front most number done line lines (CutCapture n) h = ap (with_front done) (recording_of_lines-err most number (length done) line lines (CutCapture n) h)
+IsFaultOf-with_front most number done line lines (Damaged n) h = ap (with_front done) (recording_of_lines-err most number (length done) line lines (Damaged n) h)
 
 -- nothing is left to read
 pub with_front-all : (most : ℕ) (number before : ℕ) (done : List (List ℕ)) (rest : List ℕ) → length rest ≡ 0

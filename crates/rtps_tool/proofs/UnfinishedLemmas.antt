@@ -5,16 +5,16 @@ use Rattle.std.specs.List.{position}
 use Rattle.std.specs.Str.Lines.{strip_carriage_return}
 use Rattle.std.proofs.lemmas.List.{append-nil, length-append, length-take, get_or-take, drop-drop}
 use Rattle.std.proofs.lemmas.Bool.Decides.{nat_tests}
-use Rattle.rtps_ids.specs.declared.order.Order.{Order}
 use Rattle.rtps_capture.specs.Opening.{order_of}
 use Rattle.rtps_capture.proofs.Offered.{is_pcapng-append, order_of-append}
 use Rattle.rtps_tool.specs.Outcomes.{IsFaultOf}
-use Rattle.rtps_tool.specs.Forms.{begins_capture, recording_in, recording_in_any_form, recording_in_form, recording_within}
+use Rattle.rtps_tool.specs.Forms.{begins_capture, recording_in, recording_in_form, recording_within}
 use Rattle.rtps_tool.specs.Lines.{lines_of, is_line_feed, parts_of}
+use Rattle.rtps_tool.specs.RecordingCapture.{recording_of_capture}
 use Rattle.rtps_tool.specs.RecordingText.{recording_of_lines, recording_of_text, is_datagram_line, line_fault, without_frames}
 use Rattle.rtps_tool.specs.Unfinished.{with_front, recording_behind}
-use Rattle.rtps_tool.specs.declared.captures.Captures.{Captures}
-use Rattle.rtps_tool.specs.declared.captures.Captures.TheVariants.{Any, Classic}
+use Rattle.rtps_capture.specs.declared.captures.Captures.{Captures}
+use Rattle.rtps_capture.specs.declared.captures.Captures.TheVariants.{Any, Classic}
 use Rattle.rtps_tool.specs.declared.faults.RecFault.{RecFault}
 use Rattle.rtps_tool.specs.declared.faults.RecFault.TheVariants.{TooLong, TooMany}
 use Rattle.rtps_tool.specs.declared.runs.Limits.{Limits}
@@ -154,13 +154,14 @@ pub recording_of-within : (limits : Limits) (captures : Captures) (input : List 
 recording_of-within limits captures input within = let few : nat_lt limits.octets (length input) ≡ false = grind (arith, nat_tests) in rw few refl
 
 -- octets that begin no capture
-no_order : (order : Option Order) (most : ℕ) (text : List ℕ) → is_some order ≡ false → recording_in_form most order text ≡ recording_of_text most text
-no_order None most text plain = refl
-no_order (Some order) most text plain = absurd cc
-
 pub recording_in-text : (captures : Captures) (most : ℕ) (text : List ℕ) → begins_capture captures text ≡ false → recording_in captures most text ≡ recording_of_text most text
-recording_in-text Classic most text plain = no_order (order_of text) most text plain
-recording_in-text Any most text plain = ap (λ (is : Bool). recording_in_any_form most is text) plain
+recording_in-text captures most text plain = ap (λ (is : Bool). recording_in_form captures most is text) plain
+
+-- octets that begin one
+pub recording_of-capture : (limits : Limits) (captures : Captures) (input : List ℕ) → length input ≤ limits.octets → begins_capture captures input ≡ true
+    → recording_within limits captures input ≡ recording_of_capture captures limits.datagrams input
+recording_of-capture limits captures input within is =
+    recording_of-within limits captures input within ∙ ap (λ (one : Bool). recording_in_form captures limits.datagrams one input) is
 
 -- a text stands for what its lines stand for
 pub recording_of-text : (limits : Limits) (captures : Captures) (text : List ℕ) → length text ≤ limits.octets → begins_capture captures text ≡ false

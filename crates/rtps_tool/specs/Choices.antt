@@ -8,7 +8,7 @@ use Rattle.rtps_text.specs.declared.text.Ending.{Ending}
 use Rattle.rtps_tool.specs.Commands.{IsTextOf}
 use Rattle.rtps_tool.specs.Options.{OptionsValue, asked_by}
 use Rattle.rtps_tool.specs.Runs.{RunsWithin, Writes}
-use Rattle.rtps_tool.specs.declared.captures.Captures.TheVariants.{Any}
+use Rattle.rtps_capture.specs.declared.captures.Captures.TheVariants.{Any}
 use Rattle.rtps_tool.specs.declared.command.Choice.{Choice}
 use Rattle.rtps_tool.specs.declared.command.Choice.TheVariants.{Check, Show, List as ListChoice, Audit, Why, Page, Sample}
 use Rattle.rtps_tool.specs.declared.command.ReportForm.{ReportForm}

@@ -5,7 +5,7 @@ use Rattle.std.specs.Fmt.{decimal}
 use Rattle.rtps_tool.specs.declared.command.WordFault.{WordFault}
 use Rattle.rtps_tool.specs.declared.command.WordFault.TheVariants.{Refused, Help, Version, Memory as WordMemory}
 use Rattle.rtps_tool.specs.declared.faults.RecFault.{RecFault}
-use Rattle.rtps_tool.specs.declared.faults.RecFault.TheVariants.{BadHex, TooLong, TooMany, Memory, BadCapture, CutCapture}
+use Rattle.rtps_tool.specs.declared.faults.RecFault.TheVariants.{BadHex, TooLong, TooMany, Memory, BadCapture, CutCapture, Damaged}
 use Rattle.rtps_tool.specs.declared.faults.RunFault.{RunFault}
 use Rattle.rtps_tool.specs.declared.faults.RunFault.TheVariants.{Recording, Input, Output, Memory as RunMemory}
 
@@ -17,6 +17,7 @@ rec_fault_text TooMany = codes "too many datagrams"
 rec_fault_text Memory = codes "out of memory"
 rec_fault_text BadCapture = codes "bad capture"
 rec_fault_text (CutCapture frame) = codes "frame " ++ (decimal frame ++ codes ": cut")
+rec_fault_text (Damaged frame) = codes "bad capture"
 
 -- why a run failed
 unfoldable pub run_fault_text : RunFault → List ℕ
@@ -25,7 +26,7 @@ run_fault_text Input = codes "cannot read input"
 run_fault_text (Output written) = codes "cannot write output"
 run_fault_text RunMemory = codes "out of memory"
 
--- from 1 on: first those of texts, and then those of captures
+-- from 1 on: first those of texts, and then those of captures; a damaged one is a bad one
 abbrev pub rec_fault_number : RecFault → ℕ
 rec_fault_number (BadHex line) = 1
 rec_fault_number (TooLong line) = 2
@@ -33,6 +34,7 @@ rec_fault_number TooMany = 3
 rec_fault_number Memory = 4
 rec_fault_number BadCapture = 5
 rec_fault_number (CutCapture frame) = 6
+rec_fault_number (Damaged frame) = 5
 
 -- from 1 on, in the order in which a run can meet them, and want of memory last
 abbrev pub run_fault_number : RunFault → ℕ

@@ -4,6 +4,7 @@ use Rattle.std.specs.Prelude.{ℕ, Bool, true, false, ◌==◌, ◌++◌, if◌t
 use Rattle.std.specs.Fmt.{decimal}
 use Rattle.rtps_text.specs.declared.findings.FewRows.{FewRows}
 use Rattle.rtps_text.specs.declared.findings.Findings.{Findings}
+use Rattle.rtps_text.specs.declared.recording.Links.{Links}
 
 -- the line of fewer rows than were expected, with LF (10)
 unfoldable pub few_line : Option FewRows → List ℕ
@@ -19,6 +20,16 @@ empty_line false = []
 unfoldable pub count_line : List ℕ → ℕ → List ℕ
 count_line name n = if n == 0 then [] else codes "rtps-audit: not clean: " ++ (name ++ 32 ∷ (decimal n ++ 10 ∷ []))
 
+-- the line of frames whose link type is not read, and of the first of these types, where that is known
+abbrev pub links_by : ℕ → Option ℕ → List ℕ
+links_by n None = count_line (codes "links") n
+links_by n (Some first) =
+    if n == 0 then []
+    else codes "rtps-audit: not clean: links " ++ (decimal n ++ (codes ", the first of type " ++ (decimal first ++ 10 ∷ [])))
+
+unfoldable pub links_line : Links → List ℕ
+links_line links = links_by links.number links.first
+
 -- the lines of what was found of the rows of a report
 abbrev pub lines_of_rows : Findings → List ℕ
 lines_of_rows findings = few_line findings.few ++ (empty_line findings.empty ++ count_line (codes "pairs with missed numbers") findings.missed)
@@ -29,7 +40,8 @@ lines_of_counts findings =
     count_line (codes "fragments") findings.fragments
     ++ (count_line (codes "unsettled") findings.unsettled
     ++ (count_line (codes "pieces") findings.pieces
-    ++ count_line (codes "cut") findings.cut))
+    ++ (count_line (codes "cut") findings.cut
+    ++ links_line findings.links)))
 
 -- a line for each finding
 abbrev pub findings_text : Findings → List ℕ

@@ -1,17 +1,15 @@
 -- The recording that an input stands for, or its first fault.
 -- own: the first four octets tell a capture from a text, of which none begins so; the limit on octets is the first to be
 -- looked at. Which captures are read is asked for, and a text stands for the same whatever is asked for.
-use Rattle.std.specs.Prelude.{ℕ, ◌||◌, nat_lt, Bool, true, false, if◌then◌else◌, List, length, Option, Some, None, is_some, Result, Err}
-use Rattle.rtps_ids.specs.declared.order.Order.{Order}
+use Rattle.std.specs.Prelude.{ℕ, ◌||◌, nat_lt, Bool, true, false, if◌then◌else◌, List, length, is_some, Result, Err}
 use Rattle.rtps_capture.specs.Blocks.{is_pcapng}
 use Rattle.rtps_capture.specs.Opening.{order_of}
 use Rattle.rtps_text.specs.Recording.{RecordingValue}
 use Rattle.rtps_tool.specs.Limits.{usual}
-use Rattle.rtps_tool.specs.RecordingAnyCapture.{recording_of_any}
 use Rattle.rtps_tool.specs.RecordingCapture.{recording_of_capture}
 use Rattle.rtps_tool.specs.RecordingText.{recording_of_text}
-use Rattle.rtps_tool.specs.declared.captures.Captures.{Captures}
-use Rattle.rtps_tool.specs.declared.captures.Captures.TheVariants.{Classic, Any}
+use Rattle.rtps_capture.specs.declared.captures.Captures.{Captures}
+use Rattle.rtps_capture.specs.declared.captures.Captures.TheVariants.{Classic, Any}
 use Rattle.rtps_tool.specs.declared.faults.RecFault.{RecFault}
 use Rattle.rtps_tool.specs.declared.faults.RecFault.TheVariants.{TooMany}
 use Rattle.rtps_tool.specs.declared.runs.Limits.{Limits}
@@ -21,20 +19,14 @@ abbrev pub begins_capture : Captures → List ℕ → Bool
 begins_capture Classic input = is_some (order_of input)
 begins_capture Any input = is_some (order_of input) || is_pcapng input
 
--- a classic capture is known by the order of its numbers; there are at most so many datagrams
-abbrev pub recording_in_form : (most : ℕ) → Option Order → List ℕ → Result RecordingValue RecFault
-recording_in_form most None input = recording_of_text most input
-recording_in_form most (Some order) input = recording_of_capture most input
-
--- a capture of either form
-abbrev pub recording_in_any_form : (most : ℕ) → (is_capture : Bool) → List ℕ → Result RecordingValue RecFault
-recording_in_any_form most false input = recording_of_text most input
-recording_in_any_form most true input = recording_of_any most input
+-- a capture or a text, of so many datagrams at most
+abbrev pub recording_in_form : Captures → (most : ℕ) → (is_capture : Bool) → List ℕ → Result RecordingValue RecFault
+recording_in_form captures most false input = recording_of_text most input
+recording_in_form captures most true input = recording_of_capture captures most input
 
 -- by the captures that are read
 abbrev pub recording_in : Captures → (most : ℕ) → List ℕ → Result RecordingValue RecFault
-recording_in Classic most input = recording_in_form most (order_of input) input
-recording_in Any most input = recording_in_any_form most (begins_capture Any input) input
+recording_in captures most input = recording_in_form captures most (begins_capture captures input) input
 
 -- the recording that an input is within these limits, where these captures are read, or its first fault
 abbrev pub recording_within : Limits → Captures → List ℕ → Result RecordingValue RecFault

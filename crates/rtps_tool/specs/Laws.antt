@@ -7,8 +7,8 @@ use Rattle.rtps_text.specs.declared.text.Ending.{Ending}
 use Rattle.rtps_tool.specs.Forms.{begins_capture, recording_within}
 use Rattle.rtps_tool.specs.RecordingText.{recording_of_text}
 use Rattle.rtps_tool.specs.Runs.{Runs, RunsWithin}
-use Rattle.rtps_tool.specs.declared.captures.Captures.{Captures}
-use Rattle.rtps_tool.specs.declared.captures.Captures.TheVariants.{Any, Classic}
+use Rattle.rtps_capture.specs.declared.captures.Captures.{Captures}
+use Rattle.rtps_capture.specs.declared.captures.Captures.TheVariants.{Any, Classic}
 use Rattle.rtps_tool.specs.declared.faults.RecFault.{RecFault}
 use Rattle.rtps_tool.specs.declared.runs.Limits.{Limits}
 

@@ -1,6 +1,5 @@
 pub mod Options
 pub mod Outcomes
-pub mod CaptureFront
 pub mod Choices
 pub mod FaultText
 pub mod FindingsText
@@ -8,7 +7,6 @@ pub mod Forms
 pub mod Laws
 pub mod Limits
 pub mod Lines
-pub mod RecordingAnyCapture
 pub mod RecordingCapture
 pub mod RecordingText
 pub mod RunFaults

@@ -3,8 +3,8 @@ use Rattle.std.specs.Prelude.{ℕ, map}
 use Rattle.std.specs.String.{string_bytes}
 use Rattle.rtps_text.specs.Asked.{AskedValue, asked_value, plainly}
 use Rattle.rtps_tool.specs.Limits.{usual}
-use Rattle.rtps_tool.specs.declared.captures.Captures.{Captures}
-use Rattle.rtps_tool.specs.declared.captures.Captures.TheVariants.{Classic}
+use Rattle.rtps_capture.specs.declared.captures.Captures.{Captures}
+use Rattle.rtps_capture.specs.declared.captures.Captures.TheVariants.{Classic}
 use Rattle.rtps_tool.specs.declared.demands.Demands.{Demands}
 use Rattle.rtps_tool.specs.declared.runs.Command.{Command}
 use Rattle.rtps_tool.specs.declared.runs.Limits.{Limits}

@@ -1,52 +1,48 @@
--- The recording that a capture stands for, or its first fault.
--- own: the datagrams are numbered without the frames that give none, since a verdict speaks of datagrams, and those frames
--- are counted.
-use Rattle.std.specs.Prelude.{ℕ, ◌+◌, nat_lt, if◌then◌else◌, List, [], ◌∷◌, length, slice_range, Option, Some, None, Result, Ok, Err}
-use Rattle.rtps_capture.specs.Frames.{Unread, frames_left, opened}
-use Rattle.rtps_capture.specs.declared.frames.Frame.{Frame}
-use Rattle.rtps_capture.specs.declared.frames.Frame.TheVariants.{Datagram, Ignored, Cut}
-use Rattle.rtps_text.specs.Recording.{RecordingValue}
+-- The recording that a capture stands for, of those that are read, or its first fault.
+-- own: the datagrams are numbered without the frames that give none, whether their packet came whole or in fragments, since a verdict
+-- speaks of datagrams; and those frames are counted. Where any capture is read, they are counted by the reason, too.
+use Rattle.std.specs.Prelude.{ℕ, ◌++◌, List, map, slice_range, Option, None, Some, Result, Ok, Err}
+use Rattle.rtps_capture.specs.Capture.{Answer, capture_read}
+use Rattle.rtps_capture.specs.declared.byte_range.ByteRange.{ByteRange}
+use Rattle.rtps_capture.specs.declared.capture.CaptureFault.{CaptureFault}
+use Rattle.rtps_capture.specs.declared.capture.CaptureFault.TheVariants as capture_fault
+use Rattle.rtps_capture.specs.declared.captures.Captures.{Captures}
+use Rattle.rtps_capture.specs.declared.captures.Captures.TheVariants.{Any, Classic}
+use Rattle.rtps_text.specs.Recording.{RecordingValue, ignored_by}
+use Rattle.rtps_text.specs.declared.recording.Reasons.{Reasons}
 use Rattle.rtps_tool.specs.declared.faults.RecFault.{RecFault}
-use Rattle.rtps_tool.specs.declared.faults.RecFault.TheVariants.{BadCapture, CutCapture, TooMany}
+use Rattle.rtps_tool.specs.declared.faults.RecFault.TheVariants.{BadCapture, CutCapture, Damaged, Memory, TooMany}
 
--- the datagrams that these frames of a file give; one that is cut is the last
-abbrev pub datagrams_among : List ℕ → List Frame → List (List ℕ)
-datagrams_among file [] = []
-datagrams_among file (Datagram place ∷ frames) = slice_range file place.from place.to ∷ datagrams_among file frames
-datagrams_among file (Ignored ∷ frames) = datagrams_among file frames
-datagrams_among file (Cut ∷ frames) = []
+-- the fault of a capture as that of a recording
+abbrev pub rec_fault_of : CaptureFault → RecFault
+rec_fault_of capture_fault.BadCapture = BadCapture
+rec_fault_of (capture_fault.Damaged frame) = Damaged frame
+rec_fault_of (capture_fault.CutCapture frame) = CutCapture frame
+rec_fault_of capture_fault.TooMany = TooMany
+rec_fault_of capture_fault.Memory = Memory
 
--- how many of them give none
-abbrev pub ignored_among : List Frame → ℕ
-ignored_among [] = 0
-ignored_among (Datagram place ∷ frames) = ignored_among frames
-ignored_among (Ignored ∷ frames) = ignored_among frames + 1
-ignored_among (Cut ∷ frames) = 0
+-- the octets of these ranges
+abbrev pub octets_in : List ℕ → List ByteRange → List (List ℕ)
+octets_in octets ranges = map (λ range. slice_range octets range.from range.to) ranges
 
--- the number of the frame that is cut, if one is, where the first of them has this number
-abbrev pub cut_among : ℕ → List Frame → Option ℕ
-cut_among number [] = None
-cut_among number (Datagram place ∷ frames) = cut_among (number + 1) frames
-cut_among number (Ignored ∷ frames) = cut_among (number + 1) frames
-cut_among number (Cut ∷ frames) = Some number
+-- how many frames gave no datagram, by the reason
+abbrev pub reasons_of : Answer → Reasons
+reasons_of answer = record { pieces = answer.pieces; cut = answer.cut; other = answer.other; links = record { number = answer.links; first = answer.first_link } }
 
--- a recording, unless a frame is cut
-abbrev pub unless_cut : Option ℕ → RecordingValue → Result RecordingValue RecFault
-unless_cut None recording = Ok recording
-unless_cut (Some frame) recording = Err (CutCapture frame)
+-- the reasons, where they are told
+abbrev pub reasons_told : Captures → Answer → Option Reasons
+reasons_told Classic answer = None
+reasons_told Any answer = Some (reasons_of answer)
 
--- The recording of these frames, of so many datagrams at most. A frame that is cut is the last one, so datagrams that are too
--- many stand before it.
-unfoldable pub recording_of_frames : (most : ℕ) → List ℕ → List Frame → Result RecordingValue RecFault
-recording_of_frames most file frames =
-    if nat_lt most (length (datagrams_among file frames)) then Err TooMany
-    else unless_cut (cut_among 1 frames) (record { datagrams = datagrams_among file frames; ignored = Some (ignored_among frames); reasons = None })
-
--- the recording of a capture, where it is one
-abbrev pub recording_opened : (most : ℕ) → List ℕ → Option Unread → Result RecordingValue RecFault
-recording_opened most file None = Err BadCapture
-recording_opened most file (Some unread) = recording_of_frames most file (frames_left unread)
+-- the datagrams stand in the file, or behind it where their packet came in fragments
+abbrev pub recording_told : Captures → List ℕ → Result Answer CaptureFault → Result RecordingValue RecFault
+recording_told captures file (Ok answer) = Ok (record {
+  datagrams = octets_in (file ++ answer.behind) answer.datagrams;
+  ignored = Some (ignored_by (reasons_of answer));
+  reasons = reasons_told captures answer;
+})
+recording_told captures file (Err fault) = Err (rec_fault_of fault)
 
 -- the datagrams of a capture in their order, so many at most, or its first fault
-unfoldable pub recording_of_capture : (most : ℕ) → List ℕ → Result RecordingValue RecFault
-recording_of_capture most file = recording_opened most file (opened file)
+unfoldable pub recording_of_capture : Captures → (most : ℕ) → List ℕ → Result RecordingValue RecFault
+recording_of_capture captures most file = recording_told captures file (capture_read captures most file)

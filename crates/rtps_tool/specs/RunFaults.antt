@@ -1,7 +1,7 @@
 -- Faults of recordings as faults of runs.
 -- own: a run tells the fault of its recording as it stands.
 use Rattle.rtps_tool.specs.declared.faults.RecFault.{RecFault}
-use Rattle.rtps_tool.specs.declared.faults.RecFault.TheVariants.{BadHex, TooLong, TooMany, Memory, BadCapture, CutCapture}
+use Rattle.rtps_tool.specs.declared.faults.RecFault.TheVariants.{BadHex, TooLong, TooMany, Memory, BadCapture, CutCapture, Damaged}
 use Rattle.rtps_tool.specs.declared.faults.RunFault.{RunFault}
 use Rattle.rtps_tool.specs.declared.faults.RunFault.TheVariants.{Recording, Memory as RunMemory}
 
@@ -13,3 +13,4 @@ run_fault_of TooMany = Recording TooMany
 run_fault_of Memory = RunMemory
 run_fault_of BadCapture = Recording BadCapture
 run_fault_of (CutCapture frame) = Recording (CutCapture frame)
+run_fault_of (Damaged frame) = Recording (Damaged frame)

@@ -1,7 +1,7 @@
 -- The status that a run ends the program with.
 -- own: 0 where all is well, 1 where an audit found something, 2 where what was given is refused, 3 where the system failed.
 use Rattle.std.specs.Prelude.{ℕ, Result, Ok, Err}
-use Rattle.rtps_tool.specs.declared.faults.RecFault.TheVariants.{BadHex, TooLong, TooMany, Memory, BadCapture, CutCapture}
+use Rattle.rtps_tool.specs.declared.faults.RecFault.TheVariants.{BadHex, TooLong, TooMany, Memory, BadCapture, CutCapture, Damaged}
 use Rattle.rtps_text.specs.declared.text.Ending.{Ending}
 use Rattle.rtps_text.specs.declared.text.Ending.TheVariants.{Clean, Unclean, Unmet}
 use Rattle.rtps_tool.specs.declared.faults.RunFault.{RunFault}
@@ -18,6 +18,7 @@ status_of (Err (Recording TooMany)) = 2
 status_of (Err (Recording Memory)) = 3
 status_of (Err (Recording BadCapture)) = 2
 status_of (Err (Recording (CutCapture frame))) = 2
+status_of (Err (Recording (Damaged frame))) = 2
 status_of (Err Input) = 3
 status_of (Err (Output written)) = 3
 status_of (Err RunMemory) = 3

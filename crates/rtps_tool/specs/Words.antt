@@ -17,8 +17,8 @@ use Rattle.rtps_fragments.specs.declared.fragments.Fragments.{Fragments}
 use Rattle.rtps_fragments.specs.declared.fragments.Fragments.TheVariants.{Read}
 use Rattle.rtps_text.specs.Asked.{are_read}
 use Rattle.rtps_tool.specs.Limits.{usual}
-use Rattle.rtps_tool.specs.declared.captures.Captures.{Captures}
-use Rattle.rtps_tool.specs.declared.captures.Captures.TheVariants.{Classic, Any}
+use Rattle.rtps_capture.specs.declared.captures.Captures.{Captures}
+use Rattle.rtps_capture.specs.declared.captures.Captures.TheVariants.{Classic, Any}
 use Rattle.rtps_tool.specs.declared.command.Choice.{Choice}
 use Rattle.rtps_tool.specs.declared.command.ReportForm.{ReportForm}
 use Rattle.rtps_tool.specs.declared.command.ReportForm.TheVariants.{Lines, Json}

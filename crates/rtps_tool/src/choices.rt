@@ -5,11 +5,11 @@ ghost use Rattle.rtps_tool.specs.Choices.{RunsBy, audit_command as audit_command
 ghost use Rattle.rtps_tool.specs.Options.{options_value};
 ghost use Rattle.rtps_tool.specs.Words.{file_name};
 
-use crate::captures::Captures;
 use crate::command::{Choice, ReportForm};
 use crate::faults::RunFault;
 use crate::follow::Follow;
 use crate::runs::{Command, Options, run, run_sample};
+use rtps_capture::Captures;
 use rtps_ids::SeqNum;
 use rtps_text::{Asked, Ending, Fragments, Rows, Watch};
 use std::alloc::Global;

@@ -5,12 +5,12 @@ ghost use Rattle.clap.specs.declared.builder.command.Command.TheViews.{out-Comma
 ghost use Rattle.rtps_text.specs.Asked.{are_read};
 ghost use Rattle.rtps_tool.specs.Words.{bare_program as bare_app, audit_app, check_app, fragments_app, limited_app, flag_rule, is_any, is_json, number_rule, program as program_app, reading_app, report_app, AreCapturesGiven, AreLimitsGiven, IsChoice, IsFlagGiven, IsGivenOr, IsNumberGiven, IsOneOf, HasItsKind};
 
-use crate::captures::Captures;
 use crate::demands::{Demands, checks_of, demands_of, with_demands, with_rows};
 use crate::runs::Limits;
 use clap::builder::ValueParser;
 use clap::error::ErrorKind;
 use clap::{Arg, ArgAction, ArgMatches, Command};
+use rtps_capture::Captures;
 use rtps_ids::SeqNum;
 use rtps_text::Fragments;
 use std::alloc::{AllocError, Global};

@@ -3,7 +3,7 @@ ghost use Rattle.std.specs.Io.KnownBytes.{Appends};
 ghost use Rattle.rtps_tool.specs.FaultText.{fault_line, rec_fault_number, rec_fault_text, run_fault_number, run_fault_text};
 ghost use Rattle.rtps_tool.specs.Statuses.{status_of};
 
-use rtps_capture::AnyFault;
+use rtps_capture::CaptureFault;
 use rtps_ids::Memory;
 use rtps_text::Ending;
 use std::alloc::{AllocError, AllocFailed};
@@ -30,6 +30,9 @@ pub enum RecFault {
     /// A capture ends within a frame. Frames are counted from 1, ignored ones too. Where any capture is read, a frame passes the
     /// end of its block.
     CutCapture { frame: u64 },
+    /// Of any capture alone: a bad capture, where this frame would have more octets than tools capture of one. The file is damaged
+    /// there, or is two captures in one.
+    Damaged { frame: u64 },
 }
 
 impl RecFault {
@@ -42,7 +45,7 @@ impl RecFault {
             RecFault::TooLong { line: _ } => 2,
             RecFault::TooMany => 3,
             RecFault::Memory => 4,
-            RecFault::BadCapture => 5,
+            RecFault::BadCapture | RecFault::Damaged { frame: _ } => 5,
             RecFault::CutCapture { frame: _ } => 6,
         }
     }
@@ -59,23 +62,24 @@ impl fmt::Display for RecFault {
             RecFault::TooLong { line } => write!(f, "line {line}: too long"),
             RecFault::TooMany => write!(f, "too many datagrams"),
             RecFault::Memory => write!(f, "out of memory"),
-            RecFault::BadCapture => write!(f, "bad capture"),
+            RecFault::BadCapture | RecFault::Damaged { frame: _ } => write!(f, "bad capture"),
             RecFault::CutCapture { frame } => write!(f, "frame {frame}: cut"),
         }
     }
 }
 
-impl From<AnyFault> for RecFault {
-    ghost use Rattle.rtps_tool.specs.RecordingAnyCapture.{rec_fault_of};
+impl From<CaptureFault> for RecFault {
+    ghost use Rattle.rtps_tool.specs.RecordingCapture.{rec_fault_of};
 
-    ghost from_gives = { λ any_fault fault. fault ≡ rec_fault_of any_fault };
+    ghost from_gives = { λ capture_fault fault. fault ≡ rec_fault_of capture_fault };
 
-    fn from(fault: AnyFault) -> RecFault {
+    fn from(fault: CaptureFault) -> RecFault {
         match fault {
-            AnyFault::BadCapture => RecFault::BadCapture,
-            AnyFault::CutCapture { frame } => RecFault::CutCapture { frame },
-            AnyFault::TooMany => RecFault::TooMany,
-            AnyFault::Memory => RecFault::Memory,
+            CaptureFault::BadCapture => RecFault::BadCapture,
+            CaptureFault::Damaged { frame } => RecFault::Damaged { frame },
+            CaptureFault::CutCapture { frame } => RecFault::CutCapture { frame },
+            CaptureFault::TooMany => RecFault::TooMany,
+            CaptureFault::Memory => RecFault::Memory,
         }
     }
 }

@@ -1,8 +1,8 @@
 ghost use Rattle.std.specs.Prelude.{◌≡◌, true, Some};
 ghost use Rattle.std.specs.Io.KnownBytes.{Appends};
-ghost use Rattle.rtps_tool.specs.FindingsText.{count_line, empty_line, few_line, findings_text, lines_of_counts, lines_of_rows};
+ghost use Rattle.rtps_tool.specs.FindingsText.{count_line, empty_line, few_line, findings_text, lines_of_counts, lines_of_rows, links_line};
 
-use rtps_text::{FewRows, Findings};
+use rtps_text::{FewRows, Findings, Links};
 use std::fmt;
 use std::io::Write;
 
@@ -59,6 +59,26 @@ impl fmt::Display for CountLine {
     }
 }
 
+/// The line of frames whose link type is not read, with that of the first; nothing where there is none.
+#[derive(Drop)]
+struct LinksLine(Links);
+
+impl fmt::Display for LinksLine {
+    ghost output = { λ line. Some (links_line line.0) };
+
+    #[tactic(auto, unfolding(crate::specs::FindingsText::links_line, crate::specs::FindingsText::count_line))]
+    fn fmt<W: fmt::Write>(&self, f: &mut fmt::Formatter<W>) -> fmt::Result {
+        match self.0.first {
+            Some(first) if self.0.number != 0 => writeln!(
+                f,
+                "rtps-audit: not clean: links {}, the first of type {first}",
+                self.0.number
+            ),
+            _ => write!(f, "{}", CountLine("links", u128::from(self.0.number))),
+        }
+    }
+}
+
 /// The lines of what was found of the rows of a report.
 #[derive(Drop)]
 struct RowFindings(Findings);
@@ -87,11 +107,12 @@ impl fmt::Display for CountFindings {
     fn fmt<W: fmt::Write>(&self, f: &mut fmt::Formatter<W>) -> fmt::Result {
         write!(
             f,
-            "{}{}{}{}",
+            "{}{}{}{}{}",
             CountLine("fragments", self.0.fragments),
             CountLine("unsettled", u128::from(self.0.unsettled)),
             CountLine("pieces", u128::from(self.0.pieces)),
-            CountLine("cut", u128::from(self.0.cut))
+            CountLine("cut", u128::from(self.0.cut)),
+            LinksLine(self.0.links)
         )
     }
 }

@@ -1,8 +1,6 @@
 //! Forms of a recording that are read.
 
-pub(crate) mod any_recording;
 pub(crate) mod capture;
-pub(crate) mod capture_reader;
 pub(crate) mod either;
 pub(crate) mod hex_lines;
 pub(crate) mod line_reader;

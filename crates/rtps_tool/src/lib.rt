@@ -2,7 +2,6 @@
 //! line.
 #![tactic(auto)]
 
-mod captures;
 mod choices;
 mod command;
 mod demands;
@@ -14,7 +13,6 @@ pub mod laws;
 mod runs;
 mod streams;
 
-pub use captures::Captures;
 pub use choices::run_choice;
 pub use command::{Choice, ReportForm, WordFault, read_words};
 pub use demands::Demands;
@@ -23,7 +21,7 @@ pub use findings_text::write_findings;
 pub use follow::Follow;
 pub use form::either::{read_recording, read_recording_within};
 pub use rtps_capture::{
-    CAPTURE_HEADER_SIZE, LinkType, is_pcapng, link_type_numbered, unread_link_type,
+    CAPTURE_HEADER_SIZE, Captures, LinkType, is_pcapng, link_type_numbered, unread_link_type,
 };
 pub use rtps_text::{
     Asked, Datagrams, Ending, FewRows, Findings, Recording, Rows, Unwatched, Watch,

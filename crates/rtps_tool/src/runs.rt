@@ -9,10 +9,10 @@ ghost use Rattle.rtps_tool.specs.Commands.{IsTextOf};
 ghost use Rattle.rtps_tool.specs.Limits.{usual as usual_lem};
 ghost use Rattle.rtps_tool.specs.Runs.{Runs, RunsWithin, Writes};
 
-use crate::captures::Captures;
 use crate::faults::RunFault;
 use crate::follow::Follow;
 use crate::streams::{read_input, write_text};
+use rtps_capture::Captures;
 use rtps_check::{check_json, check_text};
 use rtps_ids::{Memory, SeqNum};
 use rtps_page::page_text;

@@ -1,24 +1,18 @@
 ghost use Rattle.std.specs.Prelude.{◌≡◌, [], true, false, ◌+◌, ◌≤◌, ◌<◌, ℕ, List, Option, length, take, drop, vec_len, MatchResult, IfErr, IfOk, OnOk};
 ghost use Rattle.std.specs.Io.KnownBytes.{Appends, Consumes, IsAtEnd};
-ghost use Rattle.rtps_capture.specs.Front.{HasReadFront as HasReadAnyFront};
-ghost use Rattle.rtps_capture.specs.Opening.{order_of};
 ghost use Rattle.rtps_tool.specs.Forms.{begins_capture as begins_capture_lem};
-ghost use Rattle.rtps_tool.specs.declared.captures.Captures.{Captures as CapturesValue};
-ghost use Rattle.rtps_tool.specs.declared.captures.Captures.TheVariants.{Any, Classic};
-ghost use Rattle.rtps_tool.specs.CaptureFront.{HasReadFront};
+ghost use Rattle.rtps_capture.specs.declared.captures.Captures.{Captures as CapturesValue};
 ghost use Rattle.rtps_tool.specs.Runs.{ReadsRecording, FailsReading, FailsWriting};
 ghost use Rattle.rtps_tool.specs.Unfinished.{ReadsOn};
 ghost use Rattle.rtps_tool.specs.declared.runs.Limits.{Limits as LimitsValue};
 ghost use Rattle.rtps_tool.specs.declared.faults.RunFault.TheVariants.{Input};
 
-use crate::captures::{Captures, begins_capture};
 use crate::faults::{RecFault, RunFault};
-use crate::form::any_recording::read_any_capture;
-use crate::form::capture_reader::CaptureReader;
-use crate::form::either::read_recording_within;
+use crate::form::capture::read_capture;
+use crate::form::either::{begins_capture, read_recording_within};
 use crate::form::line_reader::{KEPT_MAX, LineReader};
 use crate::runs::Limits;
-use rtps_capture::AnyFront;
+use rtps_capture::Captures;
 use rtps_text::{Recording, make_room, push_octets};
 use std::alloc::{AllocError, Global};
 use std::io::{Read, Write};
@@ -55,10 +49,7 @@ pub fn read_input<R: Read>(
     if !begins_capture(captures, &held[..start]) {
         return read_text_input(alloc, limits, input, &mut held, start);
     }
-    match captures {
-        Captures::Classic => read_capture_input(alloc, limits, input, &held[..start]),
-        Captures::Any => read_any_input(alloc, limits, input, &held[..start]),
-    }
+    read_capture_input(alloc, limits, captures, input, &held[..start])
 }
 
 fn zeros(alloc: Global, size: usize) -> Result<Vec<u8>, AllocError>
@@ -188,89 +179,40 @@ fn read_on<R: Read>(
     Ok(total)
 }
 
-/// Reads the recording that is a classic capture, of which these octets were read.
+/// Reads the recording that is a capture, of which these octets were read.
 fn read_capture_input<R: Read>(
     alloc: Global,
     limits: Limits,
+    captures: Captures,
     input: &mut R,
     begun: &[u8],
 ) -> Result<Recording, RunFault>
     requires begun { 4 ≤ length begun.now }
-    requires form { begins_capture_lem Classic begun.now ≡ true }
+    requires form { begins_capture_lem captures begun.now ≡ true }
     ensures { (before : Option (List ℕ)) → Consumes before (R.remaining input.old) begun.now
-        → MatchResult result (ReadsRecording limits Classic before (R.remaining input.new)) (FailsReading limits Classic before (R.remaining input.new)) }
+        → MatchResult result (ReadsRecording limits captures before (R.remaining input.new)) (FailsReading limits captures before (R.remaining input.new)) }
 {
-    let mut reader = CaptureReader::new(alloc);
-    let octets = read_whole(alloc, limits, input, begun, &mut reader)?;
-    Ok(reader.finish(alloc, limits.datagrams, octets)?)
+    let octets = read_whole(alloc, limits, input, begun)?;
+    Ok(read_capture(alloc, captures, limits.datagrams, octets)?)
 }
 
-/// Reads all the input, of which these octets were read, and gives the reader what comes. It has their form.
+/// Reads all the input, of which these octets were read. It has their form.
 fn read_whole<R: Read>(
     alloc: Global,
     limits: Limits,
     input: &mut R,
     begun: &[u8],
-    reader: &mut CaptureReader,
 ) -> Result<Vec<u8>, RunFault>
     requires begun { 4 ≤ length begun.now }
-    requires fresh { (octets : List ℕ) → HasReadFront limits.datagrams reader.old octets }
-    ensures form { IfOk result (λ octets. order_of octets.items ≡ order_of begun.now) }
+    ensures form { IfOk result (λ octets. (captures : CapturesValue) → begins_capture_lem captures octets.items ≡ begins_capture_lem captures begun.now) }
     ensures small { IfOk result (λ octets. length octets.items ≤ limits.octets) }
-    ensures front { IfOk result (λ octets. HasReadFront limits.datagrams reader.new octets.items) }
-    ensures read { (before : Option (List ℕ)) → Consumes before (R.remaining input.old) begun.now → MatchResult result
+    ensures read { (captures : CapturesValue) (before : Option (List ℕ)) → Consumes before (R.remaining input.old) begun.now → MatchResult result
         (λ octets. Consumes before (R.remaining input.new) octets.items × IsAtEnd (R.remaining input.new))
-        (FailsReading limits Classic before (R.remaining input.new)) }
+        (FailsReading limits captures before (R.remaining input.new)) }
 {
     let mut octets = Vec::new(alloc);
     push_octets(&mut octets, begun)?;
     'pieces: while octets.len() as u64 <= limits.octets {
-        reader.feed(limits.datagrams, &octets)?;
-        if read_behind(input, &mut octets)? == 0 {
-            return Ok(octets);
-        }
-    }
-    Err(RunFault::Recording(RecFault::TooMany))
-}
-
-/// Reads the recording that is a capture of either form, of which these octets were read.
-fn read_any_input<R: Read>(
-    alloc: Global,
-    limits: Limits,
-    input: &mut R,
-    begun: &[u8],
-) -> Result<Recording, RunFault>
-    requires begun { 4 ≤ length begun.now }
-    requires form { begins_capture_lem Any begun.now ≡ true }
-    ensures { (before : Option (List ℕ)) → Consumes before (R.remaining input.old) begun.now
-        → MatchResult result (ReadsRecording limits Any before (R.remaining input.new)) (FailsReading limits Any before (R.remaining input.new)) }
-{
-    let mut front = AnyFront::open(alloc, begun);
-    let octets = read_all(alloc, limits, input, begun, &mut front)?;
-    Ok(read_any_capture(alloc, limits.datagrams, octets, front)?)
-}
-
-/// Reads all the input, of which these octets were read, and gives the front what comes. It has their form.
-fn read_all<R: Read>(
-    alloc: Global,
-    limits: Limits,
-    input: &mut R,
-    begun: &[u8],
-    front: &mut AnyFront,
-) -> Result<Vec<u8>, RunFault>
-    requires begun { 4 ≤ length begun.now }
-    requires opened { HasReadAnyFront limits.datagrams front.old begun.now }
-    ensures form { IfOk result (λ octets. begins_capture_lem Any octets.items ≡ begins_capture_lem Any begun.now) }
-    ensures small { IfOk result (λ octets. length octets.items ≤ limits.octets) }
-    ensures fed { IfOk result (λ octets. HasReadAnyFront limits.datagrams front.new octets.items) }
-    ensures read { (before : Option (List ℕ)) → Consumes before (R.remaining input.old) begun.now → MatchResult result
-        (λ octets. Consumes before (R.remaining input.new) octets.items × IsAtEnd (R.remaining input.new))
-        (FailsReading limits Any before (R.remaining input.new)) }
-{
-    let mut octets = Vec::new(alloc);
-    push_octets(&mut octets, begun)?;
-    'pieces: while octets.len() as u64 <= limits.octets {
-        front.feed(limits.datagrams, &octets)?;
         if read_behind(input, &mut octets)? == 0 {
             return Ok(octets);
         }

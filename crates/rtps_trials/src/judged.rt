@@ -1,10 +1,10 @@
-//! A recording is judged in every way that the libraries have: by `audit`, by the judge with each kind of set, by the index,
+//! A recording is judged in every way that the libraries have: by the audit, by the judge with each kind of set, by the index,
 //! and with the evidence. All have to give the same, for all numbers and for those from 2 on.
 
 use crate::fault::Fault;
 use crate::recording::{PAIR, datagrams, read, second};
 use rtps_audit::{
-    Index, MergedRanges, PlainRanges, Unwatched, audit, audit_from, judge, judge_by, judge_from,
+    Index, MergedRanges, PlainRanges, Unwatched, Verdict, audit_from, judge, judge_by, judge_from,
 };
 use rtps_discovery::Pair;
 use rtps_evidence::{Evidence, explain_from};
@@ -32,7 +32,7 @@ fn count_rows(alloc: Global, recording: &[&[u8]]) -> Result<usize, Fault> {
         recording,
         index: &index,
     };
-    ways.hold_pair(PAIR, SeqNum::first())?;
+    ways.hold_pair(PAIR, second(), index.judge_from(PAIR, second())?)?;
     ways.hold_whole()?;
     ways.hold_rows(second())?;
     ways.hold_rows(SeqNum::first())
@@ -50,47 +50,47 @@ impl Ways<'_, '_> {
     /// The calls without a first number have to answer as with the first of all.
     fn hold_whole(self) -> Result<(), Fault> {
         let (alloc, recording) = (self.alloc, self.recording);
-        let wanted = self.index.judge_from(PAIR, SeqNum::first())?;
-        let found = [
-            judge(alloc, recording, PAIR)?,
-            judge_by::<PlainRanges>(alloc, recording, PAIR)?,
-            self.index.judge(PAIR)?,
-            Evidence::of(alloc, self.index, PAIR)?.verdict,
-        ];
-        if found != [wanted; 4]
-            || audit(alloc, recording)?.rows
-                != audit_from(alloc, recording, SeqNum::first())?.rows
-        {
-            return Err(Fault::Differs("a call without a number answers otherwise"));
-        }
-        Ok(())
+        let wanted = self.index.judge(PAIR)?;
+        hold(judge(alloc, recording, PAIR)?, wanted)?;
+        hold(judge_by::<PlainRanges>(alloc, recording, PAIR)?, wanted)?;
+        hold(Evidence::of(alloc, self.index, PAIR)?.verdict, wanted)?;
+        hold(self.index.judge_from(PAIR, SeqNum::first())?, wanted)
     }
 
-    /// Judges a pair by the numbers from `from` on.
-    fn hold_pair(self, pair: Pair, from: SeqNum) -> Result<(), Fault> {
-        let found = [
-            judge_from::<PlainRanges>(self.alloc, self.recording, pair, from)?,
-            judge_from::<MergedRanges>(self.alloc, self.recording, pair, from)?,
-            Evidence::of_from(self.alloc, self.index, pair, from)?.verdict,
-        ];
-        if found != [self.index.judge_from(pair, from)?; 3] {
-            return Err(Fault::Differs("a verdict is another by another way"));
-        }
-        Ok(())
+    /// Judges a pair by the numbers from `from` on. Each way has to give this verdict.
+    fn hold_pair(self, pair: Pair, from: SeqNum, wanted: Verdict) -> Result<(), Fault> {
+        let (alloc, recording) = (self.alloc, self.recording);
+        hold(
+            judge_from::<PlainRanges>(alloc, recording, pair, from)?,
+            wanted,
+        )?;
+        hold(
+            judge_from::<MergedRanges>(alloc, recording, pair, from)?,
+            wanted,
+        )?;
+        hold(
+            Evidence::of_from(alloc, self.index, pair, from)?.verdict,
+            wanted,
+        )?;
+        hold(self.index.judge_from(pair, from)?, wanted)
     }
 
-    /// Counts the rows of the report by the numbers from `from` on, which have to be those that are explained.
+    /// Counts the rows of the audit by the numbers from `from` on, which have to be those that are explained.
     fn hold_rows(self, from: SeqNum) -> Result<usize, Fault> {
-        let report = self.index.report_from(from, &mut Unwatched)?;
+        let report = audit_from(self.alloc, self.recording, from)?;
         let explained = explain_from(self.alloc, self.recording, from, &mut Unwatched)?;
         for (row, other) in report.rows.iter().zip(explained.rows.iter()) {
-            self.hold_pair(row.pair, from)?;
-            if self.index.judge_from(row.pair, from)? != row.verdict
-                || other.evidence.verdict != row.verdict
-            {
-                return Err(Fault::Differs("a verdict of the report is another"));
-            }
+            self.hold_pair(row.pair, from, row.verdict)?;
+            hold(other.evidence.verdict, row.verdict)?;
         }
         Ok(report.rows.len())
     }
+}
+
+/// Two ways have to give the same verdict.
+fn hold(found: Verdict, wanted: Verdict) -> Result<(), Fault> {
+    if found != wanted {
+        return Err(Fault::Differs("a verdict is another by another way"));
+    }
+    Ok(())
 }

@@ -43,7 +43,10 @@ fn run(rt: &HostRuntime) -> Result<(), Fault> {
     match (args.get(1), args.get(2)) {
         (None, _) => try_all(rt.alloc(), input.as_str(), &mut text)?,
         (Some(mode), word) => {
-            let word = word.map_or("", |word| word.as_str());
+            let word = match word {
+                Some(word) => word.as_str(),
+                None => "",
+            };
             try_mode(rt.alloc(), (mode.as_str(), word), input.as_str(), &mut text)?;
         }
     }

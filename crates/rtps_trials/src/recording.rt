@@ -25,7 +25,9 @@ pub(crate) fn read(alloc: Global, text: &str) -> Result<Vec<Vec<u8>>, Fault> {
     let mut datagrams = Vec::new(alloc);
     for line in text.split("\n") {
         if !line.is_empty() && !line.starts_with("#") {
-            let octets = hex::decode(alloc, line.as_bytes()).map_err(|_| Fault::Words)?;
+            let Ok(octets) = hex::decode(alloc, line.as_bytes()) else {
+                return Err(Fault::Words);
+            };
             datagrams.push(octets)?;
         }
     }

@@ -66,7 +66,9 @@ fn is_refused(alloc: Global, call: &str, recording: &[&[u8]]) -> Result<bool, Fa
         "judge_plain" | "judge_merged" => is_verdict_refused(alloc, call, recording),
         "write_list" | "write_message" => {
             let datagram = recording.get(0).ok_or(Fault::Words)?;
-            let (header, items) = items_of(alloc, datagram)?.map_err(|_| Fault::Words)?;
+            let Ok((header, items)) = items_of(alloc, datagram)? else {
+                return Err(Fault::Words);
+            };
             is_append_refused(alloc, call, &header, &items)
         }
         _ => Err(Fault::Words),

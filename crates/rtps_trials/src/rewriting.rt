@@ -58,7 +58,7 @@ pub(crate) fn repeat(
     text: &mut String,
 ) -> Result<(), Fault> {
     let recording = read(alloc, input)?;
-    let times = times.parse::<u32>().map_err(|_| Fault::Words)?;
+    let times = times.parse::<u32>().unwrap_or(0);
     let mut octets = 0u64;
     for datagram in &recording {
         let more = match mode {

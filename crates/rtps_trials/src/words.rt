@@ -28,13 +28,16 @@ impl<'a> Words<'a> {
     /// Octets as digits, or `xN` for N octets of 7.
     pub(crate) fn octets(&mut self, alloc: Global) -> Result<Vec<u8>, Fault> {
         let word = self.word();
-        let Some(count) = word.strip_prefix("x") else {
-            return hex::decode(alloc, word.as_bytes()).map_err(|_| Fault::Words);
-        };
-        let mut octets = Vec::new(alloc);
-        let count = count.parse::<u16>().unwrap_or(0);
-        octets.resize(usize::from(count), 7)?;
-        Ok(octets)
+        if let Some(count) = word.strip_prefix("x") {
+            let mut octets = Vec::new(alloc);
+            let count = count.parse::<u16>().unwrap_or(0);
+            octets.resize(usize::from(count), 7)?;
+            return Ok(octets);
+        }
+        match hex::decode(alloc, word.as_bytes()) {
+            Ok(octets) => Ok(octets),
+            Err(_) => Err(Fault::Words),
+        }
     }
 }
 

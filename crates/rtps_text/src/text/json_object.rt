@@ -248,5 +248,6 @@ fn push_reasons(writer: &mut Writer, reasons: Option<Reasons>) -> Result<(), All
     };
     push_count(writer, "pieces", reasons.pieces)?;
     push_count(writer, "cut", reasons.cut)?;
-    push_count(writer, "other", reasons.other)
+    push_count(writer, "other", reasons.other)?;
+    push_count(writer, "links", reasons.links.number)
 }

@@ -1,13 +1,13 @@
 ghost use Rattle.std.specs.Prelude.{◌≡◌, Ok, MatchResult};
 ghost use Rattle.rtps_tool.specs.Outcomes.{IsFaultOf};
-ghost use Rattle.rtps_tool.specs.Forms.{recording_of, recording_within};
-ghost use Rattle.rtps_tool.specs.declared.captures.Captures.TheVariants.{Classic};
+ghost use Rattle.rtps_tool.specs.Forms.{begins_capture as begins_capture_lem, recording_of, recording_within};
+ghost use Rattle.rtps_capture.specs.declared.captures.Captures.TheVariants.{Classic};
 
 use crate::faults::RecFault;
 use crate::form::capture::read_capture;
 use crate::form::hex_lines::read_text;
 use crate::runs::Limits;
-use rtps_capture::capture_order;
+use rtps_capture::{Captures, capture_order, is_pcapng};
 use rtps_text::Recording;
 use std::alloc::Global;
 
@@ -40,12 +40,21 @@ pub fn read_recording_within(
     if input.len() as u64 > limits.octets {
         return Err(RecFault::TooMany);
     }
-    match capture_order(input) {
-        None => read_text(alloc, limits.datagrams, input),
-        Some(_) => {
-            let mut octets = Vec::with_capacity(alloc, input.len())?;
-            octets.extend_from_slice(input)?;
-            read_capture(alloc, limits.datagrams, octets)
-        }
+    if !begins_capture(Captures::Classic, input) {
+        return read_text(alloc, limits.datagrams, input);
+    }
+    let mut octets = Vec::with_capacity(alloc, input.len())?;
+    octets.extend_from_slice(input)?;
+    read_capture(alloc, Captures::Classic, limits.datagrams, octets)
+}
+
+/// Whether an input begins as a capture does, of those that are read: its first four octets tell. What is no capture of these is
+/// a text.
+pub(crate) fn begins_capture(captures: Captures, octets: &[u8]) -> bool
+    ensures { result ≡ begins_capture_lem captures octets.now }
+{
+    match captures {
+        Captures::Classic => capture_order(octets).is_some(),
+        Captures::Any => capture_order(octets).is_some() || is_pcapng(octets),
     }
 }

@@ -4,7 +4,7 @@ use Rattle.std.specs.List.{position}
 use Rattle.rtps_tool.specs.Forms.{begins_capture}
 use Rattle.rtps_tool.specs.Lines.{is_line_feed}
 use Rattle.rtps_tool.specs.Unfinished.{recording_behind}
-use Rattle.rtps_tool.specs.declared.captures.Captures.{Captures}
+use Rattle.rtps_capture.specs.declared.captures.Captures.{Captures}
 use Rattle.rtps_tool.proofs.ReadingLemmas.{HasRead}
 use Rattle.rtps_tool.proofs.streams.read_pieces.Given as goal
 

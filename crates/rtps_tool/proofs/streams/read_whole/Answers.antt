@@ -2,20 +2,14 @@ use Rattle.std.proofs.Common.{◌≡◌, ◌++◌, ◌∙◌, List, ℕ, drop, l
 use Rattle.std.specs.Io.KnownBytes.{Consumes}
 use Rattle.std.proofs.KnownBytes.{Consumes-trans}
 use Rattle.std.proofs.lemmas.Result.{err_from_is_err_and}
-use Rattle.rtps_capture.specs.Opening.{order_of}
-use Rattle.rtps_capture.proofs.Offered.{order_of-append}
-use Rattle.rtps_tool.specs.CaptureFront.{HasReadFront}
-use Rattle.rtps_tool.specs.declared.captures.Captures.TheVariants.{Classic}
-use Rattle.rtps_tool.proofs.CaptureFrontLemmas.{front_grown}
+use Rattle.rtps_tool.specs.Forms.{begins_capture}
+use Rattle.rtps_tool.proofs.UnfinishedLemmas.{begins_capture-append}
 use Rattle.rtps_tool.proofs.streams.read_whole.Goals as goal
 
-pub feed-requires : goal.feed-requires
-feed-requires g c = subst (HasReadFront c.args.limits.datagrams c.pieces.reader) (sym c.deref.ensures.value) c.pieces.invariant.2
-
 pub returns-in_err-read_behind-clause-read : goal.returns-in_err-read_behind-clause-read
-returns-in_err-read_behind-clause-read g c = λ before taken.
+returns-in_err-read_behind-clause-read g c = λ captures before taken.
     let p = err_from_is_err_and c.from_residual-in_err-read_behind.result c.from_residual-in_err-read_behind.ensures.1 in
-    rw (p.1, p.2) (c.in_err-read_behind.ensures.err c.args.limits Classic before _)
+    rw (p.1, p.2) (c.in_err-read_behind.ensures.err c.args.limits captures before _)
 
 pub pieces-preserved : goal.pieces-preserved
 pieces-preserved g c =
@@ -24,11 +18,8 @@ pieces-preserved g c =
     let more = drop (length octets) c.read_behind.new.octets.items in
     let joined : octets ++ more ≡ c.read_behind.new.octets.items =
     ap (λ (front : List ℕ). front ++ more) (sym came.front) ∙ take-append-drop (length octets) c.read_behind.new.octets.items in
-    let invariant = c.pieces.invariant in
-    let fed : HasReadFront c.args.limits.datagrams c.feed.new.self octets =
-    subst (HasReadFront c.args.limits.datagrams c.feed.new.self) c.deref.ensures.value c.in_ok-feed.ensures in (
+    let invariant = c.pieces.invariant in (
       omega (arith, came.size, invariant.0),
-      ap order_of (sym joined) ∙ order_of-append octets more invariant.0 ∙ invariant.1,
-      subst (HasReadFront c.args.limits.datagrams c.feed.new.self) joined (front_grown c.args.limits.datagrams octets more c.feed.new.self fed),
-      λ before taken. subst (Consumes before _) joined (Consumes-trans before _ _ octets more (invariant.3 before taken) came.read),
+      λ captures. ap (begins_capture captures) (sym joined) ∙ begins_capture-append captures octets more invariant.0 ∙ invariant.1 captures,
+      λ before taken. subst (Consumes before _) joined (Consumes-trans before _ _ octets more (invariant.2 before taken) came.read),
     )

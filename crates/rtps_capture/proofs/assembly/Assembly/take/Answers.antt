@@ -17,11 +17,11 @@ returns-in-Some-clause-waiting c =
     let v = c.in-Some.making.now in
     let w = c.take.new.self in
     let new = c.get_mut.follows.lender w in
-    let step = taken_piece c.args.file.now v c.piece_of-piece.result in
+    let step = taken_piece c.args.file.now c.args.fragment.now.key v c.piece_of-piece.result in
     let found : get key_cmp old key ≡ Some v = sym c.get_mut.ensures.value ∙ ap option_copied_mut c.in-Some.is in
     if_taken c.take.result (λ taken. IsJoined step taken w c.take.new.packet.items) (λ taken. IsBounded taken (waiting old) (waiting new))
     (λ (taken : Taken) is. subst (λ (t : Taken). IsBounded t (waiting old) (waiting new)) (sym is.0)
-    (waiting_written old new key v w step (c.get_mut.follows.holds w).0 found is.1 (taken_fits c.args.file.now v c.piece_of-piece.result)))
+    (waiting_written old new key v w step (c.get_mut.follows.holds w).0 found is.1 (taken_fits c.args.file.now c.args.fragment.now.key v c.piece_of-piece.result)))
     c.take.ensures.taken
 
 pub returns-clause-taken : goal.returns-clause-taken
@@ -39,9 +39,9 @@ returns-clause-waiting c =
     let new = c.insert.new.self in
     let v = c.new-making.result in
     let w = c.take-2.new.self in
-    let step = taken_piece c.args.file.now v c.piece_of-piece.result in
+    let step = taken_piece c.args.file.now c.args.fragment.now.key v c.piece_of-piece.result in
     let is = c.in_ok-taken.ensures.taken in
     subst (λ (m : BTreeMap FragmentKey Making). IsBounded c.in_ok-taken.taken (waiting m) (waiting new)) c.get_mut.follows.holds-at-none
     (subst (λ (t : Taken). IsBounded t (waiting old) (waiting new)) (sym is.0)
     (waiting_put old new c.args.fragment.now.key w step c.in_ok-insert.ensures.entries c.in_ok-insert.ensures.was_ordered is.1
-    (subst (λ (m : Making). Fits step (length m.making + 1)) c.new-making.ensures (taken_fits c.args.file.now v c.piece_of-piece.result))))
+    (subst (λ (m : Making). Fits step (length m.making + 1)) c.new-making.ensures (taken_fits c.args.file.now c.args.fragment.now.key v c.piece_of-piece.result))))

@@ -1,0 +1,233 @@
+-- The datagrams of a capture, with their times, and its ignored frames by the reason.
+-- own: a frame is ignored that gives no datagram, is no fragment of a packet that gives one, and is no repeat. Faults stand at their
+-- places in the file: the first one is told. A file that ends within a record or a block is no fault: a recorder that is stopped
+-- leaves such a file, and what was not recorded cannot be told from what was not sent. Of classic captures alone it is one.
+use Rattle.std.specs.Prelude.{ℕ, ◌+◌, ◌-◌, ◌≡◌, ◌≤◌, ◌==◌, nat_lt, if◌then◌else◌, List, [], ◌∷◌, ◌++◌, length, slice_range, All, Option, Some, None, option_to_list, Result, Ok, Err}
+use Rattle.std.specs.Ordering.{is_eq}
+use Rattle.rtps_capture.specs.Frames.{Unread as UnreadPart, frames_left, opened}
+use Rattle.rtps_capture.specs.Datagrams.{moved}
+use Rattle.rtps_capture.specs.Assembly.{Joined, fresh_making, key_cmp, making_of, taken_piece, waiting}
+use Rattle.rtps_capture.specs.Packets.{contents_read, moved_contents}
+use Rattle.rtps_capture.specs.Pieces.{piece_of}
+use Rattle.rtps_capture.specs.declared.capture.CaptureFault.{CaptureFault}
+use Rattle.rtps_capture.specs.declared.capture.CaptureFault.TheVariants as fault
+use Rattle.rtps_capture.specs.declared.capture.CaptureReading.{CaptureReading}
+use Rattle.rtps_capture.specs.declared.capture.Collected.{Collected as CollectedStruct}
+use Rattle.rtps_capture.specs.declared.capture.Counts.{Counts}
+use Rattle.rtps_capture.specs.declared.captures.Captures.{Captures}
+use Rattle.rtps_capture.specs.declared.captures.Captures.TheVariants.{Classic, Any}
+use Rattle.rtps_capture.specs.declared.frames.Frame.{Frame}
+use Rattle.rtps_capture.specs.declared.frames.CapturedFrame.{CapturedFrame}
+use Rattle.rtps_capture.specs.declared.frames.Frame.TheVariants.{Captured, Unread, NoFrame, Rest, BadBlock, Damaged, CutFrame}
+use Rattle.rtps_capture.specs.declared.assembly.Making.{Making}
+use Rattle.rtps_capture.specs.declared.byte_range.ByteRange.{ByteRange}
+use Rattle.rtps_capture.specs.declared.packet.Contents.{Contents}
+use Rattle.rtps_capture.specs.declared.packet.Contents.TheVariants as contents
+use Rattle.rtps_capture.specs.declared.fragment.FragmentKey.{FragmentKey}
+
+-- what was read so far: the fragments by their keys, the datagrams and their times, the octets behind the file, and the numbers of
+-- frames
+pub record Collected : Type 0 where
+  pub making : FragmentKey → Making
+  pub datagrams : List ByteRange
+  pub times : List (Option ℕ)
+  pub behind : List ℕ
+  pub counts : Counts
+
+-- nothing so far
+abbrev pub nothing : Collected
+nothing = record {
+  making = λ key. fresh_making;
+  datagrams = [];
+  times = [];
+  behind = [];
+  counts = record { frames = 0; fresh = 0; settled = 0; cut = 0; other = 0; links = 0; first_link = None };
+}
+
+-- what a frame contains that stands there in the file
+unfoldable pub contents_in : Captures → List ℕ → CapturedFrame → Contents
+contents_in captures file frame =
+    moved_contents frame.range.from (contents_read captures frame.link (slice_range file frame.range.from frame.range.to))
+
+-- the time of a datagram, if there is one
+abbrev pub times_of : Option ℕ → Option ByteRange → List (Option ℕ)
+times_of time None = []
+times_of time (Some datagram) = time ∷ []
+
+-- What is there with a fragment of this key, whose frame has this time: the octets of a packet that gives its datagram come behind
+-- the others.
+abbrev pub with_fragment : List ℕ → Option ℕ → Collected → FragmentKey → Joined → Collected
+with_fragment file time so_far key joined = record {
+  making = λ other. if is_eq (key_cmp key other) then joined.making else so_far.making other;
+  datagrams = so_far.datagrams ++ option_to_list (moved (length file + length so_far.behind) joined.taken.datagram);
+  times = so_far.times ++ times_of time joined.taken.datagram;
+  behind = so_far.behind ++ joined.packet;
+  counts = record so_far.counts {
+    fresh = so_far.counts.fresh + joined.taken.fresh;
+    settled = so_far.counts.settled + joined.taken.settled;
+  };
+}
+
+-- with the contents of a frame more, which has this time
+abbrev pub with_contents : List ℕ → Option ℕ → Collected → Contents → Collected
+with_contents file time so_far (contents.Datagram range) =
+    record so_far { datagrams = so_far.datagrams ++ range ∷ []; times = so_far.times ++ time ∷ [] }
+with_contents file time so_far (contents.Fragment fragment) =
+    with_fragment file time so_far fragment.key (taken_piece file fragment.key (so_far.making fragment.key) (piece_of fragment))
+with_contents file time so_far contents.Cut = record so_far { counts = record so_far.counts { cut = so_far.counts.cut + 1 } }
+with_contents file time so_far contents.Other = record so_far { counts = record so_far.counts { other = so_far.counts.other + 1 } }
+
+-- one frame more was there
+abbrev pub with_frame : Collected → Collected
+with_frame so_far = record so_far { counts = record so_far.counts { frames = so_far.counts.frames + 1 } }
+
+-- with a frame that contains this
+unfoldable pub collected : List ℕ → Option ℕ → Collected → Contents → Collected
+collected file time so_far contents = with_contents file time (with_frame so_far) contents
+
+-- with a frame of a link type that is not read; the first one is told
+abbrev pub with_link : Collected → Option ℕ → Collected
+with_link so_far link = record so_far {
+  counts = record so_far.counts {
+    links = so_far.counts.links + 1;
+    first_link = if so_far.counts.links == 0 then link else so_far.counts.first_link;
+  };
+}
+
+-- the datagrams are as many as are wanted
+abbrev pub limited : ℕ → Collected → Result Collected CaptureFault
+limited most so_far = if nat_lt most (length so_far.datagrams) then Err fault.TooMany else Ok so_far
+
+-- the number of the next frame
+abbrev pub next_number : Collected → ℕ
+next_number so_far = so_far.counts.frames + 1
+
+-- with the rest of a file that ends within a frame
+abbrev pub with_rest : Captures → List ℕ → Collected → Result Collected CaptureFault
+with_rest Classic file so_far = Err (fault.CutCapture (next_number so_far))
+with_rest Any file so_far = Ok (collected file None so_far contents.Cut)
+
+-- with what a record or block gives
+unfoldable pub noted : Captures → List ℕ → ℕ → Collected → Frame → Result Collected CaptureFault
+noted captures file most so_far (Captured frame) = limited most (collected file frame.time so_far (contents_in captures file frame))
+noted captures file most so_far (Unread link) = Ok (with_link (with_frame so_far) link)
+noted captures file most so_far NoFrame = Ok so_far
+noted captures file most so_far Rest = with_rest captures file so_far
+noted captures file most so_far BadBlock = Err fault.BadCapture
+noted captures file most so_far Damaged = Err (fault.Damaged (next_number so_far))
+noted captures file most so_far CutFrame = Err (fault.CutCapture (next_number so_far))
+
+-- what is behind a result, if that is no fault
+abbrev pub or_fault : Result Collected CaptureFault → (Collected → Result Collected CaptureFault) → Result Collected CaptureFault
+or_fault (Ok so_far) more = more so_far
+or_fault (Err fault) more = Err fault
+
+-- with what these records or blocks give, one after another, up to the first fault
+abbrev pub all_noted : Captures → List ℕ → ℕ → Collected → List Frame → Result Collected CaptureFault
+all_noted captures file most so_far [] = Ok so_far
+all_noted captures file most so_far (frame ∷ frames) = or_fault (noted captures file most so_far frame) (λ more. all_noted captures file most more frames)
+
+-- what is told of a capture: the datagrams and their times, the octets behind the file, the numbers of ignored frames, and the link
+-- type of the first one whose link type is not read
+pub record Answer : Type 0 where
+  pub datagrams : List ByteRange
+  pub times : List (Option ℕ)
+  pub behind : List ℕ
+  pub pieces : ℕ
+  pub cut : ℕ
+  pub other : ℕ
+  pub links : ℕ
+  pub first_link : Option ℕ
+
+-- all is read: the fragments that are no repeats, less those of packets that were whole, are of packets that never were
+abbrev pub answer_of : Collected → Answer
+answer_of so_far = record {
+  datagrams = so_far.datagrams;
+  times = so_far.times;
+  behind = so_far.behind;
+  pieces = so_far.counts.fresh - so_far.counts.settled;
+  cut = so_far.counts.cut;
+  other = so_far.counts.other;
+  links = so_far.counts.links;
+  first_link = so_far.counts.first_link;
+}
+
+-- what is told when all is read, or the fault
+abbrev pub answered : Result Collected CaptureFault → Result Answer CaptureFault
+answered (Ok so_far) = Ok (answer_of so_far)
+answered (Err fault) = Err fault
+
+-- what these records or blocks tell, behind those of which that was collected
+abbrev pub all_read : Captures → List ℕ → ℕ → Collected → List Frame → Result Answer CaptureFault
+all_read captures file most so_far frames = answered (all_noted captures file most so_far frames)
+
+-- what a capture tells, behind its header
+abbrev pub opened_read : Captures → ℕ → Option UnreadPart → Result Answer CaptureFault
+opened_read captures most None = Err fault.BadCapture
+opened_read captures most (Some unread) = all_read captures unread.octets most nothing (frames_left unread)
+
+-- what a file tells where these captures are read
+unfoldable pub capture_read : Captures → ℕ → List ℕ → Result Answer CaptureFault
+capture_read captures most file = opened_read captures most (opened captures file)
+
+-- what a reading tells with these octets behind the file
+abbrev pub reading_value : List ℕ → CaptureReading → Answer
+reading_value behind reading = record {
+  datagrams = reading.datagrams.items;
+  times = reading.times.items;
+  behind = behind;
+  pieces = reading.pieces;
+  cut = reading.cut;
+  other = reading.other;
+  links = reading.links;
+  first_link = reading.first_link;
+}
+
+-- the fault is the one that is there, or memory was refused
+abbrev pub IsFault : {X : Type 0} → Result X CaptureFault → CaptureFault → Type 0
+IsFault is fault.Memory = Unit {0}
+IsFault is fault.BadCapture = is ≡ Err fault.BadCapture
+IsFault is (fault.Damaged frame) = is ≡ Err (fault.Damaged frame)
+IsFault is (fault.CutCapture frame) = is ≡ Err (fault.CutCapture frame)
+IsFault is fault.TooMany = is ≡ Err fault.TooMany
+
+-- it is what is told, with the octets of the file and those behind it, or the fault
+abbrev pub IsAnswer : List ℕ → Result Answer CaptureFault → Result CaptureReading CaptureFault → Type 0
+IsAnswer file is (Ok reading) = (behind : List ℕ) × (reading.octets.items ≡ file ++ behind) × (is ≡ Ok (reading_value behind reading))
+IsAnswer file is (Err fault) = IsFault is fault
+
+-- all frames that are ignored
+abbrev pub ignored : CaptureReading → ℕ
+ignored reading = reading.pieces + reading.cut + reading.other + reading.links
+
+-- what a struct has collected
+abbrev pub collected_of : CollectedStruct → Collected
+collected_of so_far = record {
+  making = making_of so_far.assembly.makings;
+  datagrams = so_far.datagrams.items;
+  times = so_far.times.items;
+  behind = so_far.octets.behind;
+  counts = so_far.counts;
+}
+
+-- the frames that are counted, and the fragments of packets in the making, are no more than there are, less so many
+pub record IsCountedWith (room : ℕ) (so_far : CollectedStruct) : Type 0 where
+  pub told : so_far.counts.fresh + so_far.counts.cut + so_far.counts.links + room ≤ so_far.counts.frames
+  pub settled : so_far.counts.settled + waiting so_far.assembly.makings + room ≤ so_far.counts.frames
+  pub other : so_far.counts.other + room ≤ so_far.counts.frames
+
+-- they are no more than there are
+abbrev pub IsCounted : CollectedStruct → Type 0
+IsCounted so_far = IsCountedWith 0 so_far
+
+-- the ranges are in so many octets
+abbrev pub AreWithin : ℕ → List ByteRange → Type 0
+AreWithin size ranges = All (λ range. (range.from ≤ range.to) × (range.to ≤ size)) ranges
+
+-- how many octets there are, of the file and behind it
+abbrev pub size_of : CollectedStruct → ℕ
+size_of so_far = length so_far.octets.file + length so_far.octets.behind
+
+-- the ranges are in these octets, if they were
+abbrev pub StaysWithin : CollectedStruct → CollectedStruct → Type 0
+StaysWithin old new = AreWithin (size_of old) old.datagrams.items → AreWithin (size_of new) new.datagrams.items

@@ -1,0 +1,288 @@
+ghost use Rattle.std.specs.Prelude.{◌≡◌, ◌≤◌, ◌<◌, ◌+◌, ◌^◌, ◌++◌, [], ℕ, Option, length, IfOk, MatchResult, Ok, OnOk};
+ghost use Rattle.rtps_capture.specs.Assembly.{making_of, taken_piece};
+ghost use Rattle.rtps_capture.specs.Capture.{AreWithin, IsAnswer, IsCounted, IsCountedWith, IsFault, StaysWithin, all_read, answer_of, capture_read, collected, collected_of, contents_in as contents_in_lem, ignored, noted, nothing, reading_value, size_of, with_fragment};
+ghost use Rattle.rtps_capture.specs.Frames.{StandsInFile, frames_left, unread_of};
+ghost use Rattle.rtps_capture.specs.Packets.{StandsIn, fragment_size};
+ghost use Rattle.rtps_capture.specs.Pieces.{piece_of};
+
+use crate::assembly::Assembly;
+use crate::byte_range::ByteRange;
+use crate::capture_octets::CaptureOctets;
+use crate::captures::Captures;
+use crate::fragment::Fragment;
+use crate::frames::{CapturedFrame, Frame, Frames};
+use crate::packet::{Contents, contents_read, moved};
+use rtps_ids::Memory;
+use std::alloc::Global;
+
+/// The datagrams of a capture, and how many of its frames are ignored, by the reason. Of classic captures alone each of these is
+/// one of `other`.
+#[derive(Drop)]
+pub struct CaptureReading {
+    /// The octets of the file, and behind them those of the packets that were put together.
+    pub octets: Vec<u8>,
+    /// Where the datagrams stand in these octets, in the order of the frames that gave them.
+    pub datagrams: Vec<ByteRange>,
+    /// When the frame was captured that gave each of them, or completed its packet: in nanoseconds since 1970 began (UTC). None
+    /// where the file does not tell it.
+    pub times: Vec<Option<u64>>,
+    /// Frames with fragments of packets that were never whole.
+    pub pieces: u64,
+    /// Frames whose captured octets end before their packet does, and the rest of a file that ends within a frame.
+    pub cut: u64,
+    /// Frames that carry no UDP over IP.
+    pub other: u64,
+    /// Frames of an interface that is not declared, or of a link type that is not read.
+    pub links: u64,
+    /// The link type of the first of these; None where there is none, or its interface is not declared.
+    pub first_link: Option<u32>,
+}
+
+/// Why a capture is not read. Frames count from 1.
+#[derive(Clone, Copy, PartialEq, Eq, Debug)]
+pub enum CaptureFault {
+    /// It is no capture that is read, or has a block that cannot be.
+    BadCapture,
+    /// A frame would have more octets than are captured of one: the file is damaged there, or is two files in one.
+    Damaged { frame: u64 },
+    /// A frame passes the end of its block. Of classic captures alone: the file ends within it.
+    CutCapture { frame: u64 },
+    /// It has more datagrams than are wanted.
+    TooMany,
+    Memory,
+}
+
+impl From<Memory> for CaptureFault {
+    ghost use Rattle.std.specs.Prelude.{◌≡◌};
+    ghost use Rattle.rtps_capture.specs.declared.capture.CaptureFault.TheVariants.{Memory};
+
+    ghost from_gives = { λ _ fault. fault ≡ Memory };
+
+    fn from(_memory: Memory) -> CaptureFault {
+        CaptureFault::Memory
+    }
+}
+
+/// What was read so far.
+#[derive(Drop)]
+struct Collected {
+    octets: CaptureOctets,
+    assembly: Assembly,
+    /// The octets of the packet that was put together last.
+    packet: Vec<u8>,
+    datagrams: Vec<ByteRange>,
+    times: Vec<Option<u64>>,
+    counts: Counts,
+}
+
+/// How many frames there were so far, and of what kinds.
+#[derive(Clone, Copy)]
+struct Counts {
+    frames: u64,
+    /// Frames with a fragment that is no repeat.
+    fresh: u64,
+    /// Those of them whose packet was whole.
+    settled: u64,
+    cut: u64,
+    other: u64,
+    links: u64,
+    first_link: Option<u32>,
+}
+
+/// The datagrams of a capture of those that are read, whose octets it keeps; after one of more than `most` datagrams nothing is
+/// read. The fault is the first in the file's order.
+pub fn read_capture(
+    alloc: Global,
+    captures: Captures,
+    octets: Vec<u8>,
+    most: u64,
+) -> Result<CaptureReading, CaptureFault>
+    ensures read { IsAnswer octets.items (capture_read captures most octets.items) result }
+    ensures few { IfOk result (λ reading. ignored reading < 2 ^ 64) }
+    ensures within { IfOk result (λ reading. AreWithin (length reading.octets.items) reading.datagrams.items) }
+{
+    let Some(frames) = Frames::open(alloc, captures, &octets) else {
+        return Err(CaptureFault::BadCapture);
+    };
+    read_frames(captures, frames, Collected::new(alloc, octets), most)
+}
+
+/// What the frames give behind those that were collected.
+fn read_frames(
+    captures: Captures,
+    mut frames: Frames,
+    mut collected: Collected,
+    most: u64,
+) -> Result<CaptureReading, CaptureFault>
+    requires counted { IsCounted collected }
+    requires few { collected.counts.frames + length (frames_left (unread_of collected.octets.file frames)) < 2 ^ 63 }
+    requires within { AreWithin (size_of collected) collected.datagrams.items }
+    ensures read { let file = collected.octets.file in IsAnswer file (all_read captures file most (collected_of collected) (frames_left (unread_of file frames))) result }
+    ensures few { IfOk result (λ reading. ignored reading < 2 ^ 64) }
+    ensures within { IfOk result (λ reading. AreWithin (length reading.octets.items) reading.datagrams.items) }
+{
+    while let Some(frame) = frames.next_frame(collected.octets.file())? {
+        collected.note(captures, frame, most)?;
+    }
+    Ok(collected.finish())
+}
+
+/// What the frame contains, with places of the file.
+#[tactic(auto, unfolding(crate::specs::Capture::contents_in))]
+#[inline]
+fn contents_in(captures: Captures, octets: &[u8], frame: CapturedFrame) -> Contents
+    requires ordered { frame.range.from ≤ frame.range.to }
+    requires within { frame.range.to ≤ length octets.now }
+    ensures contents { result ≡ contents_in_lem captures octets.now frame }
+    ensures within { StandsIn (length octets.now) result }
+{
+    let range = frame.range;
+    let contents = contents_read(captures, frame.link, &octets[range.from..range.to]);
+    moved(range.from, contents)
+}
+
+impl Collected {
+    fn new(alloc: Global, octets: Vec<u8>) -> Collected
+        ensures file { result.octets.file ≡ octets.items }
+        ensures nothing { collected_of result ≡ nothing }
+        ensures counted { IsCounted result }
+        ensures empty { result.datagrams.items ≡ [] }
+    {
+        Collected {
+            octets: CaptureOctets::new(octets),
+            assembly: Assembly::new(alloc),
+            packet: Vec::new(alloc),
+            datagrams: Vec::new(alloc),
+            times: Vec::new(alloc),
+            counts: Counts {
+                frames: 0,
+                fresh: 0,
+                settled: 0,
+                cut: 0,
+                other: 0,
+                links: 0,
+                first_link: None,
+            },
+        }
+    }
+
+    /// Takes what a record or block gave.
+    #[tactic(auto, unfolding(crate::specs::Capture::noted, crate::specs::Capture::collected))]
+    fn note(&mut self, captures: Captures, frame: Frame, most: u64) -> Result<(), CaptureFault>
+        requires counted { IsCounted self.old }
+        requires few { self.old.counts.frames < 2 ^ 63 }
+        requires stands { StandsInFile (length self.old.octets.file) frame }
+        ensures noted { let defined = noted captures self.old.octets.file most (collected_of self.old) frame in MatchResult result (λ _. defined ≡ Ok (collected_of self.new)) (IsFault defined) }
+        ensures counted { OnOk result (IsCounted self.new) }
+        ensures frames { OnOk result (self.new.counts.frames ≤ self.old.counts.frames + 1) }
+        ensures file { OnOk result (self.new.octets.file ≡ self.old.octets.file) }
+        ensures within { OnOk result (StaysWithin self.old self.new) }
+    {
+        let number = self.counts.frames + 1;
+        match frame {
+            Frame::Captured(frame) => {
+                let contents = contents_in(captures, self.octets.file(), frame);
+                self.take(contents, frame.time)?;
+                if self.datagrams.len() as u64 > most {
+                    return Err(CaptureFault::TooMany);
+                }
+                Ok(())
+            }
+            Frame::Unread(link) => {
+                if self.counts.links == 0 {
+                    self.counts.first_link = link;
+                }
+                self.counts.frames = number;
+                self.counts.links += 1;
+                Ok(())
+            }
+            Frame::NoFrame => Ok(()),
+            Frame::Rest => match captures {
+                Captures::Classic => Err(CaptureFault::CutCapture { frame: number }),
+                Captures::Any => {
+                    self.counts.frames = number;
+                    self.counts.cut += 1;
+                    Ok(())
+                }
+            },
+            Frame::BadBlock => Err(CaptureFault::BadCapture),
+            Frame::Damaged => Err(CaptureFault::Damaged { frame: number }),
+            Frame::CutFrame => Err(CaptureFault::CutCapture { frame: number }),
+        }
+    }
+
+    /// Takes what a frame contains that has this time.
+    #[tactic(auto, unfolding(crate::specs::Capture::collected))]
+    fn take(&mut self, contents: Contents, time: Option<u64>) -> Result<(), Memory>
+        requires counted { IsCounted self.old }
+        requires few { self.old.counts.frames < 2 ^ 63 }
+        requires stands { StandsIn (length self.old.octets.file) contents }
+        ensures collected { OnOk result (collected_of self.new ≡ collected self.old.octets.file time (collected_of self.old) contents) }
+        ensures counted { OnOk result (IsCounted self.new) }
+        ensures frames { OnOk result (self.new.counts.frames ≡ self.old.counts.frames + 1) }
+        ensures file { OnOk result (self.new.octets.file ≡ self.old.octets.file) }
+        ensures within { OnOk result (StaysWithin self.old self.new) }
+    {
+        self.counts.frames += 1;
+        match contents {
+            Contents::Datagram(range) => {
+                self.datagrams.push(range)?;
+                self.times.push(time)?;
+            }
+            Contents::Fragment(fragment) => self.take_fragment(&fragment, time)?,
+            Contents::Cut => self.counts.cut += 1,
+            Contents::Other => self.counts.other += 1,
+        }
+        Ok(())
+    }
+
+    /// Takes a fragment whose frame has this time.
+    fn take_fragment(&mut self, fragment: &Fragment, time: Option<u64>) -> Result<(), Memory>
+        requires counted { IsCountedWith 1 self.old }
+        requires few { self.old.counts.frames < 2 ^ 64 }
+        requires stands { fragment.now.start + fragment_size fragment.now < 2 ^ 32 }
+        ensures collected { let file = self.old.octets.file in OnOk result (collected_of self.new ≡ with_fragment file time (collected_of self.old) fragment.now.key (taken_piece file fragment.now.key (making_of self.old.assembly.makings fragment.now.key) (piece_of fragment.now))) }
+        ensures counted { OnOk result (IsCounted self.new) }
+        ensures frames { OnOk result (self.new.counts.frames ≡ self.old.counts.frames) }
+        ensures file { OnOk result (self.new.octets.file ≡ self.old.octets.file) }
+        ensures within { OnOk result (StaysWithin self.old self.new) }
+    {
+        self.packet.clear();
+        let taken = self
+            .assembly
+            .take(self.octets.file(), fragment, &mut self.packet)?;
+        self.counts.fresh += taken.fresh as u64;
+        self.counts.settled += taken.settled as u64;
+        if let Some(range) = taken.datagram {
+            let at = self.octets.len();
+            self.octets.push(&self.packet)?;
+            self.datagrams.push(ByteRange {
+                from: at + range.from,
+                to: at + range.to,
+            })?;
+            self.times.push(time)?;
+        }
+        Ok(())
+    }
+
+    /// What is left when all is read.
+    fn finish(self) -> CaptureReading
+        requires counted { IsCounted self }
+        requires few { self.counts.frames < 2 ^ 63 }
+        ensures octets { result.octets.items ≡ self.octets.file ++ self.octets.behind }
+        ensures answer { reading_value self.octets.behind result ≡ answer_of (collected_of self) }
+        ensures few { ignored result < 2 ^ 64 }
+        ensures within { AreWithin (size_of self) self.datagrams.items → AreWithin (length result.octets.items) result.datagrams.items }
+    {
+        CaptureReading {
+            octets: self.octets.into_octets(),
+            datagrams: self.datagrams,
+            times: self.times,
+            pieces: self.counts.fresh.saturating_sub(self.counts.settled),
+            cut: self.counts.cut,
+            other: self.counts.other,
+            links: self.counts.links,
+            first_link: self.counts.first_link,
+        }
+    }
+}
