@@ -2,6 +2,7 @@
 //! proof the law's proof. The laws on deliveries hold whatever the number is from which on numbers are asked for.
 
 ghost use Rattle.rtps_audit.specs.Laws.{ReachedStatesAreSound, RunsExistWhereFounded, FullRunDecides, FullRunIsOne, VerdictsAgree, PlainMeansComplete, HasNoTwoVerdicts, EachHasAVerdict, VerdictsFollowWhatIsSaid, RecordingsAreBounded, EachRecordingHasAVerdict, FullRunDecidesRecordings, HeldStaysHeld, OpenIsFirstMissed, ConflictIsFirst, HasOneReport};
+ghost use Rattle.rtps_audit.specs.Said.{FirstDatagramsSayTheSame};
 
 use rtps_discovery::laws::one_map;
 
@@ -85,6 +86,12 @@ pub fn open_is_first_missed()
 /// smaller one.
 pub fn conflict_is_first()
     ensures { ConflictIsFirst }
+{}
+
+/// The first datagrams of a recording say what they say in the whole of it. So a verdict by the datagrams before one is the
+/// verdict on the recording that ends there.
+pub fn first_datagrams_say_the_same()
+    ensures { FirstDatagramsSayTheSame }
 {}
 
 /// What an index takes in has one report, and so has a recording.

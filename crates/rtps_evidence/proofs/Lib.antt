@@ -16,3 +16,6 @@ pub mod LackingLemmas
 pub mod NotReceivedLemmas
 pub mod QuestionLemmas
 pub mod MissedLemmas
+pub mod SpanLemmas
+pub mod OutcomeLemmas
+pub mod CleanLemmas

@@ -4,6 +4,9 @@ pub mod Rising
 pub mod Received
 pub mod Claimed
 pub mod Missed
+pub mod Spans
+pub mod Outcomes
+pub mod Clean
 pub mod Questions
 pub mod Evidence
 pub mod Certificates

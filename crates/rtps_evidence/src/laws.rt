@@ -2,7 +2,9 @@
 //! does nothing: its clause is the law, and its proof the law's proof.
 
 ghost use Rattle.rtps_evidence.specs.Certificates.{CompleteIsShown, ConflictIsShown, OpenIsShown, UnfoundedIsShown};
+ghost use Rattle.rtps_evidence.specs.Clean.{CountsSayTail};
 ghost use Rattle.rtps_evidence.specs.Explanation.{HasOneExplanation};
+ghost use Rattle.rtps_evidence.specs.Outcomes.{OutcomesAddUp, UnsentIsNotHeld};
 ghost use Rattle.rtps_evidence.specs.Received.{ReceivedIsExact};
 
 use rtps_audit::laws::one_report;
@@ -35,6 +37,25 @@ pub fn complete_is_shown()
 /// other number that is asked for some run ends without one.
 pub fn received_is_exact()
     ensures { ReceivedIsExact }
+{}
+
+/// How many numbers have each outcome adds up to how many are asked about.
+#[tactic(auto, using(crate::proofs::OutcomeLemmas::outcomes_add_up))]
+pub fn outcomes_add_up()
+    ensures { OutcomesAddUp }
+{}
+
+/// Where no payload of a number is told to the reader, no run ends with one.
+#[tactic(auto, using(crate::proofs::OutcomeLemmas::unsent_is_not_held))]
+pub fn unsent_is_not_held()
+    ensures { UnsentIsNotHeld }
+{}
+
+/// Where nothing is lost or looks so, and the reader acknowledged something, what is lacking is a tail: each number below the greatest
+/// base of its answers is received or likely, and each other one unconfirmed.
+#[tactic(auto, using(crate::proofs::CleanLemmas::counts_say_tail))]
+pub fn counts_say_tail()
+    ensures { CountsSayTail }
 {}
 
 /// What an index takes in is explained in one way, and so is a recording.

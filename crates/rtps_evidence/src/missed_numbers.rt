@@ -1,4 +1,4 @@
-ghost use Rattle.std.specs.Prelude.{ℕ, true, ◌≡◌, ◌==◌, ◌&&◌, ◌||◌, not, map, IfOk, OnOk, List};
+ghost use Rattle.std.specs.Prelude.{ℕ, true, ◌≡◌, ◌==◌, ◌&&◌, ◌||◌, ◌<◌, ◌^◌, not, map, IfOk, IfSome, OnOk, List};
 ghost use Rattle.std.specs.List.{list_any};
 ghost use Rattle.rtps_ids.specs.NumberSet.{is_member};
 ghost use Rattle.rtps_audit.specs.Index.{IsIndexBy};
@@ -117,7 +117,8 @@ fn lacking_among(
 
 /// The number of the payload that the pair's reader hears by an act, or of which it hears fragments.
 fn number_brought(placed: &Placed<'_>, pair: Pair) -> Option<u64>
-    ensures { (n : ℕ) → brings pair.writer pair.reader n (placed_value placed.now) ≡ is_at n result }
+    ensures in_range { IfSome result (λ number. number < 2 ^ 63) }
+    ensures brought { (n : ℕ) → brings pair.writer pair.reader n (placed_value placed.now) ≡ is_at n result }
 {
     if !placed.act.spoken_by(pair.writer) || !placed.act.heard_by(pair.reader) {
         return None;
@@ -130,8 +131,9 @@ fn number_brought(placed: &Placed<'_>, pair: Pair) -> Option<u64>
 }
 
 /// The same of an act behind the reader's announcement.
-fn number_behind(placed: &Placed<'_>, listener: &Listener) -> Option<u64>
-    ensures { (n : ℕ) → brings_behind listener.now.announced listener.now.pair.writer listener.now.pair.reader n (placed_value placed.now) ≡ is_at n result }
+pub(crate) fn number_behind(placed: &Placed<'_>, listener: &Listener) -> Option<u64>
+    ensures in_range { IfSome result (λ number. number < 2 ^ 63) }
+    ensures brought { (n : ℕ) → brings_behind listener.now.announced listener.now.pair.writer listener.now.pair.reader n (placed_value placed.now) ≡ is_at n result }
 {
     if is_behind(listener.announced, placed) {
         number_brought(placed, listener.pair)

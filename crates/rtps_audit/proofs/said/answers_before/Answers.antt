@@ -1,0 +1,15 @@
+use Rattle.std.proofs.Common.{◌∙◌, ap, nat_lt, subst, sym, arith}
+use Rattle.std.proofs.lemmas.List.{get_or_default, take_all}
+use Rattle.rtps_audit.specs.declared.answer.Answer.{Answer}
+use Rattle.rtps_audit.proofs.SaidLemmas.{not_before, one_kept}
+use Rattle.rtps_audit.proofs.said.answers_before.Goals as goal
+
+pub loop-place-preserved : goal.loop-place-preserved
+loop-place-preserved c =
+    one_kept (λ (at : Answer). nat_lt at.datagram c.args.datagram) c.args.answers.now c.loop-place.place c.index-answers-place.result c.loop-place-test.true
+    (ap (λ (at : Answer). nat_lt at.datagram c.args.datagram) (sym c.index-answers-place.is) ∙ sym c.is_answer_before.ensures ∙ c.if-not-is_answer_before.false) c.loop-place.invariant
+
+pub returns-then-not-is_answer_before-clause-next : goal.returns-then-not-is_answer_before-clause-next
+returns-then-not-is_answer_before-clause-next c = λ d lt.
+    let other = get_or_default c.args.answers.now c.loop-place.place d c.index-answers-place.result lt in
+    not_before _ c.args.datagram (ap (λ (at : Answer). nat_lt at.datagram c.args.datagram) (other ∙ sym c.index-answers-place.is) ∙ sym c.is_answer_before.ensures ∙ c.if-not-is_answer_before.true)
