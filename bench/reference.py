@@ -114,15 +114,15 @@ def read_body(sid, flags, order, b):
         n = sequence_number(b[12:20], order)
         if n <= 0:
             return 'BadNumber'
-        rest, qos = b[4 + offset:], 0
+        rest, qos, inline = b[4 + offset:], 0, []
         if q:
             found = read_list(rest, order)
             if isinstance(found, str):
                 return 'BadInlineQos'
-            qos = found[1]
+            inline, qos = found
             rest = rest[qos:]
         payload = ('whole', rest) if d else ('key', rest) if k else ('absent', b'')
-        return {'kind': 'data', 'reader': b[4:8], 'writer': b[8:12], 'number': n, 'qos': qos, 'payload': payload}
+        return {'kind': 'data', 'reader': b[4:8], 'writer': b[8:12], 'number': n, 'qos': qos, 'inline': inline, 'payload': payload}
     if sid == 0x07:
         if len(b) < 28:
             return 'ShortBody'
@@ -194,8 +194,24 @@ def piece_of(flags, order, b):
             'sample': sample, 'qos': qos, 'key': int(bool(flags & 4)), 'octets': rest[:octets]}
 
 
-def read(d, fragments=False):
-    """header, items and refusal of a datagram; DATA_FRAG are read where `fragments` says so"""
+def nack_frag_of(order, b):
+    """the fields of a NACK_FRAG, or None for one that is passed over"""
+    if len(b) < 24:
+        return None
+    n, base, count = sequence_number(b[8:16], order), number(b[16:20], order), number(b[20:24], order)
+    words = (count + 31) // 32
+    if n < 1 or base < 1 or count > 256 or len(b) < 28 + 4 * words:
+        return None
+    bits = [number(b[24 + 4 * i:28 + 4 * i], order) for i in range(words)]
+    for i in range(words):
+        kept = min(32, count - 32 * i)
+        bits[i] = bits[i] >> (32 - kept) << (32 - kept)
+    return {'kind': 'nack_frag', 'reader': b[:4], 'writer': b[4:8], 'number': n, 'set': (base, count, bits, 8 + 4 * words),
+            'count': number(b[24 + 4 * words:28 + 4 * words], order)}
+
+
+def read(d, fragments=False, asks=False):
+    """header, items and refusal of a datagram; DATA_FRAG are read where `fragments` says so, and NACK_FRAG where `asks` does"""
     try:
         header = header_of(d)
     except Refused as refusal:
@@ -212,6 +228,7 @@ def read(d, fragments=False):
         length = declared if declared else 0 if sid in (1, 9) else rest
         octets = d[at + 4:at + 4 + length]
         body = piece_of(flags, order, octets) if fragments and sid == 0x16 else None
+        body = nack_frag_of(order, octets) if asks and sid == 0x12 else body
         body = body or read_body(sid, flags, order, octets)
         if isinstance(body, str):
             return header, items, Refused(at, body)
@@ -220,12 +237,12 @@ def read(d, fragments=False):
     return header, items, None
 
 
-def acts_of(d, fragments=False):
+def acts_of(d, fragments=False, asks=False):
     """items that are acts, each with the last INFO before it"""
-    header, items, refusal = read(d, fragments)
+    header, items, refusal = read(d, fragments, asks)
     acts = []
     for k, item in enumerate(items):
-        if item['kind'] not in ('data', 'data_frag', 'heartbeat', 'acknack', 'gap'):
+        if item['kind'] not in ('data', 'data_frag', 'heartbeat', 'acknack', 'gap', 'nack_frag'):
             continue
         before = items[:k]
         sources = [i for i in before if i['kind'] == 'info_src']
@@ -324,16 +341,16 @@ def input_of(octets, limits=USUAL, any_form=False):
     return datagrams if isinstance(datagrams, str) else (datagrams, None)
 
 
-def show(datagrams, fragments=False):
+def show(datagrams, fragments=False, asks=False):
     out = []
     for i, d in enumerate(datagrams, 1):
-        header, items, refusal = read(d, fragments)
+        header, items, refusal = read(d, fragments, asks)
         if header is None:
             out.append(f'datagram {i} unread')
         else:
             major, minor = header['version']
             out.append(f"datagram {i} version {major}.{minor} vendor {header['vendor'].hex()} prefix {header['prefix'].hex()}")
-        acts = {act['at']: act for act in acts_of(d, fragments)}
+        acts = {act['at']: act for act in acts_of(d, fragments, asks)}
         for item in items:
             out.append(line_of(item, acts.get(item['at'])))
         if refusal:
@@ -356,9 +373,11 @@ def line_of(i, act):
         return f"{head} number {i['number']} {shape} qos {i['qos']} key {i['key']} octets {len(i['octets'])}{ending}"
     if kind == 'heartbeat':
         return f"{head} first {i['first']} last {i['last']} count {i['count']} final {i['final']} live {i['live']}{ending}"
-    if kind in ('acknack', 'gap'):
+    if kind in ('acknack', 'gap', 'nack_frag'):
         base, count, bits, _ = i['set']
         words = ''.join(f'{w:08x}' for w in bits) or '-'
+        if kind == 'nack_frag':
+            return f"{head} number {i['number']} base {base} bits {count} {words} count {i['count']}{ending}"
         if kind == 'gap':
             return f"{head} start {i['start']} base {base} bits {count} {words}{ending}"
         return f"{head} base {base} bits {count} {words} count {i['count']} final {i['final']}{ending}"
@@ -491,7 +510,7 @@ def list_text(datagrams):
 # ---- the audit
 
 def spoken(act, w):
-    return act['kind'] != 'acknack' and act['source'] == w[:12] and act['writer'] == w[12:]
+    return act['kind'] not in ('acknack', 'nack_frag') and act['source'] == w[:12] and act['writer'] == w[12:]
 
 
 def heard(act, r):
@@ -631,6 +650,11 @@ def audit(datagrams, asked=PLAIN):
     out = [f'pairs {len(pairs)}']
     for w, r in pairs:
         out.append(f'{guid_text(w)} {guid_text(r)} {judge(recording, w, r, asked.first)}')
+    return out + [counts_line(datagrams, recording, unsettled, asked)]
+
+
+def counts_line(datagrams, recording, unsettled, asked):
+    """what a report says of the whole recording"""
     refused = skipped = undirected = 0
     unread = {0x16} if asked.fragments else FRAGMENTS
     fragments = without_sample(recording)
@@ -640,9 +664,8 @@ def audit(datagrams, asked=PLAIN):
         skipped += sum(i['kind'] == 'skipped' and i['id'] not in FRAGMENTS for i in items)
         fragments += sum(i['kind'] == 'skipped' and i['id'] in unread for i in items)
         undirected += sum(a['kind'] == 'acknack' and a['dest'] is None for a in acts)
-    out.append(f'datagrams {len(datagrams)} refused {refused} skipped {skipped} fragments {fragments} '
-               f'undirected {undirected} unsettled {unsettled}')
-    return out
+    return (f'datagrams {len(datagrams)} refused {refused} skipped {skipped} fragments {fragments} '
+            f'undirected {undirected} unsettled {unsettled}')
 
 
 # ---- the evidence
@@ -679,18 +702,21 @@ class Delivery:
     """what a writer and a reader said to each other, of the numbers from `first` on. An act stands with its place: its
     datagram and its first octet"""
     def __init__(self, recording, w, r, first):
-        self.first = first
+        self.w, self.r, self.first = w, r, first
         self.placed = [((i, act['at']), act) for i, acts in enumerate(recording, 1) for act in acts]
         self.said = [(place, act) for place, act in self.placed if spoken(act, w)]
         self.told = [((i, act['at']), act, words) for i, act, words in told_to(recording, w, r)]
         self.answers = [(place, act['set']) for place, act in self.placed if answered(act, w, r)]
         self.last = max([first - 1] + [last_number(act) for _, act in self.said])
-        self.announced = first_announced(recording, r)
         self.received = {n for n in self.sent() if self.is_received(n)}
+        self.missed = self.missed_numbers(recording)
+
+    def missed_numbers(self, recording):
+        announced = first_announced(recording, self.r)
         asked = {n for _, found in self.answers for n in members(*found[:3])}
         brought = {act['number'] for place, act in self.said
-                   if act['kind'] in ('data', 'data_frag') and heard(act, r) and place > self.announced}
-        self.missed = sorted(n for n in brought if self.first <= n <= self.last and n in asked and n not in self.received)
+                   if act['kind'] in ('data', 'data_frag') and heard(act, self.r) and place > announced}
+        return sorted(n for n in brought if self.first <= n <= self.last and n in asked and n not in self.received)
 
     def sent(self):
         """the numbers with a payload"""
@@ -719,6 +745,16 @@ class Delivery:
         """the kind and the place of the first act at a place that passes which tells a number gone"""
         return next(((act['kind'], place) for place, act, gone in self.words_for(n) if gone and passes(place)), None)
 
+    def missed_line(self):
+        """the least number that is missed: who asked for it last, and what told it gone since"""
+        n = self.missed[0]
+        asked = [place for place, found in self.answers if n in members(*found[:3])][-1]
+        return f'  number {n} asked for {standing(asked)}, {self.gone_since(n, asked)}'
+
+    def gone_since(self, n, asked):
+        gone = self.gone(n, lambda place: place > asked)
+        return f'told gone by {gone[0]} {standing(gone[1])}' if gone else 'not told gone since'
+
 
 def standing(place):
     return f'in datagram {place[0]} at {place[1]}'
@@ -737,15 +773,6 @@ def kept_line(delivery):
     return f'{head} told gone by {gone[0]} {standing(gone[1])}, acknowledged {standing(claim)}'
 
 
-def missed_line(delivery):
-    """the least number that is missed: who asked for it last, and what told it gone since"""
-    n = delivery.missed[0]
-    asked = [place for place, found in delivery.answers if n in members(*found[:3])][-1]
-    gone = delivery.gone(n, lambda place: place > asked)
-    since = f'told gone by {gone[0]} {standing(gone[1])}' if gone else 'not told gone since'
-    return f'  number {n} asked for {standing(asked)}, {since}'
-
-
 def asked_line(delivery):
     """whether the writer asked for an answer since the last one"""
     answered_at = max((place for place, _ in delivery.answers), default=(0, 0))
@@ -758,7 +785,7 @@ def delivery_lines(delivery):
     numbers = delivery.last + 1 - delivery.first
     lines = [f'received {len(delivery.received)} of {numbers}']
     if delivery.missed:
-        lines += [f'missed {len(delivery.missed)}', missed_line(delivery)]
+        lines += [f'missed {len(delivery.missed)}', delivery.missed_line()]
     if len(delivery.received) < numbers:
         lines.append(kept_line(delivery))
     return lines
@@ -787,8 +814,11 @@ def verdict_lines(delivery, verdict):
 
 def evidence(recording, w, r, first=1):
     """the lines of a pair behind its names: what the verdict rests on, of the numbers from `first` on"""
-    delivery = Delivery(recording, w, r, first)
-    last, lines = delivery.last, []
+    return evidence_lines(Delivery(recording, w, r, first), judge(recording, w, r, first))
+
+
+def evidence_lines(delivery, verdict):
+    first, last, lines = delivery.first, delivery.last, []
     if last >= first:
         place, act = next((place, act) for place, act in delivery.said if last_number(act) == last)
         lines.append(f'announced {last} by {act["kind"]} {standing(place)}')
@@ -804,7 +834,7 @@ def evidence(recording, w, r, first=1):
     all_told = covered([span for words in told for span in words.spans], first, last + 1)
     payloads = covered([span for words in told if words.payload is not None for span in words.spans], first, last + 1)
     lines.append(f'payloads {payloads} gone {all_told - payloads} untold {last + 1 - first - all_told}')
-    return lines + delivery_lines(delivery) + verdict_lines(delivery, judge(recording, w, r, first))
+    return lines + delivery_lines(delivery) + verdict_lines(delivery, verdict)
 
 
 def why(datagrams, asked=PLAIN):
