@@ -6,8 +6,8 @@ use Rattle.rtps_capture.specs.AnyCapture.{AnyAnswer, AreWithin, IsFault}
 use Rattle.rtps_capture.specs.declared.any_capture.AnyFault.{AnyFault}
 use Rattle.rtps_capture.specs.declared.any_capture.AnyFault.TheVariants as kind
 use Rattle.rtps_capture.specs.declared.datagram.ByteRange.{ByteRange}
-use Rattle.rtps_text.specs.DatagramSpan.{AreSpans, end_of, pieces, start_of}
-use Rattle.rtps_text.specs.declared.datagram_span.DatagramSpan.{DatagramSpan}
+use Rattle.rtps_report.specs.DatagramSpan.{AreSpans, end_of, pieces, start_of}
+use Rattle.rtps_report.specs.declared.datagram_span.DatagramSpan.{DatagramSpan}
 use Rattle.rtps_tool.specs.Outcomes.{IsFaultOf}
 use Rattle.rtps_tool.specs.RecordingAnyCapture.{octets_in, rec_fault_of, recording_told}
 

@@ -7,8 +7,8 @@ use Rattle.rtps_capture.specs.Frames.{frames_left}
 use Rattle.rtps_capture.specs.declared.cursor.Cursor.{Cursor}
 use Rattle.rtps_capture.specs.declared.cursor.NextFrame.TheVariants.{Whole}
 use Rattle.rtps_capture.specs.declared.datagram.ByteRange.{ByteRange}
-use Rattle.rtps_text.specs.DatagramSpan.{AreSpans, pieces}
-use Rattle.rtps_text.specs.declared.datagram_span.DatagramSpan.{DatagramSpan}
+use Rattle.rtps_report.specs.DatagramSpan.{AreSpans, pieces}
+use Rattle.rtps_report.specs.declared.datagram_span.DatagramSpan.{DatagramSpan}
 use Rattle.rtps_tool.specs.CaptureFront.{HasPassed, HasPushed, HasReadFront, IsCaptureReadUpTo, Keeps}
 use Rattle.rtps_tool.specs.RecordingCapture.{recording_of_capture, recording_opened}
 use Rattle.rtps_tool.specs.declared.form.capture_reader.CaptureReader.{CaptureReader}

@@ -7,9 +7,9 @@ use Rattle.std.proofs.lemmas.List.Elements.{All-nil, All-push}
 use Rattle.rtps_capture.specs.declared.frames.Frame.{Frame}
 use Rattle.rtps_capture.specs.declared.frames.Frame.TheVariants.{Datagram, Ignored, Cut}
 use Rattle.rtps_capture.specs.declared.datagram.ByteRange.{ByteRange}
-use Rattle.rtps_text.specs.DatagramSpan.{AreSpans, StandsWithin, end_of, piece, pieces, start_of}
-use Rattle.rtps_text.specs.Recording.{RecordingValue}
-use Rattle.rtps_text.specs.declared.datagram_span.DatagramSpan.{DatagramSpan}
+use Rattle.rtps_report.specs.DatagramSpan.{AreSpans, StandsWithin, end_of, piece, pieces, start_of}
+use Rattle.rtps_report.specs.Recording.{RecordingValue}
+use Rattle.rtps_report.specs.declared.datagram_span.DatagramSpan.{DatagramSpan}
 use Rattle.rtps_tool.specs.CaptureFront.{HasPushed}
 use Rattle.rtps_tool.specs.Outcomes.{IsFaultOf}
 use Rattle.rtps_tool.specs.RecordingCapture.{cut_among, datagrams_among, ignored_among, recording_of_frames, unless_cut}

@@ -7,8 +7,8 @@ use Rattle.rtps_capture.specs.Frames.{Unread, frames_left, opened}
 use Rattle.rtps_capture.specs.declared.cursor.Cursor.{Cursor}
 use Rattle.rtps_capture.specs.declared.frames.Frame.{Frame}
 use Rattle.rtps_capture.specs.declared.datagram.ByteRange.{ByteRange}
-use Rattle.rtps_text.specs.DatagramSpan.{AreSpans, end_of, pieces, start_of}
-use Rattle.rtps_text.specs.declared.datagram_span.DatagramSpan.{DatagramSpan}
+use Rattle.rtps_report.specs.DatagramSpan.{AreSpans, end_of, pieces, start_of}
+use Rattle.rtps_report.specs.declared.datagram_span.DatagramSpan.{DatagramSpan}
 use Rattle.rtps_tool.specs.RecordingCapture.{cut_among, datagrams_among, ignored_among}
 use Rattle.rtps_tool.specs.declared.form.capture_reader.CaptureReader.{CaptureReader}
 

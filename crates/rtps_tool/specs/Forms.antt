@@ -5,7 +5,7 @@ use Rattle.std.specs.Prelude.{ℕ, ◌||◌, nat_lt, Bool, true, false, if◌the
 use Rattle.rtps_ids.specs.declared.order.Order.{Order}
 use Rattle.rtps_capture.specs.Blocks.{is_pcapng}
 use Rattle.rtps_capture.specs.Opening.{order_of}
-use Rattle.rtps_text.specs.Recording.{RecordingValue}
+use Rattle.rtps_report.specs.Recording.{RecordingValue}
 use Rattle.rtps_tool.specs.Limits.{usual}
 use Rattle.rtps_tool.specs.RecordingAnyCapture.{recording_of_any}
 use Rattle.rtps_tool.specs.RecordingCapture.{recording_of_capture}

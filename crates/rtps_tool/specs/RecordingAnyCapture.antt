@@ -5,8 +5,8 @@ use Rattle.rtps_capture.specs.AnyCapture.{AnyAnswer, any_read}
 use Rattle.rtps_capture.specs.declared.any_capture.AnyFault.{AnyFault}
 use Rattle.rtps_capture.specs.declared.any_capture.AnyFault.TheVariants as any_fault
 use Rattle.rtps_capture.specs.declared.datagram.ByteRange.{ByteRange}
-use Rattle.rtps_text.specs.Recording.{RecordingValue, ignored_by}
-use Rattle.rtps_text.specs.declared.recording.Reasons.{Reasons}
+use Rattle.rtps_report.specs.Recording.{RecordingValue, ignored_by}
+use Rattle.rtps_report.specs.declared.recording.Reasons.{Reasons}
 use Rattle.rtps_tool.specs.declared.faults.RecFault.{RecFault}
 use Rattle.rtps_tool.specs.declared.faults.RecFault.TheVariants.{BadCapture, CutCapture, Memory, TooMany}
 

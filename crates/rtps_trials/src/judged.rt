@@ -3,10 +3,7 @@
 
 use crate::fault::Fault;
 use crate::recording::{PAIR, datagrams, second};
-use rtps_audit::{
-    Index, MergedRanges, PlainRanges, Report, Row, Unwatched, Verdict, audit, audit_from, judge,
-    judge_by, judge_from,
-};
+use rtps_audit::{Index, MergedRanges, PlainRanges, Report, Row, Unwatched, Verdict, audit, audit_from, judge, judge_by, judge_from};
 use rtps_discovery::{Directory, Pair, matches};
 use rtps_evidence::{Evidence, explain_from};
 use rtps_ids::SeqNum;

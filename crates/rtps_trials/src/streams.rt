@@ -3,10 +3,7 @@
 use crate::fault::Fault;
 use crate::recording::second;
 use rtps_ids::SeqNum;
-use rtps_tool::{
-    Captures, Command, Ending, Options, RunFault, Unwatched, run, run_audit, run_audit_from,
-    run_list, run_show,
-};
+use rtps_tool::{Captures, Command, Ending, Options, RunFault, Unwatched, run, run_audit, run_audit_from, run_list, run_show};
 use std::alloc::Global;
 use std::io::{self, ErrorKind, Read, Write};
 

@@ -1,13 +1,13 @@
 ghost use Rattle.std.specs.Prelude.{◌≡◌, List, ℕ, length, Ok, IfErr, IfOk, MatchResult};
 ghost use Rattle.rtps_capture.specs.AnyCapture.{AreWithin};
 ghost use Rattle.rtps_capture.specs.Front.{HasReadFront};
-ghost use Rattle.rtps_text.specs.DatagramSpan.{AreSpans, pieces};
+ghost use Rattle.rtps_report.specs.DatagramSpan.{AreSpans, pieces};
 ghost use Rattle.rtps_tool.specs.Outcomes.{IsFaultOf};
 ghost use Rattle.rtps_tool.specs.RecordingAnyCapture.{octets_in, recording_of_any};
 
 use crate::faults::RecFault;
 use rtps_capture::{AnyFront, ByteRange, read_any_behind};
-use rtps_text::{DatagramSpan, Reasons, Recording};
+use rtps_report::{DatagramSpan, Reasons, Recording};
 use std::alloc::Global;
 
 /// Reads a recording of so many datagrams at most from a capture of either form, of which the front was read. It keeps the octets

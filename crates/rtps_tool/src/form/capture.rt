@@ -1,12 +1,12 @@
 ghost use Rattle.std.specs.Prelude.{◌≡◌, ◌<◌, ◌^◌, [], length, Ok, Some, MatchResult};
 ghost use Rattle.rtps_capture.specs.Frames.{frames_left};
-ghost use Rattle.rtps_text.specs.DatagramSpan.{AreSpans, pieces};
+ghost use Rattle.rtps_report.specs.DatagramSpan.{AreSpans, pieces};
 ghost use Rattle.rtps_tool.specs.Outcomes.{IsFaultOf};
 ghost use Rattle.rtps_tool.specs.RecordingCapture.{recording_of_capture, recording_of_frames};
 
 use crate::faults::RecFault;
 use rtps_capture::{Frame, Frames};
-use rtps_text::{DatagramSpan, Recording, push_span};
+use rtps_report::{DatagramSpan, Recording, push_span};
 use std::alloc::Global;
 
 /// Reads a recording of so many datagrams at most from a capture, whose octets it keeps.

@@ -6,7 +6,7 @@ ghost use Rattle.rtps_tool.specs.RecordingCapture.{recording_of_capture};
 use crate::faults::RecFault;
 use crate::form::capture::read_capture;
 use rtps_capture::{ByteRange, Cursor, NextFrame};
-use rtps_text::{DatagramSpan, Recording, push_span};
+use rtps_report::{DatagramSpan, Recording, push_span};
 use std::alloc::{AllocError, Global};
 
 /// What was read of a capture whose octets are still coming. A frame is read when it is whole, while its octets are at

@@ -3,10 +3,7 @@
 use crate::fault::Fault;
 use crate::words::{Words, octets_text};
 use rtps_digits::{decode, encode};
-use rtps_ids::{
-    EntityId, Guid, GuidPrefix, NumberSet, SeqNum, Vendor, number_at, put_number, put_u16, put_u32,
-    u16_at, u32_at,
-};
+use rtps_ids::{EntityId, Guid, GuidPrefix, NumberSet, SeqNum, Vendor, number_at, put_number, put_u16, put_u32, u16_at, u32_at};
 use std::alloc::Global;
 use std::fmt::Write;
 

@@ -7,10 +7,7 @@ use rtps_discovery::NoticeFault;
 use rtps_ids::{EntityId, GuidPrefix, NumberSet, Order, SeqNum, SetFault, Vendor, Version};
 use rtps_params::{ListFault, ParamFault};
 use rtps_tool::{RecFault, RunFault};
-use rtps_wire::{
-    Body, DataBody, GapBody, Header, HeartbeatBody, Item, Payload, WireFault, WriteFault,
-    write_message,
-};
+use rtps_wire::{Body, DataBody, GapBody, Header, HeartbeatBody, Item, Payload, WireFault, WriteFault, write_message};
 use std::alloc::Global;
 use std::fmt::Write;
 

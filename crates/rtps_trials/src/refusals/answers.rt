@@ -3,10 +3,7 @@
 use super::mark;
 use crate::fault::Fault;
 use crate::recording::{PAIR, second};
-use rtps_audit::{
-    Counts, Index, MergedRanges, PlainRanges, Report, Row, Verdict, audit, audit_from, judge,
-    judge_by, judge_from,
-};
+use rtps_audit::{Counts, Index, MergedRanges, PlainRanges, Report, Row, Verdict, audit, audit_from, judge, judge_by, judge_from};
 use rtps_discovery::{Endpoint, Match, Pair};
 use rtps_evidence::Evidence;
 use rtps_ids::{Guid, Memory};

@@ -2,8 +2,8 @@ use Rattle.std.proofs.Common.{◌≡◌, ◌++◌, ◌∙◌, List, ℕ, Some, O
 use Rattle.std.proofs.lemmas.Result.{err_from_is_err_and}
 use Rattle.rtps_capture.specs.AnyCapture.{AreWithin, any_read, any_value}
 use Rattle.rtps_capture.specs.declared.datagram.ByteRange.{ByteRange}
-use Rattle.rtps_text.specs.DatagramSpan.{pieces}
-use Rattle.rtps_text.specs.Recording.{RecordingValue, ignored_by}
+use Rattle.rtps_report.specs.DatagramSpan.{pieces}
+use Rattle.rtps_report.specs.Recording.{RecordingValue, ignored_by}
 use Rattle.rtps_tool.specs.RecordingAnyCapture.{octets_in, reasons_of, recording_of_any, recording_told}
 use Rattle.rtps_tool.proofs.AnyCaptureLemmas.{any_fault}
 use Rattle.rtps_tool.proofs.form.any_recording.read_any_capture.Goals as goal
