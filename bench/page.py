@@ -18,14 +18,15 @@ import sys
 sys.dont_write_bytecode = True
 ROOT = os.path.dirname(os.path.dirname(os.path.abspath(__file__)))
 sys.path[:0] = [os.path.join(ROOT, 'bench'), os.path.join(ROOT, 'crates', 'rtps_page', 'page')]
+import check
 import parts
 import reference
-from asked import PLAIN, asked_by
+import spans
+from asked import PLAIN, Asked, asked_by
 from random_recordings import some_asked, some_input
 
-# So many entries of acts and answers a page has room for, and so many rows without scripts of each of two kinds.
+# So many entries of acts and answers a page has room for.
 ENTRIES = 200000
-PLAIN_ROWS = 1000
 
 
 def audience(act):
@@ -69,7 +70,7 @@ class Traffic:
                     answers.append([datagram, act['at'], act['set'][0]])
             return
         writer = act['source'] + act['writer']
-        if writer in self.acts:
+        if writer in self.acts and act['kind'] != 'nack_frag':
             self.acts[writer] += entries_of(datagram, act)
 
     def bases_of(self, row):
@@ -95,23 +96,63 @@ def endpoint_values(endpoint):
 
 
 def option_values(asked, any_capture):
-    return {'from': asked.first, 'any': any_capture, 'fragments': asked.fragments, 'observed': asked.observed, 'strict': asked.strict,
+    return {'from': asked.first, 'any': any_capture, 'fragments': asked.fragments, 'observed': asked.observed, 'strict': asked.strict, 'spans': asked.spans,
             'topics': asked.topics, 'expect': asked.expect}
 
 
-def page_values(datagrams, asked=PLAIN, ignored=None):
-    """the data of a page as Python has it; where any capture was read, the ignored frames are told by their reasons"""
-    by_reason = isinstance(ignored, dict)
-    report = reference.report_values(datagrams, asked) | (ignored if by_reason else {} if ignored is None else {'ignored': ignored})
+# ---- what `check` says of these rows
+
+class Checked:
+    """the rows that are asked for, those that the recording cannot speak of, the counts, and why the run does not end clean"""
+    def __init__(self, octets, asked, datagrams, ignored):
+        self.rows, self.left_out, counted = spans.rows_of(datagrams, asked)
+        self.report = counted | (ignored if isinstance(ignored, dict) else {} if ignored is None else {'ignored': ignored})
+        self.counts = spans.counts_of(octets, datagrams, self.report, ignored)
+        self.because = self.reasons(asked)
+
+    def reasons(self, asked):
+        """why the run does not end clean. Rows in spans have to be clean, others complete; the rest is asked by --strict, but for
+        how many rows there are"""
+        strict = asked.strict
+        reasons = ['there is no pair'] if strict and not self.rows else []
+        reasons += check.row_reasons(self.rows, 0) if asked.spans else self.incomplete(strict)
+        reasons += check.few(self.rows, asked.expect or 0) + (check.unread(self.counts, 'unsettled', 'pieces', 'cut', 'links') if strict else [])
+        return reasons + (check.unread(self.counts, 'fragments') if strict and not asked.spans else [])
+
+    def incomplete(self, strict):
+        rows = [row for row in self.rows if row.kind != 'complete']
+        reasons = [check.amount(len(rows), 'pair is not complete', 'pairs are not complete')] if rows else []
+        return reasons + (check.lost(self.rows, 'missed', 'number was missed', 'numbers were missed') if strict else [])
+
+    def findings(self, asked):
+        """the lines of standard error"""
+        missed = 0 if asked.spans else sum(row.counts['missed'] > 0 for row in self.rows)
+        counts = self.counts | ({'fragments': 0} if asked.spans else {})
+        return [f'rtps-audit: not clean: {line}' for line in asked.findings(len(self.rows), missed, counts, self.counts)]
+
+    def text(self):
+        return ''.join(line + '\n' for line in check.check_lines(self.rows, self.left_out, self.counts, 0, self.because))
+
+    def members(self):
+        """the members of `check --json`"""
+        head = {'status': 'unclean' if self.because else 'clean', 'because': self.because}
+        pairs = [row.values() | row.span_values() | {'advice': row.advice(self.counts)} for row in self.rows]
+        return head | {'pairs': pairs} | self.report | {'notes': check.note_sentences(self.rows, self.left_out, self.counts, 0)}
+
+
+# ---- the page
+
+def page_of(datagrams, asked=PLAIN, ignored=None, octets=b''):
+    """the text and the data of a page, as Python has it; where any capture was read, the ignored frames are told by their reasons"""
+    checked = Checked(octets, asked, datagrams, ignored)
     participants, endpoints, _, _, _ = reference.discovery(datagrams, asked.fragments)
-    traffic = Traffic([reference.acts_of(d, asked.fragments) for d in datagrams], report['pairs'])
-    pairs = {(row['writer'], row['reader']) for row in traffic.charted(report['pairs'])}
-    shown = [row for row in report['pairs'] if (row['writer'], row['reader']) in pairs]
+    rows = [row.names | {'verdict': row.kind} for row in checked.rows]
+    traffic = Traffic([reference.acts_of(d, asked.fragments) for d in datagrams], rows)
+    pairs = {(row['writer'], row['reader']) for row in traffic.charted(rows)}
+    shown = [row for row in rows if (row['writer'], row['reader']) in pairs]
     writers = list(dict.fromkeys(row['writer'] for row in shown))
-    return {
-        'options': option_values(asked, by_reason),
-        'report': report,
-        'of_one_octet': sum(len(d) == 1 for d in datagrams),
+    return checked.text(), checked.members() | {
+        'options': option_values(asked, isinstance(ignored, dict)),
         'participants': [reference.guid_text(guid) for guid in participants],
         'endpoints': [endpoint_values(endpoint) for endpoint in endpoints],
         'writers': [{'guid': guid, 'acts': traffic.acts[octets_of(guid)]} for guid in writers],
@@ -125,46 +166,36 @@ def data_text(values):
     return text.replace('<', '\\u003c').replace('>', '\\u003e').replace('&', '\\u0026')
 
 
-def plain_name(name):
-    return name.replace('<', '\\x3c').replace('>', '\\x3e').replace('&', '\\x26')
+def escaped(text):
+    """a text as it stands in HTML"""
+    return text.replace('&', '&amp;').replace('<', '&lt;').replace('>', '&gt;')
 
 
-def plain_line(row):
-    announced = row['announced']['number'] if row['announced'] else '-'
-    below = row['acknowledged']['below'] if row['acknowledged'] else '-'
-    fields = [row['verdict'], row['number'], announced, below, row['payloads'], row['gone'], row['untold'],
-              plain_name(row['topic']), plain_name(row['type']), row['writer'], row['reader']]
-    return '\t'.join(map(str, fields)) + '\n'
-
-
-def plain_rows(rows):
-    """rows as lines of fields with a tabulator between them: the first that are not complete, then the first that are"""
-    turns = [[row for row in rows if (row['verdict'] == 'complete') == complete] for complete in (False, True)]
-    return ''.join(plain_line(row) for turn in turns for row in turn[:PLAIN_ROWS])
-
-
-def page_text(values):
+def page_text(text, values):
     head, middle, tail = parts.parts()
-    return head + plain_rows(values['report']['pairs']) + middle + data_text(values) + tail
+    return head + escaped(text) + middle + data_text(values) + tail
 
 
-def values_of(octets, asked=PLAIN, any_form=False):
-    """the data of the page of an input, or the last line of standard error"""
+def parts_of(octets, asked=PLAIN, any_form=False):
+    """the text and the data of the page of an input, or the last line of standard error"""
     found = reference.input_of(octets, any_form=any_form or asked.strict)
-    return found if isinstance(found, str) else page_values(found[0], asked, found[1])
+    return found if isinstance(found, str) else page_of(found[0], asked, found[1], octets)
 
 
 def answer_as(octets, asked):
-    """text, lines on standard error and status of `page`; the latter two are those of `audit`"""
-    _, told, status = reference.answer_as('audit', octets, asked)
-    values = values_of(octets, asked)
-    return '' if isinstance(values, str) else page_text(values), told, status
+    """text, lines on standard error and status of `page`"""
+    read = reference.input_of(octets, any_form=asked.strict)
+    if isinstance(read, str):
+        return '', reference.told_of('-', octets, any_form=asked.strict), 2
+    checked = Checked(octets, asked, *read)
+    return page_text(*page_of(*read[:1], asked, read[1], octets)), checked.findings(asked), int(bool(checked.because))
 
 
 def compare(program, count, seed):
     rng, differing = random.Random(seed), 0
     for k in range(count):
         text, asked = some_input(rng), some_asked(rng)
+        asked.spans = rng.random() < 0.5
         want, told, status = answer_as(text, asked)
         got = subprocess.run(program.split() + ['page', *asked.words(), '-'], input=text, capture_output=True)
         if got.stdout.decode() != want or got.returncode != status or status < 2 and got.stderr.decode().splitlines() != told:
@@ -181,15 +212,16 @@ def main():
         return compare(words[1], count, seed)
     view = words.pop(0) if words[0] in ('data', 'stored') else 'page'
     with open(words[-1], 'rb') as f:
-        values = values_of(f.read(), asked_by(words[:-1]), '--any' in words)
-    if isinstance(values, str):
-        print(f'page.py: {values}', file=sys.stderr)
+        found = parts_of(f.read(), asked_by(words[:-1]), '--any' in words)
+    if isinstance(found, str):
+        print(f'page.py: {found}', file=sys.stderr)
         return 2
+    text, values = found
     if view == 'stored':
-        sys.stdout.write(parts.stored(plain_rows(values['report']['pairs']), data_text(values)))
+        sys.stdout.write(parts.stored(escaped(text), data_text(values)))
     else:
-        sys.stdout.write(page_text(values) if view == 'page' else data_text(values) + '\n')
-    return int(any(row['verdict'] != 'complete' for row in values['report']['pairs']))
+        sys.stdout.write(page_text(text, values) if view == 'page' else data_text(values) + '\n')
+    return int(values['status'] != 'clean')
 
 
 if __name__ == '__main__':

@@ -1,131 +1,105 @@
-ghost use Rattle.std.specs.Prelude.{◌≡◌, ◌++◌, ◌∷◌, IfOk, OnOk, map};
-ghost use Rattle.std.specs.String.{string_bytes};
+ghost use Rattle.std.specs.Prelude.{◌≡◌, ◌++◌, ◌∷◌, IfOk, OnOk, map, string_bytes};
 ghost use Rattle.rtps_evidence.specs.Explanation.{explanation_value};
-ghost use Rattle.rtps_check.specs.GroupedNumber.{grouped, part_text};
-ghost use Rattle.rtps_check.specs.Table.{table_line_value};
-ghost use Rattle.rtps_check.specs.TopicTable.{cells_of as cells_of_lem, table_head as table_head_lem, table_of, topic_line as topic_line_lem, topic_name as topic_name_lem, topic_table};
+ghost use Rattle.rtps_parts.specs.Parts.{part_text};
+ghost use Rattle.rtps_check.specs.CheckText.{shown_places as shown_places_lem, shown_where, table_head as table_head_lem, topic_row as topic_row_lem, topic_table};
 
-use crate::grouped_number::{push_grouped, push_part};
-use crate::table::{TableLine, push_table};
-use crate::totals::{Totals, totals_of};
 use rtps_evidence::Explanation;
-use rtps_text::NameOctets;
+use rtps_lines::topic_name;
+use rtps_parts::{Part, push_table};
+use rtps_report::{Scope, Totals, totals_of};
 use std::alloc::{AllocError, Global};
 
-/// The heads of the columns.
-fn table_head(alloc: Global) -> Result<TableLine, AllocError>
-    ensures { IfOk result (λ line. table_line_value line ≡ table_head_lem) }
+fn table_head<'a>() -> [Part<'a>; 10]
+    ensures { map part_text result ≡ table_head_lem }
 {
-    let name = String::from_str(alloc, "topic")?;
-    let mut cells = Vec::new(alloc);
-    cells.push(String::from_str(alloc, "pairs")?)?;
-    cells.push(String::from_str(alloc, "complete")?)?;
-    cells.push(String::from_str(alloc, "open")?)?;
-    cells.push(String::from_str(alloc, "conflict")?)?;
-    cells.push(String::from_str(alloc, "unfounded")?)?;
-    cells.push(String::from_str(alloc, "received")?)?;
-    cells.push(String::from_str(alloc, "missed")?)?;
-    Ok(TableLine { name, cells })
+    [
+        Part::Text("topic"),
+        Part::Text("pairs"),
+        Part::Text("clean"),
+        Part::Text("before"),
+        Part::Text("received"),
+        Part::Text("likely"),
+        Part::Text("missed"),
+        Part::Text("unsent"),
+        Part::Text("unanswered"),
+        Part::Text("unconfirmed"),
+    ]
 }
 
-/// A number as a text with commas.
-fn number_cell(alloc: Global, number: u128) -> Result<String, AllocError>
-    ensures { IfOk result (λ text. string_bytes text ≡ grouped number) }
+fn topic_row<'a>(rows: &[Explanation<'a>], scope: Scope) -> [Part<'a>; 10]
+    ensures { map part_text result ≡ topic_row_lem scope (map explanation_value rows.now) }
 {
-    let mut text = String::new(alloc);
-    push_grouped(&mut text, number)?;
-    Ok(text)
+    let totals = totals_of(rows, scope);
+    [
+        topic_name(rows),
+        Part::Grouped(u128::from(totals.pairs)),
+        Part::Grouped(u128::from(totals.clean_pairs)),
+        Part::Grouped(totals.before),
+        Part::Grouped(totals.received),
+        Part::Grouped(totals.likely),
+        Part::Grouped(totals.missed),
+        Part::Grouped(totals.unsent),
+        Part::Grouped(totals.unanswered),
+        Part::Grouped(totals.unconfirmed),
+    ]
 }
 
-/// A number of a greater one as a text with commas.
-fn part_cell(alloc: Global, part: u128, whole: u128) -> Result<String, AllocError>
-    ensures { IfOk result (λ text. string_bytes text ≡ part_text part whole) }
-{
-    let mut text = String::new(alloc);
-    push_part(&mut text, part, whole)?;
-    Ok(text)
-}
-
-/// What is counted of a topic, as texts.
-fn cells_of(alloc: Global, totals: &Totals) -> Result<Vec<String>, AllocError>
-    ensures { IfOk result (λ cells. map string_bytes cells.items ≡ cells_of_lem totals.now) }
-{
-    let mut cells = Vec::new(alloc);
-    cells.push(number_cell(alloc, u128::from(totals.pairs))?)?;
-    cells.push(number_cell(alloc, u128::from(totals.complete_pairs))?)?;
-    cells.push(number_cell(alloc, u128::from(totals.open_pairs))?)?;
-    cells.push(number_cell(alloc, u128::from(totals.conflict_pairs))?)?;
-    cells.push(number_cell(alloc, u128::from(totals.unfounded_pairs))?)?;
-    cells.push(part_cell(alloc, totals.received, totals.numbers)?)?;
-    cells.push(number_cell(alloc, totals.missed)?)?;
-    Ok(cells)
-}
-
-/// The name of the topic of these rows, as `list` writes it between quotes; empty where there is no row.
-pub(crate) fn topic_name(alloc: Global, rows: &[Explanation<'_>]) -> Result<String, AllocError>
-    ensures { IfOk result (λ text. string_bytes text ≡ topic_name_lem (map explanation_value rows.now)) }
-{
-    let mut text = String::new(alloc);
-    if let Some(row) = rows.first() {
-        write!(text, "{}", NameOctets(row.topic))?;
-    }
-    Ok(text)
-}
-
-/// The line of a topic.
-fn topic_line(alloc: Global, rows: &[Explanation<'_>], from: u64) -> Result<TableLine, AllocError>
-    ensures { IfOk result (λ line. table_line_value line ≡ topic_line_lem from (map explanation_value rows.now)) }
-{
-    let name = topic_name(alloc, rows)?;
-    let cells = cells_of(alloc, &totals_of(rows, from))?;
-    Ok(TableLine { name, cells })
-}
-
-/// The heads and the lines of topics.
-fn table_lines(
+/// The heads and what is told of topics.
+fn table_rows<'a>(
     alloc: Global,
-    topics: &[&[Explanation<'_>]],
-    from: u64,
-) -> Result<Vec<TableLine>, AllocError>
-    ensures { IfOk result (λ lines. map table_line_value lines.items
-        ≡ table_head_lem ∷ map (topic_line_lem from) (map (λ topic. map explanation_value topic.now) topics.now)) }
+    topics: &[&[Explanation<'a>]],
+    scope: Scope,
+) -> Result<Vec<Vec<Part<'a>>>, AllocError>
+    ensures { IfOk result (λ rows. map (λ row. map part_text row.items) rows.items
+        ≡ table_head_lem ∷ map (topic_row_lem scope) (map (λ topic. map explanation_value topic.now) topics.now)) }
 {
-    let mut lines = Vec::new(alloc);
-    lines.push(table_head(alloc)?)?;
+    let mut rows = Vec::new(alloc);
+    rows.push(Vec::from_array(alloc, table_head())?)?;
     for topic in topics {
-        lines.push(topic_line(alloc, topic, from)?)?;
+        rows.push(Vec::from_array(alloc, topic_row(topic, scope))?)?;
     }
-    Ok(lines)
+    Ok(rows)
 }
 
-/// Appends the heads and the lines of topics, behind an empty line.
-fn push_lines(
-    alloc: Global,
-    text: &mut String,
-    topics: &[&[Explanation<'_>]],
-    from: u64,
-) -> Result<(), AllocError>
-    ensures { OnOk result (string_bytes text.new
-        ≡ string_bytes text.old ++ table_of from (map (λ topic. map explanation_value topic.now) topics.now)) }
+/// Appends the place of a column, if some entry of it is above 0.
+fn push_place(places: &mut Vec<usize>, place: usize, sum: u128) -> Result<(), AllocError>
+    ensures { OnOk result (places.new.items ≡ places.old.items ++ shown_where place sum) }
 {
-    let lines = table_lines(alloc, topics, from)?;
-    text.push_str("\n")?;
-    push_table(alloc, text, &lines)
+    if sum > 0 {
+        places.push(place)?;
+    }
+    Ok(())
 }
 
-/// Appends the table of topics; nothing where there is none.
+/// The places of the columns that are shown, by the sums of their entries.
+fn shown_places(alloc: Global, totals: &Totals) -> Result<Vec<usize>, AllocError>
+    ensures { IfOk result (λ places. places.items ≡ shown_places_lem totals.now) }
+{
+    let mut places = Vec::from_array(alloc, [0, 1, 2, 3])?;
+    push_place(&mut places, 4, totals.received)?;
+    push_place(&mut places, 5, totals.likely)?;
+    push_place(&mut places, 6, totals.missed)?;
+    push_place(&mut places, 7, totals.unsent)?;
+    push_place(&mut places, 8, totals.unanswered)?;
+    push_place(&mut places, 9, totals.unconfirmed)?;
+    Ok(places)
+}
+
+/// Appends the table of topics, of whose rows this is counted.
 pub(crate) fn push_topic_table(
     alloc: Global,
     text: &mut String,
     topics: &[&[Explanation<'_>]],
-    from: u64,
+    counted: (&Totals, Scope),
 ) -> Result<(), AllocError>
     ensures { OnOk result (string_bytes text.new
-        ≡ string_bytes text.old ++ topic_table from (map (λ topic. map explanation_value topic.now) topics.now)) }
+        ≡ string_bytes text.old ++ topic_table counted.entry.1 counted.entry.0.now (map (λ topic. map explanation_value topic.now) topics.now)) }
 {
     if topics.is_empty() {
-        Ok(())
-    } else {
-        push_lines(alloc, text, topics, from)
+        return Ok(());
     }
+    let rows = table_rows(alloc, topics, counted.1)?;
+    let places = shown_places(alloc, counted.0)?;
+    text.push_str("\n")?;
+    push_table(alloc, text, &places, &rows)
 }

@@ -4,7 +4,13 @@ pub mod Rising
 pub mod Received
 pub mod Claimed
 pub mod Missed
+pub mod Requests
+pub mod Spans
+pub mod Outcomes
+pub mod Silences
+pub mod Clean
 pub mod Questions
+pub mod Grounds
 pub mod Evidence
 pub mod Certificates
 pub mod Explanation

@@ -1,23 +1,20 @@
-ghost use Rattle.std.specs.Prelude.{◌≡◌, [], ◌∷◌, ◌++◌, IfOk, None, OnOk, Some};
-ghost use Rattle.std.specs.String.{string_bytes};
+ghost use Rattle.std.specs.Prelude.{◌≡◌, [], ◌∷◌, ◌++◌, ◌<◌, length, IfOk, MatchOption, OnOk, Some, None, string_bytes};
 ghost use Rattle.rtps_receiver.specs.Acts.{state_behind};
-ghost use Rattle.std.specs.Option.{option_map};
-ghost use Rattle.rtps_wire.specs.DataFrag.{data_frag_value};
+ghost use Rattle.rtps_wire.specs.Message.{flags_of, order_of as order_of_lem};
 ghost use Rattle.rtps_wire.specs.Reading.{outcomes_left};
 ghost use Rattle.rtps_wire.specs.Values.{body_value, item_value};
-ghost use Rattle.rtps_text.specs.ShowTail.{IsTailIn, says_of_state};
-ghost use Rattle.rtps_text.specs.ShowText.{IsShownWith, datagram_line, datagram_text, fragments_at as fragments_at_lem, outcomes_text, refusal_line, text_from};
+ghost use Rattle.rtps_text.specs.ShowText.{IsTailIn, says_of_state, IsShownWith, datagram_line, datagram_text, fragments_at as fragments_at_lem, outcomes_text, refusal_line, said_at, text_from, unread_line};
 
-use crate::recording::Recording;
-use crate::text::Ending;
-use crate::text::item_lines::{push_data_frag, push_item, push_origin, push_skipped};
-use crate::text::parts::push_field;
+use crate::text::item_lines::{
+    push_data_frag, push_item, push_nack_frag, push_origin, push_skipped,
+};
 use rtps_fragments::Fragments;
-use rtps_ids::Memory;
+use rtps_ids::{Memory, Order};
+use rtps_lines::push_field;
 use rtps_receiver::State;
-use rtps_wire::{Body, DataFrag, Header, Item, Items, Refusal};
+use rtps_report::{Ending, Recording};
+use rtps_wire::{Body, DataFrag, Header, Item, Items, NackFrag, Refusal};
 use std::alloc::{AllocError, Global};
-use std::fmt;
 
 /// A datagram, and what becomes of fragments in it.
 #[derive(Clone, Copy)]
@@ -41,7 +38,6 @@ pub fn show_text(
     Ok((text, Ending::Clean))
 }
 
-/// Appends the lines of all datagrams. The tail is there for its room.
 fn push_datagrams(
     text: &mut String,
     tail: &mut String,
@@ -58,7 +54,6 @@ fn push_datagrams(
     Ok(())
 }
 
-/// Appends the lines of a datagram of this number.
 fn push_datagram(
     text: &mut String,
     tail: &mut String,
@@ -73,13 +68,13 @@ fn push_datagram(
             push_items(text, tail, State::at_start(header), items, datagram)
         }
         Err(refusal) => {
-            push_unread(text, number)?;
-            write!(text, "{}", RefusalLine(refusal))
+            push_field(text, "datagram ", number)?;
+            text.push_str(" unread\n")?;
+            push_refusal(text, refusal)
         }
     }
 }
 
-/// Appends the line of a datagram that has a header.
 fn push_opened(text: &mut String, number: usize, header: &Header) -> Result<(), AllocError>
     ensures { OnOk result (string_bytes text.new ≡ string_bytes text.old ++ datagram_line number (Some header.now)) }
 {
@@ -87,15 +82,7 @@ fn push_opened(text: &mut String, number: usize, header: &Header) -> Result<(), 
     push_origin(text, header.version, header.vendor, header.prefix)
 }
 
-/// Appends the line of a datagram that has none.
-fn push_unread(text: &mut String, number: usize) -> Result<(), AllocError>
-    ensures { OnOk result (string_bytes text.new ≡ string_bytes text.old ++ datagram_line number None) }
-{
-    push_field(text, "datagram ", number)?;
-    text.push_str(" unread\n")
-}
-
-/// Appends the lines of what is left of a datagram, from a state of the receiver on. No item is made of a submessage that
+/// The lines of what is left of a datagram, from a state of the receiver on. No item is made of a submessage that
 /// is skipped. The end of an act's line is made once for all acts in one state, in the tail.
 fn push_items(
     text: &mut String,
@@ -114,7 +101,7 @@ fn push_items(
         let at = items.at();
         if let Some(id) = items.take_skipped() {
             match fragments_at(datagram, at) {
-                Some(read) => push_data_frag(text, tail, &state, at, &read)?,
+                Some(submessage) => push_said(text, tail, &state, at, id, submessage)?,
                 None => push_skipped(text, at, id)?,
             }
             continue;
@@ -124,23 +111,58 @@ fn push_items(
                 push_item(text, tail, &state, &item)?;
                 interpret(&mut state, tail, &item);
             }
-            Some(Err(refusal)) => write!(text, "{}", RefusalLine(refusal))?,
+            Some(Err(refusal)) => push_refusal(text, refusal)?,
             None => return Ok(()),
         }
     }
 }
 
-/// The fragments of the submessage at this place, if they are read.
+/// The octets from this place on, if what is said of fragments is read.
 #[inline(always)]
-fn fragments_at(datagram: ShownDatagram<'_>, at: usize) -> Option<DataFrag<'_>>
-    ensures { option_map data_frag_value result ≡ fragments_at_lem datagram.entry.fragments datagram.entry.octets.now at }
+fn fragments_at<'a>(datagram: ShownDatagram<'a>, at: usize) -> Option<&'a [u8]>
+    ensures { MatchOption result (fragments_at_lem datagram.entry.fragments datagram.entry.octets.now at ≡ None)
+        (λ submessage. fragments_at_lem datagram.entry.fragments datagram.entry.octets.now at ≡ said_at submessage.now) }
 {
     match datagram.fragments {
         Fragments::Skipped => None,
-        Fragments::Read => match datagram.octets.get(at..) {
-            Some(submessage) => DataFrag::read(submessage),
-            None => None,
-        },
+        Fragments::Read => datagram.octets.get(at..),
+    }
+}
+
+/// The order of the octets of a submessage's numbers, by its flags.
+fn order_of(submessage: &[u8]) -> Order
+    requires { 1 < length submessage.now }
+    ensures { result ≡ order_of_lem (flags_of submessage.now) }
+{
+    if submessage[1] & 1 != 0 {
+        Order::Little
+    } else {
+        Order::Big
+    }
+}
+
+/// The line of a submessage that is not read, or of what it says of fragments.
+fn push_said(
+    text: &mut String,
+    tail: &mut String,
+    state: &State,
+    at: usize,
+    id: u8,
+    submessage: &[u8],
+) -> Result<(), AllocError>
+    requires { IsTailIn state.now (string_bytes tail.old) }
+    ensures line { OnOk result (string_bytes text.new ≡ string_bytes text.old ++ unread_line state.now at id (said_at submessage.now)) }
+    ensures tail { OnOk result (IsTailIn state.now (string_bytes tail.new)) }
+{
+    if let Some(read) = DataFrag::read(submessage) {
+        return push_data_frag(text, tail, state, at, &read);
+    }
+    match NackFrag::read(submessage) {
+        Some(read) => {
+            let order = order_of(submessage);
+            push_nack_frag(text, tail, state, at, order, &read)
+        }
+        None => push_skipped(text, at, id),
     }
 }
 
@@ -157,7 +179,6 @@ fn interpret(state: &mut State, tail: &mut String, item: &Item<'_>)
     }
 }
 
-/// Whether a body says something of the state of what follows it.
 #[inline(always)]
 fn says_state(body: &Body<'_>) -> bool
     ensures { result ≡ says_of_state (body_value body.now) }
@@ -168,14 +189,8 @@ fn says_state(body: &Body<'_>) -> bool
     )
 }
 
-/// The line of a refusal.
-#[derive(Drop)]
-struct RefusalLine(Refusal);
-
-impl fmt::Display for RefusalLine {
-    ghost output = { λ line. Some (refusal_line line.0) };
-
-    fn fmt<W: fmt::Write>(&self, f: &mut fmt::Formatter<W>) -> fmt::Result {
-        writeln!(f, "refused {} {}", self.0.at, self.0.fault)
-    }
+fn push_refusal(text: &mut String, refusal: Refusal) -> Result<(), AllocError>
+    ensures { OnOk result (string_bytes text.new ≡ string_bytes text.old ++ refusal_line refusal) }
+{
+    writeln!(text, "refused {} {}", refusal.at, refusal.fault)
 }

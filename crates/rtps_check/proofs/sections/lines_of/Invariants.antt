@@ -1,8 +1,6 @@
-use Rattle.std.proofs.Common.{◌≡◌, map, take}
-use Rattle.std.specs.List.{flat_map}
-use Rattle.std.specs.String.{string_bytes}
+use Rattle.std.proofs.Common.{◌≡◌, map, take, flat_map, string_bytes}
 use Rattle.rtps_evidence.specs.Explanation.{explanation_value}
-use Rattle.rtps_check.specs.Sections.{noted_lines}
+use Rattle.rtps_check.specs.CheckText.{noted_lines}
 use Rattle.rtps_check.proofs.sections.lines_of.Given as goal
 
 -- the lines so far

@@ -1,8 +1,7 @@
-use Rattle.std.proofs.Common.{◌≡◌, ◌++◌, filter}
-use Rattle.std.specs.List.{flat_map, range_with_len}
-use Rattle.json.specs.Tree.{json_tokens}
+use Rattle.std.proofs.Common.{◌≡◌, ◌++◌, filter, flat_map}
+use Rattle.std.specs.List.{range_with_len}
 use Rattle.rtps_ids.specs.NumberSet.{is_member}
-use Rattle.rtps_page.specs.ChartEntries.{one_gone_json}
+use Rattle.rtps_page.proofs.Written.{json_tokens, one_gone_json}
 use Rattle.rtps_page.proofs.chart_entries.push_members.Given as goal
 
 -- the numbers of the first bits

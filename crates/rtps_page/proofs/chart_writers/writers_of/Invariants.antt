@@ -1,5 +1,5 @@
 use Rattle.std.proofs.Common.{◌≡◌, ◌++◌, None, drop}
-use Rattle.rtps_page.specs.ChartRoom.{writers_behind}
+use Rattle.rtps_page.proofs.Written.{writers_behind}
 use Rattle.rtps_page.proofs.chart_writers.writers_of.Given as goal
 
 -- the writers so far, and those that are left

@@ -1,6 +1,4 @@
-use Rattle.std.proofs.Common.{◌≡◌, ◌++◌}
-use Rattle.std.specs.List.{flat_map}
-use Rattle.std.specs.String.{string_bytes}
+use Rattle.std.proofs.Common.{◌≡◌, ◌++◌, flat_map, string_bytes}
 use Rattle.rtps_text.specs.ShowText.{first_longs, long_digits}
 use Rattle.rtps_text.proofs.text.parts.push_bitmap.Given as goal
 

@@ -1,5 +1,4 @@
-use Rattle.std.proofs.Common.{◌≡◌, ◌++◌, ◌+◌, length}
-use Rattle.std.specs.String.{string_bytes}
+use Rattle.std.proofs.Common.{◌≡◌, ◌++◌, ◌+◌, length, string_bytes}
 use Rattle.rtps_text.specs.ShowText.{text_from}
 use Rattle.rtps_text.proofs.text.show_text.push_datagrams.Given as goal
 

@@ -1,8 +1,6 @@
-use Rattle.std.proofs.Common.{◌≡◌, ◌++◌, length}
-use Rattle.std.specs.String.{string_bytes}
+use Rattle.std.proofs.Common.{◌≡◌, ◌++◌, length, string_bytes}
 use Rattle.rtps_wire.specs.Reading.{outcomes_left}
-use Rattle.rtps_text.specs.ShowTail.{IsTailIn}
-use Rattle.rtps_text.specs.ShowText.{fragments_at, outcomes_text}
+use Rattle.rtps_text.specs.ShowText.{IsTailIn, fragments_at, outcomes_text}
 use Rattle.rtps_text.proofs.text.show_text.push_items.Given as goal
 
 -- the lines so far, and those of what is left; and the tail is one in the state

@@ -1,0 +1,85 @@
+-- What is counted of rows. own: a topic with thousands of samples is read at a glance only as sums.
+use Rattle.std.specs.Prelude.{ℕ, ◌+◌, ◌-◌, ◌*◌, ◌≤◌, ◌&&◌, nat_lt, not, Bool, if◌then◌else◌, List, count_by, length, sum_by}
+use Rattle.rtps_report.specs.Reported.{is_complete}
+use Rattle.rtps_report.specs.RowFacts.{asked_about, is_certain, is_clean, is_clean_tail, is_late, outcomes_of, row_from}
+use Rattle.rtps_report.specs.Vocabulary.{EvidenceValue, ExplanationValue, Scope, Totals}
+
+-- the row is neither complete nor clean
+abbrev pub is_unclean : ℕ → EvidenceValue → Bool
+is_unclean tail evidence = not (is_complete evidence.verdict) && not (is_clean tail evidence)
+
+-- how many of the numbers from `from` on stand before the first of a row
+abbrev pub before_of : ℕ → EvidenceValue → ℕ
+before_of from evidence = row_from from evidence.in_span - from
+
+-- how many numbers a row asks about
+abbrev pub numbers_of : ℕ → EvidenceValue → ℕ
+numbers_of from evidence = asked_about (row_from from evidence.in_span) evidence.announcement
+
+-- what is counted of rows
+abbrev pub totals_of : Scope → List ExplanationValue → Totals
+totals_of scope rows =
+    record {
+      pairs = length rows;
+      complete_pairs = count_by (λ row. is_complete row.evidence.verdict) rows;
+      clean_pairs = count_by (λ row. is_clean scope.tail row.evidence) rows;
+      unclean_pairs = count_by (λ row. is_unclean scope.tail row.evidence) rows;
+      tail_pairs = count_by (λ row. is_clean_tail scope.tail row.evidence) rows;
+      late_pairs = count_by (λ row. is_late scope.from row.evidence) rows;
+      missed_pairs = count_by (λ row. nat_lt 0 (outcomes_of row.evidence).missed) rows;
+      unsent_pairs = count_by (λ row. nat_lt 0 (outcomes_of row.evidence).unsent) rows;
+      unanswered_pairs = count_by (λ row. nat_lt 0 (outcomes_of row.evidence).unanswered) rows;
+      uncertain_pairs = count_by (λ row. not (is_certain scope.from row.evidence)) rows;
+      before = sum_by (λ row. before_of scope.from row.evidence) rows;
+      numbers = sum_by (λ row. numbers_of scope.from row.evidence) rows;
+      received = sum_by (λ row. (outcomes_of row.evidence).received) rows;
+      likely = sum_by (λ row. (outcomes_of row.evidence).likely) rows;
+      missed = sum_by (λ row. (outcomes_of row.evidence).missed) rows;
+      unsent = sum_by (λ row. (outcomes_of row.evidence).unsent) rows;
+      unanswered = sum_by (λ row. (outcomes_of row.evidence).unanswered) rows;
+      unconfirmed = sum_by (λ row. (outcomes_of row.evidence).unconfirmed) rows;
+    }
+
+-- with one more row
+abbrev pub with_row : Scope → Totals → ExplanationValue → Totals
+with_row scope totals row =
+    record {
+      pairs = totals.pairs + 1;
+      complete_pairs = totals.complete_pairs + (if is_complete row.evidence.verdict then 1 else 0);
+      clean_pairs = totals.clean_pairs + (if is_clean scope.tail row.evidence then 1 else 0);
+      unclean_pairs = totals.unclean_pairs + (if is_unclean scope.tail row.evidence then 1 else 0);
+      tail_pairs = totals.tail_pairs + (if is_clean_tail scope.tail row.evidence then 1 else 0);
+      late_pairs = totals.late_pairs + (if is_late scope.from row.evidence then 1 else 0);
+      missed_pairs = totals.missed_pairs + (if nat_lt 0 (outcomes_of row.evidence).missed then 1 else 0);
+      unsent_pairs = totals.unsent_pairs + (if nat_lt 0 (outcomes_of row.evidence).unsent then 1 else 0);
+      unanswered_pairs = totals.unanswered_pairs + (if nat_lt 0 (outcomes_of row.evidence).unanswered then 1 else 0);
+      uncertain_pairs = totals.uncertain_pairs + (if not (is_certain scope.from row.evidence) then 1 else 0);
+      before = totals.before + before_of scope.from row.evidence;
+      numbers = totals.numbers + numbers_of scope.from row.evidence;
+      received = totals.received + (outcomes_of row.evidence).received;
+      likely = totals.likely + (outcomes_of row.evidence).likely;
+      missed = totals.missed + (outcomes_of row.evidence).missed;
+      unsent = totals.unsent + (outcomes_of row.evidence).unsent;
+      unanswered = totals.unanswered + (outcomes_of row.evidence).unanswered;
+      unconfirmed = totals.unconfirmed + (outcomes_of row.evidence).unconfirmed;
+    }
+
+-- no pair counts twice, and each counts fewer than 2 ^ 64 numbers
+pub record AreWithin (totals : Totals) : Type 0 where
+  pub complete_pairs : totals.complete_pairs ≤ totals.pairs
+  pub clean_pairs : totals.clean_pairs ≤ totals.pairs
+  pub unclean_pairs : totals.unclean_pairs ≤ totals.pairs
+  pub tail_pairs : totals.tail_pairs ≤ totals.pairs
+  pub late_pairs : totals.late_pairs ≤ totals.pairs
+  pub missed_pairs : totals.missed_pairs ≤ totals.pairs
+  pub unsent_pairs : totals.unsent_pairs ≤ totals.pairs
+  pub unanswered_pairs : totals.unanswered_pairs ≤ totals.pairs
+  pub uncertain_pairs : totals.uncertain_pairs ≤ totals.pairs
+  pub before : totals.before ≤ totals.pairs * 18446744073709551615
+  pub numbers : totals.numbers ≤ totals.pairs * 18446744073709551615
+  pub received : totals.received ≤ totals.pairs * 18446744073709551615
+  pub likely : totals.likely ≤ totals.pairs * 18446744073709551615
+  pub missed : totals.missed ≤ totals.pairs * 18446744073709551615
+  pub unsent : totals.unsent ≤ totals.pairs * 18446744073709551615
+  pub unanswered : totals.unanswered ≤ totals.pairs * 18446744073709551615
+  pub unconfirmed : totals.unconfirmed ≤ totals.pairs * 18446744073709551615
