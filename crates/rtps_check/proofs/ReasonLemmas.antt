@@ -2,20 +2,19 @@
 use Rattle.std.proofs.Common.{◌≡◌, ◌↔◌, ◌≤◌, ◌<◌, ◌-◌, ◌+◌, ◌==◌, ◌++◌, ◌∷◌, [], ◌∙◌, ◌⊎◌, not, ℕ, Bool, true, false, cond, List, Option, None, Some, ap, arith, inl, inr, is_none, length, refl, sym}
 use Rattle.std.proofs.lemmas.Bool.{and_cases, and_from, and_parts, eq-eqb, eqb-true, false≢true, true≢false}
 use Rattle.std.proofs.lemmas.List.Sums.{count_by-le-length, sum_by-cons}
-use Rattle.std.specs.List.{count_by, list_all}
+use Rattle.std.specs.List.{concat, count_by, list_all}
 use Rattle.rtps_evidence.specs.Explanation.{ExplanationValue}
-use Rattle.rtps_text.specs.AuditText.{is_complete}
-use Rattle.rtps_text.specs.Findings.{are_none, findings_of, no_findings}
-use Rattle.rtps_text.specs.WhyText.{facts_of_rows}
-use Rattle.rtps_text.specs.declared.findings.FewRows.{FewRows}
-use Rattle.rtps_text.specs.declared.findings.Findings.{Findings}
-use Rattle.rtps_text.specs.declared.text.Ending.TheVariants.{Clean, Unclean, Unmet}
-use Rattle.rtps_check.specs.Causes.{cause, causes_of, empty_cause, few_cause, findings_in, incomplete_words, links_cause, missed_cause}
-use Rattle.rtps_check.specs.GroupedNumber.{WordsValue, amount_text}
+use Rattle.rtps_report.specs.Reported.{is_complete}
+use Rattle.rtps_report.specs.Findings.{are_none, findings_of, no_findings}
+use Rattle.rtps_report.specs.FullReport.{facts_of_rows}
+use Rattle.rtps_report.specs.declared.findings.FewRows.{FewRows}
+use Rattle.rtps_report.specs.declared.findings.Findings.{Findings}
+use Rattle.rtps_report.specs.declared.findings.Ending.TheVariants.{Clean, Unclean, Unmet}
+use Rattle.rtps_lines.specs.Causes.{cause, causes_of, empty_cause, few_cause, findings_in, incomplete_words, missed_cause}
+use Rattle.rtps_parts.specs.Parts.{amount}
 use Rattle.rtps_check.specs.Laws.{TellsWhyUnclean}
-use Rattle.rtps_check.specs.Notes.{cut_words, fragments_words, pieces_words, unsettled_words}
-use Rattle.rtps_check.specs.Totals.{totals_of}
-use Rattle.rtps_check.specs.declared.totals.Totals.{Totals}
+use Rattle.rtps_report.specs.Totals.{totals_of}
+use Rattle.rtps_report.specs.declared.totals.Totals.{Totals}
 
 -- ---- rows that are all complete, and those that are not
 
@@ -50,9 +49,6 @@ if_some : {X : Type 0} (b : Bool) (x : X) → cond b [] (x ∷ []) ≡ [] → b 
 if_some true x e = refl
 if_some false x e = absurd (omega (arith, ap length e))
 
-no_cause : (number : ℕ) (words : WordsValue) → cause number words ≡ [] → (number == 0) ≡ true
-no_cause number words e = if_some (number == 0) (amount_text number words) e
-
 not_empty : (empty : Bool) → empty_cause empty ≡ [] → not empty ≡ true
 not_empty true e = absurd (omega (arith, ap length e))
 not_empty false e = refl
@@ -71,24 +67,24 @@ nothing_found totals findings e =
     let few = both_empty (few_cause findings.few) _ empty.1 in
     let incomplete = both_empty (cause (totals.pairs - totals.complete_pairs) incomplete_words) _ few.1 in
     let missed = both_empty (missed_cause totals.missed findings.missed) _ incomplete.1 in
-    let pieces = both_empty (cause findings.pieces pieces_words) _ missed.1 in
-    let cut = both_empty (cause findings.cut cut_words) _ pieces.1 in
-    let links = both_empty (links_cause findings.links) _ cut.1 in
-    let last = both_empty (cause findings.fragments fragments_words) (cause findings.unsettled unsettled_words) links.1 in (
-      no_cause _ incomplete_words incomplete.0,
+    let pieces = both_empty _ _ missed.1 in
+    let cut = both_empty _ _ pieces.1 in
+    let links = both_empty _ _ cut.1 in
+    let last = both_empty _ _ links.1 in (
+      if_some (totals.pairs - totals.complete_pairs == 0) _ incomplete.0,
       and_from _ _ (not_few findings.few few.0)
           (and_from _ _ (not_empty findings.empty empty.0)
           (and_from _ _ (not_missed totals.missed findings.missed missed.0)
-          (and_from _ _ (no_cause findings.fragments fragments_words last.0)
-          (and_from _ _ (no_cause findings.unsettled unsettled_words last.1)
-          (and_from _ _ (no_cause findings.pieces pieces_words pieces.0)
-          (and_from _ _ (no_cause findings.cut cut_words cut.0) (if_some (findings.links.number == 0) _ links.0))))))),
+          (and_from _ _ (if_some (findings.fragments == 0) _ last.0)
+          (and_from _ _ (if_some (findings.unsettled == 0) _ last.1)
+          (and_from _ _ (if_some (findings.pieces == 0) _ pieces.0)
+          (and_from _ _ (if_some (findings.cut == 0) _ cut.0) (if_some (findings.links.number == 0) _ links.0))))))),
     )
 
 -- all pairs are complete, and nothing is found: no reason
 pub no_reason : (totals : Totals) → totals.pairs - totals.complete_pairs ≡ 0 → causes_of totals no_findings ≡ []
 no_reason totals e =
-    ap (λ b. cond b [] (amount_text (totals.pairs - totals.complete_pairs) incomplete_words ∷ []) ++ []) (eq-eqb (totals.pairs - totals.complete_pairs) 0 e)
+    ap (λ b. cond b [] (concat (amount (totals.pairs - totals.complete_pairs) incomplete_words ∷ []) ∷ []) ++ []) (eq-eqb (totals.pairs - totals.complete_pairs) 0 e)
 
 -- ---- the law
 

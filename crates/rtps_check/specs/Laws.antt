@@ -3,14 +3,14 @@
 use Rattle.std.specs.Prelude.{◌≡◌, ◌↔◌, List, []}
 use Rattle.rtps_audit.specs.declared.report.Counts.{Counts}
 use Rattle.rtps_evidence.specs.Explanation.{ExplanationValue}
-use Rattle.rtps_text.specs.Asked.{AskedValue}
-use Rattle.rtps_text.specs.Findings.{ending_as}
-use Rattle.rtps_text.specs.Recording.{RecordingValue}
-use Rattle.rtps_text.specs.WhyText.{facts_of_rows}
-use Rattle.rtps_text.specs.declared.text.Ending.{Ending}
-use Rattle.rtps_text.specs.declared.text.Ending.TheVariants.{Clean}
-use Rattle.rtps_check.specs.Causes.{causes_of, findings_in}
-use Rattle.rtps_check.specs.Totals.{totals_of}
+use Rattle.rtps_report.specs.Asked.{AskedValue}
+use Rattle.rtps_report.specs.Findings.{ending_as}
+use Rattle.rtps_report.specs.FullReport.{facts_of_rows}
+use Rattle.rtps_report.specs.Recording.{RecordingValue}
+use Rattle.rtps_report.specs.Totals.{totals_of}
+use Rattle.rtps_report.specs.declared.findings.Ending.{Ending}
+use Rattle.rtps_report.specs.declared.findings.Ending.TheVariants.{Clean}
+use Rattle.rtps_lines.specs.Causes.{causes_of, findings_in}
 
 -- a run on these rows that ends so is clean exactly where it has no reason
 abbrev pub IsCleanWithoutReasons : AskedValue → List ExplanationValue → Ending → Type 0

@@ -4,11 +4,7 @@
 mod progress;
 
 use progress::{Progress, Wiping};
-use rtps_tool::{
-    CAPTURE_HEADER_SIZE, Captures, Choice, Ending, RecFault, RunFault, Unwatched, WordFault,
-    is_pcapng, link_type_numbered, read_words, run_choice, status, unread_link_type, write_fault,
-    write_findings,
-};
+use rtps_tool::{CAPTURE_HEADER_SIZE, Captures, Choice, Ending, RecFault, RunFault, Unwatched, WordFault, is_pcapng, link_type_numbered, read_words, run_choice, status, unread_link_type, write_fault, write_findings};
 use std::alloc::AllocError;
 use std::fs::File;
 use std::io::{Read, Write};

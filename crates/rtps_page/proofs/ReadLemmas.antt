@@ -3,7 +3,6 @@ use Rattle.std.proofs.Common.{◌≡◌, ◌<◌, ◌≤◌, ◌++◌, ◌∷◌
 use Rattle.std.proofs.lemmas.Bool.{cases_eq, cases_lt, le-ltb, ne_eqb}
 use Rattle.std.proofs.lemmas.List.Concat.{flat_map-append}
 use lib.Utf8.{encode}
-use Rattle.hex.specs.Hex.{encode_with}
 use Rattle.json.specs.Json.{Json, Items, Members, null, boolean, number, string, array, object, no_items, item, no_members, member, document, if_last, max_depth, value}
 use Rattle.json.specs.Lex.{Lexeme, Mode, between, colon, comma, fresh, in_string, lex, lex_byte, operator, other, punctuate, space, string_token, token, tokens}
 use Rattle.json.specs.Print.{ArePrintable, ArePrintableOrBad, IsPrintable, begins, ends, escape, escape_byte, print, print_from, quoted, separator, token_text}
@@ -41,27 +40,27 @@ each_holds P (suc n) h x lt = go (each_holds P n h.1 x) (cases_eq x n)
     go below (inr ne) = below (omega arith)
 
 controls : Each Passes 32
-unfolding safe_octet encode_with escape_byte content lex code_unit short_escape encode
+unfolding safe_octet escape_byte content lex code_unit short_escape encode
 controls = (record { read = λ r. refl; lexed = λ r. refl }, (record { read = λ r. refl; lexed = λ r. refl }, (record { read = λ r. refl; lexed = λ r. refl }, (record { read = λ r. refl; lexed = λ r. refl }, (record { read = λ r. refl; lexed = λ r. refl }, (record { read = λ r. refl; lexed = λ r. refl }, (record { read = λ r. refl; lexed = λ r. refl }, (record { read = λ r. refl; lexed = λ r. refl }, (record { read = λ r. refl; lexed = λ r. refl }, (record { read = λ r. refl; lexed = λ r. refl }, (record { read = λ r. refl; lexed = λ r. refl }, (record { read = λ r. refl; lexed = λ r. refl }, (record { read = λ r. refl; lexed = λ r. refl }, (record { read = λ r. refl; lexed = λ r. refl }, (record { read = λ r. refl; lexed = λ r. refl }, (record { read = λ r. refl; lexed = λ r. refl }, (record { read = λ r. refl; lexed = λ r. refl }, (record { read = λ r. refl; lexed = λ r. refl }, (record { read = λ r. refl; lexed = λ r. refl }, (record { read = λ r. refl; lexed = λ r. refl }, (record { read = λ r. refl; lexed = λ r. refl }, (record { read = λ r. refl; lexed = λ r. refl }, (record { read = λ r. refl; lexed = λ r. refl }, (record { read = λ r. refl; lexed = λ r. refl }, (record { read = λ r. refl; lexed = λ r. refl }, (record { read = λ r. refl; lexed = λ r. refl }, (record { read = λ r. refl; lexed = λ r. refl }, (record { read = λ r. refl; lexed = λ r. refl }, (record { read = λ r. refl; lexed = λ r. refl }, (record { read = λ r. refl; lexed = λ r. refl }, (record { read = λ r. refl; lexed = λ r. refl }, (record { read = λ r. refl; lexed = λ r. refl }, tt))))))))))))))))))))))))))))))))
 
 quote_passes : Passes 34
-unfolding safe_octet encode_with escape_byte content lex short_escape
+unfolding safe_octet escape_byte content lex short_escape
 quote_passes = record { read = λ r. refl; lexed = λ r. refl }
 
 backslash_passes : Passes 92
-unfolding safe_octet encode_with escape_byte content lex short_escape
+unfolding safe_octet escape_byte content lex short_escape
 backslash_passes = record { read = λ r. refl; lexed = λ r. refl }
 
 ampersand_passes : Passes 38
-unfolding safe_octet encode_with escape_byte content lex code_unit encode
+unfolding safe_octet escape_byte content lex code_unit encode
 ampersand_passes = record { read = λ r. refl; lexed = λ r. refl }
 
 less_passes : Passes 60
-unfolding safe_octet encode_with escape_byte content lex code_unit encode
+unfolding safe_octet escape_byte content lex code_unit encode
 less_passes = record { read = λ r. refl; lexed = λ r. refl }
 
 greater_passes : Passes 62
-unfolding safe_octet encode_with escape_byte content lex code_unit encode
+unfolding safe_octet escape_byte content lex code_unit encode
 greater_passes = record { read = λ r. refl; lexed = λ r. refl }
 
 stays_inside : (o s : Bool) (x : ℕ) (r : List ℕ) (k : Mode → List Lexeme) → lex_byte in_string (cond o operator (cond s space other)) x r k ≡ k in_string

@@ -7,7 +7,7 @@ use Rattle.rtps_ids.specs.declared.identity.Guid.{Guid}
 use Rattle.rtps_discovery.specs.declared.matching.Pair.{Pair}
 use Rattle.rtps_audit.specs.Placed.{PlacedValue, answers_among, is_guid}
 use Rattle.rtps_evidence.specs.Explanation.{ExplanationValue}
-use Rattle.rtps_text.specs.AuditText.{is_complete}
+use Rattle.rtps_report.specs.Reported.{is_complete}
 use Rattle.rtps_page.specs.ChartEntries.{entries_by}
 use Rattle.rtps_page.specs.declared.chart_room.Need.{Need}
 use Rattle.rtps_page.specs.declared.chart_room.Room.{Room}

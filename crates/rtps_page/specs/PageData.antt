@@ -1,7 +1,7 @@
 -- The data of a page: one value of JSON. RFC 8259 "The JavaScript Object Notation (JSON) Data Interchange Format".
--- own: what was asked, the report as `audit --json` prints it, what discovery announced as `list` prints it, and for the rows
+-- own: the object of `check --json`; behind its members what was asked, what discovery announced as `list` prints it, and for the rows
 -- that have a chart what their writers say and their readers answer. Members stand in the order given here.
-use Rattle.std.specs.Prelude.{ℕ, ◌≡◌, Bool, is_some, ◌==◌, ◌++◌, List, [], ◌∷◌, codes, length, map, count_by, Option, None, Some}
+use Rattle.std.specs.Prelude.{ℕ, ◌≡◌, Bool, is_some, ◌++◌, List, [], ◌∷◌, codes, map, Option, None, Some}
 use Rattle.std.specs.Str.{IsUtf8}
 use Rattle.json.specs.Json.{Json, boolean, null, string}
 use Rattle.json.specs.Lex.{tokens}
@@ -11,17 +11,19 @@ use Rattle.rtps_ids.specs.declared.identity.Guid.{Guid}
 use Rattle.rtps_discovery.specs.Directory.{DirectoryValue, settled_in}
 use Rattle.rtps_discovery.specs.Endpoint.{EndpointValue}
 use Rattle.rtps_discovery.specs.declared.matching.Pair.{Pair}
+use Rattle.rtps_audit.specs.Intake.{Intake}
 use Rattle.rtps_audit.specs.Placed.{PlacedValue, answers_among, placed_in}
-use Rattle.rtps_audit.specs.declared.report.Counts.{Counts}
-use Rattle.rtps_evidence.specs.Explanation.{ExplanationValue, explanation_value}
 use Rattle.rtps_fragments.specs.RecordedSamples.{intake_as}
-use Rattle.rtps_text.specs.Asked.{AskedValue, are_read, asked_value}
-use Rattle.rtps_text.specs.JsonText.{Member, array_of, count_json, name_json, object_of, report_json}
-use Rattle.rtps_text.specs.ListText.{durability_text, guid_text, reliability_text, side_text}
-use Rattle.rtps_text.specs.Recording.{RecordingValue}
+use Rattle.rtps_report.specs.Asked.{AskedValue, are_read, asked_value}
+use Rattle.rtps_report.specs.FullReport.{ReportValue, report_value, rows_of}
+use Rattle.rtps_report.specs.Recording.{RecordingValue}
+use Rattle.rtps_lines.specs.CheckMembers.{check_members}
+use Rattle.rtps_lines.specs.JsonText.{Member, array_of, count_json, name_json, object_of}
+use Rattle.rtps_lines.specs.QosNames.{durability_text, reliability_text, side_text}
+use Rattle.rtps_parts.specs.Names.{guid_text}
 use Rattle.rtps_page.specs.ChartEntries.{base_json, entries_by}
 use Rattle.rtps_page.specs.ChartRoom.{charted_pairs, writers_behind}
-use Rattle.rtps_page.specs.declared.page_data.Subject.{Subject}
+use Rattle.rtps_page.specs.declared.page_data.Shown.{Shown}
 
 -- how many rows were expected, or null
 abbrev pub expect_json : Option ℕ → Json
@@ -33,10 +35,6 @@ abbrev pub option_members : AskedValue → Bool → List Member
 option_members asked any = (codes "from", count_json asked.from) ∷ (codes "any", boolean any) ∷ (codes "fragments", boolean (are_read asked.fragments))
     ∷ (codes "observed", boolean asked.rows.observed) ∷ (codes "strict", boolean asked.strict)
     ∷ (codes "topics", array_of (map string asked.rows.topics)) ∷ (codes "expect", expect_json asked.expect) ∷ []
-
--- datagrams of one octet: each is refused, and harmless
-abbrev pub of_one_octet : List (List ℕ) → ℕ
-of_one_octet datagrams = count_by (λ datagram. length datagram == 1) datagrams
 
 -- a GUID as a string
 abbrev pub guid_json : Guid → Json
@@ -61,10 +59,9 @@ abbrev pub answers_json : List PlacedValue → Pair → Json
 answers_json acts pair = object_of ((codes "writer", guid_json pair.writer) ∷ (codes "reader", guid_json pair.reader)
     ∷ (codes "bases", array_of (map base_json (answers_among pair acts))) ∷ [])
 
--- what was asked, and the report
-abbrev pub report_members : AskedValue → List ExplanationValue → Counts → RecordingValue → List Member
-report_members asked rows counts recording = (codes "options", object_of (option_members asked (is_some recording.reasons))) ∷ (codes "report", report_json rows counts recording)
-    ∷ (codes "of_one_octet", count_json (of_one_octet recording.datagrams)) ∷ []
+-- what was asked, as a member
+abbrev pub options_member : AskedValue → RecordingValue → Member
+options_member asked recording = (codes "options", object_of (option_members asked (is_some recording.reasons)))
 
 -- what was announced
 abbrev pub directory_members : DirectoryValue → List Member
@@ -80,25 +77,34 @@ chart_members acts pairs = (codes "writers", array_of (map (writer_json acts) (w
 abbrev pub acts_judged : AskedValue → RecordingValue → List PlacedValue
 acts_judged asked recording = placed_in (intake_as asked.fragments recording.datagrams).acts
 
+-- what a page has beside the object of `check --json`, for charts of these pairs
+abbrev pub own_members : AskedValue → RecordingValue → DirectoryValue → List Pair → List Member
+own_members asked recording directory pairs =
+    options_member asked recording ∷ (directory_members directory ++ chart_members (acts_judged asked recording) pairs)
+
+-- which rows have a chart
+abbrev pub pairs_with_charts : AskedValue → RecordingValue → ReportValue → List Pair
+pairs_with_charts asked recording report = charted_pairs (acts_judged asked recording) (rows_of report)
+
 -- all of it
-abbrev pub page_json : AskedValue → List ExplanationValue → Counts → RecordingValue → DirectoryValue → Json
-page_json asked rows counts recording directory =
-    object_of (report_members asked rows counts recording
-    ++ (directory_members directory ++ chart_members (acts_judged asked recording) (charted_pairs (acts_judged asked recording) rows)))
+abbrev pub page_json : AskedValue → RecordingValue → ReportValue → DirectoryValue → Json
+page_json asked recording report directory =
+    object_of (check_members asked recording report ++ own_members asked recording directory (pairs_with_charts asked recording report))
 
--- the rows of what the code makes a page of
-abbrev pub rows_in : Subject → List ExplanationValue
-rows_in subject = map explanation_value subject.explained.now.rows.items
+-- what the report of a page is by
+abbrev pub intake_in : Shown → Intake
+intake_in shown = intake_as shown.report.now.asked.now.fragments shown.report.now.recording.now.datagrams
 
--- its members, with charts of these pairs
-abbrev pub members_in : Subject → List Pair → List Member
-members_in subject pairs =
-    report_members (asked_value subject.asked.now) (rows_in subject) subject.explained.now.counts subject.recording.now
-    ++ (directory_members subject.directory.now ++ chart_members (acts_judged (asked_value subject.asked.now) subject.recording.now) pairs)
+-- the members of what the code makes a page of, with charts of these pairs
+abbrev pub members_in : Shown → List Pair → List Member
+members_in shown pairs =
+    let asked = asked_value shown.report.now.asked.now in
+    let recording = shown.report.now.recording.now in
+    check_members asked recording (report_value shown.report.now) ++ own_members asked recording shown.directory.now pairs
 
 -- its data
-abbrev pub json_in : Subject → Json
-json_in subject = page_json (asked_value subject.asked.now) (rows_in subject) subject.explained.now.counts subject.recording.now subject.directory.now
+abbrev pub json_in : Shown → Json
+json_in shown = page_json (asked_value shown.report.now.asked.now) shown.report.now.recording.now (report_value shown.report.now) shown.directory.now
 
 -- this is the text of a value, in UTF-8, and its tokens are read back
 pub record IsPrinted (value : Json) (text : List ℕ) : Type 0 where

@@ -10,10 +10,9 @@ ghost use Rattle.rtps_page.specs.PageData.{answers_json};
 use json::Writer;
 use rtps_audit::{Answer, Index};
 use rtps_discovery::Pair;
-use rtps_text::push_guid;
+use rtps_lines::push_guid;
 use std::alloc::AllocError;
 
-/// Appends an answer.
 fn push_base(writer: &mut Writer, answer: Answer) -> Result<(), AllocError>
     ensures tokens { OnOk result (writer.new.tokens ≡ writer.old.tokens ++ json_tokens (base_json answer)) }
     ensures before { writer.new.before ≡ writer.old.before }
@@ -25,7 +24,6 @@ fn push_base(writer: &mut Writer, answer: Answer) -> Result<(), AllocError>
     writer.end_array()
 }
 
-/// Appends answers.
 fn push_bases(writer: &mut Writer, answers: &[Answer]) -> Result<(), AllocError>
     ensures tokens { OnOk result (writer.new.tokens ≡ writer.old.tokens ++ flat_map (λ answer. json_tokens (base_json answer)) answers.now) }
     ensures before { writer.new.before ≡ writer.old.before }
@@ -36,7 +34,6 @@ fn push_bases(writer: &mut Writer, answers: &[Answer]) -> Result<(), AllocError>
     Ok(())
 }
 
-/// Appends the object of a pair's answers.
 fn push_answers(
     writer: &mut Writer,
     text: &mut String,
@@ -57,7 +54,6 @@ fn push_answers(
     writer.end_object()
 }
 
-/// Appends the objects of the answers of pairs.
 pub(crate) fn push_all_answers(
     writer: &mut Writer,
     text: &mut String,

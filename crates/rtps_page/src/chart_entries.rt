@@ -7,7 +7,7 @@ ghost use Rattle.rtps_receiver.specs.Values.{act_body_value};
 ghost use Rattle.rtps_wire.specs.Values.{payload_value};
 ghost use Rattle.rtps_audit.specs.Placed.{placed_value};
 ghost use Rattle.rtps_page.specs.ChartEntries.{audience_text, entries_of, entry_json, entries_at, gone_json, members_of, named_json, one_gone_json, piece_json};
-ghost use Rattle.rtps_text.specs.JsonText.{number_json};
+ghost use Rattle.rtps_lines.specs.JsonText.{number_json};
 
 use crate::entry_counts::has_number;
 use json::Writer;
@@ -25,7 +25,6 @@ pub(crate) struct EntryHead<'a> {
     pub(crate) named: &'a str,
 }
 
-/// Appends whom an act names.
 #[tactic(auto, unfolding(crate::specs::ChartEntries::audience_text))]
 pub(crate) fn push_audience(text: &mut String, audience: Option<Audience>) -> Result<(), AllocError>
     ensures { OnOk result (string_bytes text.new ≡ string_bytes text.old ++ audience_text audience) }
@@ -42,7 +41,6 @@ pub(crate) fn push_audience(text: &mut String, audience: Option<Audience>) -> Re
     write!(text, ".{}", audience.reader)
 }
 
-/// Appends numbers.
 fn push_numbers(writer: &mut Writer, numbers: &[i64]) -> Result<(), AllocError>
     ensures tokens { OnOk result (writer.new.tokens ≡ writer.old.tokens ++ flat_map (λ number. json_tokens (number_json number)) numbers.now) }
     ensures before { writer.new.before ≡ writer.old.before }
@@ -53,7 +51,6 @@ fn push_numbers(writer: &mut Writer, numbers: &[i64]) -> Result<(), AllocError>
     Ok(())
 }
 
-/// Appends whom an act names, where it names someone.
 fn push_named(writer: &mut Writer, named: &str) -> Result<(), AllocError>
     ensures tokens { OnOk result (writer.new.tokens ≡ writer.old.tokens ++ flat_map json_tokens (named_json named.now)) }
     ensures before { writer.new.before ≡ writer.old.before }
@@ -64,7 +61,6 @@ fn push_named(writer: &mut Writer, named: &str) -> Result<(), AllocError>
     writer.string(named)
 }
 
-/// Appends an entry of this kind.
 fn push_entry(
     writer: &mut Writer,
     head: EntryHead<'_>,
@@ -84,7 +80,6 @@ fn push_entry(
     writer.end_array()
 }
 
-/// Appends an entry of one number.
 fn push_one(
     writer: &mut Writer,
     head: EntryHead<'_>,
@@ -98,7 +93,6 @@ fn push_one(
     push_entry(writer, head, kind, &[number])
 }
 
-/// Appends the entry of the last number of a HEARTBEAT.
 fn push_last(
     writer: &mut Writer,
     head: EntryHead<'_>,
@@ -111,7 +105,6 @@ fn push_last(
     push_one(writer, head, "announced", heartbeat.last)
 }
 
-/// Appends the entry that the numbers from one on and below another are gone; nothing where there are none.
 fn push_gone(
     writer: &mut Writer,
     head: EntryHead<'_>,
@@ -134,7 +127,6 @@ fn push_gone(
     )
 }
 
-/// Appends the entry that one number is gone.
 fn push_one_gone(writer: &mut Writer, head: EntryHead<'_>, number: u64) -> Result<(), AllocError>
     requires { number < 2 ^ 63 }
     ensures tokens { OnOk result (writer.new.tokens
@@ -145,7 +137,6 @@ fn push_one_gone(writer: &mut Writer, head: EntryHead<'_>, number: u64) -> Resul
     push_entry(writer, head, "gone", &[number, number])
 }
 
-/// Appends an entry for each number of a set: that it is gone.
 fn push_members(writer: &mut Writer, head: EntryHead<'_>, set: &NumberSet) -> Result<(), AllocError>
     ensures tokens { OnOk result (writer.new.tokens ≡ writer.old.tokens
         ++ flat_map (λ number. json_tokens (one_gone_json head.entry.place head.entry.named.now number)) (members_of set.now)) }
@@ -161,7 +152,6 @@ fn push_members(writer: &mut Writer, head: EntryHead<'_>, set: &NumberSet) -> Re
     Ok(())
 }
 
-/// Appends the entries of an act of a writer. Whom it names is written to `text` first.
 pub(crate) fn push_entries(
     writer: &mut Writer,
     text: &mut String,
@@ -182,7 +172,6 @@ pub(crate) fn push_entries(
     push_said(writer, head, &placed.act.body)
 }
 
-/// Appends the entry of fragments; nothing where the act tells the sample that was put together of them.
 fn push_piece(
     writer: &mut Writer,
     head: EntryHead<'_>,
@@ -198,7 +187,6 @@ fn push_piece(
     }
 }
 
-/// Appends the entries of what an act says.
 fn push_said(writer: &mut Writer, head: EntryHead<'_>, body: &ActBody<'_>) -> Result<(), AllocError>
     ensures tokens { OnOk result (writer.new.tokens
         ≡ writer.old.tokens ++ flat_map json_tokens (entries_at head.entry.place head.entry.named.now (act_body_value body.now))) }

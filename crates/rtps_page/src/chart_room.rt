@@ -12,7 +12,7 @@ use rtps_audit::Index;
 use rtps_discovery::Pair;
 use rtps_evidence::Explanation;
 use rtps_ids::Guid;
-use rtps_text::is_complete;
+use rtps_report::is_complete;
 use std::alloc::{AllocError, Global};
 
 /// How many entries a page has room for.
@@ -89,7 +89,6 @@ fn needs_of(
     Ok(needs)
 }
 
-/// Whether the writer is the last one.
 pub(crate) fn is_last(last: Option<Guid>, writer: Guid) -> bool
     ensures { result ≡ is_last_lem last writer }
 {

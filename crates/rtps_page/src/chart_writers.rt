@@ -15,7 +15,7 @@ use json::Writer;
 use rtps_audit::{Index, Placed};
 use rtps_discovery::Pair;
 use rtps_ids::Guid;
-use rtps_text::push_guid;
+use rtps_lines::push_guid;
 use std::alloc::{AllocError, Global};
 
 /// The writers of these pairs that follow one another, each once.
@@ -33,7 +33,6 @@ pub(crate) fn writers_of(alloc: Global, pairs: &[Pair]) -> Result<Vec<Guid>, All
     Ok(writers)
 }
 
-/// Appends the entries of a writer by these acts.
 fn push_acts(
     writer: &mut Writer,
     text: &mut String,
@@ -51,7 +50,6 @@ fn push_acts(
     Ok(())
 }
 
-/// Appends the object of a writer.
 fn push_writer(
     writer: &mut Writer,
     text: &mut String,
@@ -71,7 +69,6 @@ fn push_writer(
     writer.end_object()
 }
 
-/// Appends the objects of writers.
 pub(crate) fn push_writers(
     writer: &mut Writer,
     text: &mut String,

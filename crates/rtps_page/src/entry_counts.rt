@@ -11,7 +11,6 @@ use rtps_audit::Placed;
 use rtps_ids::{Guid, NumberSet};
 use rtps_receiver::{ActBody, FragmentBody};
 
-/// Whether a number is in a set.
 pub(crate) fn has_number(set: &NumberSet, number: u64) -> bool
     requires { number < 2 ^ 63 }
     ensures { result ≡ is_member set.now number }

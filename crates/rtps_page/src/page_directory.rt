@@ -4,16 +4,15 @@ ghost use Rattle.json.specs.Token.{key};
 ghost use Rattle.json.specs.Tree.{json_tokens};
 ghost use Rattle.rtps_discovery.specs.Directory.{settled_in};
 ghost use Rattle.rtps_discovery.specs.Endpoint.{endpoint_value};
-ghost use Rattle.rtps_text.specs.JsonText.{array_of, tokens_of};
+ghost use Rattle.rtps_lines.specs.JsonText.{array_of, tokens_of};
 ghost use Rattle.rtps_page.specs.PageData.{directory_members, endpoint_json, endpoint_members, guid_json};
 
 use json::Writer;
 use rtps_discovery::{Directory, Endpoint};
 use rtps_ids::{Guid, Memory};
-use rtps_text::{durability_name, push_guid, push_name, push_text, reliability_name, side_name};
+use rtps_lines::{durability_name, push_guid, push_name, push_text, reliability_name, side_name};
 use std::alloc::AllocError;
 
-/// Appends a GUID, which is written to `text` first.
 fn push_one_guid(writer: &mut Writer, text: &mut String, guid: Guid) -> Result<(), AllocError>
     ensures tokens { OnOk result (writer.new.tokens ≡ writer.old.tokens ++ json_tokens (guid_json guid)) }
     ensures before { writer.new.before ≡ writer.old.before }
@@ -23,7 +22,6 @@ fn push_one_guid(writer: &mut Writer, text: &mut String, guid: Guid) -> Result<(
     writer.string(text)
 }
 
-/// Appends GUIDs.
 fn push_guids(writer: &mut Writer, text: &mut String, guids: &[Guid]) -> Result<(), AllocError>
     ensures tokens { OnOk result (writer.new.tokens ≡ writer.old.tokens ++ flat_map (λ guid. json_tokens (guid_json guid)) guids.now) }
     ensures before { writer.new.before ≡ writer.old.before }
@@ -34,7 +32,6 @@ fn push_guids(writer: &mut Writer, text: &mut String, guids: &[Guid]) -> Result<
     Ok(())
 }
 
-/// Appends the object of an endpoint.
 fn push_endpoint(
     writer: &mut Writer,
     text: &mut String,
@@ -48,7 +45,6 @@ fn push_endpoint(
     writer.end_object()
 }
 
-/// Appends what is told of an endpoint.
 fn push_endpoint_members(
     writer: &mut Writer,
     text: &mut String,
@@ -69,7 +65,6 @@ fn push_endpoint_members(
     push_text(writer, "durability", durability_name(endpoint.durability))
 }
 
-/// Appends the objects of endpoints.
 fn push_endpoints(
     writer: &mut Writer,
     text: &mut String,
@@ -85,7 +80,6 @@ fn push_endpoints(
     Ok(())
 }
 
-/// Appends the array of participants.
 fn push_participants(
     writer: &mut Writer,
     text: &mut String,
@@ -103,7 +97,6 @@ fn push_participants(
     Ok(())
 }
 
-/// Appends the array of endpoints whose announcements agree.
 fn push_settled(
     writer: &mut Writer,
     text: &mut String,
@@ -121,7 +114,6 @@ fn push_settled(
     Ok(())
 }
 
-/// Appends what was announced.
 pub(crate) fn push_directory(
     writer: &mut Writer,
     text: &mut String,

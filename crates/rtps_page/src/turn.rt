@@ -8,7 +8,6 @@ pub(crate) enum Turn {
     Complete,
 }
 
-/// Whether it is the turn of a row that is complete, or is not.
 pub(crate) fn is_turn(turn: Turn, complete: bool) -> bool
     ensures { result ≡ is_turn_lem turn complete }
 {

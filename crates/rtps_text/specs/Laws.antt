@@ -1,33 +1,10 @@
--- What a reader of the definitions would ask of what is printed. own: a text can be trusted only if nothing but the
--- recording decides it.
-use Rattle.std.specs.Prelude.{ℕ, ◌≡◌, ◌↔◌, All, List, None, drop}
+-- What a reader of the definitions would ask of what is printed. own: an option must change nothing where there is nothing of what
+-- it asks for.
+use Rattle.std.specs.Prelude.{ℕ, ◌≡◌, All, List, None, drop}
 use Rattle.rtps_wire.specs.DataFrag.{data_frag_at}
 use Rattle.rtps_wire.specs.Reading.{reading_of}
-use Rattle.rtps_audit.specs.declared.report.Report.{Report}
-use Rattle.rtps_audit.specs.declared.report.Row.{Row}
-use Rattle.rtps_evidence.specs.Explanation.{row_of}
-use Rattle.rtps_evidence.specs.declared.explanation.Explained.{Explained}
-use Rattle.rtps_fragments.specs.FragmentVerdict.{IsFragmentVerdictFrom}
-use Rattle.rtps_fragments.specs.RecordedSamples.{IsWithoutFragments}
-use Rattle.rtps_fragments.specs.SampleActs.{fragment_speech_of}
-use Rattle.rtps_fragments.specs.Sending.{sending_of}
-use Rattle.rtps_text.specs.Asked.{AskedValue}
-use Rattle.rtps_text.specs.AuditText.{IsReportAs}
-use Rattle.rtps_text.specs.Recording.{RecordingValue}
-use Rattle.rtps_text.specs.ShowText.{show_text}
-use Rattle.rtps_text.specs.WhyText.{IsExplainedAs}
-use Rattle.rtps_text.specs.declared.text.Ending.{Ending}
 use Rattle.rtps_fragments.specs.declared.fragments.Fragments.TheVariants as fragments
-
--- of each recording there is one such text, and one ending
-abbrev pub HasOneText : (RecordingValue → List ℕ → Ending → Type 0) → Type 0
-HasOneText IsText =
-    (recording : RecordingValue) (one other : List ℕ) (ending last : Ending) → IsText recording one ending → IsText recording other last
-    → (one ≡ other) × (ending ≡ last)
-
--- of each recording the texts and endings of the one are those of the other
-abbrev pub HaveOneText : (RecordingValue → List ℕ → Ending → Type 0) → (RecordingValue → List ℕ → Ending → Type 0) → Type 0
-HaveOneText IsText IsOther = (recording : RecordingValue) (text : List ℕ) (ending : Ending) → IsText recording text ending ↔ IsOther recording text ending
+use Rattle.rtps_text.specs.ShowText.{show_text}
 
 -- no submessage of these datagrams is a DATA_FRAG with fragments that can be used
 abbrev pub HasNoFragments : List (List ℕ) → Type 0
@@ -36,25 +13,3 @@ HasNoFragments datagrams = All (λ datagram. All (λ item. data_frag_at (drop it
 -- of such datagrams `show` prints the same, whether fragments are read or not
 abbrev pub ShowsTheSameWithoutFragments : Type 0
 ShowsTheSameWithoutFragments = (datagrams : List (List ℕ)) → HasNoFragments datagrams → show_text fragments.Read datagrams ≡ show_text fragments.Skipped datagrams
-
--- the verdict of a row is that by all runs in which its reader takes fragments one by one
-abbrev pub IsFragmentRow : ℕ → List (List ℕ) → Row → Type 0
-IsFragmentRow from recording row = IsFragmentVerdictFrom from (fragment_speech_of row.pair.writer row.pair.reader (sending_of recording)) row.verdict
-
--- where fragments are read, each row of a report has this verdict
-abbrev pub RowsAreByFragments : Type 0
-RowsAreByFragments =
-    (asked : AskedValue) (recording : List (List ℕ)) (report : Report)
-    → asked.fragments ≡ fragments.Read → IsReportAs asked recording report → All (IsFragmentRow asked.from recording) report.rows.items
-
--- and so has each row that is explained
-abbrev pub ExplainedRowsAreByFragments : Type 0
-ExplainedRowsAreByFragments =
-    (asked : AskedValue) (recording : List (List ℕ)) (explained : Explained)
-    → asked.fragments ≡ fragments.Read → IsExplainedAs asked recording explained → All (λ row. IsFragmentRow asked.from recording (row_of row)) explained.rows.items
-
--- of a recording of which no submessage belongs to fragments the texts and endings are the same, whether fragments are read or not
-abbrev pub StaysWithoutFragments : (AskedValue → RecordingValue → List ℕ → Ending → Type 0) → Type 0
-StaysWithoutFragments IsText =
-    (asked : AskedValue) (recording : RecordingValue) (text : List ℕ) (ending : Ending) → IsWithoutFragments recording.datagrams
-    → IsText (record asked { fragments = fragments.Read }) recording text ending ↔ IsText (record asked { fragments = fragments.Skipped }) recording text ending

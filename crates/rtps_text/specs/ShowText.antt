@@ -20,26 +20,20 @@ use Rattle.rtps_wire.specs.DataFrag.{DataFragValue, data_frag_at}
 use Rattle.rtps_wire.specs.Message.{Reading}
 use Rattle.rtps_wire.specs.Reading.{Outcome, items_among, reading_of, refusal_among}
 use Rattle.rtps_wire.specs.Skipped.{skipped_id}
-use Rattle.rtps_wire.specs.Values.{BodyValue, DataValue, ItemValue, PayloadValue}
+use Rattle.rtps_wire.specs.Values.{BodyValue, DataValue, ItemValue}
 use Rattle.rtps_wire.specs.Values.BodyValue.{Data, Heartbeat, AckNack, Gap, InfoTs, InfoDst, InfoSrc, Skipped}
-use Rattle.rtps_wire.specs.Values.PayloadValue.{Absent, Whole, Key}
 use Rattle.rtps_wire.specs.declared.body.AckNackBody.{AckNackBody}
 use Rattle.rtps_wire.specs.declared.body.GapBody.{GapBody}
 use Rattle.rtps_wire.specs.declared.body.HeartbeatBody.{HeartbeatBody}
 use Rattle.rtps_wire.specs.declared.fault.Refusal.{Refusal}
 use Rattle.rtps_wire.specs.FaultText.{fault_name}
 use Rattle.rtps_wire.specs.declared.header.Header.{Header}
-use Rattle.rtps_text.specs.Recording.{RecordingValue}
-use Rattle.rtps_text.specs.declared.text.Ending.{Ending}
-use Rattle.rtps_text.specs.declared.text.Ending.TheVariants.{Clean}
+use Rattle.rtps_report.specs.Recording.{RecordingValue}
+use Rattle.rtps_lines.specs.Lines.{line_of, payload_text}
+use Rattle.rtps_report.specs.declared.findings.Ending.{Ending}
+use Rattle.rtps_report.specs.declared.findings.Ending.TheVariants.{Clean}
 use Rattle.rtps_fragments.specs.declared.fragments.Fragments.{Fragments}
 use Rattle.rtps_fragments.specs.declared.fragments.Fragments.TheVariants as fragments
-
--- a line of fields: a space (32) after each, but a line feed (10) after the last
-abbrev pub line_of : List (List ℕ) → List ℕ
-line_of [] = 10 ∷ []
-line_of (field ∷ []) = field ++ 10 ∷ []
-line_of (field ∷ next ∷ fields) = field ++ 32 ∷ line_of (next ∷ fields)
 
 -- the word for an order of octets
 unfoldable pub order_text : Order → List ℕ
@@ -53,12 +47,6 @@ digit_of flag = if flag then codes "1" else codes "0"
 -- a version, as in 2.5
 unfoldable pub version_text : Version → List ℕ
 version_text version = decimal version.major ++ codes "." ++ decimal version.minor
-
--- the kind of a payload, and how many octets it has
-unfoldable pub payload_text : PayloadValue → List ℕ
-payload_text Absent = codes "absent"
-payload_text (Whole octets) = codes "whole " ++ decimal (length octets)
-payload_text (Key octets) = codes "key " ++ decimal (length octets)
 
 -- how many octets the inline QoS has, its sentinel included
 unfoldable pub qos_octets : Option ListValue → ℕ

@@ -2,9 +2,9 @@
 -- own: a line on standard error for each finding, which says what it is by the word of the report, and how many.
 use Rattle.std.specs.Prelude.{ℕ, Bool, true, false, ◌==◌, ◌++◌, if◌then◌else◌, List, [], ◌∷◌, codes, Option, None, Some}
 use Rattle.std.specs.Fmt.{decimal}
-use Rattle.rtps_text.specs.declared.findings.FewRows.{FewRows}
-use Rattle.rtps_text.specs.declared.findings.Findings.{Findings}
-use Rattle.rtps_text.specs.declared.recording.Links.{Links}
+use Rattle.rtps_report.specs.declared.findings.FewRows.{FewRows}
+use Rattle.rtps_report.specs.declared.findings.Findings.{Findings}
+use Rattle.rtps_report.specs.declared.recording.Links.{Links}
 
 -- the line of fewer rows than were expected, with LF (10)
 unfoldable pub few_line : Option FewRows → List ℕ

@@ -8,7 +8,7 @@ use crate::command::{GREATEST, flag, fragments_of, is_given};
 use clap::builder::ValueParser;
 use clap::{Arg, ArgAction, ArgMatches, Command};
 use rtps_ids::SeqNum;
-use rtps_text::{Asked, Fragments, Rows};
+use rtps_report::{Asked, Fragments, Rows};
 use std::alloc::{AllocError, Global};
 
 /// What the words ask of a report, beside the number from which on it asks.
@@ -27,7 +27,7 @@ pub struct Demands {
 }
 
 impl Demands {
-    ghost use Rattle.rtps_text.specs.Asked.{asked_value};
+    ghost use Rattle.rtps_report.specs.Asked.{asked_value};
     ghost use Rattle.rtps_tool.specs.Options.{asked_by};
 
     /// What they ask, by the numbers from `from` on.

@@ -1,9 +1,9 @@
 //! Laws of the definitions, as contracts of functions that do nothing.
 
 ghost use Rattle.std.specs.Prelude.{ℕ};
-ghost use Rattle.rtps_text.specs.Asked.{AskedValue};
+ghost use Rattle.rtps_report.specs.Asked.{AskedValue};
 ghost use Rattle.rtps_text.specs.AuditText.{IsAuditedAs, IsAuditedFrom};
-ghost use Rattle.rtps_text.specs.JsonText.{IsJsonTextAs, IsJsonTextFrom};
+ghost use Rattle.rtps_text.specs.AuditJson.{IsJsonTextAs, IsJsonTextFrom};
 ghost use Rattle.rtps_text.specs.ListText.{IsListed};
 ghost use Rattle.rtps_text.specs.ShowText.{IsShown};
 ghost use Rattle.rtps_text.specs.WhyText.{IsExplainedTextAs, IsExplainedTextFrom};

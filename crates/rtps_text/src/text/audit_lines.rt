@@ -1,43 +1,12 @@
 ghost use Rattle.std.specs.Prelude.{Some};
-ghost use Rattle.rtps_text.specs.AuditText.{further_counts_text, ignored_text, pairs_line, report_counts_line, row_line, verdict_text};
+ghost use Rattle.rtps_text.specs.AuditText.{further_counts_text, ignored_text, report_counts_line};
 
-use rtps_audit::{Counts, Row, Verdict};
+use rtps_audit::Counts;
 use std::fmt;
-
-/// The first line: how many pairs there are.
-#[derive(Drop)]
-pub struct PairsLine(pub usize);
-
-impl fmt::Display for PairsLine {
-    ghost output = { λ line. Some (pairs_line line.0) };
-
-    fn fmt<W: fmt::Write>(&self, f: &mut fmt::Formatter<W>) -> fmt::Result {
-        writeln!(f, "pairs {}", self.0)
-    }
-}
-
-/// The line of a pair and its verdict.
-#[derive(Drop)]
-pub struct RowLine(pub Row);
-
-impl fmt::Display for RowLine {
-    ghost output = { λ line. Some (row_line line.0) };
-
-    fn fmt<W: fmt::Write>(&self, f: &mut fmt::Formatter<W>) -> fmt::Result {
-        let Row { pair, verdict } = self.0;
-        writeln!(
-            f,
-            "{} {} {}",
-            pair.writer,
-            pair.reader,
-            VerdictText(verdict)
-        )
-    }
-}
 
 /// The last line: what was counted, and how many frames of a capture were ignored.
 #[derive(Drop)]
-pub struct ReportCountsLine(pub Counts, pub Option<u64>);
+pub(crate) struct ReportCountsLine(pub(crate) Counts, pub(crate) Option<u64>);
 
 impl fmt::Display for ReportCountsLine {
     ghost output = { λ line. Some (report_counts_line line.0 line.1) };
@@ -87,24 +56,6 @@ impl fmt::Display for IgnoredText {
         match self.0 {
             Some(ignored) => write!(f, " ignored {ignored}"),
             None => Ok(()),
-        }
-    }
-}
-
-/// A verdict and its numbers.
-#[derive(Drop)]
-pub struct VerdictText(pub Verdict);
-
-impl fmt::Display for VerdictText {
-    ghost output = { λ text. Some (verdict_text text.0) };
-
-    #[tactic(auto, unfolding(crate::specs::AuditText::verdict_text))]
-    fn fmt<W: fmt::Write>(&self, f: &mut fmt::Formatter<W>) -> fmt::Result {
-        match self.0 {
-            Verdict::Complete { last } => write!(f, "complete {last}"),
-            Verdict::Open { number } => write!(f, "open {number}"),
-            Verdict::Conflict { number } => write!(f, "conflict {number}"),
-            Verdict::Unfounded { datagram, number } => write!(f, "unfounded {datagram} {number}"),
         }
     }
 }

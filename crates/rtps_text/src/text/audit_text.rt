@@ -1,17 +1,15 @@
 ghost use Rattle.std.specs.Prelude.{◌≡◌, ◌++◌, IfOk, OnOk};
 ghost use Rattle.std.specs.List.{flat_map, list_all};
 ghost use Rattle.std.specs.String.{string_bytes};
-ghost use Rattle.rtps_text.specs.Asked.{asked_value};
-ghost use Rattle.rtps_text.specs.AuditText.{IsAuditedAs, facts_of_report, is_complete as completes, report_text as text_of_report, row_line};
+ghost use Rattle.rtps_report.specs.Asked.{asked_value};
+ghost use Rattle.rtps_text.specs.AuditText.{IsAuditedAs, report_text as text_of_report, row_line};
+ghost use Rattle.rtps_report.specs.Reported.{facts_of_report, is_complete as completes};
 
-use crate::asked::Asked;
-use crate::findings::{Facts, ending_of};
-use crate::recording::Recording;
-use crate::text::Ending;
-use crate::text::asked_report::report_of;
-use crate::text::audit_lines::{PairsLine, ReportCountsLine, RowLine};
-use rtps_audit::{Report, Row, Verdict, Watch};
+use crate::text::audit_lines::ReportCountsLine;
+use rtps_audit::{Report, Row, Watch};
 use rtps_ids::Memory;
+use rtps_lines::VerdictText;
+use rtps_report::{Asked, Ending, Facts, Recording, audit_asked, ending_of, is_complete};
 use std::alloc::{AllocError, Global};
 
 /// What `audit` prints of a recording, of what is asked, and how it ends. It tells how far it is.
@@ -24,7 +22,7 @@ pub fn audit_text<P: Watch>(
 ) -> Result<(String, Ending), Memory>
     ensures { IfOk result (λ audited. IsAuditedAs (asked_value asked.now) recording.now (string_bytes audited.0) audited.1) }
 {
-    let asked_report = report_of(alloc, recording, asked, watch)?;
+    let asked_report = audit_asked(alloc, recording, asked, watch)?;
     let report = &asked_report.report;
     let text = report_text(alloc, report, recording.ignored())?;
     let facts = facts_of(report, asked_report.missed, recording);
@@ -49,35 +47,29 @@ fn report_text(alloc: Global, report: &Report, ignored: Option<u64>) -> Result<S
     ensures { IfOk result (λ text. string_bytes text ≡ text_of_report report.now.rows.items report.now.counts ignored) }
 {
     let mut text = String::new(alloc);
-    write!(text, "{}", PairsLine(report.rows.len()))?;
+    writeln!(text, "pairs {}", report.rows.len())?;
     push_rows(&mut text, &report.rows)?;
     write!(text, "{}", ReportCountsLine(report.counts, ignored))?;
     Ok(text)
 }
 
-/// Appends the lines of rows.
 fn push_rows(text: &mut String, rows: &[Row]) -> Result<(), AllocError>
     ensures { OnOk result (string_bytes text.new ≡ string_bytes text.old ++ flat_map row_line rows.now) }
 {
     for row in rows {
-        write!(text, "{}", RowLine(*row))?;
+        writeln!(
+            text,
+            "{} {} {}",
+            row.pair.writer,
+            row.pair.reader,
+            VerdictText(row.verdict)
+        )?;
     }
     Ok(())
 }
 
-/// Whether each of these rows is complete.
 fn are_complete(rows: &[Row]) -> bool
     ensures { result ≡ list_all (λ row. completes row.verdict) rows.now }
 {
     rows.iter().all(|row| is_complete(&row.verdict))
-}
-
-/// Whether nothing is to be reported of a pair with this verdict.
-pub fn is_complete(verdict: &Verdict) -> bool
-    ensures { result ≡ completes verdict.now }
-{
-    match verdict {
-        Verdict::Complete { .. } => true,
-        Verdict::Open { .. } | Verdict::Conflict { .. } | Verdict::Unfounded { .. } => false,
-    }
 }

@@ -10,16 +10,16 @@ ghost use Rattle.rtps_text.specs.ShowTail.{IsTailIn};
 ghost use Rattle.rtps_text.specs.ShowText.{ack_nack_line, data_frag_line, data_line, gap_line, heartbeat_line, info_dst_line, info_src_line, info_ts_line, item_line, bitmap_text, digit_of, order_text, qos_octets as qos_octets_lem, skipped_line, version_text};
 
 use crate::text::parts::{
-    order_name, push_bitmap, push_digits, push_field, push_final, push_id, push_key, push_live,
-    push_payload, push_tail, push_time, push_version,
+    order_name, push_bitmap, push_digits, push_final, push_id, push_key, push_live, push_tail,
+    push_time, push_version,
 };
 use rtps_ids::{EntityId, GuidPrefix, NumberSet, Order, Stamp, Vendor, Version};
+use rtps_lines::{push_field, push_payload};
 use rtps_params::ParamList;
 use rtps_receiver::State;
 use rtps_wire::{AckNackBody, Body, DataBody, DataFrag, GapBody, HeartbeatBody, Item};
 use std::alloc::AllocError;
 
-/// Appends the line of a submessage, at whose place the receiver is in this state. The tail is kept from line to line.
 pub(crate) fn push_item(
     text: &mut String,
     tail: &mut String,
@@ -47,7 +47,6 @@ pub(crate) fn push_item(
     }
 }
 
-/// Appends what each line but that of a skipped submessage begins with.
 #[inline(always)]
 fn push_head(text: &mut String, name: &str, at: usize, order: Order) -> Result<(), AllocError>
     ensures { OnOk result (string_bytes text.new
@@ -58,7 +57,6 @@ fn push_head(text: &mut String, name: &str, at: usize, order: Order) -> Result<(
     text.push_str(order_name(order))
 }
 
-/// Appends what the line of an act begins with, up to the entities that it names.
 fn push_act(
     text: &mut String,
     name: &str,
@@ -78,7 +76,6 @@ fn push_act(
     push_digits(text, &writer.0)
 }
 
-/// Appends the line of a DATA.
 fn push_data(
     text: &mut String,
     tail: &mut String,
@@ -98,7 +95,6 @@ fn push_data(
     push_tail(text, tail, state)
 }
 
-/// Appends the line of a DATA_FRAG that is read.
 pub(crate) fn push_data_frag(
     text: &mut String,
     tail: &mut String,
@@ -123,7 +119,6 @@ pub(crate) fn push_data_frag(
     push_tail(text, tail, state)
 }
 
-/// Appends the fields that say which fragments there are.
 fn push_fragments(text: &mut String, data_frag: &DataFrag<'_>) -> Result<(), AllocError>
     ensures { OnOk result (string_bytes text.new
         ≡ string_bytes text.old ++ (codes " number " ++ (decimal data_frag.now.number
@@ -137,7 +132,6 @@ fn push_fragments(text: &mut String, data_frag: &DataFrag<'_>) -> Result<(), All
     push_field(text, " sample ", data_frag.shape.sample)
 }
 
-/// Appends how many octets the inline QoS has, whether the sample is a key, and how many octets the fragments have.
 fn push_sample(text: &mut String, data_frag: &DataFrag<'_>) -> Result<(), AllocError>
     ensures { OnOk result (string_bytes text.new
         ≡ string_bytes text.old ++ (codes " qos " ++ (decimal (qos_octets_lem (option_map list_value data_frag.now.qos))
@@ -159,7 +153,6 @@ fn qos_octets(qos: &Option<ParamList>) -> usize
     }
 }
 
-/// Appends the line of a HEARTBEAT.
 fn push_heartbeat(
     text: &mut String,
     tail: &mut String,
@@ -186,7 +179,6 @@ fn push_heartbeat(
     push_tail(text, tail, state)
 }
 
-/// Appends the fields of a heartbeat that are numbers.
 fn push_numbers(text: &mut String, heartbeat: &HeartbeatBody) -> Result<(), AllocError>
     ensures { OnOk result (string_bytes text.new
         ≡ string_bytes text.old ++ (codes " first " ++ (decimal heartbeat.now.first
@@ -197,7 +189,6 @@ fn push_numbers(text: &mut String, heartbeat: &HeartbeatBody) -> Result<(), Allo
     push_field(text, " count ", heartbeat.count)
 }
 
-/// Appends the line of an ACKNACK.
 fn push_ack_nack(
     text: &mut String,
     tail: &mut String,
@@ -224,7 +215,6 @@ fn push_ack_nack(
     push_tail(text, tail, state)
 }
 
-/// Appends the line of a GAP.
 fn push_gap(
     text: &mut String,
     tail: &mut String,
@@ -243,7 +233,6 @@ fn push_gap(
     push_tail(text, tail, state)
 }
 
-/// Appends the base of a set, how many bits it has, and the bits.
 #[inline(always)]
 fn push_set(text: &mut String, set: &NumberSet) -> Result<(), AllocError>
     ensures { OnOk result (string_bytes text.new
@@ -255,7 +244,6 @@ fn push_set(text: &mut String, set: &NumberSet) -> Result<(), AllocError>
     push_bitmap(text, set)
 }
 
-/// Appends the line of an INFO_TS.
 fn push_info_ts(
     text: &mut String,
     at: usize,
@@ -270,7 +258,6 @@ fn push_info_ts(
     text.push_str("\n")
 }
 
-/// Appends the line of an INFO_DST.
 fn push_info_dst(
     text: &mut String,
     at: usize,
@@ -285,7 +272,6 @@ fn push_info_dst(
     text.push_str("\n")
 }
 
-/// Appends the line of an INFO_SRC.
 fn push_info_src(
     text: &mut String,
     at: usize,
@@ -300,7 +286,6 @@ fn push_info_src(
     push_origin(text, version, vendor, prefix)
 }
 
-/// Appends the end of a line: by which protocol someone sends, who made it, and who it is.
 pub(crate) fn push_origin(
     text: &mut String,
     version: Version,
@@ -319,7 +304,6 @@ pub(crate) fn push_origin(
     text.push_str("\n")
 }
 
-/// Appends the line of a submessage that is skipped.
 pub(crate) fn push_skipped(text: &mut String, at: usize, id: u8) -> Result<(), AllocError>
     ensures { OnOk result (string_bytes text.new ≡ string_bytes text.old ++ skipped_line at id) }
 {

@@ -7,12 +7,11 @@ ghost use Rattle.rtps_receiver.specs.Acts.{acts_in};
 ghost use Rattle.rtps_discovery.specs.Notice.{faults_in};
 ghost use Rattle.rtps_text.specs.ListText.{IsListed, directory_text as directory_text_lem, endpoint_line, match_line, participant_line};
 
-use crate::recording::Recording;
-use crate::text::Ending;
-use crate::text::list_lines::{CountsLine, EndpointLine, MatchLine, ParticipantLine};
+use crate::text::list_lines::{CountsLine, EndpointLine, MatchLine};
 use rtps_discovery::{Directory, Endpoint, Match};
 use rtps_ids::{Guid, Memory};
 use rtps_receiver::Walk;
+use rtps_report::{Ending, Recording};
 use std::alloc::{AllocError, Global};
 
 /// What `list` prints of a recording, and that it ends [`Ending::Clean`].
@@ -66,17 +65,15 @@ fn directory_text(alloc: Global, directory: &Directory<'_>, faults: u128) -> Res
     Ok(text)
 }
 
-/// Appends the lines of participants.
 fn push_participants(text: &mut String, guids: &[Guid]) -> Result<(), AllocError>
     ensures { OnOk result (string_bytes text.new ≡ string_bytes text.old ++ flat_map participant_line guids.now) }
 {
     for guid in guids {
-        write!(text, "{}", ParticipantLine(*guid))?;
+        writeln!(text, "participant {guid}")?;
     }
     Ok(())
 }
 
-/// Appends the lines of endpoints.
 fn push_endpoints(text: &mut String, endpoints: &[Endpoint<'_>]) -> Result<(), AllocError>
     ensures { OnOk result (string_bytes text.new
         ≡ string_bytes text.old ++ flat_map (λ endpoint. endpoint_line (endpoint_value endpoint)) endpoints.now) }
@@ -87,7 +84,6 @@ fn push_endpoints(text: &mut String, endpoints: &[Endpoint<'_>]) -> Result<(), A
     Ok(())
 }
 
-/// Appends the lines of matches.
 fn push_matches(text: &mut String, matches: &[Match]) -> Result<(), AllocError>
     ensures { OnOk result (string_bytes text.new ≡ string_bytes text.old ++ flat_map match_line matches.now) }
 {

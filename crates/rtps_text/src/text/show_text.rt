@@ -8,13 +8,12 @@ ghost use Rattle.rtps_wire.specs.Values.{body_value, item_value};
 ghost use Rattle.rtps_text.specs.ShowTail.{IsTailIn, says_of_state};
 ghost use Rattle.rtps_text.specs.ShowText.{IsShownWith, datagram_line, datagram_text, fragments_at as fragments_at_lem, outcomes_text, refusal_line, text_from};
 
-use crate::recording::Recording;
-use crate::text::Ending;
 use crate::text::item_lines::{push_data_frag, push_item, push_origin, push_skipped};
-use crate::text::parts::push_field;
 use rtps_fragments::Fragments;
 use rtps_ids::Memory;
+use rtps_lines::push_field;
 use rtps_receiver::State;
+use rtps_report::{Ending, Recording};
 use rtps_wire::{Body, DataFrag, Header, Item, Items, Refusal};
 use std::alloc::{AllocError, Global};
 use std::fmt;
@@ -41,7 +40,6 @@ pub fn show_text(
     Ok((text, Ending::Clean))
 }
 
-/// Appends the lines of all datagrams. The tail is there for its room.
 fn push_datagrams(
     text: &mut String,
     tail: &mut String,
@@ -58,7 +56,6 @@ fn push_datagrams(
     Ok(())
 }
 
-/// Appends the lines of a datagram of this number.
 fn push_datagram(
     text: &mut String,
     tail: &mut String,
@@ -79,7 +76,6 @@ fn push_datagram(
     }
 }
 
-/// Appends the line of a datagram that has a header.
 fn push_opened(text: &mut String, number: usize, header: &Header) -> Result<(), AllocError>
     ensures { OnOk result (string_bytes text.new ≡ string_bytes text.old ++ datagram_line number (Some header.now)) }
 {
@@ -87,7 +83,6 @@ fn push_opened(text: &mut String, number: usize, header: &Header) -> Result<(), 
     push_origin(text, header.version, header.vendor, header.prefix)
 }
 
-/// Appends the line of a datagram that has none.
 fn push_unread(text: &mut String, number: usize) -> Result<(), AllocError>
     ensures { OnOk result (string_bytes text.new ≡ string_bytes text.old ++ datagram_line number None) }
 {
@@ -157,7 +152,6 @@ fn interpret(state: &mut State, tail: &mut String, item: &Item<'_>)
     }
 }
 
-/// Whether a body says something of the state of what follows it.
 #[inline(always)]
 fn says_state(body: &Body<'_>) -> bool
     ensures { result ≡ says_of_state (body_value body.now) }

@@ -1,171 +1,83 @@
-ghost use Rattle.std.specs.Prelude.{◌≡◌, Some};
-ghost use Rattle.rtps_evidence.specs.Explanation.{explanation_value};
-ghost use Rattle.rtps_text.specs.WhyText.{acknowledged_line, amounts_line, announced_line, claimed_line, kind_text, names_line, pair_line, place_text, told_line};
+ghost use Rattle.std.specs.Prelude.{Some};
+ghost use Rattle.rtps_text.specs.WhyText.{gone_text, kept_text, not_received_line, told_before_text};
 
-use crate::text::audit_lines::VerdictText;
-use crate::text::list_lines::NameText;
-use rtps_evidence::{Announcement, Claim, Evidence, Explanation, Kind, Location, Teller};
+use rtps_evidence::{Location, NotReceived, Teller};
+use rtps_lines::{PlaceComma, PlaceText, kind_name};
 use std::fmt;
 
-/// The line of a pair and its verdict.
+/// The line of the least number that is not received and of what keeps it; nothing where all are received.
 #[derive(Drop)]
-pub struct PairLine<'a>(pub &'a Explanation<'a>);
+pub(crate) struct NotReceivedLine(pub(crate) Option<NotReceived>);
 
-impl fmt::Display for PairLine<'_> {
-    ghost output = { λ line. Some (pair_line (explanation_value line.0.now)) };
-
-    fn fmt<W: fmt::Write>(&self, f: &mut fmt::Formatter<W>) -> fmt::Result {
-        let pair = self.0.pair;
-        writeln!(
-            f,
-            "pair {} {} {}",
-            pair.writer,
-            pair.reader,
-            VerdictText(self.0.evidence.verdict)
-        )
-    }
-}
-
-/// The line of the topic and the type that a pair is about.
-#[derive(Drop)]
-pub struct NamesLine<'a>(pub &'a Explanation<'a>);
-
-impl fmt::Display for NamesLine<'_> {
-    ghost output = { λ line. Some (names_line line.0.now.topic.now line.0.now.type_name.now) };
-
-    fn fmt<W: fmt::Write>(&self, f: &mut fmt::Formatter<W>) -> fmt::Result {
-        writeln!(
-            f,
-            "  topic {} type {}",
-            NameText(self.0.topic),
-            NameText(self.0.type_name)
-        )
-    }
-}
-
-/// The line of the last number that the writer announced.
-#[derive(Drop)]
-pub struct AnnouncedLine(pub Option<Announcement>);
-
-impl fmt::Display for AnnouncedLine {
-    ghost output = { λ line. Some (announced_line line.0) };
-
-    fn fmt<W: fmt::Write>(&self, f: &mut fmt::Formatter<W>) -> fmt::Result {
-        match self.0 {
-            None => writeln!(f, "  announced nothing"),
-            Some(announcement) => writeln!(
-                f,
-                "  announced {} by {} {}",
-                announcement.number,
-                kind_name(announcement.kind),
-                PlaceText(announcement.place)
-            ),
-        }
-    }
-}
-
-/// The line of the greatest base with which the reader answered.
-#[derive(Drop)]
-pub struct AcknowledgedLine(pub Option<Claim>);
-
-impl fmt::Display for AcknowledgedLine {
-    ghost output = { λ line. Some (acknowledged_line line.0) };
-
-    fn fmt<W: fmt::Write>(&self, f: &mut fmt::Formatter<W>) -> fmt::Result {
-        match self.0 {
-            None => writeln!(f, "  acknowledged nothing"),
-            Some(claim) => writeln!(
-                f,
-                "  acknowledged below {} {}",
-                claim.below,
-                PlaceText(claim.place)
-            ),
-        }
-    }
-}
-
-/// The line of how many numbers have a payload, are gone without one, or have no word.
-#[derive(Drop)]
-pub struct AmountsLine<'a>(pub &'a Evidence<'a>);
-
-impl fmt::Display for AmountsLine<'_> {
-    ghost output = { λ line. Some (amounts_line line.0.now.payloads line.0.now.gone line.0.now.untold) };
-
-    fn fmt<W: fmt::Write>(&self, f: &mut fmt::Formatter<W>) -> fmt::Result {
-        let evidence = self.0;
-        writeln!(
-            f,
-            "  payloads {} gone {} untold {}",
-            evidence.payloads, evidence.gone, evidence.untold
-        )
-    }
-}
-
-/// The line of a number and of what told it first.
-#[derive(Drop)]
-pub struct ToldLine(pub i64, pub Option<Teller>);
-
-impl fmt::Display for ToldLine {
-    ghost output = { λ line. Some (told_line line.0 line.1) };
-
-    fn fmt<W: fmt::Write>(&self, f: &mut fmt::Formatter<W>) -> fmt::Result {
-        let number = self.0;
-        match self.1 {
-            None => writeln!(f, "  number {number} told nowhere"),
-            Some(teller) => writeln!(
-                f,
-                "  number {number} told by {} {}",
-                kind_name(teller.kind),
-                PlaceText(teller.place)
-            ),
-        }
-    }
-}
-
-/// The line of the answer that claimed a number too early; nothing where there is none.
-#[derive(Drop)]
-pub struct ClaimedLine(pub Option<Claim>);
-
-impl fmt::Display for ClaimedLine {
-    ghost output = { λ line. Some (claimed_line line.0) };
+impl fmt::Display for NotReceivedLine {
+    ghost output = { λ line. Some (not_received_line line.0) };
 
     fn fmt<W: fmt::Write>(&self, f: &mut fmt::Formatter<W>) -> fmt::Result {
         match self.0 {
             None => Ok(()),
-            Some(claim) => writeln!(
+            Some(kept) => writeln!(
                 f,
-                "  claimed below {} {}",
-                claim.below,
-                PlaceText(claim.place)
+                "  number {} may not be received: {}",
+                kept.number,
+                KeptText(kept.gone, kept.acknowledged)
             ),
         }
     }
 }
 
-/// Where a submessage stands.
+/// What keeps a number from being received.
 #[derive(Drop)]
-pub struct PlaceText(pub Location);
+struct KeptText(Option<Teller>, Option<Location>);
 
-impl fmt::Display for PlaceText {
-    ghost output = { λ text. Some (place_text text.0) };
+impl fmt::Display for KeptText {
+    ghost output = { λ text. Some (kept_text text.0 text.1) };
 
-    #[tactic(auto, unfolding(crate::specs::WhyText::place_text))]
+    #[tactic(auto, unfolding(crate::specs::WhyText::kept_text))]
     fn fmt<W: fmt::Write>(&self, f: &mut fmt::Formatter<W>) -> fmt::Result {
-        let place = self.0;
-        write!(f, "in datagram {} at {}", place.datagram, place.at)
+        match self.1 {
+            None => write!(f, "not acknowledged"),
+            Some(claim) => write!(f, "{}", ToldBefore(self.0, claim)),
+        }
     }
 }
 
-/// The name that `show` gives a submessage.
-#[tactic(auto, unfolding(crate::specs::WhyText::kind_text))]
-pub fn kind_name(kind: Kind) -> &'static str
-    ensures { result.now ≡ kind_text kind }
-{
-    match kind {
-        Kind::Data => "data",
-        Kind::Heartbeat => "heartbeat",
-        Kind::AckNack => "acknack",
-        Kind::Gap => "gap",
-        Kind::DataFrag => "data_frag",
+/// What told a number gone before it was acknowledged there, or that nothing told it.
+#[derive(Drop)]
+struct ToldBefore(Option<Teller>, Location);
+
+impl fmt::Display for ToldBefore {
+    ghost output = { λ text. Some (told_before_text text.0 text.1) };
+
+    #[tactic(auto, unfolding(crate::specs::WhyText::told_before_text))]
+    fn fmt<W: fmt::Write>(&self, f: &mut fmt::Formatter<W>) -> fmt::Result {
+        let claim = self.1;
+        match self.0 {
+            None => write!(
+                f,
+                "told nothing before datagram {} at {}",
+                claim.datagram, claim.at
+            ),
+            Some(teller) => write!(f, "{}", GoneBefore(teller, claim)),
+        }
+    }
+}
+
+/// What told a number gone before it was acknowledged there.
+#[derive(Drop)]
+struct GoneBefore(Teller, Location);
+
+impl fmt::Display for GoneBefore {
+    ghost output = { λ text. Some (gone_text text.0 text.1) };
+
+    #[tactic(auto, unfolding(crate::specs::WhyText::gone_text))]
+    fn fmt<W: fmt::Write>(&self, f: &mut fmt::Formatter<W>) -> fmt::Result {
+        let teller = self.0;
+        write!(
+            f,
+            "told gone by {} {} acknowledged {}",
+            kind_name(teller.kind),
+            PlaceComma(teller.place),
+            PlaceText(self.1)
+        )
     }
 }

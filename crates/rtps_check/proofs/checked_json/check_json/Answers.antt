@@ -1,35 +1,19 @@
-use Rattle.std.proofs.Common.{◌∙◌, ℕ, Bor, List, ap, ap₂, map, subst, sym}
-use Rattle.std.specs.String.{string_bytes}
-use Rattle.rtps_evidence.specs.Explanation.{IsExplainedBy, explanation_value}
-use Rattle.rtps_evidence.specs.declared.explanation.Explanation.{Explanation}
-use Rattle.rtps_fragments.specs.RecordedSamples.{intake_as}
-use Rattle.rtps_text.specs.Asked.{asked_value}
-use Rattle.rtps_text.specs.Findings.{ending_as}
-use Rattle.rtps_text.specs.JsonText.{IsJsonLine}
-use Rattle.rtps_check.specs.Causes.{causes_of, findings_in}
-use Rattle.rtps_check.specs.CheckJson.{status_json}
-use Rattle.rtps_check.specs.Parted.{IsPartedAs}
-use Rattle.rtps_check.specs.Totals.{totals_of}
-use Rattle.rtps_check.specs.declared.totals.Totals.{Totals}
+use Rattle.std.proofs.Common.{◌++◌, ◌∙◌, ap}
+use Rattle.json.specs.Tree.{json_tokens}
+use Rattle.rtps_report.specs.Asked.{asked_value}
+use Rattle.rtps_report.specs.FullReport.{report_value}
+use Rattle.rtps_lines.specs.CheckMembers.{check_members}
+use Rattle.rtps_lines.specs.JsonText.{object_of}
+use Rattle.rtps_lines.proofs.Offered.{check_within}
 use Rattle.rtps_check.proofs.checked_json.check_json.Goals as goal
 
+pub json_line-requires : goal.json_line-requires
+json_line-requires c = c.in_ok-push_object.ensures.before ∙ c.new-writer.ensures.before ∙ c.new.ensures.items
+
 pub returns : goal.returns
-returns g c =
-    let view : Bor (List ℕ) → List ℕ = λ datagram. datagram.now in
-    let asked = asked_value c.args.asked.now in
-    let parted = c.in_ok-parted.parted in
-    let same = ap (map view) c.deref.ensures.value ∙ c.in_ok-datagrams.ensures in
-    let whole = c.in_ok-whole.ensures _ c.in_ok-index.ensures in
-    let explains = subst (λ all. IsExplainedBy asked.from (intake_as asked.fragments all) c.in_ok-whole.whole) (sym same) whole in
-    let ending = c.ending_of-ending.result in
-    let explained = parted.explained in
-    let rows = map explanation_value explained.rows.items in
-    let recording = c.args.recording.now in
-    let totals = c.totals_of-totals.ensures ∙ ap₂ (λ from (items : List Explanation). totals_of from (map explanation_value items)) c.first_asked.ensures c.deref-2.ensures.value in
-    let causes = ap (map string_bytes) c.deref-3.ensures.value ∙ c.in_ok-causes.ensures ∙ ap (λ (all : Totals). causes_of all (findings_in ending)) totals in
-    record {
-      parted = parted;
-      parts = subst (λ all. IsPartedAs asked all parted) same (c.in_ok-parted.ensures explains);
-      is_line = subst (λ all. IsJsonLine (status_json ending all rows explained.counts recording) (string_bytes c.in_ok-text.text)) causes c.in_ok-text.ensures;
-      ends = c.ending_of-ending.ensures ∙ ap (ending_as asked) c.facts_of.ensures;
-    }
+returns c =
+    let report = c.args.report.now in
+    let asked = asked_value report.asked.now in
+    let json = object_of (check_members asked report.recording.now (report_value report)) in
+    c.json_line.ensures json (c.in_ok-push_object.ensures.tokens ∙ ap (λ all. all ++ json_tokens json) c.new-writer.ensures.tokens)
+    (check_within asked report.recording.now (report_value report))

@@ -4,8 +4,8 @@ use Rattle.std.specs.List.{flat_map}
 use Rattle.json.specs.Token.{Token, begin_array, begin_object, end_array, end_object, key, string}
 use Rattle.json.specs.Tree.{json_tokens}
 use Rattle.rtps_audit.specs.Placed.{answers_among, placed_in}
-use Rattle.rtps_text.specs.ListText.{guid_text}
-use Rattle.rtps_text.proofs.Offered.{six_parts, three_parts}
+use Rattle.rtps_parts.specs.Names.{guid_text}
+use Rattle.rtps_lines.proofs.Offered.{six_parts, three_parts}
 use Rattle.rtps_page.specs.ChartEntries.{base_json}
 use Rattle.rtps_page.proofs.EntryLemmas.{answers_tokens}
 use Rattle.rtps_page.proofs.chart_answers.push_answers.Goals as goal

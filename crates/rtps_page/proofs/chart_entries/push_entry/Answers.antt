@@ -3,8 +3,8 @@ use Rattle.std.proofs.lemmas.Result.{on_ok_weaker}
 use Rattle.std.specs.List.{flat_map}
 use Rattle.json.specs.Token.{Token, begin_array, end_array, number, string}
 use Rattle.json.specs.Tree.{json_tokens}
-use Rattle.rtps_text.specs.JsonText.{number_json}
-use Rattle.rtps_text.proofs.Offered.{seven_parts}
+use Rattle.rtps_lines.specs.JsonText.{number_json}
+use Rattle.rtps_lines.proofs.Offered.{seven_parts}
 use Rattle.rtps_page.specs.ChartEntries.{named_json}
 use Rattle.rtps_page.proofs.EntryLemmas.{entry_tokens}
 use Rattle.rtps_page.proofs.chart_entries.push_entry.Goals as goal

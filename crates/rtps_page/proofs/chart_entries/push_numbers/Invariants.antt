@@ -1,7 +1,7 @@
 use Rattle.std.proofs.Common.{◌≡◌, ◌++◌, take}
 use Rattle.std.specs.List.{flat_map}
 use Rattle.json.specs.Tree.{json_tokens}
-use Rattle.rtps_text.specs.JsonText.{number_json}
+use Rattle.rtps_lines.specs.JsonText.{number_json}
 use Rattle.rtps_page.proofs.chart_entries.push_numbers.Given as goal
 
 -- the numbers so far

@@ -8,7 +8,7 @@ use Rattle.json.specs.Json.{Json}
 use Rattle.json.specs.Token.{Token}
 use Rattle.json.specs.Tree.{json_tokens}
 use Rattle.rtps_receiver.specs.Values.{act_body_value}
-use Rattle.rtps_text.proofs.Offered.{two_parts}
+use Rattle.rtps_lines.proofs.Offered.{two_parts}
 use Rattle.rtps_page.specs.ChartEntries.{entries_at, entry_json, gone_json, members_of, one_gone_json}
 use Rattle.rtps_page.proofs.chart_entries.push_said.Goals as goal
 

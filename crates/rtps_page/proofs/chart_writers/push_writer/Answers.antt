@@ -4,8 +4,8 @@ use Rattle.std.specs.List.{flat_map}
 use Rattle.json.specs.Token.{Token, begin_array, begin_object, end_array, end_object, key, string}
 use Rattle.json.specs.Tree.{json_tokens}
 use Rattle.rtps_audit.specs.Placed.{PlacedValue, placed_in}
-use Rattle.rtps_text.specs.ListText.{guid_text}
-use Rattle.rtps_text.proofs.Offered.{seven_parts}
+use Rattle.rtps_parts.specs.Names.{guid_text}
+use Rattle.rtps_lines.proofs.Offered.{seven_parts}
 use Rattle.rtps_page.specs.ChartEntries.{entries_by}
 use Rattle.rtps_page.proofs.EntryLemmas.{entries_from, writer_tokens}
 use Rattle.rtps_page.proofs.chart_writers.push_writer.Goals as goal

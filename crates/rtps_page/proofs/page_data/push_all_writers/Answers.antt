@@ -6,10 +6,9 @@ use Rattle.json.specs.Tree.{json_tokens}
 use Rattle.rtps_ids.specs.declared.identity.Guid.{Guid}
 use Rattle.std.proofs.Common.{None}
 use Rattle.rtps_audit.specs.Placed.{placed_in}
-use Rattle.rtps_text.proofs.Offered.{four_parts}
+use Rattle.rtps_lines.proofs.Offered.{four_parts, mapped_tokens}
 use Rattle.rtps_page.specs.ChartRoom.{writers_behind}
 use Rattle.rtps_page.specs.PageData.{writer_json}
-use Rattle.rtps_page.proofs.PageLemmas.{mapped_tokens}
 use Rattle.rtps_page.proofs.page_data.push_all_writers.Goals as goal
 
 pub returns-clause-tokens : goal.returns-clause-tokens

@@ -3,8 +3,8 @@ use Rattle.std.proofs.lemmas.Result.{on_ok_weaker}
 use Rattle.json.specs.Token.{Token, key}
 use Rattle.json.specs.Tree.{json_tokens}
 use Rattle.rtps_audit.specs.Placed.{placed_in}
-use Rattle.rtps_text.specs.JsonText.{array_of}
-use Rattle.rtps_text.proofs.Offered.{two_parts}
+use Rattle.rtps_lines.specs.JsonText.{array_of}
+use Rattle.rtps_lines.proofs.Offered.{two_parts}
 use Rattle.rtps_page.specs.ChartRoom.{writers_behind}
 use Rattle.rtps_page.specs.PageData.{answers_json, writer_json}
 use Rattle.rtps_page.proofs.page_data.push_charts.Goals as goal

@@ -5,9 +5,9 @@ use Rattle.std.specs.String.{string_bytes}
 use Rattle.json.specs.Json.{string}
 use Rattle.json.specs.Token.{Token, boolean, key, number}
 use Rattle.json.specs.Tree.{json_tokens}
-use Rattle.rtps_text.specs.Asked.{are_read}
-use Rattle.rtps_text.specs.JsonText.{array_of}
-use Rattle.rtps_text.proofs.Offered.{seven_parts}
+use Rattle.rtps_report.specs.Asked.{are_read}
+use Rattle.rtps_lines.specs.JsonText.{array_of}
+use Rattle.rtps_lines.proofs.Offered.{seven_parts}
 use Rattle.rtps_page.specs.PageData.{expect_json}
 use Rattle.rtps_page.proofs.page_data.push_option_members.Goals as goal
 

@@ -3,8 +3,8 @@ use Rattle.std.proofs.lemmas.Result.{on_ok_weaker}
 use Rattle.json.specs.Token.{Token, key}
 use Rattle.json.specs.Tree.{json_tokens}
 use Rattle.rtps_discovery.specs.Directory.{settled_in}
-use Rattle.rtps_text.specs.JsonText.{array_of}
-use Rattle.rtps_text.proofs.Offered.{two_parts}
+use Rattle.rtps_lines.specs.JsonText.{array_of}
+use Rattle.rtps_lines.proofs.Offered.{two_parts}
 use Rattle.rtps_page.specs.PageData.{endpoint_json, guid_json}
 use Rattle.rtps_page.proofs.page_directory.push_directory.Goals as goal
 

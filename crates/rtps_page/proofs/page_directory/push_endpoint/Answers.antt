@@ -2,10 +2,9 @@ use Rattle.std.proofs.Common.{◌++◌, ◌∷◌, [], ◌∙◌, List, ap, sym}
 use Rattle.std.proofs.lemmas.Result.{on_ok_weaker}
 use Rattle.json.specs.Token.{Token, begin_object, end_object}
 use Rattle.rtps_discovery.specs.Endpoint.{endpoint_value}
-use Rattle.rtps_text.specs.JsonText.{tokens_of}
-use Rattle.rtps_text.proofs.Offered.{three_parts}
+use Rattle.rtps_lines.specs.JsonText.{tokens_of}
+use Rattle.rtps_lines.proofs.Offered.{object_tokens, three_parts}
 use Rattle.rtps_page.specs.PageData.{endpoint_members}
-use Rattle.rtps_page.proofs.PageLemmas.{object_tokens}
 use Rattle.rtps_page.proofs.page_directory.push_endpoint.Goals as goal
 
 pub returns-clause-tokens : goal.returns-clause-tokens

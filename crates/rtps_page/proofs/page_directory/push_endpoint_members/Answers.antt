@@ -2,8 +2,9 @@ use Rattle.std.proofs.Common.{◌∷◌, [], List, ℕ, ap, codes, ◌∙◌, �
 use Rattle.std.proofs.lemmas.Result.{on_ok_weaker}
 use Rattle.std.specs.List.{flat_map}
 use Rattle.json.specs.Token.{Token, key, string}
-use Rattle.rtps_text.specs.ListText.{durability_text, guid_text, octet_text, reliability_text, side_text}
-use Rattle.rtps_text.proofs.Offered.{six_parts}
+use Rattle.rtps_lines.specs.QosNames.{durability_text, reliability_text, side_text}
+use Rattle.rtps_parts.specs.Names.{guid_text, octet_text}
+use Rattle.rtps_lines.proofs.Offered.{six_parts}
 use Rattle.rtps_page.proofs.page_directory.push_endpoint_members.Goals as goal
 
 pub returns-clause-tokens : goal.returns-clause-tokens

@@ -3,9 +3,8 @@ use Rattle.std.specs.List.{flat_map}
 use Rattle.json.specs.Token.{Token, begin_array, end_array, key}
 use Rattle.json.specs.Tree.{json_tokens}
 use Rattle.rtps_ids.specs.declared.identity.Guid.{Guid}
-use Rattle.rtps_text.proofs.Offered.{four_parts}
+use Rattle.rtps_lines.proofs.Offered.{four_parts, mapped_tokens}
 use Rattle.rtps_page.specs.PageData.{guid_json}
-use Rattle.rtps_page.proofs.PageLemmas.{mapped_tokens}
 use Rattle.rtps_page.proofs.page_directory.push_participants.Goals as goal
 
 pub returns-clause-tokens : goal.returns-clause-tokens

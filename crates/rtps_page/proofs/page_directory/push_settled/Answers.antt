@@ -6,9 +6,8 @@ use Rattle.std.proofs.lemmas.List.Folds.{flat_map-map}
 use Rattle.rtps_discovery.specs.Directory.{settled_in}
 use Rattle.rtps_discovery.specs.Endpoint.{EndpointValue, endpoint_value}
 use Rattle.rtps_discovery.specs.declared.endpoint.Endpoint.{Endpoint}
-use Rattle.rtps_text.proofs.Offered.{four_parts}
+use Rattle.rtps_lines.proofs.Offered.{four_parts, mapped_tokens}
 use Rattle.rtps_page.specs.PageData.{endpoint_json}
-use Rattle.rtps_page.proofs.PageLemmas.{mapped_tokens}
 use Rattle.rtps_page.proofs.page_directory.push_settled.Goals as goal
 
 pub returns-clause-tokens : goal.returns-clause-tokens

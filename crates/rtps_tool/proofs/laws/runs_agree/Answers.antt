@@ -1,5 +1,5 @@
 use Rattle.rtps_text.specs.AuditText.{IsAuditedAs, IsAuditedFrom}
-use Rattle.rtps_text.specs.JsonText.{IsJsonTextAs, IsJsonTextFrom}
+use Rattle.rtps_text.specs.AuditJson.{IsJsonTextAs, IsJsonTextFrom}
 use Rattle.rtps_text.specs.ListText.{IsListed}
 use Rattle.rtps_text.specs.ShowText.{IsShown}
 use Rattle.rtps_text.specs.WhyText.{IsExplainedTextAs, IsExplainedTextFrom}

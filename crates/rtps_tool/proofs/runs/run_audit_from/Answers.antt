@@ -1,4 +1,4 @@
-use Rattle.rtps_text.specs.Asked.{plainly}
+use Rattle.rtps_report.specs.Asked.{plainly}
 use Rattle.rtps_text.specs.AuditText.{IsAuditedAs, IsAuditedFrom}
 use Rattle.rtps_text.proofs.Offered.{plainly_audited}
 use Rattle.rtps_tool.proofs.RunsLemmas.{runs_weaker, runs_with}

@@ -12,7 +12,7 @@ loop-guid-preserved c =
     let i = c.loop-guid.guid-index in
     let none : Guid = record { prefix = record { 0 = [] }; entity = record { 0 = [] } } in
     let start = string_bytes c.args.text.now in
-    c.in_ok-write.ensures.bytes
+    c.in_ok-writeln.ensures.bytes
     ∙ (ap (λ bytes. bytes ++ participant_line (get_or guids i none)) c.loop-guid.invariant
     ∙ (flat_map_more participant_line start (take i guids) (get_or guids i none)
     ∙ ap (λ (done : List Guid). start ++ flat_map participant_line done) (sym (take_more guids i none c.loop-guid-test.true))))

@@ -1,0 +1,12 @@
+use Rattle.std.proofs.Common.{◌≡◌, List, filter, take}
+use Rattle.rtps_receiver.specs.Values.{ActValue}
+use Rattle.rtps_report.specs.Filter.{IsFilterOf}
+use Rattle.rtps_report.specs.Rows.{RowsValue}
+use Rattle.rtps_report.specs.Reported.{is_row_kept}
+use Rattle.rtps_report.proofs.asked_report.kept_of.Given as goal
+
+-- those among the rows so far
+abbrev pub invariant-loop-row : goal.invariant-loop-row
+invariant-loop-row l =
+    (asked : RowsValue) (acts : List ActValue) → IsFilterOf asked acts l.wanted
+    → l.kept.items ≡ filter (is_row_kept asked acts l.directory) (take l.row-index l.rows)

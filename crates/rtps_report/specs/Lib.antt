@@ -1,0 +1,16 @@
+pub mod Advice
+pub mod Asked
+pub mod ByTopic
+pub mod Contacts
+pub mod DatagramSpan
+pub mod Filter
+pub mod Findings
+pub mod FullReport
+pub mod Laws
+pub mod NoteFacts
+pub mod Patterns
+pub mod Recording
+pub mod Reported
+pub mod Room
+pub mod Rows
+pub mod Totals

@@ -1,0 +1,127 @@
+ghost use Rattle.std.specs.Prelude.{◌≡◌, ◌==◌, ◌<◌, ◌^◌, length, Some, None};
+ghost use Rattle.std.specs.List.{slice_get};
+ghost use Rattle.std.specs.Option.{option_map};
+ghost use Rattle.rtps_report.specs.DatagramSpan.{AreSpans, pieces};
+ghost use Rattle.rtps_report.specs.Recording.{ignored_by};
+
+use crate::datagram_list::{DatagramList, Datagrams};
+use crate::datagram_span::DatagramSpan;
+use std::marker::Model;
+
+/// How many frames of a capture gave no datagram, by the reason, as they are told where any capture is read.
+#[derive(Clone, Copy, PartialEq, Eq, Debug)]
+pub struct Reasons {
+    /// They have fragments of packets that were never whole.
+    pub pieces: u64,
+    /// Their captured octets end before their packet does, or the file ends within them.
+    pub cut: u64,
+    /// They carry no UDP over IP.
+    pub other: u64,
+    /// Their interface is not declared, or its link type is not read.
+    pub links: Links,
+}
+
+/// Frames whose link type is not read.
+#[derive(Clone, Copy, PartialEq, Eq, Debug)]
+pub struct Links {
+    pub number: u64,
+    /// The link type of the first of them; None where there is none, or its interface is not declared.
+    pub first: Option<u32>,
+}
+
+/// Datagrams in the order in which they were sent, and of a capture how many of its frames were ignored.
+#[derive(Drop)]
+pub struct Recording {
+    list: DatagramList,
+    ignored: Option<u64>,
+    reasons: Option<Reasons>,
+}
+
+impl Model for Recording {
+    ghost use Rattle.rtps_report.specs.Recording.{RecordingValue};
+
+    ghost Value = { RecordingValue };
+
+    ghost view = { λ recording. record { datagrams = recording.list; ignored = recording.ignored; reasons = recording.reasons } };
+}
+
+impl Recording {
+    /// The recording that is these datagrams, which no frames carry.
+    pub fn of_text(list: DatagramList) -> Recording
+        ensures { result ≡ record { datagrams = list; ignored = None; reasons = None } }
+    {
+        Recording {
+            list,
+            ignored: None,
+            reasons: None,
+        }
+    }
+
+    /// The recording that is the datagrams that stand so in a capture, of which so many frames gave none.
+    pub fn of_capture(octets: Vec<u8>, spans: Vec<DatagramSpan>, ignored: u64) -> Recording
+        requires { AreSpans octets.items spans.items }
+        ensures { result ≡ record { datagrams = pieces octets.items spans.items; ignored = Some ignored; reasons = None } }
+    {
+        Recording {
+            list: DatagramList::at_spans(octets, spans),
+            ignored: Some(ignored),
+            reasons: None,
+        }
+    }
+
+    /// The recording that is the datagrams that stand so among octets of a capture, of which so many frames gave none.
+    pub fn of_any_capture(octets: Vec<u8>, spans: Vec<DatagramSpan>, reasons: Reasons) -> Recording
+        requires spans { AreSpans octets.items spans.items }
+        requires few { ignored_by reasons < 2 ^ 64 }
+        ensures { result ≡ record { datagrams = pieces octets.items spans.items; ignored = Some (ignored_by reasons); reasons = Some reasons } }
+    {
+        Recording {
+            list: DatagramList::at_spans(octets, spans),
+            ignored: Some(reasons.pieces + reasons.cut + reasons.other + reasons.links.number),
+            reasons: Some(reasons),
+        }
+    }
+
+    /// How many datagrams it has.
+    pub fn len(&self) -> usize
+        ensures { result ≡ length self.now.datagrams }
+    {
+        self.list.len()
+    }
+
+    /// Whether it has no datagram.
+    pub fn is_empty(&self) -> bool
+        ensures { result ≡ (length self.now.datagrams == 0) }
+    {
+        self.list.is_empty()
+    }
+
+    /// The octets of datagram `i`, counted from 0; None where there is no such datagram.
+    pub fn datagram(&self, i: usize) -> Option<&[u8]>
+        ensures { option_map (λ octets. octets.now) result ≡ slice_get self.now.datagrams i }
+    {
+        self.list.datagram(i)
+    }
+
+    /// Its datagrams, in their order. There are no more than a `usize` counts.
+    pub fn datagrams(&self) -> Datagrams<'_>
+        ensures all { result ≡ self.now.datagrams }
+        ensures few { length self.now.datagrams < 2 ^ 64 }
+    {
+        self.list.datagrams()
+    }
+
+    /// How many frames of a capture gave no datagram; None where it was no capture.
+    pub fn ignored(&self) -> Option<u64>
+        ensures { result ≡ self.now.ignored }
+    {
+        self.ignored
+    }
+
+    /// For which reasons they gave none; None where not any capture was read.
+    pub fn reasons(&self) -> Option<Reasons>
+        ensures { result ≡ self.now.reasons }
+    {
+        self.reasons
+    }
+}
