@@ -198,12 +198,13 @@ def section(rows, counts, first):
 
 # ---- what weakens the report
 
+def left_out_note(left_out):
+    return f"{amount(len(left_out), 'pair is', 'pairs are')} left out, not seen here (one process, shared memory, another host or interface)"
+
+
 def left_out_lines(left_out):
-    if not left_out:
-        return []
     topics = ', '.join(rows[0]['topic'] for rows in by_topic(left_out))
-    return [f"{amount(len(left_out), 'pair is', 'pairs are')} left out, not seen here "
-            f'(one process, shared memory, another host or interface): {topics}']
+    return [f'{left_out_note(left_out)}: {topics}'] if left_out else []
 
 
 # name, text of one, text of many, what to do
@@ -236,12 +237,24 @@ def noted(counts, name, one, many):
 
 
 def notes(rows, counts):
+    """what weakens the report, and what to do"""
     counts = counts | {'unsure': total(rows, unsure)}
-    lines = []
-    for name, one, many, advice in NOTES:
-        if counts.get(name, 0):
-            lines += [noted(counts, name, one, many), '  -> ' + advice]
-    return lines
+    return [(noted(counts, name, one, many), advice) for name, one, many, advice in NOTES if counts.get(name, 0)]
+
+
+def note_lines(rows, counts):
+    return [line for told, advice in notes(rows, counts) for line in (told, '  -> ' + advice)]
+
+
+# ---- the members of JSON that `audit --json` has not
+
+def advised(rows, counts, first):
+    """the rows with what to do for each that someone has to look at"""
+    return [row | {'advice': SENTENCES[advice_of(row, counts, first)] if is_noted(row) else None} for row in rows]
+
+
+def note_sentences(rows, left_out, counts):
+    return [left_out_note(left_out)] * bool(left_out) + [f'{told} -> {advice}' for told, advice in notes(rows, counts)]
 
 
 def because(rows, counts, expected):
@@ -275,5 +288,5 @@ def check_lines(rows, left_out, counts, first, expected):
     return [*first_lines(rows, left_out),
             *block(table([HEAD] + [cells(one) for one in topics]) if rows else []),
             *(line for one in topics for line in section(one, counts, first)),
-            *block(left_out_lines(left_out) + notes(rows, counts)),
+            *block(left_out_lines(left_out) + note_lines(rows, counts)),
             *block([f"not clean: {'; '.join(reasons)}" if reasons else 'clean'])]

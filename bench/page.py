@@ -18,14 +18,14 @@ import sys
 sys.dont_write_bytecode = True
 ROOT = os.path.dirname(os.path.dirname(os.path.abspath(__file__)))
 sys.path[:0] = [os.path.join(ROOT, 'bench'), os.path.join(ROOT, 'crates', 'rtps_page', 'page')]
+import check
 import parts
 import reference
-from asked import PLAIN, asked_by
+from asked import PLAIN, Asked, asked_by
 from random_recordings import some_asked, some_input
 
-# So many entries of acts and answers a page has room for, and so many rows without scripts of each of two kinds.
+# So many entries of acts and answers a page has room for.
 ENTRIES = 200000
-PLAIN_ROWS = 1000
 
 
 def audience(act):
@@ -99,19 +99,54 @@ def option_values(asked, any_capture):
             'topics': asked.topics, 'expect': asked.expect}
 
 
-def page_values(datagrams, asked=PLAIN, ignored=None):
-    """the data of a page as Python has it; where any capture was read, the ignored frames are told by their reasons"""
-    by_reason = isinstance(ignored, dict)
-    report = reference.report_values(datagrams, asked) | (ignored if by_reason else {} if ignored is None else {'ignored': ignored})
+# ---- what `check` says of these rows
+
+class Checked:
+    """the rows that are asked for, those that the recording cannot speak of, the counts, and why the run does not end clean"""
+    def __init__(self, datagrams, asked, ignored):
+        ignored = ignored if isinstance(ignored, dict) else {} if ignored is None else {'ignored': ignored}
+        self.first = asked.first
+        self.rows = reference.checked_rows(datagrams, asked)
+        every = Asked(asked.first, asked.topics, fragments=asked.fragments)
+        kept = {(row['writer'], row['reader']) for row in self.rows}
+        self.left_out = [row for row in reference.checked_rows(datagrams, every) if (row['writer'], row['reader']) not in kept] if asked.observed else []
+        self.report = reference.report_values(datagrams, asked) | ignored
+        # A datagram of one octet is refused, and is no reason to look at it.
+        self.counts = self.report | {'refused': self.report['refused'] - sum(len(d) < 2 for d in datagrams)}
+        self.because = self.reasons(asked)
+
+    def reasons(self, asked):
+        """why the run does not end clean: without --strict, only for rows that are not complete, or too few"""
+        if asked.strict:
+            return check.because(self.rows, self.counts, asked.expect or 0)
+        found = check.because([row | {'missed': 0} for row in self.rows], {}, asked.expect or 0)
+        return [reason for reason in found if reason != 'there is no pair']
+
+    def text(self):
+        lines = check.check_lines(self.rows, self.left_out, self.counts, self.first, 0)
+        lines[-1] = f"not clean: {'; '.join(self.because)}" if self.because else 'clean'
+        return ''.join(line + '\n' for line in lines)
+
+    def members(self):
+        """the members of `check --json`"""
+        head = {'status': 'unclean' if self.because else 'clean', 'because': self.because}
+        pairs = check.advised(self.report['pairs'], self.counts, self.first)
+        return head | self.report | {'pairs': pairs, 'notes': check.note_sentences(self.rows, self.left_out, self.counts)}
+
+
+# ---- the page
+
+def page_of(datagrams, asked=PLAIN, ignored=None):
+    """the text and the data of a page, as Python has it; where any capture was read, the ignored frames are told by their reasons"""
+    checked = Checked(datagrams, asked, ignored)
     participants, endpoints, _, _, _ = reference.discovery(datagrams, asked.fragments)
-    traffic = Traffic([reference.acts_of(d, asked.fragments) for d in datagrams], report['pairs'])
-    pairs = {(row['writer'], row['reader']) for row in traffic.charted(report['pairs'])}
-    shown = [row for row in report['pairs'] if (row['writer'], row['reader']) in pairs]
+    rows = checked.rows
+    traffic = Traffic([reference.acts_of(d, asked.fragments) for d in datagrams], rows)
+    pairs = {(row['writer'], row['reader']) for row in traffic.charted(rows)}
+    shown = [row for row in rows if (row['writer'], row['reader']) in pairs]
     writers = list(dict.fromkeys(row['writer'] for row in shown))
-    return {
-        'options': option_values(asked, by_reason),
-        'report': report,
-        'of_one_octet': sum(len(d) == 1 for d in datagrams),
+    return checked.text(), checked.members() | {
+        'options': option_values(asked, isinstance(ignored, dict)),
         'participants': [reference.guid_text(guid) for guid in participants],
         'endpoints': [endpoint_values(endpoint) for endpoint in endpoints],
         'writers': [{'guid': guid, 'acts': traffic.acts[octets_of(guid)]} for guid in writers],
@@ -125,40 +160,27 @@ def data_text(values):
     return text.replace('<', '\\u003c').replace('>', '\\u003e').replace('&', '\\u0026')
 
 
-def plain_name(name):
-    return name.replace('<', '\\x3c').replace('>', '\\x3e').replace('&', '\\x26')
+def escaped(text):
+    """a text as it stands in HTML"""
+    return text.replace('&', '&amp;').replace('<', '&lt;').replace('>', '&gt;')
 
 
-def plain_line(row):
-    announced = row['announced']['number'] if row['announced'] else '-'
-    below = row['acknowledged']['below'] if row['acknowledged'] else '-'
-    fields = [row['verdict'], row['number'], announced, below, row['payloads'], row['gone'], row['untold'],
-              plain_name(row['topic']), plain_name(row['type']), row['writer'], row['reader']]
-    return '\t'.join(map(str, fields)) + '\n'
-
-
-def plain_rows(rows):
-    """rows as lines of fields with a tabulator between them: the first that are not complete, then the first that are"""
-    turns = [[row for row in rows if (row['verdict'] == 'complete') == complete] for complete in (False, True)]
-    return ''.join(plain_line(row) for turn in turns for row in turn[:PLAIN_ROWS])
-
-
-def page_text(values):
+def page_text(text, values):
     head, middle, tail = parts.parts()
-    return head + plain_rows(values['report']['pairs']) + middle + data_text(values) + tail
+    return head + escaped(text) + middle + data_text(values) + tail
 
 
-def values_of(octets, asked=PLAIN, any_form=False):
-    """the data of the page of an input, or the last line of standard error"""
+def parts_of(octets, asked=PLAIN, any_form=False):
+    """the text and the data of the page of an input, or the last line of standard error"""
     found = reference.input_of(octets, any_form=any_form or asked.strict)
-    return found if isinstance(found, str) else page_values(found[0], asked, found[1])
+    return found if isinstance(found, str) else page_of(found[0], asked, found[1])
 
 
 def answer_as(octets, asked):
     """text, lines on standard error and status of `page`; the latter two are those of `audit`"""
     _, told, status = reference.answer_as('audit', octets, asked)
-    values = values_of(octets, asked)
-    return '' if isinstance(values, str) else page_text(values), told, status
+    found = parts_of(octets, asked)
+    return '' if isinstance(found, str) else page_text(*found), told, status
 
 
 def compare(program, count, seed):
@@ -181,15 +203,16 @@ def main():
         return compare(words[1], count, seed)
     view = words.pop(0) if words[0] in ('data', 'stored') else 'page'
     with open(words[-1], 'rb') as f:
-        values = values_of(f.read(), asked_by(words[:-1]), '--any' in words)
-    if isinstance(values, str):
-        print(f'page.py: {values}', file=sys.stderr)
+        found = parts_of(f.read(), asked_by(words[:-1]), '--any' in words)
+    if isinstance(found, str):
+        print(f'page.py: {found}', file=sys.stderr)
         return 2
+    text, values = found
     if view == 'stored':
-        sys.stdout.write(parts.stored(plain_rows(values['report']['pairs']), data_text(values)))
+        sys.stdout.write(parts.stored(escaped(text), data_text(values)))
     else:
-        sys.stdout.write(page_text(values) if view == 'page' else data_text(values) + '\n')
-    return int(any(row['verdict'] != 'complete' for row in values['report']['pairs']))
+        sys.stdout.write(page_text(text, values) if view == 'page' else data_text(values) + '\n')
+    return int(values['status'] != 'clean')
 
 
 if __name__ == '__main__':

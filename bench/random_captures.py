@@ -44,6 +44,8 @@ def some_whole(rng, payload):
         if rng.random() < 0.06:
             # What is no UDP, or cannot be, is so also where its captured octets end.
             words |= {'total': rng.choice([19, 20, 24, 65535]), rng.choice(['protocol', 'words', 'fragment']): rng.choice([1, 4, 5, 6, 17])}
+            if 'words' in words:
+                words['words'] = min(words['words'], 15)
         return 4, packet(payload, options=bytes(4 * rng.choice([0, 0, 0, 1, 10])), **words)
     rest, following = some_inner(rng, 6, HOST_6, payload), 17
     for _ in range(rng.choice([0, 0, 1, 1, 2, 3])):

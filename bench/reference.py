@@ -36,7 +36,7 @@ import tempfile
 
 import capture_reader
 from asked import GREATEST, PLAIN, Asked, asked_by
-from check import because, check_lines
+from check import advised, because, check_lines, note_sentences
 from fragments import by_writer, payloads_told, placed_samples, without_sample
 from random_captures import some_capture
 from random_recordings import A, B, START, some_asked, some_checked, some_delivery, some_input, text_of_datagrams
@@ -1025,11 +1025,12 @@ def check(octets, asked, as_json=False, limits=USUAL):
     # A datagram of one octet is refused, and is no reason to look at it.
     counts = report | reasons_of(octets, ignored, limits) | {'refused': report['refused'] - sum(len(d) < 2 for d in datagrams)}
     reasons = because(rows, counts, asked.expect or 0)
+    left_out = [row for row in all_rows if row not in rows]
     if as_json:
         head = {'status': 'unclean' if reasons else 'clean', 'because': reasons}
-        lines = [json.dumps(head | report, separators=(',', ':'))]
+        told = report | {'pairs': advised(report['pairs'], counts, asked.first)}
+        lines = [json.dumps(head | told | {'notes': note_sentences(rows, left_out, counts)}, separators=(',', ':'))]
     else:
-        left_out = [row for row in all_rows if row not in rows]
         lines = check_lines(rows, left_out, counts, asked.first, asked.expect or 0)
     return ''.join(line + '\n' for line in lines), int(bool(reasons))
 

@@ -104,7 +104,7 @@ def advice(tests):
     """what to do for a pair: the table of the guide is that of the second implementation, with the sentences of the definition"""
     sys.path.insert(0, os.path.join(ROOT, 'bench'))
     from check import ADVICE
-    guide, definition = (file_of(*path).decode() for path in (('docs', 'GUIDE.md'), ('crates', 'rtps_check', 'specs', 'Advice.antt')))
+    guide, definition = (file_of(*path).decode() for path in (('docs', 'GUIDE.md'), ('crates', 'rtps_report', 'specs', 'Advice.antt')))
     rows = ''.join(f'| `{verdict}` | {fits} | {sentence} |\n' for _, verdict, fits, sentence in ADVICE)
     tests.holds('the guide has the table of what to do', True, rows in guide)
     sentences = re.findall(r'^sentence_of \w+ = codes "(.*)"$', definition, re.MULTILINE)

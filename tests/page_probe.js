@@ -25,18 +25,30 @@ function countsShown() {
   return Object.fromEntries(lines.map((line) => [line.querySelector('dt').textContent, line.querySelector('.count').textContent]));
 }
 
-// The endpoints in their order: participant, side, entity id, names, and what is said of its matches.
+// The lines of what to look at: names, kind, how many pairs, and the advice.
+function topicsShown() {
+  return [...document.querySelectorAll('table.topics tbody tr')].map((row) => ({
+    topic: textsOf(row.cells[0], ':scope > :first-child > *'),
+    type: textsOf(row.cells[0], '.type > *'),
+    kind: row.className,
+    pairs: row.cells[1].querySelector('p').lastChild.textContent.trim().split(' ')[0],
+    advice: row.cells[2].textContent,
+  }));
+}
+
+// The endpoints in their order: participant, side, entity id, names, and the pairs that each is in.
 function endpointsShown() {
   return [...document.querySelectorAll('table.endpoints tbody')].flatMap((body) => {
     const rows = [...body.querySelectorAll('tr:not(.group)')].filter((row) => row.cells.length === 4);
-    return rows.map(({ cells: [head, names, qos, matches] }) => ({
+    return rows.map(({ cells: [head, names, qos, pairs] }) => ({
       prefix: body.querySelector('tr.group .guid').textContent,
       side: head.textContent.split(' ')[0],
       entity: head.querySelector('.guid').textContent,
       topic: textsOf(names, ':scope > :first-child > *'),
       type: textsOf(names, '.type > *'),
       qos: qos.textContent,
-      matches: matches.textContent,
+      links: textsOf(pairs, 'a'),
+      pairs: pairs.textContent,
     }));
   });
 }
@@ -44,13 +56,6 @@ function endpointsShown() {
 // Those of these elements that take no room, and so are not in sight.
 function hidden(selector) {
   return [...document.querySelectorAll(selector)].filter((element) => element.getClientRects().length === 0).map((element) => element.className);
-}
-
-// What would be said of the first row if the page had no room for what was said.
-function adviceWithoutActs() {
-  const report = new Report(valueOf(document.getElementById('data').textContent));
-  report.answers = [];
-  return Object.values(adviceOf(report, report.rows[0])).join(' ');
 }
 
 // ---- what each can read

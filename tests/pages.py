@@ -1,13 +1,15 @@
 #!/usr/bin/env python3
 """Tests the page of a report in a browser: what it shows, and what one can do with it.
 
-    tests/pages.py [--program PROGRAM] [--pictures FOLDER] [NAME ..]
+    tests/pages.py [--program PROGRAM] [--recordings FOLDER] [--pictures FOLDER] [NAME ..]
 
-Pages are made by bench/page.py, the second implementation, of recordings of examples/, of tests/recorded.py and of 90,000 rows.
-A PROGRAM has to write the same pages, octet for octet. Where no Chromium is installed, that is said, and only what needs none is
-tried. A NAME is a word of the name of a test below.
+Pages are made by bench/page.py, the second implementation, of recordings of examples/, of tests/recorded.py and of 90,000 rows;
+with --recordings of each recording of a folder, too, read as `check` reads it. A PROGRAM has to write the same pages, octet for
+octet. Where no Chromium is installed, that is said, and only what needs none is tried. A NAME is a word of the name of a test below.
 With --pictures the pages are kept as pictures of 1280 and 390 pixels, light and dark. The last line is 'N passed, M failed'.
 """
+import gzip
+import html
 import json
 import os
 import re
@@ -25,13 +27,16 @@ import reference
 from asked import asked_by
 from browser import SHIFT, Browser, Tab, browser_path
 
-EXAMPLES = sorted(name for name in os.listdir(os.path.join(ROOT, 'examples')) if name.endswith(('.rec', '.pcap')))
+RECORDINGS = '.rec', '.pcap', '.pcapng'
+EXAMPLES = sorted(name for name in os.listdir(os.path.join(ROOT, 'examples')) if name.endswith(RECORDINGS))
 MADE = 'robot', 'hostile', 'greatest', 'chatty', 'unmatched', 'none'
 # The most octets of a page of an example and of one of 90,000 pairs.
-EXAMPLE_SIZE, MANY_SIZE = 100_000, 60_000_000
-# What the page says only where it has all acts of a pair.
-OF_ACTS = 'No answer of this reader', 'sends it again', 'sent again'
+EXAMPLE_SIZE, MANY_SIZE = 100_000, 85_000_000
+# What `check` asks by itself.
+AS_CHECK = ['--any', '--fragments', '--observed', '--strict']
 PROBE = file_of('tests', 'page_probe.js').decode()
+# So many pairs of a page are chosen one after another.
+MOST_CHOSEN = 30
 GROUPED = re.compile(r'(?<=\d)(?=(?:\d{3})+$)')
 
 
@@ -88,37 +93,56 @@ def places_of(value):
     return own | {place for one in value.values() for place in places_of(one)}
 
 
+def octets_of(path):
+    """the octets of a file, unpacked where it is packed"""
+    with (gzip.open if path.endswith('.gz') else open)(path, 'rb') as f:
+        return f.read()
+
+
+def headline(values):
+    """the outcome at the top of a page"""
+    return f"Not clean: {'; '.join(values['because'])}" if values['because'] else 'Clean'
+
+
 class PageTests(Counts):
     """the tests, with a browser and the pages that were made"""
-    def __init__(self, room, program, pictures):
+    def __init__(self, room, program, recordings, pictures):
         super().__init__()
         self.room, self.program, self.pictures, self.browser, self.made = room, program, pictures, None, {}
+        names = sorted(os.listdir(recordings)) if recordings else []
+        self.recordings = {name: os.path.join(recordings, name) for name in names if name.removesuffix('.gz').endswith(RECORDINGS)}
+        self.names = *EXAMPLES, *MADE, *self.recordings
 
     # ---- pages
 
-    def values(self, name):
-        """the data of a page"""
+    def parts(self, name):
+        """the text and the data of a page"""
         if name not in self.made:
             if name == 'many':
-                names = [('rt/camera/points', 'sensor_msgs::msg::dds_::PointCloud2_')]
-                self.made[name] = recorded.many(300, names, recorded.some_verdict)
+                values = recorded.many(300, [('rt/camera/points', 'sensor_msgs::msg::dds_::PointCloud2_')], recorded.some_verdict)
+                self.made[name] = ''.join(map(recorded.text_of, values['pairs'])), values
             elif name == 'none':
-                self.made[name] = page.page_values([])
+                self.made[name] = page.page_of([])
             elif name in MADE:
-                self.made[name] = page.page_values(getattr(recorded, name)())
+                self.made[name] = page.page_of(getattr(recorded, name)())
+            elif name in self.recordings:
+                self.made[name] = page.parts_of(octets_of(self.recordings[name]), asked_by(AS_CHECK), True)
             else:
-                self.made[name] = page.values_of(file_of('examples', name))
+                self.made[name] = page.parts_of(file_of('examples', name), any_form=name.endswith('.pcapng'))
         return self.made[name]
+
+    def values(self, name):
+        return self.parts(name)[1]
 
     def path(self, name):
         path = os.path.join(self.room, f'{name}.html')
         if not os.path.exists(path):
             with open(path, 'w', encoding='utf-8') as f:
-                f.write(page.page_text(self.values(name)))
+                f.write(page.page_text(*self.parts(name)))
         return path
 
     def rows(self, name):
-        return self.values(name)['report']['pairs']
+        return self.values(name)['pairs']
 
     def open(self, name, address='', **how):
         tab = Tab(self.browser, **how)
@@ -171,8 +195,9 @@ class PageTests(Counts):
         rows = os.path.join(ROOT, 'tests', 'rows')
         for folder in os.path.join(ROOT, 'examples'), rows:
             for name in sorted(os.listdir(folder)):
-                if name.endswith(('.rec', '.pcap', '.pcapng')):
+                if name.endswith(RECORDINGS):
                     self.same_page(name, os.path.join(folder, name))
+                    self.same_page(name, os.path.join(folder, name), AS_CHECK)
         for words in (['--from', '2'], ['--strict'], ['--observed'], ['--expect', '2'], ['--topic', 'p*', '--topic', '<&>"\\\t\u00e9']):
             self.same_page('pose.rec', os.path.join(ROOT, 'examples', 'pose.rec'), words)
         for name in sorted(os.listdir(rows)):
@@ -184,30 +209,45 @@ class PageTests(Counts):
             with open(path, 'wb') as f:
                 f.write(text_of([] if name == 'none' else getattr(recorded, name)()))
             self.same_page(name, path)
+        for name, packed in self.recordings.items():
+            path = os.path.join(self.room, name.removesuffix('.gz'))
+            with open(path, 'wb') as f:
+                f.write(octets_of(packed))
+            self.same_page(name, path, AS_CHECK)
 
     def same_page(self, name, path, words=()):
         """the program writes the page of the second implementation, and ends as its audit does"""
-        words = [*words, *(['--any'] if path.endswith('.pcapng') else [])]
-        with open(path, 'rb') as f:
-            values = page.values_of(f.read(), asked_by(words), '--any' in words)
+        words = [*words, *(['--any'] if path.endswith('.pcapng') and '--any' not in words else [])]
+        found = page.parts_of(octets_of(path), asked_by(words), '--any' in words)
         got = subprocess.run([self.program, 'page', *words, path], capture_output=True)
         audit = subprocess.run([self.program, 'audit', *words, path], capture_output=True)
-        self.holds(f'{name}: the page with {words}', (page.page_text(values), audit.stderr, audit.returncode), (got.stdout.decode(), got.stderr, got.returncode))
+        self.holds(f'{name}: the page with {words}', (page.page_text(*found), audit.stderr, audit.returncode), (got.stdout.decode(), got.stderr, got.returncode))
 
     def text_of_a_page(self):
         head, middle, tail = parts.parts()
-        for name in (*EXAMPLES, *MADE):
-            values = self.values(name)
-            rows, data = page.plain_rows(values['report']['pairs']), page.data_text(values)
-            self.holds(f'{name}: a page is its parts', head + rows + middle + data + tail, page.page_text(values))
-            self.holds(f'{name}: no octet of a recording begins markup', [], [c for c in '<>&' if c in rows + data])
+        for name in self.names:
+            text, values = self.parts(name)
+            shown, data = page.escaped(text), page.data_text(values)
+            self.holds(f'{name}: a page is its parts', head + shown + middle + data + tail, page.page_text(text, values))
+            self.holds(f'{name}: no octet of a recording begins markup', [], [c for c in '<>&' if c in data] + [c for c in '<>' if c in shown])
+            self.holds(f'{name}: the text is read back', text, html.unescape(shown))
             self.holds(f'{name}: the data is read back', values, json.loads(data))
-        values = self.values('robot')
-        stored = parts.stored(page.plain_rows(values['report']['pairs']), page.data_text(values))
+        text, values = self.parts('robot')
+        stored = parts.stored(page.escaped(text), page.data_text(values))
         self.holds('page.html has the page of recorded.py robot: run bench/page.py stored', stored, parts.file_of('page.html'))
         for name in EXAMPLES:
             self.holds(f'{name}: its size', True, os.path.getsize(self.path(name)) <= EXAMPLE_SIZE)
         self.holds('90,000 pairs: their size', True, os.path.getsize(self.path('many')) <= MANY_SIZE)
+
+    def data_of_check(self):
+        """of what `check` asks, the page has the object and the text of `check`"""
+        for name in EXAMPLES:
+            octets = file_of('examples', name)
+            text, values = page.parts_of(octets, asked_by(AS_CHECK), True)
+            checked = json.loads(reference.check(octets, asked_by([]), True)[0])
+            own = {member: values[member] for member in checked}
+            self.holds(f'{name}: the object of check', checked, own)
+            self.holds(f'{name}: the text of check', reference.check(octets, asked_by([]))[0], text)
 
     def rows_with_charts(self):
         values = self.values('chatty')
@@ -218,13 +258,15 @@ class PageTests(Counts):
     # ---- what is shown
 
     def each_row(self):
-        for name in (*EXAMPLES, *MADE):
-            tab = self.open(name)
+        for name in self.names:
+            tab, values = self.open(name), self.values(name)
             self.holds(f'{name}: each row is that of the report', self.wanted(name), in_order(self.shown(tab)))
             order = grouped(sorted(enumerate(self.rows(name)), key=lambda one: KINDS.index(kind_of(one[1]))))
             self.holds(f'{name}: worst first', [f'pair-{at + 1}' for at, _ in order], self.ids(tab))
-            counts = {key: counted(n) for key, n in self.values(name)['report'].items() if key != 'pairs'}
+            counts = {key: counted(n) for key, n in values.items() if isinstance(n, int)}
             self.holds(f'{name}: each count is that of the report', counts, tab.evaluate('countsShown()'))
+            self.holds(f'{name}: the outcome', [headline(values)] * 2, [self.text(tab, '#outcome'), tab.evaluate('document.title').removesuffix(': rtps-audit')])
+            self.holds(f'{name}: what weakens the report', values['notes'], tab.evaluate("textsOf(document, '#notes li')"))
             self.leave(name, tab)
 
     def working_copy(self):
@@ -237,118 +279,105 @@ class PageTests(Counts):
         tab.close()
 
     def outcome(self):
+        """in words that are written out here"""
         wanted = {
-            'robot': '2 of 4 pairs are complete, and 1 sample was missed', 'none': 'No pair was audited', 'unmatched': 'No pair was audited',
-            'open.rec': 'The only pair is not complete, and 1 sample was missed', 'gone.rec': 'The only pair is complete',
+            'robot': ('Not clean: 2 pairs are not complete', '2 of 4 pairs are complete. The recording proves 130 of 150 numbers received.'),
+            'none': ('Clean', 'No pair was audited.'),
+            'open.rec': ('Not clean: 1 pair is not complete', '0 of 1 pair is complete. The recording proves 2 of 3 numbers received.'),
+            'gone.rec': ('Clean', '1 of 1 pair is complete. The recording proves 0 of 3 numbers received.'),
         }
-        for name, sentence in wanted.items():
+        for name, (sentence, received) in wanted.items():
             tab = self.open(name)
             self.holds(f'{name}: the outcome', sentence, self.text(tab, '#outcome'))
-            self.holds(f'{name}: the title', f'{sentence}: rtps-audit', tab.evaluate('document.title'))
+            self.holds(f'{name}: what is received', received, self.text(tab, '#received'))
             tab.close()
+        tab = self.open('unmatched')
+        self.holds('no pair: what to do', ' '.join(self.parts('unmatched')[0].split('\n')[:2]), self.text(tab, '#shown').replace(' ->', '   ->'))
+        self.leave('unmatched', tab)
 
     def asked(self):
         """the options that were given"""
         given = {'from': 7, 'any': True, 'fragments': True, 'observed': True, 'strict': True, 'topics': ["rt/*", "<&'"], 'expect': 9}
-        self.made['asked'] = self.values('robot') | {'options': given}
+        self.made['asked'] = self.parts('robot')[0], self.values('robot') | {'options': given}
         tab = self.open('asked')
         words = "--from 7 --any --fragments --observed --strict --topic 'rt/*' --topic '<&'' --expect 9"
         self.holds('the options are told', f'rtps-audit, a report of the numbers from 7 on, with {words}', self.text(tab, '#asked'))
-        self.holds('fewer pairs than expected', '4 pairs. 9 were expected.', self.text(tab, '#warnings li').split(' See')[0])
         self.leave('asked', tab)
 
     def first_screen(self):
-        """of a report with an open and an unfounded pair: which topics, since when, and what to do"""
+        """of a report with an open and an unfounded pair: which topics, what happened, and what to do"""
         tab = self.open('robot')
         lines = tab.evaluate('''[...document.querySelectorAll('table.topics tbody tr')].map((row) => ({
             isInSight: row.getBoundingClientRect().bottom <= innerHeight, cells: [...row.cells].map((cell) => cell.innerText) }))''')
         self.holds('robot: each topic is in sight', [True] * 3, [line['isInSight'] for line in lines])
-        wanted = (('/tf', 'acknowledged sample 12', 'datagram 166', 'tcpdump'), ('/scan', 'samples 24 to 40', 'datagram 159', 'look at the reader'),
-                  ('/odom', 'missed sample 19', 'datagram 115', 'history depth'))
+        wanted = (('/tf', 'acknowledged sample 12'), ('/scan', 'samples 24 to 40'), ('/odom', 'missed sample 19'))
         for line, words in zip(lines, wanted):
             self.holds(f'robot: the line of {words[0]}', [], [word for word, cell in zip(words, line['cells']) if word not in cell])
         self.leave('robot', tab)
 
-    def weaknesses(self):
-        wanted = {
-            'none': ['No pairs.'], 'unmatched': ['No pairs.', '4 topics kept apart.'], 'fragments.rec': ['2 fragments.'], 'pose.rec': [],
-            'gone.rec': ['1 complete pair with numbers gone.'], 'robot': ['1 topic kept apart.'], 'loopback.pcap': ['3 frames ignored.'],
-        }
-        for name, sentences in wanted.items():
-            tab = self.open(name)
-            self.holds(f'{name}: what weakens the report', sentences, tab.evaluate("textsOf(document, '#warnings li > b')"))
+    def topics_to_look_at(self):
+        """rows with advice, by topic and advice, and no others"""
+        for name in self.names:
+            tab, wanted = self.open(name), {}
+            for row in self.rows(name):
+                if row['advice'] is not None:
+                    key = row['topic'], row['type'], kind_of(row), row['advice']
+                    wanted[key] = wanted.get(key, 0) + 1
+            tab.evaluate("document.querySelectorAll('#topics > .more').forEach((button) => button.click())")
+            shown = {(one['topic'][-1], one['type'][-1], one['kind'], one['advice']): one['pairs'] for one in tab.evaluate('topicsShown()')}
+            self.holds(f'{name}: what to look at', {key: counted(n) for key, n in wanted.items()}, shown)
             tab.close()
 
     def chosen_pairs(self):
-        for name in ('robot', 'conflict.rec', 'unfounded.rec', 'gone.rec', 'greatest', 'cyclone_reliable.rec'):
+        for name in self.names:
             tab = self.open(name)
-            for at, row in enumerate(self.rows(name)):
+            for at, row in enumerate(self.rows(name)[:MOST_CHOSEN]):
                 self.choose(tab, at)
                 text = self.text(tab, 'tr.detail .detail-words')
                 self.holds(f'{name}: pair {at + 1} tells each place', [], sorted(place for place in places_of(row) if place not in text))
+                advice = [] if row['advice'] is None else [row['advice']]
+                self.holds(f'{name}: pair {at + 1} has its advice', advice, tab.evaluate("textsOf(document, 'tr.detail .advice')"))
                 self.holds(f'{name}: one pair is chosen', 1, self.found(tab, 'tr.detail'))
             self.leave(name, tab)
 
-    def advice(self):
-        """what is to be done in each case; and where the page has no room for what was said"""
-        for words, datagrams in recorded.advised().items():
-            self.made['advised'] = page.page_values(datagrams)
-            with open(os.path.join(self.room, 'advised.html'), 'w', encoding='utf-8') as f:
-                f.write(page.page_text(self.made['advised']))
-            tab = self.open('advised', '#pair-1')
-            self.holds(f'the advice: {words}', True, words in self.text(tab, '.advice'))
-            unknown = tab.evaluate('adviceWithoutActs()')
-            self.holds(f'the advice without acts: {words}', [], [said for said in OF_ACTS if said in unknown])
-            tab.close()
-
     def participants(self):
-        for name in (*EXAMPLES, *MADE):
+        for name in self.names:
             values, tab = self.values(name), self.open(name)
-            found = reference.list_text(self.datagrams(name))
-            wanted = {(line.split()[1], line.split()[0]) for line in found if line.startswith(('writer', 'reader'))}
+            tab.evaluate("(() => { for (let more; (more = document.querySelector('#participants > .more:not([hidden])')); ) more.click(); })()")
             shown = {f"{one['prefix']}.{one['entity']}": one for one in tab.evaluate('endpointsShown()')}
-            self.holds(f'{name}: each endpoint is shown', sorted(wanted), sorted((guid, one['side']) for guid, one in shown.items()))
-            names = {one['guid']: (one['topic'], one['type'], f"{one['reliability']}, {one['durability']}") for one in values['endpoints']}
-            self.holds(f'{name}: with its names', names, {guid: (one['topic'][-1], one['type'][-1], one['qos']) for guid, one in shown.items()})
-            matches = [guid for line in found if line.startswith('pair ') for guid in line.split()[1:3]]
-            told = {guid: 0 if one['matches'].startswith('no match') else int(one['matches'].split()[0]) for guid, one in shown.items()}
-            self.holds(f'{name}: what matches', {guid: matches.count(guid) for guid in shown}, told)
+            names = {one['guid']: (one['side'], one['topic'], one['type'], f"{one['reliability']}, {one['durability']}") for one in values['endpoints']}
+            self.holds(f'{name}: each endpoint with its names', names,
+                       {guid: (one['side'], one['topic'][-1], one['type'][-1], one['qos']) for guid, one in shown.items()})
+            pairs = {guid: [f'pair {at}' for at, row in enumerate(values['pairs'], 1) if guid in (row['writer'], row['reader'])] for guid in shown}
+            self.holds(f'{name}: the pairs of each endpoint', {guid: (found[:3], max(0, len(found) - 3)) for guid, found in pairs.items()},
+                       {guid: ([link.split(':')[0] for link in one['links']], more_of(one['pairs'])) for guid, one in shown.items()})
+            self.holds(f'{name}: an endpoint in no pair', [], [guid for guid, found in pairs.items() if not found and shown[guid]['pairs'] != 'in no pair'])
             tab.close()
-
-    def datagrams(self, name):
-        if name == 'none':
-            return []
-        return getattr(recorded, name)() if name in MADE else reference.input_of(file_of('examples', name))[0]
-
-    def kept_apart(self):
-        tab = self.open('unmatched')
-        shown = {one['topic'][-1]: one['matches'] for one in tab.evaluate('endpointsShown()') if one['side'] == 'writer'}
-        wanted = {
-            'rt/scan': 'asks for reliable, and the writer offers best-effort', 'rt/map': 'asks for transient-local, and the writer offers volatile',
-            'rt/both': 'offers best-effort; the reader asks for transient-local', 'rt/typed': 'the type of the reader is F',
-            'rt/images': '(best-effort: not audited)', 'rt/alone': 'No reader of this topic matches.',
-        }
-        self.holds('what keeps endpoints apart', [], [topic for topic, words in wanted.items() if words not in shown[topic]])
-        self.leave('unmatched', tab)
 
     def hostile_names(self):
         tab = self.open('hostile')
         self.holds('hostile names make no element', [0, 0, 0], [self.found(tab, name) for name in ('img', 'b b', 'main script')])
         self.holds('hostile names run nothing', [], tab.events('Page.javascriptDialogOpening'))
-        ends = parts.parts()[2].count('<script>')
-        self.holds('hostile names end no script', ends + 1, self.found(tab, 'script'))
+        scripts = sum(part.count('<script') for part in parts.parts())
+        self.holds('hostile names end no script', scripts, self.found(tab, 'script'))
         self.leave('hostile', tab)
 
     def without_scripts(self):
-        for name in ('robot', 'hostile', 'none'):
+        """the text of `check`, which is hidden on the screen where scripts run"""
+        for name in (*MADE, 'open.rec'):
             tab = self.open(name, scripts=False)
             tree = tab.send('DOM.getDocument')['root']['nodeId']
-            found = tab.send('DOM.querySelector', nodeId=tree, selector='pre#rows')['nodeId']
-            self.holds(f'{name}: rows are shown without scripts', True, found != 0)
+            found = tab.send('DOM.querySelector', nodeId=tree, selector='#text pre')['nodeId']
+            height = tab.send('DOM.getBoxModel', nodeId=found)['model']['height']
+            self.holds(f'{name}: the text is shown without scripts', True, height > 20)
             text = tab.send('DOM.getOuterHTML', nodeId=found)['outerHTML'].split('>', 1)[1][:-len('</pre>')]
-            self.holds(f'{name}: as plain lines', page.plain_rows(self.rows(name)), text.split('\n', 1)[1])
+            self.holds(f'{name}: it is that of check', self.parts(name)[0], html.unescape(text))
             self.picture(tab, f'{name}_without_scripts')
             self.leave(name, tab)
+            tab = self.open(name)
+            self.holds(f'{name}: the text is not in sight where scripts run', (1, self.parts(name)[0]),
+                       (len(tab.evaluate("hidden('#text pre')")), self.text(tab, '#text pre')))
+            tab.close()
 
     # ---- what one can do
 
@@ -512,12 +541,30 @@ class PageTests(Counts):
         tab.resize(700, 1000)
         tab.settle()
         self.holds('it fits on paper', 700, tab.evaluate('document.documentElement.scrollWidth'))
-        self.holds('what is on paper', [], tab.evaluate("hidden('table.pairs, tr.pair, tr.pair td, tr.detail, canvas')"))
+        self.holds('what is on paper', [], tab.evaluate("hidden('table.pairs, tr.pair, tr.pair td, tr.detail, canvas, #text pre')"))
         self.holds('what is not on paper', 2, tab.evaluate("hidden('.tools, .controls').length"))
         self.holds('it is light on paper', [], tab.evaluate('faintTexts(4.5)')['faint'])
         self.holds('it is white on paper', [255, 255, 255, 1], tab.evaluate('behind(document.body)'))
         self.picture(tab, 'robot_on_paper', True)
         self.leave('robot', tab)
+
+    def more_rows(self):
+        """where the last ones are shown, the focus goes to the first of them"""
+        values = recorded.many(21, [('rt/some', 'Some')], recorded.some_verdict)
+        self.made['some'] = ''.join(map(recorded.text_of, values['pairs'])), values
+        tab = self.open('some')
+        focused = lambda element: tab.evaluate(f"document.activeElement === {element}")
+        self.holds('441 pairs: the first ones', '441 pairs; the first 100 are shown.', self.text(tab, '#shown'))
+        tab.click('#pairs > button.more')
+        self.holds('441 pairs: all of them', '441 pairs.', self.text(tab, '#shown'))
+        self.holds('441 pairs: the focus', True, focused("document.querySelectorAll('tr.pair > th a')[100]"))
+        tab.click('#participants > button.more')
+        self.holds('21 participants: the focus', True, focused("document.querySelectorAll('.endpoints tr.group')[20]"))
+        self.leave('some', tab)
+        tab = self.open('many')
+        tab.click('#pairs > button.more')
+        self.holds('90,000 pairs: the focus stays', True, focused("document.querySelector('#pairs > button.more')"))
+        self.leave('many', tab)
 
     def many_pairs(self):
         tab = Tab(self.browser)
@@ -536,6 +583,7 @@ class PageTests(Counts):
         self.holds('90,000 pairs: more of them', '90,000 pairs; the first 600 are shown.', self.text(tab, '#shown'))
         self.choose(tab, 77776)
         self.holds('90,000 pairs: one by its address', [row_wanted(77776, self.rows('many')[77776])], self.shown(tab))
+        self.holds('90,000 pairs: its advice', [self.rows('many')[77776]['advice']], tab.evaluate("textsOf(document, 'tr.detail .advice')"))
         self.leave('many', tab)
 
     def time_to_filter(self, tab, text):
@@ -554,7 +602,7 @@ class PageTests(Counts):
             tab.picture(os.path.join(self.pictures, f'{name}.png'), whole)
 
     def taken(self):
-        for name in (*EXAMPLES, *MADE, 'many'):
+        for name in (*self.names, 'many'):
             for width in (1280, 390):
                 for dark in (False, True):
                     look = f'{name}_{width}_{"dark" if dark else "light"}'
@@ -566,6 +614,12 @@ class PageTests(Counts):
                     tab.close()
 
 
+def more_of(text):
+    """the number of `and N more` at the end of a text, or 0"""
+    found = re.search(r'and ([\d,]+) more$', text)
+    return int(found.group(1).replace(',', '')) if found else 0
+
+
 def is_heard(act, reader):
     """whether the audience of an entry has a reader"""
     to = act[5:] if act[2] == 'gone' else act[4:]
@@ -573,11 +627,11 @@ def is_heard(act, reader):
     return prefix in ('', reader[:24]) and entity in ('', reader[25:])
 
 
-WITHOUT_BROWSER = 'constants', 'pages_of_the_program', 'text_of_a_page', 'rows_with_charts'
+WITHOUT_BROWSER = 'constants', 'pages_of_the_program', 'text_of_a_page', 'data_of_check', 'rows_with_charts'
 IN_BROWSER = (
-    'each_row', 'working_copy', 'outcome', 'asked', 'first_screen', 'weaknesses', 'chosen_pairs', 'advice', 'participants', 'kept_apart', 'hostile_names',
+    'each_row', 'working_copy', 'outcome', 'asked', 'first_screen', 'topics_to_look_at', 'chosen_pairs', 'participants', 'hostile_names',
     'without_scripts', 'filters', 'orders', 'clicks', 'keyboard', 'charts', 'pointer', 'charts_left_out', 'contrast', 'widths', 'paper',
-    'many_pairs',
+    'more_rows', 'many_pairs',
 )
 
 
@@ -610,12 +664,12 @@ def value_of(words, option):
 
 def main():
     words = sys.argv[1:]
-    program, pictures = value_of(words, '--program'), value_of(words, '--pictures')
+    program, recordings, pictures = value_of(words, '--program'), value_of(words, '--recordings'), value_of(words, '--pictures')
     if pictures:
         os.makedirs(pictures, exist_ok=True)
     room = tempfile.mkdtemp(prefix='pages')
     try:
-        tests = PageTests(room, program and os.path.realpath(program), pictures)
+        tests = PageTests(room, program and os.path.realpath(program), recordings, pictures)
         run(tests, words)
     finally:
         shutil.rmtree(room)

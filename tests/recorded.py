@@ -8,6 +8,7 @@ import sys
 
 sys.path.insert(0, os.path.join(os.path.dirname(os.path.dirname(os.path.realpath(__file__))), 'bench'))
 import make
+from check import SENTENCES
 from make import ack_nack, data, gap, header, heartbeat, to
 
 RELIABLE, BEST_EFFORT = 2, 1
@@ -192,40 +193,6 @@ def unmatched():
     return [*found, *typed, one.endpoint(WRITERS, b'rt/alone', b'G')[0]]
 
 
-def relayed(topic, number, base):
-    """a sample and the answer to it in one datagram"""
-    source = b'\x0c\0\0\x14' + bytes(4) + b'\2\5\0\0' + topic.reader
-    return topic.sent(number) + source + to(topic.writer) + ack_nack(topic.receiver, topic.sender, base)
-
-
-def advised():
-    """recordings of one pair, each with words of the advice that it calls for"""
-    pair = Topic(b'rt/pose', b'Pose', Participant(0x0a), Participant(0x1b))
-    one, asks, lacks = pair.sent(1), pair.asks(1, 1), pair.answers(1, 1)
-    other = header(pair.writer) + data(pair.sender, 1, b'\0\1\0\0another')
-    cases = [
-        ('Record both directions', [one, asks]),
-        ('else it was not sent', [asks, pair.answers(1)]),
-        ('The reader did not answer that yet: record longer. Raise', [one, asks, lacks, pair.asks(2, 1)]),
-        ('It was sent again in datagram 6', [one, asks, lacks, pair.resent(1)]),
-        ('The writer does not resend', [one, asks, lacks]),
-        ('Record to a quiet end', [one, asks, pair.answers(2), pair.sent(2)]),
-        ('The reader has ended', [one, asks, pair.answers(2), pair.sent(2), pair.asks(1, 2)]),
-        ('two processes use one GUID', [one, other, asks, pair.answers(2)]),
-        ('A relay packed them', [relayed(pair, 1, 2)]),
-        ('on one interface', [pair.answers(2), one]),
-        ('another writer had this GUID', [one, pair.answers(3)]),
-        ('try --from 3', [pair.sent(3), pair.answers(4)]),
-        ('Frames were dropped', [*(pair.sent(n) for n in range(1, 31) if n != 12), pair.answers(31)]),
-        ('Did it write at all', []),
-        ('Raise the writer’s history', [one, asks, lacks, pair.asks(2, 1), pair.answers(2)]),
-        ('It is no fault if the reader joined late', [pair.asks(2, 1), pair.answers(2)]),
-        ('Every sample has reached the reader', [one, asks, pair.answers(2)]),
-        ('Nothing here shows that it lacked one', [one, pair.asks(2, 1), pair.answers(2)]),
-    ]
-    return {words: [*pair.announced, *sent] for words, sent in cases}
-
-
 # ---- many rows
 
 def many(side, names, verdict_of):
@@ -243,11 +210,20 @@ def many(side, names, verdict_of):
                 pairs.append({'writer': writer, 'reader': reader, 'topic': topic, 'type': kind} | verdict_of(len(pairs)))
                 answers.append({'writer': writer, 'reader': reader, 'bases': [[20, 36, pairs[-1]['acknowledged']['below']]]})
     endpoints.sort(key=lambda endpoint: endpoint['guid'])
+    incomplete = sum(row['verdict'] != 'complete' for row in pairs)
     return {
+        'status': 'unclean', 'because': [f'{incomplete:,} pairs are not complete'], 'pairs': pairs,
+        'datagrams': 20, 'refused': 0, 'skipped': 0, 'fragments': 0, 'undirected': 0, 'unsettled': 0, 'notes': [],
         'options': {'from': 1, 'any': False, 'fragments': False, 'observed': False, 'strict': False, 'topics': [], 'expect': None},
-        'report': {'pairs': pairs, 'datagrams': 20, 'refused': 0, 'skipped': 0, 'fragments': 0, 'undirected': 0, 'unsettled': 0},
-        'of_one_octet': 0, 'participants': [], 'endpoints': endpoints, 'writers': writers, 'answers': answers,
+        'participants': [], 'endpoints': endpoints, 'writers': writers, 'answers': answers,
     }
+
+
+def text_of(row):
+    """a text as long as that of `check` on a row that is not clean"""
+    judged = f"  {row['writer']} {row['reader']} {row['verdict']} {row['number']}, received {row['received']} of 18\n"
+    lines = ['acknowledged below 12 in datagram 20 at 36', 'number 12 told by data in datagram 12 at 20', 'not asked since its last answer']
+    return '' if row['advice'] is None else judged + ''.join(f'    {line}\n' for line in [*lines, f"-> {row['advice']}"])
 
 
 def some_verdict(at):
@@ -259,12 +235,13 @@ def some_verdict(at):
     }
     if at % 3 == 2:
         claim = {'below': 19, 'datagram': 20, 'at': 36}
-        return {'verdict': 'complete', 'number': 18} | common | {'acknowledged': claim, 'received': 18, 'not_received': None}
+        return {'verdict': 'complete', 'number': 18} | common | {'acknowledged': claim, 'received': 18, 'not_received': None, 'advice': None}
     told = {'by': 'data', 'datagram': 12, 'at': 20}
     if at % 1000 == 1:
         claim = {'below': 13, 'datagram': 11, 'at': 36}
-        return {'verdict': 'unfounded', 'number': 12, 'datagram': 11} | common | {'claimed': claim, 'told': told}
-    return {'verdict': 'open', 'number': 12} | common | {'told': told, 'asked_since': 0, 'last_asked': None}
+        late = {'claimed': claim, 'told': told, 'advice': SENTENCES['late']}
+        return {'verdict': 'unfounded', 'number': 12, 'datagram': 11} | common | late
+    return {'verdict': 'open', 'number': 12} | common | {'told': told, 'asked_since': 0, 'last_asked': None, 'advice': SENTENCES['not_asked']}
 
 
 RECORDINGS = {'robot': robot, 'hostile': hostile, 'greatest': greatest, 'chatty': chatty, 'unmatched': unmatched}

@@ -1,15 +1,14 @@
 -- What was read so far is sound, frame by frame: what is kept came in fragments, and what was given was carried.
 use Rattle.std.proofs.Common.{◌≡◌, ℕ, ◌+◌, ◌-◌, ◌≤◌, Bool, true, false, List, [], ◌∷◌, ◌++◌, length, drop, take, refl, sym, ap, ap₂, subst, ◌∙◌, inl, append_assoc, append-nil, arith}
-use Rattle.std.specs.Prelude.{IfSome, None, Option, Some, Ok, Err, Result, nat_lt, if◌then◌else◌, option_to_list, slice_range}
+use Rattle.std.specs.Prelude.{IfSome, None, Option, Some, Ok, Err, Result, nat_lt, if◌then◌else◌, option_map, option_to_list, slice_range}
 use Rattle.std.specs.Ordering.{is_eq}
 use Rattle.std.proofs.Math.Seq.{drop-append-add}
 use Rattle.std.proofs.lemmas.List.{length-append}
 use Rattle.std.proofs.lemmas.Cmp.{eq_by_cmp_equiv}
 use Rattle.rtps_capture.specs.Capture.{Answer, Collected, all_noted, answer_of, answered, capture_read, collected, contents_in, noted, nothing, opened_read, with_contents, with_frame, with_link, with_rest}
-use Rattle.rtps_capture.specs.Frames.{StandsInFile, Unread as UnreadPart, frames_left, opened}
+use Rattle.rtps_capture.specs.Frames.{Unread as UnreadPart, frames_left, opened}
 use Rattle.rtps_capture.specs.Assembly.{Joined, key_cmp, taken_piece}
-use Rattle.rtps_capture.specs.Datagrams.{moved}
-use Rattle.rtps_capture.specs.Packets.{StandsIn}
+use Rattle.rtps_capture.specs.Packets.{moved_range}
 use Rattle.rtps_capture.specs.Pieces.{piece_of}
 use Rattle.rtps_capture.specs.Sent.{AllWereCarried, StandsAmong, WasCarried, contents_among}
 use Rattle.rtps_capture.specs.declared.capture.CaptureFault.{CaptureFault}
@@ -18,17 +17,16 @@ use Rattle.rtps_capture.specs.declared.captures.Captures.{Captures}
 use Rattle.rtps_capture.specs.declared.captures.Captures.TheVariants.{Any, Classic}
 use Rattle.rtps_capture.specs.declared.frames.CapturedFrame.{CapturedFrame}
 use Rattle.rtps_capture.specs.declared.frames.Frame.{Frame}
-use Rattle.rtps_capture.specs.declared.frames.Frame.TheVariants.{Captured, Unread, NoFrame, Rest, BadBlock, Damaged, CutFrame}
+use Rattle.rtps_capture.specs.declared.frames.Frame.TheVariants.{Captured, Unread, NoFrame, Rest}
 use Rattle.rtps_capture.specs.declared.byte_range.ByteRange.{ByteRange}
 use Rattle.rtps_capture.specs.declared.packet.Contents.{Contents}
 use Rattle.rtps_capture.specs.declared.packet.Contents.TheVariants as contents
 use Rattle.rtps_capture.specs.declared.fragment.Fragment.{Fragment}
 use Rattle.rtps_capture.specs.declared.fragment.FragmentKey.{FragmentKey}
-use Rattle.rtps_capture.proofs.FrameLemmas.{AllStand, left_stand}
 use Rattle.rtps_capture.proofs.AssemblyLemmas.{key_total}
 use Rattle.rtps_capture.proofs.ComingLemmas.{slice_range-append}
 use Rattle.rtps_capture.proofs.Offered.{or_fault_ok}
-use Rattle.rtps_capture.proofs.PacketLemmas.{in_file}
+use Rattle.rtps_capture.proofs.PacketLemmas.{Ends, in_file}
 use Rattle.rtps_capture.proofs.SentLemmas.{AreOf, IsOf, JoinedSound, change_key, taken_sound}
 
 -- a datagram stands in the file and what is behind it, and was carried
@@ -80,7 +78,7 @@ in_packet file behind packet range =
 
 given_behind : (file : List ℕ) (frames : List Contents) (behind packet : List ℕ) (datagram : Option ByteRange)
     → IfSome datagram (λ range. (range.from ≤ range.to) × (range.to ≤ length packet) × WasCarried file frames (slice_range packet range.from range.to))
-    → IfSome (moved (length file + length behind) datagram) (IsSound file frames (behind ++ packet))
+    → IfSome (option_map (moved_range (length file + length behind)) datagram) (IsSound file frames (behind ++ packet))
 given_behind file frames behind packet None gives = tt
 given_behind file frames behind packet (Some range) gives =
     let size = length-append behind packet in
@@ -90,7 +88,7 @@ fragment_sound : (file : List ℕ) (frames : List Contents) (time : Option ℕ) 
     → Sound file frames so_far → Sound file frames (with_contents file time so_far (contents.Fragment fragment))
 fragment_sound file frames time so_far fragment stands sound = record {
   keys = λ other. by other (is_eq (key_cmp fragment.key other)) refl;
-  carried = with_option file frames (so_far.behind ++ joined.packet) so_far.datagrams (moved (length file + length so_far.behind) joined.taken.datagram)
+  carried = with_option file frames (so_far.behind ++ joined.packet) so_far.datagrams (option_map (moved_range (length file + length so_far.behind)) joined.taken.datagram)
       (grown file frames so_far.behind joined.packet so_far.datagrams sound.carried)
       (given_behind file frames so_far.behind joined.packet joined.taken.datagram left.gives);
 }
@@ -103,10 +101,7 @@ fragment_sound file frames time so_far fragment stands sound = record {
       fragment = fragment;
       same_key = (eq_by_cmp_equiv key_total).refl fragment.key;
       stands = stands;
-      at_is = refl;
-      start_is = refl;
-      end_is = refl;
-      more_is = refl;
+      is = refl;
     }
 
     left : JoinedSound file frames fragment.key joined
@@ -117,13 +112,13 @@ fragment_sound file frames time so_far fragment stands sound = record {
     by other true is = change_key file frames fragment.key other joined.making.making is left.are
     by other false is = sound.keys other
 
-contents_sound : (file : List ℕ) (frames : List Contents) (time : Option ℕ) (so_far : Collected) (contents : Contents) → StandsAmong frames contents → StandsIn (length file) contents
+contents_sound : (file : List ℕ) (frames : List Contents) (time : Option ℕ) (so_far : Collected) (contents : Contents) → StandsAmong frames contents → Ends (length file) contents
     → Sound file frames so_far → Sound file frames (with_contents file time so_far contents)
 contents_sound file frames time so_far (contents.Datagram range) stands within sound =
-    let same = slice_range-append range.from range.to file so_far.behind within.0 within.1 in
+    let same = slice_range-append range.from range.to file so_far.behind within.0 within.2 in
     record {
       keys = sound.keys;
-      carried = pushed file frames so_far.behind so_far.datagrams range sound.carried (within.0, omega (arith, within.1), inl (range, stands, same));
+      carried = pushed file frames so_far.behind so_far.datagrams range sound.carried (within.0, omega (arith, within.2), inl (range, stands, same));
     }
 contents_sound file frames time so_far (contents.Fragment fragment) stands within sound = fragment_sound file frames time so_far fragment stands sound
 contents_sound file frames time so_far contents.Cut stands within sound = record { keys = sound.keys; carried = sound.carried }
@@ -137,10 +132,10 @@ StandAmong captures file all (other ∷ frames) = StandAmong captures file all f
 
 -- a frame that contains what stands there
 captured_sound : (captures : Captures) (file : List ℕ) (frames : List Contents) (most : ℕ) (so_far next : Collected) (frame : CapturedFrame)
-    → StandsAmong frames (contents_in captures file frame) → StandsInFile (length file) (Captured frame) → Sound file frames so_far
+    → StandsAmong frames (contents_in captures file frame) → Sound file frames so_far
     → noted captures file most so_far (Captured frame) ≡ Ok next → Sound file frames next
 unfolding noted collected
-captured_sound captures file frames most so_far next frame among stands sound is = by (nat_lt most (length there.datagrams)) is
+captured_sound captures file frames most so_far next frame among sound is = by (nat_lt most (length there.datagrams)) is
   where
     there : Collected
     there = collected file frame.time so_far (contents_in captures file frame)
@@ -149,7 +144,7 @@ captured_sound captures file frames most so_far next frame among stands sound is
     one = record { keys = sound.keys; carried = sound.carried }
 
     sound_there : Sound file frames there
-    sound_there = contents_sound file frames frame.time (with_frame so_far) (contents_in captures file frame) among (in_file captures file frame stands.0 stands.1) one
+    sound_there = contents_sound file frames frame.time (with_frame so_far) (contents_in captures file frame) among (in_file captures file frame) one
 
     by : (over : Bool) → (if over then Err fault.TooMany else Ok there) ≡ Ok next → Sound file frames next
     by true same = let no = same in cc
@@ -164,21 +159,19 @@ rest_sound Any file frames so_far next sound is =
 
 -- all that are still to come keep it sound
 sound_all : (captures : Captures) (file : List ℕ) (frames : List Contents) (most : ℕ) (rest : List Frame) (so_far last : Collected)
-    → StandAmong captures file frames rest → AllStand (length file) rest → Sound file frames so_far → all_noted captures file most so_far rest ≡ Ok last → Sound file frames last
+    → StandAmong captures file frames rest → Sound file frames so_far → all_noted captures file most so_far rest ≡ Ok last → Sound file frames last
 unfolding noted
-sound_all captures file frames most [] so_far last among stand sound is = let same : so_far ≡ last = cc in subst (Sound file frames) same sound
-sound_all captures file frames most (Captured frame ∷ rest) so_far last among stand sound is =
+sound_all captures file frames most [] so_far last among sound is = let same : so_far ≡ last = cc in subst (Sound file frames) same sound
+sound_all captures file frames most (Captured frame ∷ rest) so_far last among sound is =
     let first = or_fault_ok (noted captures file most so_far (Captured frame)) (λ one. all_noted captures file most one rest) last is in
-    sound_all captures file frames most rest first.0 last among.1 stand.1 (captured_sound captures file frames most so_far first.0 frame among.0 stand.0 sound first.1) first.2
-sound_all captures file frames most (Unread link ∷ rest) so_far last among stand sound is =
-    sound_all captures file frames most rest (with_link (with_frame so_far) link) last among stand.1 (record { keys = sound.keys; carried = sound.carried }) is
-sound_all captures file frames most (NoFrame ∷ rest) so_far last among stand sound is = sound_all captures file frames most rest so_far last among stand.1 sound is
-sound_all captures file frames most (Rest ∷ rest) so_far last among stand sound is =
+    sound_all captures file frames most rest first.0 last among.1 (captured_sound captures file frames most so_far first.0 frame among.0 sound first.1) first.2
+sound_all captures file frames most (Unread link ∷ rest) so_far last among sound is =
+    sound_all captures file frames most rest (with_link (with_frame so_far) link) last among (record { keys = sound.keys; carried = sound.carried }) is
+sound_all captures file frames most (NoFrame ∷ rest) so_far last among sound is = sound_all captures file frames most rest so_far last among sound is
+sound_all captures file frames most (Rest ∷ rest) so_far last among sound is =
     let first = or_fault_ok (with_rest captures file so_far) (λ one. all_noted captures file most one rest) last is in
-    sound_all captures file frames most rest first.0 last among stand.1 (rest_sound captures file frames so_far first.0 sound first.1) first.2
-sound_all captures file frames most (BadBlock ∷ rest) so_far last among stand sound is = let no = is in cc
-sound_all captures file frames most (Damaged ∷ rest) so_far last among stand sound is = let no = is in cc
-sound_all captures file frames most (CutFrame ∷ rest) so_far last among stand sound is = let no = is in cc
+    sound_all captures file frames most rest first.0 last among (rest_sound captures file frames so_far first.0 sound first.1) first.2
+sound_all captures file frames most (fault ∷ rest) so_far last among sound is = let no = is in cc
 
 -- the contents of frames stand among the contents of all
 all_among : (captures : Captures) (file : List ℕ) (seen : List Contents) (rest : List Frame) → StandAmong captures file (seen ++ contents_among captures file rest) rest
@@ -189,12 +182,7 @@ all_among captures file seen (Captured frame ∷ rest) =
       (seen, more, refl),
       subst (λ (all : List Contents). StandAmong captures file all rest) (append_assoc seen (one ∷ []) more) (all_among captures file (seen ++ one ∷ []) rest),
     )
-all_among captures file seen (Unread link ∷ rest) = all_among captures file seen rest
-all_among captures file seen (NoFrame ∷ rest) = all_among captures file seen rest
-all_among captures file seen (Rest ∷ rest) = all_among captures file seen rest
-all_among captures file seen (BadBlock ∷ rest) = all_among captures file seen rest
-all_among captures file seen (Damaged ∷ rest) = all_among captures file seen rest
-all_among captures file seen (CutFrame ∷ rest) = all_among captures file seen rest
+all_among captures file seen (other ∷ rest) = all_among captures file seen rest
 
 all_carried : (file : List ℕ) (frames : List Contents) (behind : List ℕ) (ranges : List ByteRange) → AreSound file frames behind ranges → AllWereCarried file frames behind ranges
 all_carried file frames behind [] sound = tt
@@ -217,5 +205,5 @@ each_carried captures most file unread answer begins is = by (all_noted captures
     by (Err fault) was holds = let no = holds in cc
     by (Ok last) was holds =
         let same : answer_of last ≡ answer = cc in
-        let sound = sound_all captures unread.octets frames most left nothing last (all_among captures unread.octets [] left) (left_stand unread) (record { keys = λ key. tt; carried = tt }) was in
+        let sound = sound_all captures unread.octets frames most left nothing last (all_among captures unread.octets [] left) (record { keys = λ key. tt; carried = tt }) was in
         subst (λ (a : Answer). AllWereCarried unread.octets frames a.behind a.datagrams) same (all_carried unread.octets frames last.behind last.datagrams sound.carried)

@@ -1,26 +1,20 @@
 -- The frames of a capture of either form, one step at a time.
-use Rattle.std.proofs.Common.{◌≡◌, ℕ, zero, suc, ◌+◌, ◌-◌, ◌<◌, ◌≤◌, Bool, true, false, List, [], ◌∷◌, length, refl, sym, ap, ap₂, subst, ◌∙◌, arith}
-use Rattle.std.specs.Prelude.{None, Option, Some, ◌==◌, ◌&&◌, nat_lt, nat_le, if◌then◌else◌, slice_get}
+use Rattle.std.proofs.Common.{◌≡◌, ℕ, zero, suc, ◌+◌, ◌-◌, ◌<◌, ◌≤◌, Bool, true, false, List, [], ◌∷◌, length, refl, sym, ap, ap₂, ◌∙◌, arith}
+use Rattle.std.specs.Prelude.{None, Option, Some, ◌==◌, ◌&&◌, nat_lt, nat_le, if◌then◌else◌}
 use Rattle.std.proofs.lemmas.Bool.Decides.{nat_tests}
 use Rattle.rtps_ids.specs.declared.order.Order.{Order}
-use Rattle.rtps_capture.specs.Frames.{Unread, GivesNext, HasFrames, StandsInFile, Step, TakesStep, body_at, body_end, end_with, frame_from, frame_of_block, frame_of_interface, frame_of_link, framed, frames_left, is_damaged, packet_framed, simple_framed, simple_size, snap_of, step_by, step_of, step_of_block, step_of_record, step_of_sized, steps_within}
-use Rattle.rtps_capture.specs.Blocks.{BlockStands, block_at, block_sized, block_size, block_with, fixed_size, four_at, is_major, is_repeated, is_size, order_told, section_with, two_at}
+use Rattle.rtps_capture.specs.Frames.{Unread, GivesNext, HasFrames, StandsInFile, Step, TakesStep, end_with, frame_from, frames_left, is_damaged, step_by, step_of, step_of_block, step_of_record, steps_within}
+use Rattle.rtps_capture.specs.Blocks.{BlockStands, block_at, block_sized, block_with, is_major, is_repeated, is_size, order_told, section_with}
+use Rattle.rtps_capture.specs.OctetNumbers.{four_at}
+use Rattle.rtps_capture.specs.Times.{record_time}
 use Rattle.rtps_capture.specs.declared.frames.Frame.{Frame}
-use Rattle.rtps_capture.specs.declared.frames.Frame.TheVariants.{Captured, NoFrame, Rest, Damaged, CutFrame}
+use Rattle.rtps_capture.specs.declared.frames.Frame.TheVariants.{Captured, Rest, Damaged}
 use Rattle.rtps_capture.specs.declared.blocks.Block.{Block}
 use Rattle.rtps_capture.specs.declared.blocks.Block.TheVariants.{Whole, Unfinished, Bad}
-use Rattle.rtps_capture.specs.declared.blocks.Interface.{Interface}
-use Rattle.rtps_capture.specs.declared.blocks.WholeBlock.{WholeBlock}
-use Rattle.rtps_capture.specs.declared.byte_range.ByteRange.{ByteRange}
 use Rattle.rtps_capture.specs.declared.layout.block.TheConstants as block
-use Rattle.rtps_capture.specs.declared.layout.packet_block.TheConstants as packet_block
 use Rattle.rtps_capture.specs.declared.layout.section.TheConstants as section
-use Rattle.rtps_capture.specs.LinkTypes.{link_type_numbered}
-use Rattle.rtps_capture.specs.Times.{pair_at, record_time}
-use Rattle.rtps_capture.specs.declared.captures.Captures.TheVariants.{Any}
 use Rattle.rtps_capture.specs.declared.frames.Records.{Records}
 use Rattle.rtps_capture.specs.declared.layout.record.TheConstants as frame_header
-use Rattle.rtps_capture.specs.declared.link_type.LinkType.{LinkType}
 
 -- a block of this size stands in the file
 sized_stands : (kind : ℕ) (order : Order) (file : List ℕ) (at size : ℕ) → at ≤ length file → BlockStands at file (block_sized kind order file at size)
@@ -37,7 +31,7 @@ sized_stands kind order file at size within =
 
 with_stands : (kind : ℕ) (order : Order) (file : List ℕ) (at : ℕ) → at ≤ length file → BlockStands at file (block_with kind order file at)
 unfolding block_with
-with_stands kind order file at within = sized_stands kind order file at (block_size order file at) within
+with_stands kind order file at within = sized_stands kind order file at (four_at order file (at + block.LENGTH)) within
 
 section_stands : (order : Option Order) (file : List ℕ) (at : ℕ) → at ≤ length file → BlockStands at file (section_with order file at)
 section_stands None file at within = tt
@@ -75,7 +69,7 @@ whole_step unread records size = record {
   gives = Captured (record {
     link = records.link;
     range = record { from = frame_from unread; to = frame_from unread + size };
-    time = Some (record_time records.fractions unread.order unread.octets unread.at);
+    time = Some (record_time records.nanoseconds unread.order unread.octets unread.at);
   });
   next = record unread { at = frame_from unread + size };
 }
@@ -194,97 +188,3 @@ exists unread = has_frames (length unread.octets) unread (omega arith)
 
 pub unique : (unread : Unread) (frames others : List Frame) → HasFrames unread frames → HasFrames unread others → frames ≡ others
 unique unread frames others has other = sym (read unread frames has) ∙ read unread others other
-
-interface_stands : (interface : Option Interface) (ticks : Option ℕ) (range : ByteRange) (total : ℕ) → range.from ≤ range.to → range.to ≤ total
-    → StandsInFile total (frame_of_interface ticks range interface)
-interface_stands None ticks range total ordered within = tt
-interface_stands (Some interface) ticks range total ordered within = by (link_type_numbered interface.link)
-  where
-    by : (link : Option LinkType) → StandsInFile total (frame_of_link interface ticks range link)
-    by None = tt
-    by (Some link) = (ordered, within)
-
-framed_stands : (interface : Option Interface) (ticks : Option ℕ) (size : ℕ) (range : ByteRange) (total : ℕ) → range.from ≤ range.to → range.to ≤ total
-    → StandsInFile total (framed interface ticks size range)
-unfolding framed
-framed_stands interface ticks size range total ordered within = by (is_damaged Any size) (nat_le size (range.to - range.from)) refl
-  where
-    by : (damaged fits : Bool) → nat_le size (range.to - range.from) ≡ fits
-        → StandsInFile total (if damaged then Damaged
-        else if fits then frame_of_interface ticks (record { from = range.from; to = range.from + size }) interface else CutFrame)
-    by true fits is = tt
-    by false true is =
-        let room : size ≤ range.to - range.from = grind (arith, nat_tests) in
-        interface_stands interface ticks (record { from = range.from; to = range.from + size }) total (omega arith) (omega (arith, room))
-    by false false is = tt
-
--- a block of a kind that has a frame has room for what stands in front of it
-block_frame_stands : (interfaces : List Interface) (whole : WholeBlock) (file : List ℕ) (at : ℕ) → BlockStands at file (Whole whole)
-    → StandsInFile (length file) (frame_of_block interfaces whole file at)
-unfolding frame_of_block
-block_frame_stands interfaces whole file at stands = by (whole.kind == block.ENHANCED) refl (whole.kind == block.OLD) refl (whole.kind == block.SIMPLE) refl
-  where
-    of_packet : (number : ℕ) → fixed_size whole.kind ≡ packet_block.FIXED → StandsInFile (length file) (packet_framed interfaces number whole file at)
-    of_packet number size =
-        framed_stands (slice_get interfaces number) (Some (pair_at whole.order file (body_at at + packet_block.TICKS))) (four_at whole.order file (body_at at + packet_block.CAPTURED))
-        (record { from = body_at at + packet_block.FIXED; to = body_end whole }) (length file) (omega (arith, stands.0, size)) (omega (arith, stands.1))
-
-    by : (enhanced : Bool) → whole.kind == block.ENHANCED ≡ enhanced → (old : Bool) → whole.kind == block.OLD ≡ old → (simple : Bool) → whole.kind == block.SIMPLE ≡ simple
-        → StandsInFile (length file) (if enhanced then packet_framed interfaces (four_at whole.order file (body_at at)) whole file at
-        else if old then packet_framed interfaces (two_at whole.order file (body_at at)) whole file at
-        else if simple then simple_framed (slice_get interfaces 0) whole file at else NoFrame)
-    by true is old was simple so = let kind : whole.kind ≡ block.ENHANCED = grind (arith, nat_tests) in of_packet (four_at whole.order file (body_at at)) (ap fixed_size kind)
-    by false is true was simple so = let kind : whole.kind ≡ block.OLD = grind (arith, nat_tests) in of_packet (two_at whole.order file (body_at at)) (ap fixed_size kind)
-    by false is false was true so =
-        let kind : whole.kind ≡ block.SIMPLE = grind (arith, nat_tests) in
-        let size : fixed_size whole.kind ≡ packet_block.SIMPLE = ap fixed_size kind in
-        let first = slice_get interfaces 0 in
-        framed_stands first None (simple_size (snap_of first) (four_at whole.order file (body_at at)) (body_end whole - (body_at at + packet_block.SIMPLE)))
-        (record { from = body_at at + packet_block.SIMPLE; to = body_end whole }) (length file) (omega (arith, stands.0, size)) (omega (arith, stands.1))
-    by false is false was false so = tt
-
--- what a step gives stands in the file
-step_stands : (unread : Unread) → unread.at < length unread.octets → StandsInFile (length unread.octets) (step_of unread).gives
-unfolding step_of
-step_stands unread left = by unread.records
-  where
-    found_stands : (found : Block) → BlockStands unread.at unread.octets found → StandsInFile (length unread.octets) (step_of_block unread found).gives
-    found_stands Unfinished stands = tt
-    found_stands Bad stands = tt
-    found_stands (Whole whole) stands = block_frame_stands unread.interfaces whole unread.octets unread.at stands
-
-    sized_record : (records : Records) (size : ℕ) → frame_from unread ≤ length unread.octets
-        → StandsInFile (length unread.octets) (step_of_sized unread records size).gives
-    sized_record records size room = sized (is_damaged unread.captures size) (nat_le size (length unread.octets - frame_from unread)) refl
-      where
-        sized : (damaged fits : Bool) → nat_le size (length unread.octets - frame_from unread) ≡ fits
-            → StandsInFile (length unread.octets) (chosen damaged (end_with Damaged unread) (chosen fits (whole_step unread records size) (end_with Rest unread))).gives
-        sized true fits is = tt
-        sized false true is = (omega arith, grind (arith, nat_tests))
-        sized false false is = tt
-
-    record_stands : (records : Records) (room : Bool) → nat_le (frame_from unread) (length unread.octets) ≡ room
-        → StandsInFile (length unread.octets) (chosen room (step_of_sized unread records (four_at unread.order unread.octets (unread.at + frame_header.CAPTURED))) (end_with Rest unread)).gives
-    record_stands records true is = sized_record records (four_at unread.order unread.octets (unread.at + frame_header.CAPTURED)) (grind (arith, nat_tests))
-    record_stands records false is = tt
-
-    by : (records : Option Records) → StandsInFile (length unread.octets) (step_by unread records).gives
-    by None = found_stands (block_at unread.order unread.octets unread.at) (block_stands unread.order unread.octets unread.at (omega arith))
-    by (Some records) = record_stands records (nat_le (frame_from unread) (length unread.octets)) refl
-
--- all of these stand in a file of this size
-abbrev pub AllStand : ℕ → List Frame → Type 0
-AllStand size [] = Unit {0}
-AllStand size (frame ∷ frames) = StandsInFile size frame × AllStand size frames
-
-all_stand : (unread : Unread) (frames : List Frame) → HasFrames unread frames → AllStand (length unread.octets) frames
-all_stand unread [] has = tt
-all_stand unread (frame ∷ frames) has =
-    let leads = step_leads unread has.0 in (
-      subst (StandsInFile (length unread.octets)) (sym has.1) (step_stands unread has.0),
-      subst (λ (l : List ℕ). AllStand (length l) frames) leads.same (all_stand (step_of unread).next frames has.2),
-    )
-
-pub left_stand : (unread : Unread) → AllStand (length unread.octets) (frames_left unread)
-left_stand unread =
-    let there = exists unread in subst (AllStand (length unread.octets)) (sym (read unread there.0 there.1)) (all_stand unread there.0 there.1)

@@ -11,7 +11,7 @@ use Rattle.rtps_capture.specs.declared.assembly.Making.{Making}
 use Rattle.rtps_capture.specs.declared.byte_range.ByteRange.{ByteRange}
 use Rattle.rtps_capture.specs.declared.fragment.FragmentKey.{FragmentKey}
 use Rattle.rtps_capture.specs.declared.pieces.Piece.{Piece}
-use Rattle.rtps_capture.proofs.AssemblyLemmas.{taken_cases}
+use Rattle.rtps_capture.proofs.AssemblyLemmas.{taken_cases, with_piece}
 use Rattle.rtps_capture.proofs.PieceLemmas.{all_left, any-in_order, left_all, none_pass, or_false, starts_differ}
 use Rattle.rtps_capture.proofs.SentLemmas.{both}
 
@@ -124,8 +124,8 @@ goes_on : (file : List ℕ) (key : FragmentKey) (making : Making) (piece next : 
 goes_on file key making piece next old done coming more at is nexts =
     taken_cases file key making piece (λ joined. joined.taken.datagram ≡ None → GoesOn file joined.making all coming)
     (λ repeat none. let no = sym repeat ∙ no_repeat file piece old done coming making.making at is in cc)
-    (λ fresh few part none. record { old = left_for piece old; at = put; coming_are = came })
-    (λ fresh few whole datagram gave none. by fresh datagram none (left_for piece old) put came (ap (λ (l : List Piece). fills 0 (in_order l)) (sym put) ∙ whole))
+    (λ fresh part none. record { old = left_for piece old; at = put; coming_are = came })
+    (λ fresh whole datagram gave none. by fresh datagram none (left_for piece old) put came (ap (λ (l : List Piece). fills 0 (in_order l)) (sym put) ∙ whole))
   where
     all : List Piece
     all = done ++ piece ∷ []
@@ -136,10 +136,10 @@ goes_on file key making piece next old done coming more at is nexts =
     came : IsComing file (left_for piece old) all coming
     came = one_came file piece old done coming is
 
-    by : (fresh : ℕ) (datagram : Option ByteRange)
-        → (given_with file (record { making = pieces_with piece making.making; given = making.given }) fresh (packet_of file (pieces_with piece making.making)) datagram).taken.datagram ≡ None
+    by : (fresh : Bool) (datagram : Option ByteRange)
+        → (given_with file (with_piece making piece) fresh (packet_of file (pieces_with piece making.making)) datagram).taken.datagram ≡ None
         → (left : List Piece) → pieces_with piece making.making ≡ left ++ all → IsComing file left all coming → fills 0 (in_order (left ++ all)) ≡ true
-        → GoesOn file (given_with file (record { making = pieces_with piece making.making; given = making.given }) fresh (packet_of file (pieces_with piece making.making)) datagram).making all coming
+        → GoesOn file (given_with file (with_piece making piece) fresh (packet_of file (pieces_with piece making.making)) datagram).making all coming
     by fresh (Some range) none left there is_coming whole = let no = none in cc
     by fresh None none [] there is_coming whole =
         let next_are = subst (IsComing file [] all) nexts is_coming in absurd (none_left next all whole next_are.apart.0 next_are.octets.0)
@@ -159,8 +159,8 @@ last_gives : (file : List ℕ) (key : FragmentKey) (making : Making) (last : Pie
 last_gives file key making last old done range at is whole right =
     taken_cases file key making last (λ joined. IsGiven file (Some range) joined all)
     (λ repeat. let no = sym repeat ∙ no_repeat file last old done [] making.making at is in cc)
-    (λ fresh few part. let no = sym part ∙ ap (λ (l : List Piece). fills 0 (in_order l)) put ∙ whole in cc)
-    (λ fresh few filled datagram gave. by fresh datagram (sym gave ∙ ap (λ (l : List Piece). datagram_of_whole key (packet_of file l)) put ∙ right))
+    (λ fresh part. let no = sym part ∙ ap (λ (l : List Piece). fills 0 (in_order l)) put ∙ whole in cc)
+    (λ fresh filled datagram gave. by fresh datagram (sym gave ∙ ap (λ (l : List Piece). datagram_of_whole key (packet_of file l)) put ∙ right))
   where
     all : List Piece
     all = done ++ last ∷ []
@@ -172,8 +172,8 @@ last_gives file key making last old done range at is whole right =
     put : pieces_with last making.making ≡ all
     put = with_next file last old done [] making.making at is ∙ none (left_for last old) (one_came file last old done [] is)
 
-    by : (fresh : ℕ) (datagram : Option ByteRange) → datagram ≡ Some range
-        → IsGiven file (Some range) (given_with file (record { making = pieces_with last making.making; given = making.given }) fresh (packet_of file (pieces_with last making.making)) datagram) all
+    by : (fresh : Bool) (datagram : Option ByteRange) → datagram ≡ Some range
+        → IsGiven file (Some range) (given_with file (with_piece making last) fresh (packet_of file (pieces_with last making.making)) datagram) all
     by fresh None is_some = let no = is_some in cc
     by fresh (Some other) is_some = (is_some, ap (packet_of file) put)
 

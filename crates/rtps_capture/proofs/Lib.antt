@@ -7,5 +7,7 @@ pub mod Offered
 pub mod PacketLemmas
 pub mod PassedLemmas
 pub mod PieceLemmas
+pub mod FoundLemmas
+pub mod KeptLemmas
 pub mod SentLemmas
 pub mod GivenLemmas

@@ -14,7 +14,7 @@ use Rattle.rtps_capture.specs.declared.capture.CaptureFault.{CaptureFault}
 use Rattle.rtps_capture.specs.declared.capture.CaptureFault.TheVariants as fault
 use Rattle.rtps_capture.specs.declared.captures.Captures.{Captures}
 use Rattle.rtps_capture.specs.declared.frames.Frame.{Frame}
-use Rattle.rtps_capture.specs.declared.frames.Frame.TheVariants.{Captured, Unread, NoFrame, Rest, BadBlock, Damaged, CutFrame}
+use Rattle.rtps_capture.specs.declared.frames.Frame.TheVariants.{Captured}
 
 pub order_of-append : (start more : List ℕ) → 4 ≤ length start → order_of (start ++ more) ≡ order_of start
 unfolding order_of
@@ -58,12 +58,7 @@ noted_within : (captures : Captures) (file : List ℕ) (most more : ℕ) (before
 unfolding noted
 noted_within captures file most more before so_far (Captured frame) within is =
     limited_within most more (collected file frame.time before (contents_in captures file frame)) so_far within is
-noted_within captures file most more before so_far (Unread link) within is = is
-noted_within captures file most more before so_far NoFrame within is = is
-noted_within captures file most more before so_far Rest within is = is
-noted_within captures file most more before so_far BadBlock within is = absurd cc
-noted_within captures file most more before so_far Damaged within is = absurd cc
-noted_within captures file most more before so_far CutFrame within is = absurd cc
+noted_within captures file most more before so_far other within is = is
 
 -- what is behind a result is told only if that is no fault
 pub or_fault_ok : (is : Result Collected CaptureFault) (more : Collected → Result Collected CaptureFault) (so_far : Collected) → or_fault is more ≡ Ok so_far

@@ -1,9 +1,9 @@
 -- What is behind the headers that are passed, one header at a time.
 use Rattle.std.proofs.Common.{◌≡◌, ℕ, zero, suc, ◌+◌, ◌<◌, ◌≤◌, Bool, true, false, List, length, refl, ap, subst, ◌∙◌, arith}
-use Rattle.std.specs.Prelude.{IfSome, None, Option, Some, if◌then◌else◌, nat_le, ◌==◌, ◌&&◌}
+use Rattle.std.specs.Prelude.{option_map, unwrap_or, IfSome, None, Option, Some, if◌then◌else◌, nat_le, ◌==◌, ◌&&◌}
 use Rattle.std.proofs.lemmas.Bool.Decides.{nat_tests}
-use Rattle.rtps_capture.specs.Passed.{behind_extension, extension_passed, extension_size, is_atomic, is_extension, last_by, last_within, tag_passed}
 use Rattle.rtps_ids.specs.declared.order.Order.{Order}
+use Rattle.rtps_capture.specs.Passed.{behind_extension, extension_passed, extension_size, is_atomic, is_extension, last_within, tag_passed}
 use Rattle.rtps_capture.specs.Options.{is_passed, next_option, option_at, option_passed}
 use Rattle.rtps_capture.specs.declared.layout.extension.TheConstants as extension
 use Rattle.rtps_capture.specs.declared.passed.Header.{Header}
@@ -19,19 +19,19 @@ unfolding last_within
 last_within-enough passed size on zero zero header p q = refl
 last_within-enough passed size on zero (suc n) header p q = by (passed header) (on header)
   where
-    by : (o : Option Header) → IfSome o (λ behind. (header.at < behind.at) × (behind.at ≤ size)) → header ≡ last_by (last_within passed n) header o
+    by : (o : Option Header) → IfSome o (λ behind. (header.at < behind.at) × (behind.at ≤ size)) → header ≡ unwrap_or (option_map (last_within passed n) o) header
     by None within = refl
     by (Some behind) within = absurd (omega (arith, within.0, within.1))
 last_within-enough passed size on (suc m) zero header p q = by (passed header) (on header)
   where
-    by : (o : Option Header) → IfSome o (λ behind. (header.at < behind.at) × (behind.at ≤ size)) → last_by (last_within passed m) header o ≡ header
+    by : (o : Option Header) → IfSome o (λ behind. (header.at < behind.at) × (behind.at ≤ size)) → unwrap_or (option_map (last_within passed m) o) header ≡ header
     by None within = refl
     by (Some behind) within = absurd (omega (arith, within.0, within.1))
 last_within-enough passed size on (suc m) (suc n) header p q = by (passed header) (on header) (last_within-enough passed size on m n)
   where
     by : (o : Option Header) → IfSome o (λ behind. (header.at < behind.at) × (behind.at ≤ size))
         → ((behind : Header) → size ≤ behind.at + m → size ≤ behind.at + n → last_within passed m behind ≡ last_within passed n behind)
-        → last_by (last_within passed m) header o ≡ last_by (last_within passed n) header o
+        → unwrap_or (option_map (last_within passed m) o) header ≡ unwrap_or (option_map (last_within passed n) o) header
     by None within rest = refl
     by (Some behind) within rest = rest behind (omega (arith, within.0)) (omega (arith, within.0))
 
@@ -46,25 +46,13 @@ last_within-step passed size on header behind is = by size refl
 
     by : (n : ℕ) → size ≡ n → last_within passed n header ≡ last_within passed n behind
     by zero none = absurd (omega (arith, within.0, within.1))
-    by (suc n) more = ap (last_by (last_within passed n) header) is ∙ last_within-enough passed size on n (suc n) behind (omega (arith, within.0)) (omega arith)
+    by (suc n) more = ap (λ (o : Option Header). unwrap_or (option_map (last_within passed n) o) header) is ∙ last_within-enough passed size on n (suc n) behind (omega (arith, within.0)) (omega arith)
 
 -- a header that is not passed is the last
 pub last_within-end : (passed : Header → Option Header) (n : ℕ) (header : Header) → passed header ≡ None → last_within passed n header ≡ header
 unfolding last_within
 last_within-end passed zero header is = refl
-last_within-end passed (suc n) header is = ap (last_by (last_within passed n) header) is
-
--- what is behind them is within as many octets
-pub last_within-le : (passed : Header → Option Header) (size : ℕ) → LeadsOn passed size → (n : ℕ) (header : Header) → header.at ≤ size
-    → (last_within passed n header).at ≤ size
-unfolding last_within
-last_within-le passed size on zero header within = within
-last_within-le passed size on (suc n) header within = by (passed header) (on header) (last_within-le passed size on n)
-  where
-    by : (o : Option Header) → IfSome o (λ behind. (header.at < behind.at) × (behind.at ≤ size))
-        → ((behind : Header) → behind.at ≤ size → (last_within passed n behind).at ≤ size) → (last_by (last_within passed n) header o).at ≤ size
-    by None leads rest = within
-    by (Some behind) leads rest = rest behind leads.1
+last_within-end passed (suc n) header is = ap (λ (o : Option Header). unwrap_or (option_map (last_within passed n) o) header) is
 
 pub tags_lead_on : (frame : List ℕ) → LeadsOn (tag_passed frame) (length frame)
 tags_lead_on frame header = grind (arith, nat_tests)

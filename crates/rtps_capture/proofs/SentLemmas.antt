@@ -8,7 +8,7 @@ use Rattle.std.proofs.lemmas.Cmp.{eq_by_cmp_equiv}
 use Rattle.rtps_capture.specs.Assembly.{Joined, datagram_of_whole, given_with, has_right_datagram, key_cmp, packet_of, taken_piece, udp_length}
 use Rattle.rtps_capture.specs.Checksum.{is_right}
 use Rattle.rtps_capture.specs.Packets.{fragment_size}
-use Rattle.rtps_capture.specs.Pieces.{fills, in_order, joined, left_for, piece_octets, pieces_with}
+use Rattle.rtps_capture.specs.Pieces.{fills, in_order, joined, left_for, piece_octets, piece_of, pieces_with}
 use Rattle.rtps_capture.specs.Sent.{AreFragments, GoOn, IsPayload, StandsAmong, WasCarried, put_together}
 use Rattle.rtps_capture.specs.declared.assembly.Making.{Making}
 use Rattle.rtps_capture.specs.declared.byte_range.ByteRange.{ByteRange}
@@ -18,7 +18,7 @@ use Rattle.rtps_capture.specs.declared.packet.Contents.TheVariants as contents
 use Rattle.rtps_capture.specs.declared.fragment.Fragment.{Fragment}
 use Rattle.rtps_capture.specs.declared.fragment.FragmentKey.{FragmentKey}
 use Rattle.rtps_capture.specs.declared.pieces.Piece.{Piece}
-use Rattle.rtps_capture.proofs.AssemblyLemmas.{key_total, taken_cases}
+use Rattle.rtps_capture.proofs.AssemblyLemmas.{key_total, taken_cases, with_piece}
 use Rattle.rtps_capture.proofs.PieceLemmas.{all_in_order, all_left}
 
 -- a piece is a fragment of this key that stands in a frame
@@ -26,10 +26,7 @@ pub record IsOf (file : List ℕ) (frames : List Contents) (key : FragmentKey) (
   pub fragment : Fragment
   pub same_key : is_eq (key_cmp fragment.key key) ≡ true
   pub stands : StandsAmong frames (contents.Fragment fragment)
-  pub at_is : piece.at ≡ fragment.range.from
-  pub start_is : piece.start ≡ fragment.start
-  pub end_is : piece.end ≡ fragment.start + fragment_size fragment
-  pub more_is : piece.more ≡ fragment.more
+  pub is : piece ≡ piece_of fragment
 
 abbrev pub AreOf : List ℕ → List Contents → FragmentKey → List Piece → Type 0
 AreOf file frames key pieces = AllByRecursion (IsOf file frames key) pieces
@@ -44,11 +41,11 @@ of_drop file frames key [] all = tt
 of_drop file frames key (first ∷ pieces) all = all.1
 
 -- the octets of a piece are those of its fragment
-octets_of : (file : List ℕ) (frames : List Contents) (key : FragmentKey) (piece : Piece) (is : IsOf file frames key piece)
-    → slice_range file is.fragment.range.from is.fragment.range.to ≡ piece_octets file piece
-octets_of file frames key piece is =
-    let size : is.fragment.range.to - is.fragment.range.from ≡ piece.end - piece.start = omega (arith, is.start_is, is.end_is) in
-    ap₂ (λ (n at : ℕ). take n (drop at file)) size (sym is.at_is)
+octets_of : (file : List ℕ) (frames : List Contents) (key : FragmentKey) (piece : Piece) (it : IsOf file frames key piece)
+    → slice_range file it.fragment.range.from it.fragment.range.to ≡ piece_octets file piece
+octets_of file frames key piece it =
+    let size : it.fragment.range.to - it.fragment.range.from ≡ it.fragment.start + fragment_size it.fragment - it.fragment.start = omega arith in
+    ap (λ (n : ℕ). take n (drop it.fragment.range.from file)) size ∙ ap (piece_octets file) (sym it.is)
 
 -- the fragments of pieces
 pub record Together (file : List ℕ) (frames : List Contents) (key : FragmentKey) (at : ℕ) (pieces : List Piece) : Type 0 where
@@ -80,7 +77,7 @@ together file frames key at first [] all is =
     let one = all.0 in record {
       fragments = one.fragment ∷ [];
       are = (one.same_key, one.stands, tt);
-      on = (sym one.start_is ∙ number_is first.start at here.0, sym one.more_is ∙ not_is first.more here.1);
+      on = (ap (λ (p : Piece). p.start) (sym one.is) ∙ number_is first.start at here.0, ap (λ (p : Piece). p.more) (sym one.is) ∙ not_is first.more here.1);
       octets = ap (λ (l : List ℕ). l ++ []) (octets_of file frames key first one);
     }
 together file frames key at first (next ∷ pieces) all is =
@@ -94,7 +91,7 @@ together file frames key at first (next ∷ pieces) all is =
     by rest start = record {
       fragments = one.fragment ∷ rest.fragments;
       are = (one.same_key, one.stands, rest.are);
-      on = goes_on at one.fragment rest.fragments (subst (λ (n : ℕ). GoOn n rest.fragments) one.end_is rest.on) (sym one.start_is ∙ start);
+      on = goes_on at one.fragment rest.fragments (subst (λ (p : Piece). GoOn p.end rest.fragments) one.is rest.on) (ap (λ (p : Piece). p.start) (sym one.is) ∙ start);
       octets = ap₂ (λ (a b : List ℕ). a ++ b) (octets_of file frames key first one) rest.octets;
     }
 
@@ -108,10 +105,7 @@ change_key file frames key other (piece ∷ pieces) same all =
         fragment = one.fragment;
         same_key = (eq_by_cmp_equiv key_total).congr one.fragment.key key other one.same_key ∙ same;
         stands = one.stands;
-        at_is = one.at_is;
-        start_is = one.start_is;
-        end_is = one.end_is;
-        more_is = one.more_is;
+        is = one.is;
       },
       change_key file frames key other pieces same all.1,
     )
@@ -150,27 +144,26 @@ pub record JoinedSound (file : List ℕ) (frames : List Contents) (key : Fragmen
 pub taken_sound : (file : List ℕ) (frames : List Contents) (key : FragmentKey) (making : Making) (piece : Piece) → AreOf file frames key making.making
     → IsOf file frames key piece → JoinedSound file frames key (taken_piece file key making piece)
 taken_sound file frames key making piece all one =
-    taken_cases file key making piece (JoinedSound file frames key) (λ is. record { are = all; gives = tt }) (λ fresh few part. record { are = more; gives = tt })
-    (λ fresh few whole datagram is. by fresh whole datagram is)
+    taken_cases file key making piece (JoinedSound file frames key) (λ is. record { are = all; gives = tt }) (λ fresh part. record { are = more; gives = tt }) by
   where
-    new : Making
-    new = record { making = pieces_with piece making.making; given = making.given }
+    new : List Piece
+    new = pieces_with piece making.making
 
     octets : List ℕ
-    octets = packet_of file new.making
+    octets = packet_of file new
 
-    more : AreOf file frames key new.making
+    more : AreOf file frames key new
     more = of_push file frames key piece (left_for piece making.making) (all_left (IsOf file frames key) piece making.making all) one
 
     parts : (pieces : List Piece) → AreOf file frames key pieces → fills 0 pieces ≡ true → Together file frames key 0 pieces
     parts [] every is = let no = is in cc
     parts (first ∷ pieces) every is = together file frames key 0 first pieces every is
 
-    by : (fresh : ℕ) → fills 0 (in_order new.making) ≡ true → (datagram : Option ByteRange) → datagram_of_whole key octets ≡ datagram
-        → JoinedSound file frames key (given_with file new fresh octets datagram)
-    by fresh whole None is = record { are = of_drop file frames key new.making more; gives = tt }
+    by : (fresh : Bool) → fills 0 (in_order new) ≡ true → (datagram : Option ByteRange) → datagram_of_whole key octets ≡ datagram
+        → JoinedSound file frames key (given_with file (with_piece making piece) fresh octets datagram)
+    by fresh whole None is = record { are = of_drop file frames key new more; gives = tt }
     by fresh whole (Some range) is =
         let there = payload_there key octets range is in
-        let put = parts (in_order new.making) (all_in_order (IsOf file frames key) new.making more) whole in
+        let put = parts (in_order new) (all_in_order (IsOf file frames key) new more) whole in
         let payload = subst (λ (l : List ℕ). IsPayload key l (slice_range octets range.from range.to)) (sym put.octets) there.2 in
         record { are = tt; gives = (there.0, there.1, inr (key, put.fragments, put.are, put.on, payload)) }

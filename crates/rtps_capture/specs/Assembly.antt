@@ -4,19 +4,18 @@
 -- came again could join the parts of two packets. Where it is not, the oldest piece goes, and the packet waits for more. A piece that
 -- equals one of the packet in the making changes nothing; one that equals one of the last packet given is not counted as ignored, since a
 -- frame may be recorded twice.
-use Rattle.std.specs.Prelude.{ℕ, ◌+◌, ◌≡◌, ◌≤◌, ◌&&◌, not, nat_le, Bool, if◌then◌else◌, List, [], length, count_by, drop, take, Option, Some, None}
-use Rattle.std.specs.List.{sum_by}
+use Rattle.std.specs.Prelude.{ℕ, ◌≡◌, ◌≤◌, ◌&&◌, not, nat_le, Bool, false, if◌then◌else◌, List, [], length, count_by, drop, take, Option, Some, None}
 use Rattle.std.specs.Option.{unwrap_or}
 use Rattle.std.specs.Ordering.{nat_cmp, ordering_then, is_eq}
 use Rattle.std.specs.declared.cmp.Ordering.{Ordering}
-use Rattle.std.specs.BTreeMap.{BTreeMap, get, values}
+use Rattle.std.specs.BTreeMap.{BTreeMap, get}
+use Rattle.rtps_ids.specs.declared.order.Order.TheVariants.{Big}
 use Rattle.rtps_capture.specs.Checksum.{is_right}
-use Rattle.rtps_capture.specs.Datagrams.{number_at}
+use Rattle.rtps_capture.specs.OctetNumbers.{two_at}
 use Rattle.rtps_capture.specs.Pieces.{fills, in_order, is_repeat, joined, pieces_with}
 use Rattle.rtps_capture.specs.declared.assembly.Making.{Making}
 use Rattle.rtps_capture.specs.declared.assembly.Taken.{Taken}
 use Rattle.rtps_capture.specs.declared.byte_range.ByteRange.{ByteRange}
-use Rattle.rtps_capture.specs.declared.fragment.Address.{Address}
 use Rattle.rtps_capture.specs.declared.fragment.FragmentKey.{FragmentKey}
 use Rattle.rtps_capture.specs.declared.layout.udp.TheConstants as udp
 use Rattle.rtps_capture.specs.declared.pieces.Piece.{Piece}
@@ -34,7 +33,7 @@ fresh_making = record { making = []; given = [] }
 
 -- the length that the UDP header tells which begins a packet, its own octets included
 abbrev pub udp_length : List ℕ → ℕ
-udp_length packet = number_at udp.LENGTH packet
+udp_length packet = two_at Big packet udp.LENGTH
 
 -- a UDP header begins the packet, which has all of its datagram, and the checksum is right
 unfoldable pub has_right_datagram : FragmentKey → List ℕ → Bool
@@ -50,13 +49,13 @@ datagram_of_whole key packet = if has_right_datagram key packet then Some (recor
 abbrev pub is_new : List ℕ → Making → Piece → Bool
 is_new file making piece = not (is_repeat file piece making.given)
 
+-- no datagram is given
+abbrev pub gives_none : Making → Bool → Joined
+gives_none making fresh = record { making = making; packet = []; taken = record { fresh = fresh; settled = 0; datagram = None } }
+
 -- a packet that is whole, with its datagram: the packet in the making is the last one given
-abbrev pub given_with : List ℕ → Making → ℕ → List ℕ → Option ByteRange → Joined
-given_with file making fresh packet None = record {
-  making = record { making = drop 1 making.making; given = making.given };
-  packet = [];
-  taken = record { fresh = fresh; settled = 0; datagram = None };
-}
+abbrev pub given_with : List ℕ → Making → Bool → List ℕ → Option ByteRange → Joined
+given_with file making fresh packet None = gives_none (record { making = drop 1 making.making; given = making.given }) fresh
 given_with file making fresh packet (Some range) = record {
   making = record { making = []; given = making.making };
   packet = packet;
@@ -68,53 +67,34 @@ abbrev pub packet_of : List ℕ → List Piece → List ℕ
 packet_of file pieces = joined file (in_order pieces)
 
 -- a packet that is whole
-unfoldable pub given : List ℕ → FragmentKey → Making → ℕ → Joined
+unfoldable pub given : List ℕ → FragmentKey → Making → Bool → Joined
 given file key making fresh = given_with file making fresh (packet_of file making.making) (datagram_of_whole key (packet_of file making.making))
 
 -- a piece that is no repeat in the making, once it is there
-abbrev pub joined_with : List ℕ → FragmentKey → Making → ℕ → Joined
-joined_with file key making fresh =
-    if fills 0 (in_order making.making) then given file key making fresh
-    else record { making = making; packet = []; taken = record { fresh = fresh; settled = 0; datagram = None } }
+abbrev pub joined_with : List ℕ → FragmentKey → Making → Bool → Joined
+joined_with file key making fresh = if fills 0 (in_order making.making) then given file key making fresh else gives_none making fresh
 
 -- one piece more of this key
 unfoldable pub taken_piece : List ℕ → FragmentKey → Making → Piece → Joined
 taken_piece file key making piece =
-    if is_repeat file piece making.making
-    then record { making = making; packet = []; taken = record { fresh = 0; settled = 0; datagram = None } }
-    else joined_with file key (record { making = pieces_with piece making.making; given = making.given }) (if is_new file making piece then 1 else 0)
-
--- how one address stands to another
-abbrev pub address_cmp : Address → Address → Ordering
-address_cmp a b = ordering_then (nat_cmp a.first b.first) (ordering_then (nat_cmp a.second b.second) (ordering_then (nat_cmp a.third b.third) (nat_cmp a.fourth b.fourth)))
+    if is_repeat file piece making.making then gives_none making false
+    else joined_with file key (record { making = pieces_with piece making.making; given = making.given }) (is_new file making piece)
 
 -- how one key stands to another
 abbrev pub key_cmp : FragmentKey → FragmentKey → Ordering
 key_cmp a b =
     ordering_then (nat_cmp a.identification b.identification)
-    (ordering_then (nat_cmp a.version b.version) (ordering_then (address_cmp a.source b.source) (address_cmp a.destination b.destination)))
+    (ordering_then (nat_cmp a.version b.version) (ordering_then (nat_cmp a.source b.source) (nat_cmp a.destination b.destination)))
 
 -- the fragments of a key
 abbrev pub making_of : BTreeMap FragmentKey Making → FragmentKey → Making
 making_of makings key = unwrap_or (get key_cmp makings key) fresh_making
-
--- how many fragments are of packets in the making
-abbrev pub waiting_in : Making → ℕ
-waiting_in making = length making.making
-
--- the same of all keys
-abbrev pub waiting : BTreeMap FragmentKey Making → ℕ
-waiting makings = sum_by waiting_in (values makings)
 
 -- A fragment of this key was taken: what it gave, and what its key has now. The other keys have what they had.
 abbrev pub TakesFragment : Joined → FragmentKey → Taken → BTreeMap FragmentKey Making → BTreeMap FragmentKey Making → List ℕ → Type 0
 TakesFragment joined key taken old new packet =
     (taken ≡ joined.taken) × (packet ≡ joined.packet)
     × ((other : FragmentKey) → making_of new other ≡ (if is_eq (key_cmp key other) then joined.making else making_of old other))
-
--- each fragment is counted once at most
-abbrev pub IsBounded : Taken → ℕ → ℕ → Type 0
-IsBounded taken old new = (new + taken.settled ≤ old + 1) × (taken.fresh ≤ 1)
 
 -- this is what is left
 abbrev pub IsJoined : Joined → Taken → Making → List ℕ → Type 0

@@ -3,10 +3,10 @@
 -- own: of a block its length is looked at first, then whether the file has all of it, then the repetition, then its fields. Of
 -- a section header the number that tells the order comes before these. Options and the stated length of a section are not
 -- looked at, and blocks of other types are passed over.
-use Rattle.std.specs.Prelude.{ℕ, ◌+◌, ◌-◌, ◌%◌, ◌==◌, ◌≤◌, ◌&&◌, ◌||◌, not, nat_le, nat_lt, Bool, if◌then◌else◌, List, length, drop, Option, Some, None}
-use Rattle.rtps_ids.specs.Octets.{number_of}
+use Rattle.std.specs.Prelude.{ℕ, ◌+◌, ◌-◌, ◌%◌, ◌==◌, ◌≤◌, ◌&&◌, ◌||◌, not, nat_le, nat_lt, Bool, if◌then◌else◌, List, length, Option, Some, None}
 use Rattle.rtps_ids.specs.declared.order.Order.{Order}
-use Rattle.rtps_ids.specs.declared.order.Order.TheVariants.{Big, Little}
+use Rattle.rtps_ids.specs.declared.order.Order.TheVariants.{Big}
+use Rattle.rtps_capture.specs.OctetNumbers.{four_at, order_by, two_at}
 use Rattle.rtps_capture.specs.declared.blocks.Block.{Block}
 use Rattle.rtps_capture.specs.declared.blocks.Block.TheVariants.{Whole, Unfinished, Bad}
 use Rattle.rtps_capture.specs.declared.layout.block.TheConstants as block
@@ -14,24 +14,13 @@ use Rattle.rtps_capture.specs.declared.layout.interface.TheConstants as interfac
 use Rattle.rtps_capture.specs.declared.layout.packet_block.TheConstants as packet_block
 use Rattle.rtps_capture.specs.declared.layout.section.TheConstants as section
 
--- four octets as a number, in the order of a section
-abbrev pub four_at : Order → List ℕ → ℕ → ℕ
-four_at order file at = number_of order 4 (drop at file)
-
--- two octets as a number
-abbrev pub two_at : Order → List ℕ → ℕ → ℕ
-two_at order file at = number_of order 2 (drop at file)
-
 -- a file that begins with the type of a section header
 abbrev pub is_pcapng : List ℕ → Bool
 is_pcapng file = nat_le 4 (length file) && four_at Big file 0 == block.SECTION
 
 -- the order in which four octets are the number that tells it
 abbrev pub order_told : List ℕ → ℕ → Option Order
-order_told file at =
-    if four_at Big file at == section.BYTE_ORDER then Some Big
-    else if four_at Little file at == section.BYTE_ORDER then Some Little
-    else None
+order_told file at = order_by (λ number. number == section.BYTE_ORDER) file at
 
 -- how many octets the fixed fields of a body have
 abbrev pub fixed_size : ℕ → ℕ
@@ -41,10 +30,6 @@ fixed_size kind =
     else if kind == block.ENHANCED || kind == block.OLD then packet_block.FIXED
     else if kind == block.SIMPLE then packet_block.SIMPLE
     else 0
-
--- how many octets a block has, by the length in front of its body
-abbrev pub block_size : Order → List ℕ → ℕ → ℕ
-block_size order file at = four_at order file (at + block.LENGTH)
 
 -- a length that can be: a multiple of four, with room for the fixed fields
 abbrev pub is_size : ℕ → ℕ → Bool
@@ -67,9 +52,9 @@ block_sized kind order file at size =
     else Unfinished)
     else Bad
 
--- the block of this type, in a section of this order
+-- the block of this type, in a section of this order; in front of its body is its length
 unfoldable pub block_with : ℕ → Order → List ℕ → ℕ → Block
-block_with kind order file at = block_sized kind order file at (block_size order file at)
+block_with kind order file at = block_sized kind order file at (four_at order file (at + block.LENGTH))
 
 -- the section header, once its order is told
 abbrev pub section_with : Option Order → List ℕ → ℕ → Block
@@ -87,5 +72,4 @@ block_at order file at =
 -- a block stands in the file, with room for its fixed fields
 abbrev pub BlockStands : ℕ → List ℕ → Block → Type 0
 BlockStands at file (Whole whole) = (at + block.LEAST + fixed_size whole.kind ≤ whole.to) × (whole.to ≤ length file)
-BlockStands at file Unfinished = Unit {0}
-BlockStands at file Bad = Unit {0}
+BlockStands at file other = Unit {0}

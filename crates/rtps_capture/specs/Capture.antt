@@ -2,12 +2,11 @@
 -- own: a frame is ignored that gives no datagram, is no fragment of a packet that gives one, and is no repeat. Faults stand at their
 -- places in the file: the first one is told. A file that ends within a record or a block is no fault: a recorder that is stopped
 -- leaves such a file, and what was not recorded cannot be told from what was not sent. Of classic captures alone it is one.
-use Rattle.std.specs.Prelude.{ℕ, ◌+◌, ◌-◌, ◌≡◌, ◌≤◌, ◌==◌, nat_lt, if◌then◌else◌, List, [], ◌∷◌, ◌++◌, length, slice_range, All, Option, Some, None, option_to_list, Result, Ok, Err}
+use Rattle.std.specs.Prelude.{ℕ, ◌+◌, ◌-◌, ◌*◌, ◌^◌, ◌≡◌, ◌≤◌, ◌==◌, nat_lt, if◌then◌else◌, List, [], ◌∷◌, ◌++◌, length, slice_range, All, Option, Some, None, option_map, option_to_list, Result, Ok, Err}
 use Rattle.std.specs.Ordering.{is_eq}
 use Rattle.rtps_capture.specs.Frames.{Unread as UnreadPart, frames_left, opened}
-use Rattle.rtps_capture.specs.Datagrams.{moved}
-use Rattle.rtps_capture.specs.Assembly.{Joined, fresh_making, key_cmp, making_of, taken_piece, waiting}
-use Rattle.rtps_capture.specs.Packets.{contents_read, moved_contents}
+use Rattle.rtps_capture.specs.Assembly.{Joined, fresh_making, key_cmp, making_of, taken_piece}
+use Rattle.rtps_capture.specs.Packets.{contents_read, moved_contents, moved_range}
 use Rattle.rtps_capture.specs.Pieces.{piece_of}
 use Rattle.rtps_capture.specs.declared.capture.CaptureFault.{CaptureFault}
 use Rattle.rtps_capture.specs.declared.capture.CaptureFault.TheVariants as fault
@@ -49,21 +48,16 @@ unfoldable pub contents_in : Captures → List ℕ → CapturedFrame → Content
 contents_in captures file frame =
     moved_contents frame.range.from (contents_read captures frame.link (slice_range file frame.range.from frame.range.to))
 
--- the time of a datagram, if there is one
-abbrev pub times_of : Option ℕ → Option ByteRange → List (Option ℕ)
-times_of time None = []
-times_of time (Some datagram) = time ∷ []
-
 -- What is there with a fragment of this key, whose frame has this time: the octets of a packet that gives its datagram come behind
 -- the others.
 abbrev pub with_fragment : List ℕ → Option ℕ → Collected → FragmentKey → Joined → Collected
 with_fragment file time so_far key joined = record {
   making = λ other. if is_eq (key_cmp key other) then joined.making else so_far.making other;
-  datagrams = so_far.datagrams ++ option_to_list (moved (length file + length so_far.behind) joined.taken.datagram);
-  times = so_far.times ++ times_of time joined.taken.datagram;
+  datagrams = so_far.datagrams ++ option_to_list (option_map (moved_range (length file + length so_far.behind)) joined.taken.datagram);
+  times = so_far.times ++ option_to_list (option_map (λ datagram. time) joined.taken.datagram);
   behind = so_far.behind ++ joined.packet;
   counts = record so_far.counts {
-    fresh = so_far.counts.fresh + joined.taken.fresh;
+    fresh = so_far.counts.fresh + (if joined.taken.fresh then 1 else 0);
     settled = so_far.counts.settled + joined.taken.settled;
   };
 }
@@ -157,14 +151,10 @@ abbrev pub answered : Result Collected CaptureFault → Result Answer CaptureFau
 answered (Ok so_far) = Ok (answer_of so_far)
 answered (Err fault) = Err fault
 
--- what these records or blocks tell, behind those of which that was collected
-abbrev pub all_read : Captures → List ℕ → ℕ → Collected → List Frame → Result Answer CaptureFault
-all_read captures file most so_far frames = answered (all_noted captures file most so_far frames)
-
 -- what a capture tells, behind its header
 abbrev pub opened_read : Captures → ℕ → Option UnreadPart → Result Answer CaptureFault
 opened_read captures most None = Err fault.BadCapture
-opened_read captures most (Some unread) = all_read captures unread.octets most nothing (frames_left unread)
+opened_read captures most (Some unread) = answered (all_noted captures unread.octets most nothing (frames_left unread))
 
 -- what a file tells where these captures are read
 unfoldable pub capture_read : Captures → ℕ → List ℕ → Result Answer CaptureFault
@@ -186,10 +176,7 @@ reading_value behind reading = record {
 -- the fault is the one that is there, or memory was refused
 abbrev pub IsFault : {X : Type 0} → Result X CaptureFault → CaptureFault → Type 0
 IsFault is fault.Memory = Unit {0}
-IsFault is fault.BadCapture = is ≡ Err fault.BadCapture
-IsFault is (fault.Damaged frame) = is ≡ Err (fault.Damaged frame)
-IsFault is (fault.CutCapture frame) = is ≡ Err (fault.CutCapture frame)
-IsFault is fault.TooMany = is ≡ Err fault.TooMany
+IsFault is other = is ≡ Err other
 
 -- it is what is told, with the octets of the file and those behind it, or the fault
 abbrev pub IsAnswer : List ℕ → Result Answer CaptureFault → Result CaptureReading CaptureFault → Type 0
@@ -210,10 +197,10 @@ collected_of so_far = record {
   counts = so_far.counts;
 }
 
--- the frames that are counted, and the fragments of packets in the making, are no more than there are, less so many
+-- the frames that are counted are no more than there are, less so many, and each of them settled fewer fragments than 64 bits count
 pub record IsCountedWith (room : ℕ) (so_far : CollectedStruct) : Type 0 where
   pub told : so_far.counts.fresh + so_far.counts.cut + so_far.counts.links + room ≤ so_far.counts.frames
-  pub settled : so_far.counts.settled + waiting so_far.assembly.makings + room ≤ so_far.counts.frames
+  pub settled : so_far.counts.settled + 2 ^ 64 * room ≤ 2 ^ 64 * so_far.counts.frames
   pub other : so_far.counts.other + room ≤ so_far.counts.frames
 
 -- they are no more than there are

@@ -1,10 +1,11 @@
 -- The checksum of UDP. RFC 768 "User Datagram Protocol", "Fields"; RFC 1071 "Computing the Internet Checksum", 1; RFC 8200 "Internet
 -- Protocol, Version 6", 8.1 "Upper-Layer Checksums".
 -- own: a sum whose carry is added at its low end is the sum modulo 65,535, where 65,535 stands for 0. No sum is 0 here, since each
--- has the number of UDP in it. So the sum with the checksum in it is right where it is a multiple of 65,535.
-use Rattle.std.specs.Prelude.{ℕ, ◌+◌, ◌*◌, ◌/◌, ◌%◌, ◌==◌, ◌&&◌, ◌||◌, Bool, List, [], ◌∷◌, length}
-use Rattle.rtps_capture.specs.Datagrams.{number_at}
-use Rattle.rtps_capture.specs.declared.fragment.Address.{Address}
+-- has the number of UDP in it. So the sum with the checksum in it is right where it is a multiple of 65,535. An address is added as one
+-- number: 65,536 is 1 modulo 65,535, so a number is there the sum of its words of two octets.
+use Rattle.std.specs.Prelude.{ℕ, ◌+◌, ◌*◌, ◌%◌, ◌==◌, ◌&&◌, ◌||◌, Bool, List, [], ◌∷◌, length}
+use Rattle.rtps_ids.specs.declared.order.Order.TheVariants.{Big}
+use Rattle.rtps_capture.specs.OctetNumbers.{two_at}
 use Rattle.rtps_capture.specs.declared.fragment.FragmentKey.{FragmentKey}
 use Rattle.rtps_capture.specs.declared.layout.packet.TheConstants as packet_4
 use Rattle.rtps_capture.specs.declared.layout.udp.TheConstants as udp
@@ -15,21 +16,13 @@ word_sum [] = 0
 word_sum (high ∷ []) = high * 256
 word_sum (high ∷ low ∷ octets) = high * 256 + low + word_sum octets
 
--- the sum of the two numbers that a number of four octets has in it
-abbrev pub half_sum : ℕ → ℕ
-half_sum number = number / 65536 + number % 65536
-
--- the sum of an address
-abbrev pub address_sum : Address → ℕ
-address_sum address = half_sum address.first + half_sum address.second + half_sum address.third + half_sum address.fourth
-
 -- the sum of what stands before so many octets of UDP for the sum alone: the addresses, the protocol and the length
 abbrev pub pseudo_sum : FragmentKey → ℕ → ℕ
-pseudo_sum key size = address_sum key.source + address_sum key.destination + packet_4.UDP + size
+pseudo_sum key size = key.source % 65535 + key.destination % 65535 + packet_4.UDP + size
 
 -- the sender made no checksum: over version 4 a 0 says so
 abbrev pub has_none : FragmentKey → List ℕ → Bool
-has_none key octets = key.version == packet_4.VERSION && number_at udp.CHECKSUM octets == 0
+has_none key octets = key.version == packet_4.VERSION && two_at Big octets udp.CHECKSUM == 0
 
 -- octets of UDP, with their header, have a right checksum
 unfoldable pub is_right : FragmentKey → List ℕ → Bool

@@ -2,15 +2,16 @@
 -- Generic Capture File Format (IETF draft), 4 "Block Definitions".
 -- own: behind a record or a block that is not whole, or cannot be, nothing is read, since what is there cannot be found. A frame with
 -- more octets than tools capture of one cannot be; of classic captures alone any number of octets is taken.
-use Rattle.std.specs.Prelude.{ℕ, zero, suc, ◌+◌, ◌-◌, ◌≡◌, ◌==◌, ◌≤◌, ◌<◌, min, nat_le, nat_lt, Bool, false, if◌then◌else◌, List, [], ◌∷◌, ◌++◌, length, slice_get, slice_range, Option, Some, None, IfSome}
+use Rattle.std.specs.Prelude.{ℕ, zero, suc, ◌+◌, ◌-◌, ◌≡◌, ◌==◌, ◌≤◌, ◌<◌, min, nat_le, nat_lt, Bool, false, if◌then◌else◌, List, [], ◌∷◌, ◌++◌, length, slice_get, slice_range, Option, Some, None, IfSome, option_and_then, option_map}
 use Rattle.std.specs.Iterator.{YieldsFirst}
 use Rattle.rtps_ids.specs.declared.order.Order.{Order}
 use Rattle.rtps_ids.specs.declared.order.Order.TheVariants.{Big}
-use Rattle.rtps_capture.specs.Blocks.{block_at, four_at, two_at}
+use Rattle.rtps_capture.specs.Blocks.{block_at}
 use Rattle.rtps_capture.specs.LinkTypes.{link_read, link_type_numbered}
+use Rattle.rtps_capture.specs.OctetNumbers.{four_at, two_at}
 use Rattle.rtps_capture.specs.Opening.{link_type_in, order_of}
 use Rattle.rtps_capture.specs.Options.{offset_told, resolution_told}
-use Rattle.rtps_capture.specs.Times.{block_time, fractions_of, pair_at, record_time}
+use Rattle.rtps_capture.specs.Times.{block_time, pair_at, record_time}
 use Rattle.rtps_capture.specs.declared.blocks.Block.{Block}
 use Rattle.rtps_capture.specs.declared.blocks.Block.TheVariants.{Whole, Unfinished, Bad}
 use Rattle.rtps_capture.specs.declared.blocks.Interface.{Interface}
@@ -47,7 +48,7 @@ is_damaged Any size = nat_lt frame_header.MOST size
 -- a frame of this link type, if that is read
 abbrev pub frame_of_link : Interface → Option ℕ → ByteRange → Option LinkType → Frame
 frame_of_link interface ticks range None = UnreadFrame (Some interface.link)
-frame_of_link interface ticks range (Some link) = Captured (record { link = link; range = range; time = block_time interface ticks })
+frame_of_link interface ticks range (Some link) = Captured (record { link = link; range = range; time = option_and_then (block_time interface) ticks })
 
 -- a frame of this interface, if the section declared it
 abbrev pub frame_of_interface : Option ℕ → ByteRange → Option Interface → Frame
@@ -119,13 +120,9 @@ pub record Step : Type 0 where
   pub gives : Frame
   pub next : Unread
 
--- all is read
-abbrev pub ended : Unread → Unread
-ended unread = record unread { at = length unread.octets }
-
 -- this gives so much, and behind it nothing is read
 abbrev pub end_with : Frame → Unread → Step
-end_with frame unread = record { gives = frame; next = ended unread }
+end_with frame unread = record { gives = frame; next = record unread { at = length unread.octets } }
 
 -- this is what the step gives, and what it leaves
 abbrev pub TakesStep : Step → Frame → Unread → Type 0
@@ -156,7 +153,7 @@ step_of_sized unread records size =
       gives = Captured (record {
         link = records.link;
         range = record { from = frame_from unread; to = frame_from unread + size };
-        time = Some (record_time records.fractions unread.order unread.octets unread.at);
+        time = Some (record_time records.nanoseconds unread.order unread.octets unread.at);
       });
       next = record unread { at = frame_from unread + size };
     }
@@ -194,37 +191,36 @@ HasFrames unread [] = length unread.octets ≤ unread.at
 HasFrames unread (frame ∷ frames) =
     (unread.at < length unread.octets) × (frame ≡ (step_of unread).gives) × HasFrames (step_of unread).next frames
 
--- a classic capture whose frames are of this link type
-abbrev pub classic_with : Captures → List ℕ → Order → Option LinkType → Option Unread
-classic_with captures file order None = None
-classic_with captures file order (Some link) = Some (record {
+-- From each place on, a file has frames, no others, and these are read. own: a file that could be read in two ways would be no evidence.
+pub record HasOneReading : Type 0 where
+  pub exists : (unread : Unread) → (frames : List Frame) × HasFrames unread frames
+  pub unique : (unread : Unread) (frames others : List Frame) → HasFrames unread frames → HasFrames unread others → frames ≡ others
+  pub read : (unread : Unread) (frames : List Frame) → HasFrames unread frames → frames_left unread ≡ frames
+
+-- a classic capture whose frames are of this link type; the number that it begins with tells what fractions of a second are
+abbrev pub classic_with : Captures → List ℕ → Order → LinkType → Unread
+classic_with captures file order link = record {
   captures = captures;
   octets = file;
   at = file_header.SIZE;
   order = order;
-  records = Some (record { link = link; fractions = fractions_of order file });
+  records = Some (record { link = link; nanoseconds = four_at order file 0 == file_header.NANOSECONDS });
   interfaces = [];
-})
-
--- the link type of this number, if it is told and read
-abbrev pub link_by : Captures → Option ℕ → Option LinkType
-link_by captures None = None
-link_by captures (Some number) = link_read captures number
+}
 
 -- a pcapng file whose first block is this one: it is a section header
 abbrev pub section_opened : List ℕ → Block → Option Unread
-section_opened file Unfinished = None
-section_opened file Bad = None
 section_opened file (Whole whole) =
     if whole.kind == block.SECTION
     then Some (record { captures = Any; octets = file; at = whole.to; order = whole.order; records = None; interfaces = [] })
     else None
+section_opened file other = None
 
 -- a capture of the form that its first four octets tell; of classic captures alone one of the other form is none
 abbrev pub opened_by : Captures → List ℕ → Option Order → Option Unread
 opened_by Classic file None = None
 opened_by Any file None = section_opened file (block_at Big file 0)
-opened_by captures file (Some order) = classic_with captures file order (link_by captures (link_type_in order file))
+opened_by captures file (Some order) = option_map (classic_with captures file order) (option_and_then (link_read captures) (link_type_in order file))
 
 -- a capture with its frames still unread, where these octets are one of those that are read
 unfoldable pub opened : Captures → List ℕ → Option Unread
@@ -233,12 +229,7 @@ opened captures file = opened_by captures file (order_of file)
 -- a frame stands within so many octets
 abbrev pub StandsInFile : ℕ → Frame → Type 0
 StandsInFile size (Captured frame) = (frame.range.from ≤ frame.range.to) × (frame.range.to ≤ size)
-StandsInFile size (UnreadFrame link) = Unit {0}
-StandsInFile size NoFrame = Unit {0}
-StandsInFile size Rest = Unit {0}
-StandsInFile size BadBlock = Unit {0}
-StandsInFile size Damaged = Unit {0}
-StandsInFile size CutFrame = Unit {0}
+StandsInFile size other = Unit {0}
 
 -- what these frames are unread of a file
 abbrev pub unread_of : List ℕ → Frames → Unread

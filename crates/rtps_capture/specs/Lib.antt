@@ -2,11 +2,10 @@ pub mod Assembly
 pub mod Blocks
 pub mod Capture
 pub mod Checksum
-pub mod Datagrams
 pub mod Frames
-pub mod Laws
 pub mod Layout
 pub mod LinkTypes
+pub mod OctetNumbers
 pub mod Opening
 pub mod Options
 pub mod Packets

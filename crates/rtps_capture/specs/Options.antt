@@ -1,12 +1,11 @@
 -- The two options of an Interface Description Block that tell of its times. PCAP Now Generic Capture File Format (IETF draft), 3.5
 -- "Options" and 4.2 "Interface Description Block".
 -- own: the first option of a code counts, if it has the size that the draft gives it. Behind one that passes the block none is read.
-use Rattle.std.specs.Prelude.{ℕ, ◌+◌, ◌*◌, ◌/◌, ◌^◌, ◌==◌, ◌&&◌, not, nat_le, Bool, if◌then◌else◌, List, length, slice_index, Option, Some, None}
+use Rattle.std.specs.Prelude.{ℕ, ◌+◌, ◌*◌, ◌/◌, ◌==◌, ◌&&◌, not, nat_le, Bool, if◌then◌else◌, List, length, drop, slice_index, Option, Some, None, option_map, unwrap_or}
+use Rattle.rtps_ids.specs.Octets.{number_of}
 use Rattle.rtps_ids.specs.declared.order.Order.{Order}
-use Rattle.rtps_ids.specs.declared.order.Order.TheVariants.{Big, Little}
-use Rattle.rtps_capture.specs.Blocks.{four_at, two_at}
-use Rattle.rtps_capture.specs.Passed.{last_header}
-use Rattle.rtps_capture.specs.Times.{pair_at}
+use Rattle.rtps_capture.specs.OctetNumbers.{two_at}
+use Rattle.rtps_capture.specs.Passed.{last_within}
 use Rattle.rtps_capture.specs.declared.layout.option.TheConstants as option
 use Rattle.rtps_capture.specs.declared.passed.Header.{Header}
 
@@ -37,7 +36,7 @@ option_passed order code options header =
 
 -- the first option of this code, or the last one that is read
 abbrev pub found_option : Order → ℕ → List ℕ → Header
-found_option order code options = last_header (option_passed order code options) (length options) (option_at order options 0)
+found_option order code options = last_within (option_passed order code options) (length options) (option_at order options 0)
 
 -- where the value of so many octets stands of such an option
 abbrev pub value_of : Order → ℕ → ℕ → List ℕ → Header → Option ℕ
@@ -51,22 +50,9 @@ abbrev pub value_told : Order → ℕ → ℕ → List ℕ → Option ℕ
 value_told order code size options = value_of order code size options (found_option order code options)
 
 -- a resolution that is not told is of microseconds
-abbrev pub resolution_at : List ℕ → Option ℕ → ℕ
-resolution_at options None = option.USUAL_RESOLUTION
-resolution_at options (Some at) = slice_index options at
-
 abbrev pub resolution_told : Order → List ℕ → ℕ
-resolution_told order options = resolution_at options (value_told order option.RESOLUTION 1 options)
-
--- eight octets as a number
-abbrev pub eight_at : Order → List ℕ → ℕ → ℕ
-eight_at Big octets at = pair_at Big octets at
-eight_at Little octets at = four_at Little octets (at + 4) * 2 ^ 32 + four_at Little octets at
+resolution_told order options = unwrap_or (option_map (λ at. slice_index options at) (value_told order option.RESOLUTION 1 options)) option.USUAL_RESOLUTION
 
 -- an offset that is not told is 0
-abbrev pub offset_at : Order → List ℕ → Option ℕ → ℕ
-offset_at order options None = 0
-offset_at order options (Some at) = eight_at order options at
-
 abbrev pub offset_told : Order → List ℕ → ℕ
-offset_told order options = offset_at order options (value_told order option.OFFSET 8 options)
+offset_told order options = unwrap_or (option_map (λ at. number_of order 8 (drop at options)) (value_told order option.OFFSET 8 options)) 0

@@ -10,8 +10,8 @@ use Rattle.std.specs.Prelude.{ℕ, ◌+◌, ◌-◌, ◌*◌, ◌/◌, ◌%◌, 
 use Rattle.std.specs.Option.{unwrap_or}
 use Rattle.rtps_ids.specs.Octets.{number_of}
 use Rattle.rtps_ids.specs.declared.order.Order.TheVariants.{Big}
-use Rattle.rtps_capture.specs.Datagrams.{header_size, is_no_fragment, is_udp, number_at, total_size}
-use Rattle.rtps_capture.specs.Passed.{extension_passed, is_extension, is_tag, last_header, tag_passed}
+use Rattle.rtps_capture.specs.OctetNumbers.{four_at, two_at}
+use Rattle.rtps_capture.specs.Passed.{extension_passed, is_extension, is_tag, last_within, tag_passed}
 use Rattle.rtps_capture.specs.declared.captures.Captures.{Captures}
 use Rattle.rtps_capture.specs.declared.captures.Captures.TheVariants.{Classic, Any}
 use Rattle.rtps_capture.specs.declared.layout.cooked_1.TheConstants as cooked_1
@@ -24,7 +24,6 @@ use Rattle.rtps_capture.specs.declared.layout.packet_6.TheConstants as packet_6
 use Rattle.rtps_capture.specs.declared.layout.udp.TheConstants as udp
 use Rattle.rtps_capture.specs.declared.link_type.LinkType.{LinkType}
 use Rattle.rtps_capture.specs.declared.link_type.LinkType.TheVariants as link
-use Rattle.rtps_capture.specs.declared.fragment.Address.{Address}
 use Rattle.rtps_capture.specs.declared.packet.Carried.{Carried}
 use Rattle.rtps_capture.specs.declared.packet.Carried.TheVariants.{Ipv4, Ipv6, Unfinished, Foreign}
 use Rattle.rtps_capture.specs.declared.packet.Contents.{Contents}
@@ -56,7 +55,7 @@ carried_typed last =
 -- a header of this size has a type at this place, and behind it are tags and a packet
 abbrev pub carried_behind : ℕ → ℕ → List ℕ → Carried
 carried_behind type_at size frame =
-    if nat_le size (length frame) then carried_typed (last_header (tag_passed frame) (length frame) (record { kind = number_at type_at frame; at = size }))
+    if nat_le size (length frame) then carried_typed (last_within (tag_passed frame) (length frame) (record { kind = two_at Big frame type_at; at = size }))
     else Unfinished
 
 -- where the packet begins that a frame carries
@@ -69,47 +68,38 @@ packet_of link.Raw frame = carried_at frame 0 None
 packet_of link.RawIpv4 frame = carried_at frame 0 (Some packet_4.VERSION)
 packet_of link.RawIpv6 frame = carried_at frame 0 (Some packet_6.VERSION)
 
--- four octets as a number
-abbrev pub number_4_at : ℕ → List ℕ → ℕ
-number_4_at at octets = number_of Big 4 (drop at octets)
+-- the low half of the first octet of a packet of version 4 counts the header's words of four octets
+abbrev pub header_size : List ℕ → ℕ
+header_size packet = slice_index packet 0 % 16 * 4
 
--- an address of 16 octets
-abbrev pub address_at : ℕ → List ℕ → Address
-address_at at octets = record {
-  first = number_4_at at octets;
-  second = number_4_at (at + 4) octets;
-  third = number_4_at (at + 8) octets;
-  fourth = number_4_at (at + 12) octets;
-}
-
--- an address of four octets
-abbrev pub address_4_at : ℕ → List ℕ → Address
-address_4_at at octets = record { first = number_4_at at octets; second = 0; third = 0; fourth = 0 }
+-- what is behind the total length is padding
+abbrev pub total_size : List ℕ → ℕ
+total_size packet = two_at Big packet packet_4.TOTAL
 
 -- what the fragments of one packet of version 4 have in common
 abbrev pub key_4 : List ℕ → FragmentKey
 key_4 packet = record {
-  identification = number_at packet_4.IDENTIFICATION packet;
+  identification = two_at Big packet packet_4.IDENTIFICATION;
   version = packet_4.VERSION;
-  source = address_4_at packet_4.SOURCE packet;
-  destination = address_4_at packet_4.DESTINATION packet;
+  source = four_at Big packet packet_4.SOURCE;
+  destination = four_at Big packet packet_4.DESTINATION;
 }
 
 -- what those of one packet of version 6 have in common; their fragment header is at this place
 abbrev pub key_6 : List ℕ → ℕ → FragmentKey
 key_6 packet at = record {
-  identification = number_4_at (at + extension.IDENTIFICATION) packet;
+  identification = four_at Big packet (at + extension.IDENTIFICATION);
   version = packet_6.VERSION;
-  source = address_at packet_6.SOURCE packet;
-  destination = address_at packet_6.DESTINATION packet;
+  source = number_of Big 16 (drop packet_6.SOURCE packet);
+  destination = number_of Big 16 (drop packet_6.DESTINATION packet);
 }
 
 -- the datagram behind the UDP header that begins a range of a packet: its length counts the header's own octets
 unfoldable pub udp_within : List ℕ → ByteRange → Contents
 udp_within packet range =
-    if nat_le (range.from + udp.SIZE) range.to && nat_le udp.SIZE (number_at (range.from + udp.LENGTH) packet)
-    && nat_le (range.from + number_at (range.from + udp.LENGTH) packet) range.to
-    then contents.Datagram (record { from = range.from + udp.SIZE; to = range.from + number_at (range.from + udp.LENGTH) packet })
+    if nat_le (range.from + udp.SIZE) range.to && nat_le udp.SIZE (two_at Big packet (range.from + udp.LENGTH))
+    && nat_le (range.from + two_at Big packet (range.from + udp.LENGTH)) range.to
+    then contents.Datagram (record { from = range.from + udp.SIZE; to = range.from + two_at Big packet (range.from + udp.LENGTH) })
     else contents.Other
 
 -- how many octets a fragment has
@@ -126,21 +116,22 @@ can_be_fragment fragment =
 abbrev pub fragment_of : Fragment → Contents
 fragment_of fragment = if can_be_fragment fragment then contents.Fragment fragment else contents.Other
 
--- what a whole packet of version 4 that carries UDP contains; octets behind its total length are padding
+-- What a whole packet of version 4 that carries UDP contains. It is no fragment where it begins at 0 of what was sent and no more comes
+-- behind it; the flag that forbids fragments may be set.
 abbrev pub contents_of_whole_ipv4 : List ℕ → Contents
 contents_of_whole_ipv4 packet =
-    if is_no_fragment packet then udp_within packet (record { from = header_size packet; to = total_size packet })
+    if two_at Big packet packet_4.FRAGMENT % packet_4.FRAGMENT_BITS == 0 then udp_within packet (record { from = header_size packet; to = total_size packet })
     else fragment_of (record {
       key = key_4 packet;
-      start = number_at packet_4.FRAGMENT packet % packet_4.OFFSETS * packet_4.UNIT;
-      more = number_at packet_4.FRAGMENT packet / packet_4.OFFSETS % 2 == 1;
+      start = two_at Big packet packet_4.FRAGMENT % packet_4.OFFSETS * packet_4.UNIT;
+      more = two_at Big packet packet_4.FRAGMENT / packet_4.OFFSETS % 2 == 1;
       range = record { from = header_size packet; to = total_size packet };
     })
 
 -- a header of version 4 that says UDP, with sizes that can be
 abbrev pub is_ipv4_udp : List ℕ → Bool
 is_ipv4_udp packet =
-    slice_index packet 0 / 16 == packet_4.VERSION && nat_le packet_4.LEAST (header_size packet) && is_udp packet && nat_le (header_size packet) (total_size packet)
+    slice_index packet 0 / 16 == packet_4.VERSION && nat_le packet_4.LEAST (header_size packet) && slice_index packet packet_4.PROTOCOL == packet_4.UDP && nat_le (header_size packet) (total_size packet)
 
 -- what a packet of version 4 contains
 unfoldable pub contents_of_ipv4 : List ℕ → Contents
@@ -157,8 +148,8 @@ contents_behind packet last =
     else if last.kind == extension.FRAGMENT && nat_le (last.at + extension.SIZE) (length packet) && slice_index packet last.at == packet_4.UDP
     then fragment_of (record {
       key = key_6 packet last.at;
-      start = number_at (last.at + extension.OFFSET) packet / 8 * packet_4.UNIT;
-      more = number_at (last.at + extension.OFFSET) packet % 2 == 1;
+      start = two_at Big packet (last.at + extension.OFFSET) / 8 * packet_4.UNIT;
+      more = two_at Big packet (last.at + extension.OFFSET) % 2 == 1;
       range = record { from = last.at + extension.SIZE; to = length packet };
     })
     else contents.Other
@@ -166,11 +157,11 @@ contents_behind packet last =
 -- what a whole packet of version 6 contains, with nothing behind it
 unfoldable pub contents_of_whole : List ℕ → Contents
 contents_of_whole packet =
-    contents_behind packet (last_header (extension_passed packet) (length packet) (record { kind = slice_index packet packet_6.NEXT; at = packet_6.SIZE }))
+    contents_behind packet (last_within (extension_passed packet) (length packet) (record { kind = slice_index packet packet_6.NEXT; at = packet_6.SIZE }))
 
 -- the size of a packet of version 6, by its header
 abbrev pub size_of_ipv6 : List ℕ → ℕ
-size_of_ipv6 packet = packet_6.SIZE + number_at packet_6.PAYLOAD packet
+size_of_ipv6 packet = packet_6.SIZE + two_at Big packet packet_6.PAYLOAD
 
 -- a header of version 6 behind which UDP can stand: it names UDP, or a header that is looked behind
 abbrev pub is_ipv6_udp : List ℕ → Bool
@@ -195,8 +186,7 @@ moved_range by range = record { from = by + range.from; to = by + range.to }
 abbrev pub moved_contents : ℕ → Contents → Contents
 moved_contents by (contents.Datagram range) = contents.Datagram (moved_range by range)
 moved_contents by (contents.Fragment fragment) = contents.Fragment (record fragment { range = moved_range by fragment.range })
-moved_contents by contents.Cut = contents.Cut
-moved_contents by contents.Other = contents.Other
+moved_contents by nothing = nothing
 
 -- what the packet contains that begins there in a frame
 abbrev pub contents_carried : List ℕ → Carried → Contents
@@ -204,10 +194,6 @@ contents_carried frame (Ipv4 at) = moved_contents at (contents_of_ipv4 (drop at 
 contents_carried frame (Ipv6 at) = moved_contents at (contents_of_ipv6 (drop at frame))
 contents_carried frame Unfinished = contents.Cut
 contents_carried frame Foreign = contents.Other
-
--- what a frame contains
-abbrev pub contents_of : LinkType → List ℕ → Contents
-contents_of link frame = contents_carried frame (packet_of link frame)
 
 -- how many octets a frame of a classic capture has in front of its packet
 abbrev pub size_in_front : LinkType → ℕ
@@ -217,34 +203,28 @@ size_in_front other = 0
 -- a packet of version 4 that begins there
 abbrev pub is_plain : ℕ → Carried → Bool
 is_plain at (Ipv4 from) = from == at
-is_plain at (Ipv6 from) = false
-is_plain at Unfinished = false
-is_plain at Foreign = false
+is_plain at _ = false
 
 -- a datagram in one packet, or another thing
 abbrev pub whole_or_other : Contents → Contents
 whole_or_other (contents.Datagram range) = contents.Datagram range
-whole_or_other (contents.Fragment fragment) = contents.Other
-whole_or_other contents.Cut = contents.Other
-whole_or_other contents.Other = contents.Other
+whole_or_other _ = contents.Other
 
 -- what a frame contains for these captures
 unfoldable pub contents_read : Captures → LinkType → List ℕ → Contents
-contents_read Any link frame = contents_of link frame
+contents_read Any link frame = contents_carried frame (packet_of link frame)
 contents_read Classic link frame =
-    if is_plain (size_in_front link) (packet_of link frame) then whole_or_other (contents_of link frame) else contents.Other
+    if is_plain (size_in_front link) (packet_of link frame) then whole_or_other (contents_carried frame (packet_of link frame)) else contents.Other
 
 -- the packet begins within so many octets
 abbrev pub is_within : ℕ → Carried → Type 0
 is_within size (Ipv4 at) = at ≤ size
 is_within size (Ipv6 at) = at ≤ size
-is_within size Unfinished = Unit {0}
-is_within size Foreign = Unit {0}
+is_within size _ = Unit {0}
 
 -- what is told stands within so many octets
 abbrev pub StandsIn : ℕ → Contents → Type 0
 StandsIn size (contents.Datagram range) = (range.from ≤ range.to) × (range.to ≤ size)
 StandsIn size (contents.Fragment fragment) =
     (fragment.range.from ≤ fragment.range.to) × (fragment.range.to ≤ size) × (fragment.start + fragment_size fragment ≤ packet_4.MOST)
-StandsIn size contents.Cut = Unit {0}
-StandsIn size contents.Other = Unit {0}
+StandsIn size _ = Unit {0}

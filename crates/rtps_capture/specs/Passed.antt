@@ -1,25 +1,17 @@
 -- Headers that are passed on the way to a datagram. IEEE 802.1Q, 9 "Tag formats"; RFC 8200 "Internet Protocol, Version 6",
 -- 4 "IPv6 Extension Headers"; RFC 6946 "Processing of IPv6 'Atomic' Fragments".
 -- own: 9100 is a tag, too, since older devices write it. Extension headers are passed in any order and number.
-use Rattle.std.specs.Prelude.{ℕ, zero, suc, ◌+◌, ◌*◌, ◌/◌, ◌%◌, ◌==◌, ◌&&◌, ◌||◌, nat_le, Bool, if◌then◌else◌, List, length, slice_index, Option, Some, None}
-use Rattle.rtps_capture.specs.Datagrams.{number_at}
+use Rattle.std.specs.Prelude.{ℕ, zero, suc, ◌+◌, ◌*◌, ◌/◌, ◌%◌, ◌==◌, ◌&&◌, ◌||◌, nat_le, Bool, if◌then◌else◌, List, length, slice_index, Option, Some, None, option_map, unwrap_or}
+use Rattle.rtps_ids.specs.declared.order.Order.TheVariants.{Big}
+use Rattle.rtps_capture.specs.OctetNumbers.{two_at}
 use Rattle.rtps_capture.specs.declared.layout.extension.TheConstants as extension
 use Rattle.rtps_capture.specs.declared.layout.tag.TheConstants as tag
 use Rattle.rtps_capture.specs.declared.passed.Header.{Header}
 
--- what is behind the header, if that was passed, and else the header
-abbrev pub last_by : (Header → Header) → Header → Option Header → Header
-last_by more header None = header
-last_by more header (Some behind) = more behind
-
--- what is behind at most so many headers that are passed
+-- what is behind at most so many headers that are passed: each takes an octet at least, so of as many as there are octets it is the last
 unfoldable pub last_within : (Header → Option Header) → ℕ → Header → Header
 last_within passed zero header = header
-last_within passed (suc n) header = last_by (last_within passed n) header (passed header)
-
--- what is behind all headers that are passed, in so many octets: each takes one at least
-abbrev pub last_header : (Header → Option Header) → ℕ → Header → Header
-last_header passed size header = last_within passed size header
+last_within passed (suc n) header = unwrap_or (option_map (last_within passed n) (passed header)) header
 
 -- a type that says that a tag is behind it
 abbrev pub is_tag : ℕ → Bool
@@ -29,7 +21,7 @@ is_tag kind = kind == tag.CUSTOMER || kind == tag.SERVICE || kind == tag.OLDER
 abbrev pub tag_passed : List ℕ → Header → Option Header
 tag_passed frame header =
     if is_tag header.kind && nat_le (header.at + tag.SIZE) (length frame)
-    then Some (record { kind = number_at (header.at + tag.TYPE) frame; at = header.at + tag.SIZE })
+    then Some (record { kind = two_at Big frame (header.at + tag.TYPE); at = header.at + tag.SIZE })
     else None
 
 -- hop-by-hop options, routing and destination options
@@ -38,7 +30,7 @@ is_extension kind = kind == extension.HOP_BY_HOP || kind == extension.ROUTING ||
 
 -- a fragment header that has neither an offset nor the flag for more fragments
 abbrev pub is_atomic : List ℕ → ℕ → Bool
-is_atomic packet at = number_at (at + extension.OFFSET) packet / 8 == 0 && number_at (at + extension.OFFSET) packet % 2 == 0
+is_atomic packet at = two_at Big packet (at + extension.OFFSET) / 8 == 0 && two_at Big packet (at + extension.OFFSET) % 2 == 0
 
 -- the size of an extension header that is whole at its front: its length counts eights of octets, the first left out
 abbrev pub extension_size : List ℕ → ℕ → ℕ

@@ -22,15 +22,11 @@ use Rattle.rtps_capture.specs.declared.fragment.Fragment.{Fragment}
 use Rattle.rtps_capture.specs.declared.fragment.FragmentKey.{FragmentKey}
 use Rattle.rtps_capture.specs.declared.pieces.Piece.{Piece}
 
--- what a frame contains, if its link type is read
-abbrev pub contents_told : Captures → List ℕ → Frame → List Contents
-contents_told captures file (Captured frame) = contents_in captures file frame ∷ []
-contents_told captures file other = []
-
--- what these frames contain, in their order
+-- what these frames contain whose link type is read, in their order
 abbrev pub contents_among : Captures → List ℕ → List Frame → List Contents
 contents_among captures file [] = []
-contents_among captures file (frame ∷ frames) = contents_told captures file frame ++ contents_among captures file frames
+contents_among captures file (Captured frame ∷ frames) = contents_in captures file frame ∷ contents_among captures file frames
+contents_among captures file (other ∷ frames) = contents_among captures file frames
 
 -- one of the frames contains this
 abbrev pub StandsAmong : List Contents → Contents → Type 0

@@ -1,29 +1,17 @@
 -- When a frame was captured, in nanoseconds since 1970 began (UTC). PCAP Capture File Format (IETF draft), 5 "Packet Record"; PCAP
 -- Now Generic Capture File Format (IETF draft), 4.2 "Interface Description Block" and 4.3 "Enhanced Packet Block".
 -- own: what is finer than a nanosecond is left out. A time before 1970, or past what 64 bits count, is none.
-use Rattle.std.specs.Prelude.{ℕ, ◌+◌, ◌-◌, ◌*◌, ◌/◌, ◌^◌, ◌==◌, nat_le, nat_lt, if◌then◌else◌, List, Option, Some, None}
+use Rattle.std.specs.Prelude.{ℕ, ◌+◌, ◌-◌, ◌*◌, ◌/◌, ◌^◌, nat_le, nat_lt, Bool, if◌then◌else◌, List, Option, Some, None, option_and_then}
 use Rattle.rtps_ids.specs.declared.order.Order.{Order}
-use Rattle.rtps_capture.specs.Blocks.{four_at}
+use Rattle.rtps_capture.specs.OctetNumbers.{four_at}
 use Rattle.rtps_capture.specs.declared.blocks.Interface.{Interface}
-use Rattle.rtps_capture.specs.declared.layout.file.TheConstants.{NANOSECONDS}
 use Rattle.rtps_capture.specs.declared.layout.record.TheConstants.{FRACTION, SECONDS}
 use Rattle.rtps_capture.specs.declared.layout.time.TheConstants.{MICROSECOND, SECOND}
-use Rattle.rtps_capture.specs.declared.times.Fractions.{Fractions}
-use Rattle.rtps_capture.specs.declared.times.Fractions.TheVariants.{Microseconds, Nanoseconds}
 
--- the number that a classic file begins with tells what its fractions of a second are
-abbrev pub fractions_of : Order → List ℕ → Fractions
-fractions_of order file = if four_at order file 0 == NANOSECONDS then Nanoseconds else Microseconds
-
--- a fraction in nanoseconds
-abbrev pub nanoseconds_in : Fractions → ℕ → ℕ
-nanoseconds_in Microseconds fraction = fraction * MICROSECOND
-nanoseconds_in Nanoseconds fraction = fraction
-
--- the time of a record of a classic file
-abbrev pub record_time : Fractions → Order → List ℕ → ℕ → ℕ
-record_time fractions order file at =
-    four_at order file (at + SECONDS) * SECOND + nanoseconds_in fractions (four_at order file (at + FRACTION))
+-- the time of a record of a classic file, whose fraction is of nanoseconds or of microseconds
+abbrev pub record_time : Bool → Order → List ℕ → ℕ → ℕ
+record_time nanoseconds order file at =
+    four_at order file (at + SECONDS) * SECOND + (if nanoseconds then four_at order file (at + FRACTION) else four_at order file (at + FRACTION) * MICROSECOND)
 
 -- two words of four octets as one number, of which the first one is the high half
 abbrev pub pair_at : Order → List ℕ → ℕ → ℕ
@@ -45,11 +33,9 @@ later_by offset time =
     else None
 
 -- a time that 64 bits count
-abbrev pub in_64_bits : Option ℕ → Option ℕ
-in_64_bits None = None
-in_64_bits (Some time) = if nat_lt time (2 ^ 64) then Some time else None
+abbrev pub in_64_bits : ℕ → Option ℕ
+in_64_bits time = if nat_lt time (2 ^ 64) then Some time else None
 
--- the time of a frame of this interface, if its block tells one
-abbrev pub block_time : Interface → Option ℕ → Option ℕ
-block_time interface None = None
-block_time interface (Some ticks) = in_64_bits (later_by interface.offset (nanoseconds_of interface.resolution ticks))
+-- the time of a frame of this interface, whose block tells it in so many units
+abbrev pub block_time : Interface → ℕ → Option ℕ
+block_time interface ticks = option_and_then in_64_bits (later_by interface.offset (nanoseconds_of interface.resolution ticks))

@@ -1,5 +1,5 @@
-ghost use Rattle.std.specs.Prelude.{◌≡◌, ◌≤◌, ◌<◌, ◌+◌, ◌^◌, [], length, IfOk, IfSome};
-ghost use Rattle.rtps_capture.specs.Assembly.{IsBounded, IsJoined, StandsInPacket, TakesFragment, datagram_of_whole as datagram_of_whole_lem, fresh_making, given, making_of, taken_piece, waiting};
+ghost use Rattle.std.specs.Prelude.{◌≡◌, ◌≤◌, ◌<◌, ◌+◌, ◌^◌, [], length, IfOk, IfSome, None};
+ghost use Rattle.rtps_capture.specs.Assembly.{IsJoined, StandsInPacket, TakesFragment, datagram_of_whole as datagram_of_whole_lem, fresh_making, given, making_of, taken_piece};
 ghost use Rattle.rtps_capture.specs.Packets.{fragment_size};
 ghost use Rattle.rtps_capture.specs.Pieces.{piece_of as piece_of_lem};
 ghost use Rattle.rtps_capture.specs.declared.fragment.FragmentKey.{FragmentKey as KeyValue};
@@ -17,12 +17,24 @@ use std::collections::BTreeMap;
 /// What one fragment more gives.
 #[derive(Clone, Copy)]
 pub(crate) struct Taken {
-    /// 1 where it is no repeat, and else 0.
-    pub(crate) fresh: usize,
+    /// It is no repeat.
+    pub(crate) fresh: bool,
     /// How many fragments that are no repeats are of a packet that gives its datagram now.
     pub(crate) settled: usize,
     /// Where the datagram stands of a packet that gives it now, among the octets of the packet.
     pub(crate) datagram: Option<ByteRange>,
+}
+
+impl Taken {
+    fn nothing(fresh: bool) -> Taken
+        ensures { result ≡ record { fresh = fresh; settled = 0; datagram = None } }
+    {
+        Taken {
+            fresh,
+            settled: 0,
+            datagram: None,
+        }
+    }
 }
 
 /// The fragments of one key.
@@ -59,22 +71,14 @@ impl Making {
         ensures within { IfOk result (λ taken. StandsInPacket packet.new.items taken.datagram) }
     {
         if self.making.has(file, &piece) {
-            return Ok(Taken {
-                fresh: 0,
-                settled: 0,
-                datagram: None,
-            });
+            return Ok(Taken::nothing(false));
         }
-        let fresh = usize::from(!self.given.has(file, &piece));
+        let fresh = !self.given.has(file, &piece);
         self.making.join(piece)?;
         if self.making.is_whole() {
             return self.give(file, key, fresh, packet);
         }
-        Ok(Taken {
-            fresh,
-            settled: 0,
-            datagram: None,
-        })
+        Ok(Taken::nothing(fresh))
     }
 
     /// Gives the packet in the making, which is whole, if it is right.
@@ -83,7 +87,7 @@ impl Making {
         &mut self,
         file: &[u8],
         key: &FragmentKey,
-        fresh: usize,
+        fresh: bool,
         packet: &mut Vec<u8>,
     ) -> Result<Taken, Memory>
         requires { packet.old.items ≡ [] }
@@ -95,11 +99,7 @@ impl Making {
         if datagram.is_none() {
             packet.clear();
             self.making.drop_oldest();
-            return Ok(Taken {
-                fresh,
-                settled: 0,
-                datagram,
-            });
+            return Ok(Taken::nothing(fresh));
         }
         let settled = self.making.count_new(file, &self.given);
         std::mem::swap(&mut self.making, &mut self.given);
@@ -112,7 +112,6 @@ impl Making {
     }
 }
 
-/// Where the datagram stands in a whole packet of these octets, if they have a right one.
 #[tactic(auto, unfolding(crate::specs::Assembly::has_right_datagram))]
 fn datagram_of_whole(key: &FragmentKey, packet: &[u8]) -> Option<ByteRange>
     ensures datagram { result ≡ datagram_of_whole_lem key.now packet.now }
@@ -141,7 +140,6 @@ pub(crate) struct Assembly {
 impl Assembly {
     pub(crate) fn new(alloc: Global) -> Assembly
         ensures none { (key : KeyValue) → making_of result.makings key ≡ fresh_making }
-        ensures waiting { waiting result.makings ≡ 0 }
     {
         Assembly {
             alloc,
@@ -161,7 +159,6 @@ impl Assembly {
         requires none { packet.old.items ≡ [] }
         ensures taken { IfOk result (λ taken. TakesFragment (taken_piece file.now fragment.now.key (making_of self.old.makings fragment.now.key) (piece_of_lem fragment.now)) fragment.now.key taken self.old.makings self.new.makings packet.new.items) }
         ensures within { IfOk result (λ taken. StandsInPacket packet.new.items taken.datagram) }
-        ensures waiting { IfOk result (λ taken. IsBounded taken (waiting self.old.makings) (waiting self.new.makings)) }
     {
         let piece = piece_of(fragment);
         if let Some(making) = self.makings.get_mut(&fragment.key) {

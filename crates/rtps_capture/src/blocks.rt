@@ -45,7 +45,6 @@ pub fn is_pcapng(octets: &[u8]) -> bool
     octets.len() >= 4 && four_octets(Order::Big, octets, 0) == block::SECTION
 }
 
-/// The order in which the four octets at this place are the number that tells it.
 fn order_told(octets: &[u8], at: usize) -> Option<Order>
     requires { at + 4 ≤ length octets.now }
     ensures { result ≡ order_told_lem octets.now at }
@@ -59,7 +58,6 @@ fn order_told(octets: &[u8], at: usize) -> Option<Order>
     None
 }
 
-/// How many octets the fixed fields of a block's body have.
 #[inline]
 fn fixed_size(kind: u32) -> usize
     ensures size { result ≡ fixed_size_lem kind }
@@ -102,7 +100,6 @@ fn block_with(kind: u32, order: Order, octets: &[u8], at: usize) -> Block
     Block::Whole(WholeBlock { kind, order, to })
 }
 
-/// The block at this place of a pcapng file, in a section whose numbers lie in this order.
 #[tactic(auto, unfolding(crate::specs::Blocks::block_at))]
 pub(crate) fn block_at(order: Order, octets: &[u8], at: usize) -> Block
     requires { at ≤ length octets.now }

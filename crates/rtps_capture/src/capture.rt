@@ -1,7 +1,7 @@
 ghost use Rattle.std.specs.Prelude.{◌≡◌, ◌≤◌, ◌<◌, ◌+◌, ◌^◌, ◌++◌, [], ℕ, Option, length, IfOk, MatchResult, Ok, OnOk};
 ghost use Rattle.rtps_capture.specs.Assembly.{making_of, taken_piece};
-ghost use Rattle.rtps_capture.specs.Capture.{AreWithin, IsAnswer, IsCounted, IsCountedWith, IsFault, StaysWithin, all_read, answer_of, capture_read, collected, collected_of, contents_in as contents_in_lem, ignored, noted, nothing, reading_value, size_of, with_fragment};
-ghost use Rattle.rtps_capture.specs.Frames.{StandsInFile, frames_left, unread_of};
+ghost use Rattle.rtps_capture.specs.Capture.{AreWithin, IsAnswer, IsCounted, IsCountedWith, IsFault, StaysWithin, answer_of, capture_read, collected, collected_of, ignored, noted, nothing, reading_value, size_of, with_fragment};
+ghost use Rattle.rtps_capture.specs.Frames.{StandsInFile};
 ghost use Rattle.rtps_capture.specs.Packets.{StandsIn, fragment_size};
 ghost use Rattle.rtps_capture.specs.Pieces.{piece_of};
 
@@ -10,7 +10,7 @@ use crate::byte_range::ByteRange;
 use crate::capture_octets::CaptureOctets;
 use crate::captures::Captures;
 use crate::fragment::Fragment;
-use crate::frames::{CapturedFrame, Frame, Frames};
+use crate::frames::{Frame, Frames};
 use crate::packet::{Contents, contents_read, moved};
 use rtps_ids::Memory;
 use std::alloc::Global;
@@ -76,13 +76,13 @@ struct Collected {
 }
 
 /// How many frames there were so far, and of what kinds.
-#[derive(Clone, Copy)]
+#[derive(Clone, Copy, Default)]
 struct Counts {
     frames: u64,
     /// Frames with a fragment that is no repeat.
     fresh: u64,
-    /// Those of them whose packet was whole.
-    settled: u64,
+    /// Those of them whose packet was whole. One packet has fewer than 2^64.
+    settled: u128,
     cut: u64,
     other: u64,
     links: u64,
@@ -101,44 +101,14 @@ pub fn read_capture(
     ensures few { IfOk result (λ reading. ignored reading < 2 ^ 64) }
     ensures within { IfOk result (λ reading. AreWithin (length reading.octets.items) reading.datagrams.items) }
 {
-    let Some(frames) = Frames::open(alloc, captures, &octets) else {
+    let Some(mut frames) = Frames::open(alloc, captures, &octets) else {
         return Err(CaptureFault::BadCapture);
     };
-    read_frames(captures, frames, Collected::new(alloc, octets), most)
-}
-
-/// What the frames give behind those that were collected.
-fn read_frames(
-    captures: Captures,
-    mut frames: Frames,
-    mut collected: Collected,
-    most: u64,
-) -> Result<CaptureReading, CaptureFault>
-    requires counted { IsCounted collected }
-    requires few { collected.counts.frames + length (frames_left (unread_of collected.octets.file frames)) < 2 ^ 63 }
-    requires within { AreWithin (size_of collected) collected.datagrams.items }
-    ensures read { let file = collected.octets.file in IsAnswer file (all_read captures file most (collected_of collected) (frames_left (unread_of file frames))) result }
-    ensures few { IfOk result (λ reading. ignored reading < 2 ^ 64) }
-    ensures within { IfOk result (λ reading. AreWithin (length reading.octets.items) reading.datagrams.items) }
-{
+    let mut collected = Collected::new(alloc, octets);
     while let Some(frame) = frames.next_frame(collected.octets.file())? {
         collected.note(captures, frame, most)?;
     }
     Ok(collected.finish())
-}
-
-/// What the frame contains, with places of the file.
-#[tactic(auto, unfolding(crate::specs::Capture::contents_in))]
-#[inline]
-fn contents_in(captures: Captures, octets: &[u8], frame: CapturedFrame) -> Contents
-    requires ordered { frame.range.from ≤ frame.range.to }
-    requires within { frame.range.to ≤ length octets.now }
-    ensures contents { result ≡ contents_in_lem captures octets.now frame }
-    ensures within { StandsIn (length octets.now) result }
-{
-    let range = frame.range;
-    let contents = contents_read(captures, frame.link, &octets[range.from..range.to]);
-    moved(range.from, contents)
 }
 
 impl Collected {
@@ -154,20 +124,11 @@ impl Collected {
             packet: Vec::new(alloc),
             datagrams: Vec::new(alloc),
             times: Vec::new(alloc),
-            counts: Counts {
-                frames: 0,
-                fresh: 0,
-                settled: 0,
-                cut: 0,
-                other: 0,
-                links: 0,
-                first_link: None,
-            },
+            counts: Counts::default(),
         }
     }
 
-    /// Takes what a record or block gave.
-    #[tactic(auto, unfolding(crate::specs::Capture::noted, crate::specs::Capture::collected))]
+    #[tactic(auto, unfolding(crate::specs::Capture::noted, crate::specs::Capture::collected, crate::specs::Capture::contents_in))]
     fn note(&mut self, captures: Captures, frame: Frame, most: u64) -> Result<(), CaptureFault>
         requires counted { IsCounted self.old }
         requires few { self.old.counts.frames < 2 ^ 63 }
@@ -181,8 +142,10 @@ impl Collected {
         let number = self.counts.frames + 1;
         match frame {
             Frame::Captured(frame) => {
-                let contents = contents_in(captures, self.octets.file(), frame);
-                self.take(contents, frame.time)?;
+                let range = frame.range;
+                let octets = &self.octets.file()[range.from..range.to];
+                let contents = contents_read(captures, frame.link, octets);
+                self.take(moved(range.from, contents), frame.time)?;
                 if self.datagrams.len() as u64 > most {
                     return Err(CaptureFault::TooMany);
                 }
@@ -211,7 +174,6 @@ impl Collected {
         }
     }
 
-    /// Takes what a frame contains that has this time.
     #[tactic(auto, unfolding(crate::specs::Capture::collected))]
     fn take(&mut self, contents: Contents, time: Option<u64>) -> Result<(), Memory>
         requires counted { IsCounted self.old }
@@ -236,7 +198,6 @@ impl Collected {
         Ok(())
     }
 
-    /// Takes a fragment whose frame has this time.
     fn take_fragment(&mut self, fragment: &Fragment, time: Option<u64>) -> Result<(), Memory>
         requires counted { IsCountedWith 1 self.old }
         requires few { self.old.counts.frames < 2 ^ 64 }
@@ -251,8 +212,8 @@ impl Collected {
         let taken = self
             .assembly
             .take(self.octets.file(), fragment, &mut self.packet)?;
-        self.counts.fresh += taken.fresh as u64;
-        self.counts.settled += taken.settled as u64;
+        self.counts.fresh += u64::from(taken.fresh);
+        self.counts.settled += taken.settled as u128;
         if let Some(range) = taken.datagram {
             let at = self.octets.len();
             self.octets.push(&self.packet)?;
@@ -265,7 +226,6 @@ impl Collected {
         Ok(())
     }
 
-    /// What is left when all is read.
     fn finish(self) -> CaptureReading
         requires counted { IsCounted self }
         requires few { self.counts.frames < 2 ^ 63 }
@@ -278,7 +238,7 @@ impl Collected {
             octets: self.octets.into_octets(),
             datagrams: self.datagrams,
             times: self.times,
-            pieces: self.counts.fresh.saturating_sub(self.counts.settled),
+            pieces: u128::from(self.counts.fresh).saturating_sub(self.counts.settled) as u64,
             cut: self.counts.cut,
             other: self.counts.other,
             links: self.counts.links,

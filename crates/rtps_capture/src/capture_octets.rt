@@ -30,7 +30,6 @@ impl CaptureOctets {
         CaptureOctets { octets, size }
     }
 
-    /// Those of the capture.
     #[inline]
     pub(crate) fn file(&self) -> &[u8]
         ensures { result.now ≡ self.now.file }
@@ -38,7 +37,6 @@ impl CaptureOctets {
         &self.octets[..self.size]
     }
 
-    /// How many there are.
     pub(crate) fn len(&self) -> usize
         ensures { result ≡ length self.now.file + length self.now.behind }
     {
@@ -59,7 +57,6 @@ impl CaptureOctets {
         Ok(())
     }
 
-    /// All of them, one after another.
     pub(crate) fn into_octets(self) -> Vec<u8>
         ensures { result.items ≡ self.file ++ self.behind }
     {

@@ -1,6 +1,6 @@
 ghost use Rattle.std.specs.Prelude.{◌≡◌, ◌≤◌, ◌<◌, ◌+◌, length, IfOk, IfSome, MatchOption, None, Some};
 ghost use Rattle.rtps_capture.specs.Blocks.{BlockStands, block_at as block_at_lem};
-ghost use Rattle.rtps_capture.specs.Frames.{GivesNext, StandsInFile, TakesStep, end_with, opened, frame_of_block as frame_of_block_lem, frame_of_interface as frame_of_interface_lem, framed as framed_lem, interface_of as interface_of_lem, interfaces_behind, is_damaged as is_damaged_lem, simple_size as simple_size_lem, snap_of as snap_of_lem, step_of_block, step_of_record, unread_of};
+ghost use Rattle.rtps_capture.specs.Frames.{GivesNext, StandsInFile, TakesStep, end_with, opened, frame_of_block as frame_of_block_lem, frame_of_interface as frame_of_interface_lem, framed as framed_lem, interfaces_behind, simple_size as simple_size_lem, snap_of as snap_of_lem, step_of_block, step_of_record, unread_of};
 ghost use Rattle.rtps_capture.specs.declared.blocks.Block.TheVariants.{Whole};
 
 use crate::blocks::{Block, Interface, WholeBlock, block_at};
@@ -11,7 +11,7 @@ use crate::link_type::{LinkType, link_read, link_type_numbered};
 use crate::octet_number::{four_octets, two_octets};
 use crate::opening::{capture_order, link_type_in};
 use crate::options::{offset_told, resolution_told};
-use crate::times::{Fractions, block_time, fractions_of, pair_at, record_time};
+use crate::times::{block_time, pair_at, record_time};
 use rtps_ids::{Memory, Order};
 use std::alloc::Global;
 
@@ -47,7 +47,8 @@ pub(crate) struct CapturedFrame {
 #[derive(Clone, Copy)]
 pub(crate) struct Records {
     pub(crate) link: LinkType,
-    pub(crate) fractions: Fractions,
+    /// The fractions of a second in their times are nanoseconds, and else microseconds.
+    pub(crate) nanoseconds: bool,
 }
 
 /// A place in a capture, in front of the frames that are still unread. Each call gets the octets of the capture.
@@ -64,18 +65,6 @@ pub(crate) struct Frames {
     interfaces: Vec<Interface>,
 }
 
-/// Whether no frame has so many octets.
-#[inline]
-fn is_damaged(captures: Captures, size: usize) -> bool
-    ensures { result ≡ is_damaged_lem captures size }
-{
-    match captures {
-        Captures::Classic => false,
-        Captures::Any => size > record::MOST,
-    }
-}
-
-/// The frame of this interface, if the section declared it, that was captured at so many units of its clock.
 #[inline]
 fn frame_of_interface(interface: Option<Interface>, ticks: Option<u64>, range: ByteRange) -> Frame
     ensures { result ≡ frame_of_interface_lem ticks range interface }
@@ -93,7 +82,6 @@ fn frame_of_interface(interface: Option<Interface>, ticks: Option<u64>, range: B
     Frame::Captured(CapturedFrame { link, range, time })
 }
 
-/// The frame of so many octets that begins a range.
 #[tactic(auto, unfolding(crate::specs::Frames::framed))]
 #[inline]
 fn framed(interface: Option<Interface>, ticks: Option<u64>, size: usize, range: ByteRange) -> Frame
@@ -101,7 +89,7 @@ fn framed(interface: Option<Interface>, ticks: Option<u64>, size: usize, range: 
     ensures framed { result ≡ framed_lem interface ticks size range }
     ensures within { StandsInFile range.to result }
 {
-    if is_damaged(Captures::Any, size) {
+    if size > record::MOST {
         return Frame::Damaged;
     }
     if size > range.to - range.from {
@@ -111,7 +99,6 @@ fn framed(interface: Option<Interface>, ticks: Option<u64>, size: usize, range: 
     frame_of_interface(interface, ticks, ByteRange { to, ..range })
 }
 
-/// How many octets of a frame a Simple Packet Block has that has room for so many.
 #[inline]
 fn simple_size(first: Option<Interface>, original: u32, room: usize) -> usize
     ensures { result ≡ simple_size_lem (snap_of_lem first) original room }
@@ -123,7 +110,6 @@ fn simple_size(first: Option<Interface>, original: u32, room: usize) -> usize
     limit.min(original as usize)
 }
 
-/// What the block gives that begins at this place.
 #[tactic(auto, unfolding(crate::specs::Frames::frame_of_block))]
 #[inline]
 fn frame_of_block(interfaces: &[Interface], whole: WholeBlock, octets: &[u8], at: usize) -> Frame
@@ -152,22 +138,6 @@ fn frame_of_block(interfaces: &[Interface], whole: WholeBlock, octets: &[u8], at
     framed(interface, Some(ticks), captured, ByteRange { from, to })
 }
 
-/// The interface that the block at this place declares.
-fn interface_of(whole: WholeBlock, octets: &[u8], at: usize) -> Interface
-    requires stands { BlockStands at octets.now (Whole whole) }
-    requires room { at + 20 ≤ whole.to }
-    ensures { result ≡ interface_of_lem whole octets.now at }
-{
-    let body = at + block::BODY;
-    let options = &octets[body + interface::FIXED..whole.to - block::REPETITION];
-    Interface {
-        link: u32::from(two_octets(whole.order, octets, body + interface::LINK)),
-        snap: four_octets(whole.order, octets, body + interface::SNAP),
-        resolution: resolution_told(whole.order, options),
-        offset: offset_told(whole.order, options),
-    }
-}
-
 /// Keeps the interfaces that are there behind a block: a section begins with none. `Memory` leaves them as they are.
 #[tactic(auto, unfolding(crate::specs::Frames::interfaces_behind))]
 fn keep_interfaces(
@@ -184,7 +154,14 @@ fn keep_interfaces(
         return Ok(());
     }
     if whole.kind == block::INTERFACE {
-        interfaces.push(interface_of(whole, octets, at))?;
+        let body = at + block::BODY;
+        let options = &octets[body + interface::FIXED..whole.to - block::REPETITION];
+        interfaces.push(Interface {
+            link: u32::from(two_octets(whole.order, octets, body + interface::LINK)),
+            snap: four_octets(whole.order, octets, body + interface::SNAP),
+            resolution: resolution_told(whole.order, options),
+            offset: offset_told(whole.order, options),
+        })?;
     }
     Ok(())
 }
@@ -205,7 +182,7 @@ impl Frames {
                 order,
                 records: Some(Records {
                     link,
-                    fractions: fractions_of(order, octets),
+                    nanoseconds: four_octets(order, octets, 0) == file::NANOSECONDS,
                 }),
                 interfaces: Vec::new(alloc),
             });
@@ -244,7 +221,6 @@ impl Frames {
         frame
     }
 
-    /// What the next record of a classic capture gives.
     #[inline]
     fn next_record(&mut self, octets: &[u8], records: Records) -> Frame
         requires { self.old.at < length octets.now }
@@ -256,14 +232,14 @@ impl Frames {
             return self.end_with(Frame::Rest, octets);
         }
         let size = four_octets(self.order, octets, self.at + record::CAPTURED) as usize;
-        if is_damaged(self.captures, size) {
+        if matches!(self.captures, Captures::Any) && size > record::MOST {
             return self.end_with(Frame::Damaged, octets);
         }
         if size > room - record::SIZE {
             return self.end_with(Frame::Rest, octets);
         }
         let from = self.at + record::SIZE;
-        let time = record_time(records.fractions, self.order, octets, self.at);
+        let time = record_time(records.nanoseconds, self.order, octets, self.at);
         self.at = from + size;
         Frame::Captured(CapturedFrame {
             link: records.link,
@@ -272,7 +248,6 @@ impl Frames {
         })
     }
 
-    /// What the next block of a pcapng file gives.
     fn next_block(&mut self, octets: &[u8]) -> Result<Frame, Memory>
         requires { self.old.at < length octets.now }
         ensures step { IfOk result (λ frame. TakesStep (step_of_block (unread_of octets.now self.old) (block_at_lem self.old.order octets.now self.old.at)) frame (unread_of octets.now self.new)) }

@@ -1,7 +1,7 @@
 //! Laws of the definitions, as contracts of functions that do nothing.
 
-ghost use Rattle.rtps_capture.specs.Laws.{HasOneReading};
-ghost use Rattle.rtps_capture.specs.Layout.{block_is, blocks_are, cooked_is, ethernet_is, extension_is, file_is, link_types_are, packet_6_is, packet_is, record_is, tag_is, time_is, option_is, udp_is};
+ghost use Rattle.rtps_capture.specs.Frames.{HasOneReading};
+ghost use Rattle.rtps_capture.specs.Layout.{LayoutIsStandard};
 ghost use Rattle.rtps_capture.specs.Sent.{EachPacketIsGiven, EachWasCarried};
 
 /// A file has one reading: what its records and blocks give is decided by its octets, and it is what
@@ -24,18 +24,5 @@ pub fn each_packet_is_given()
 
 /// The numbers, sizes and places that readers and definitions name are those of the standards.
 pub fn layout_is_that_of_the_standards()
-    ensures file { file_is }
-    ensures record { record_is }
-    ensures time { time_is }
-    ensures ethernet { ethernet_is }
-    ensures packet { packet_is }
-    ensures udp { udp_is }
-    ensures link_types { link_types_are }
-    ensures tag { tag_is }
-    ensures cooked { cooked_is }
-    ensures packet_6 { packet_6_is }
-    ensures extension { extension_is }
-    ensures block { block_is }
-    ensures blocks { blocks_are }
-    ensures option { option_is }
+    ensures { LayoutIsStandard }
 {}

@@ -9,17 +9,13 @@ use crate::layout::link_type;
 pub enum LinkType {
     /// Four octets, and behind them a packet of IP.
     Loopback,
-    /// Ethernet frames (IEEE 802.3).
     Ethernet,
     /// Packets of IP, of version 4 or 6.
     Raw,
-    /// Packets of IP of version 4.
     RawIpv4,
-    /// Packets of IP of version 6.
     RawIpv6,
     /// Linux cooked frames.
     Cooked1,
-    /// Linux cooked frames of version 2.
     Cooked2,
 }
 

@@ -1,5 +1,5 @@
 ghost use Rattle.std.specs.Prelude.{◌≡◌};
-ghost use Rattle.rtps_capture.specs.Opening.{is_magic as is_magic_lem, link_type_in as link_type_in_lem, order_of, unread_link_type_of};
+ghost use Rattle.rtps_capture.specs.Opening.{link_type_in as link_type_in_lem, order_of, unread_link_type_of};
 ghost use Rattle.rtps_capture.specs.declared.layout.file.TheConstants.{SIZE};
 
 use crate::captures::Captures;
@@ -16,24 +16,13 @@ pub const CAPTURE_HEADER_SIZE: usize = file::SIZE;
 pub fn capture_order(octets: &[u8]) -> Option<Order>
     ensures { result ≡ order_of octets.now }
 {
-    if octets.len() < 4 {
-        return None;
+    let start = octets.get(..4)?;
+    let big = u32_at(Order::Big, start, 0)?;
+    match (big, u32_at(Order::Little, start, 0)?) {
+        (file::MICROSECONDS | file::NANOSECONDS, _) => Some(Order::Big),
+        (_, file::MICROSECONDS | file::NANOSECONDS) => Some(Order::Little),
+        _ => None,
     }
-    let start = &octets[..4];
-    if is_magic(u32_at(Order::Big, start, 0)?) {
-        return Some(Order::Big);
-    }
-    if is_magic(u32_at(Order::Little, start, 0)?) {
-        return Some(Order::Little);
-    }
-    None
-}
-
-/// Whether a capture begins with this number.
-fn is_magic(number: u32) -> bool
-    ensures { result ≡ is_magic_lem number }
-{
-    number == file::MICROSECONDS || number == file::NANOSECONDS
 }
 
 /// The link type of a capture that is none of [`Captures::Classic`] for it, for who refuses it. None where the octets begin no
@@ -49,7 +38,6 @@ pub fn unread_link_type(octets: &[u8]) -> Option<u32>
     }
 }
 
-/// The link type of a file whose numbers lie in this order.
 #[tactic(auto, unfolding(crate::specs::Opening::link_type_in))]
 pub(crate) fn link_type_in(order: Order, octets: &[u8]) -> Option<u32>
     ensures { result ≡ link_type_in_lem order octets.now }

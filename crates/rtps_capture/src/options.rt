@@ -1,13 +1,12 @@
 ghost use Rattle.std.specs.Prelude.{◌≡◌, ◌≤◌, ◌<◌, ◌+◌, ◌*◌, length, IfSome};
-ghost use Rattle.rtps_capture.specs.Options.{eight_at as eight_at_lem, found_option as found_option_lem, offset_told as offset_told_lem, option_at as option_at_lem, option_passed as option_passed_lem, resolution_told as resolution_told_lem, value_told as value_told_lem};
+ghost use Rattle.rtps_capture.specs.Options.{found_option as found_option_lem, offset_told as offset_told_lem, option_at as option_at_lem, option_passed as option_passed_lem, resolution_told as resolution_told_lem, value_told as value_told_lem};
 
 use crate::layout::option;
-use crate::octet_number::{four_octets, two_octets};
+use crate::octet_number::two_octets;
 use crate::passed::Header;
-use crate::times::pair_at;
+use byteorder::{BigEndian, ByteOrder, LittleEndian};
 use rtps_ids::Order;
 
-/// The option at this place; where none is there, the end of options.
 fn option_at(order: Order, options: &[u8], at: usize) -> Header
     requires { at ≤ length options.now }
     ensures { result ≡ option_at_lem order options.now at }
@@ -54,23 +53,21 @@ fn found_option(order: Order, code: u16, options: &[u8]) -> Header
     header
 }
 
-/// Where the value of this option stands, if it is told and has so many octets.
 fn value_told(order: Order, code: u16, size: usize, options: &[u8]) -> Option<usize>
     requires { size ≤ 8 }
     ensures told { result ≡ value_told_lem order code size options.now }
     ensures within { IfSome result (λ at. at + size ≤ length options.now) }
 {
     let header = found_option(order, code, options);
-    if header.kind != code || options.len() - header.at < option::VALUE + size {
-        return None;
-    }
-    if usize::from(two_octets(order, options, header.at + option::LENGTH)) != size {
+    if header.kind != code
+        || options.len() - header.at < option::VALUE + size
+        || usize::from(two_octets(order, options, header.at + option::LENGTH)) != size
+    {
         return None;
     }
     Some(header.at + option::VALUE)
 }
 
-/// The resolution of an interface with these options.
 pub(crate) fn resolution_told(order: Order, options: &[u8]) -> u8
     ensures { result ≡ resolution_told_lem order options.now }
 {
@@ -80,26 +77,15 @@ pub(crate) fn resolution_told(order: Order, options: &[u8]) -> u8
     }
 }
 
-/// Eight octets as a number.
-fn eight_at(order: Order, octets: &[u8], at: usize) -> u64
-    requires { at + 8 ≤ length octets.now }
-    ensures { result ≡ eight_at_lem order octets.now at }
-{
-    match order {
-        Order::Big => pair_at(order, octets, at),
-        Order::Little => {
-            let high = u64::from(four_octets(order, octets, at + 4));
-            high * (1 << 32) + u64::from(four_octets(order, octets, at))
-        }
-    }
-}
-
-/// The offset of an interface with these options.
+#[tactic(auto, unfolding(rtps_ids::specs::Octets::number_of))]
 pub(crate) fn offset_told(order: Order, options: &[u8]) -> u64
     ensures { result ≡ offset_told_lem order options.now }
 {
-    match value_told(order, option::OFFSET, 8, options) {
-        Some(at) => eight_at(order, options, at),
-        None => 0,
+    let Some(at) = value_told(order, option::OFFSET, 8, options) else {
+        return 0;
+    };
+    match order {
+        Order::Big => BigEndian::read_u64(&options[at..]),
+        Order::Little => LittleEndian::read_u64(&options[at..]),
     }
 }

@@ -1,13 +1,15 @@
 ghost use Rattle.std.specs.Prelude.{◌≡◌, ◌≤◌, ◌<◌, ◌+◌, ◌-◌, ◌^◌, length};
-ghost use Rattle.rtps_capture.specs.Packets.{StandsIn, packet_of as packet_of_lem, carried_behind as carried_behind_lem, carried_at as carried_at_lem, contents_of as contents_of_lem, contents_of_ipv4 as contents_of_ipv4_lem, contents_of_ipv6 as contents_of_ipv6_lem, is_ipv6_udp as is_ipv6_udp_lem, is_within, contents_of_whole as contents_of_whole_lem, contents_read as contents_read_lem, moved_contents, size_in_front as size_in_front_lem, udp_within as udp_within_lem};
+ghost use Rattle.rtps_capture.specs.Packets.{StandsIn, packet_of as packet_of_lem, carried_behind as carried_behind_lem, carried_at as carried_at_lem, contents_of_ipv4 as contents_of_ipv4_lem, contents_of_ipv6 as contents_of_ipv6_lem, is_within, contents_of_whole as contents_of_whole_lem, contents_read as contents_read_lem, moved_contents, size_in_front as size_in_front_lem, udp_within as udp_within_lem};
 
 use crate::byte_range::ByteRange;
 use crate::captures::Captures;
 use crate::fragment::{Fragment, fragment_of, key_4_of, key_6_of};
-use crate::layout::{cooked_1, cooked_2, ethernet, extension, loopback, packet, packet_6, udp};
+use crate::layout::{
+    cooked_1, cooked_2, ethernet, extension, loopback, packet, packet_6, tag, udp,
+};
 use crate::link_type::LinkType;
 use crate::octet_number::two_octets;
-use crate::passed::{Header, behind_extensions, behind_tags, is_extension, is_tag};
+use crate::passed::{Header, behind_extensions, behind_tags};
 use rtps_ids::Order;
 
 /// What a frame contains.
@@ -36,20 +38,6 @@ enum Carried {
 
 /// What a frame contains. Its headers are read from the front, the fields of a header before its lengths, and what is met
 /// first decides: that it is no UDP over IP or cannot be, or that the captured octets end.
-#[inline]
-pub(crate) fn contents_of(link: LinkType, frame: &[u8]) -> Contents
-    ensures contents { result ≡ contents_of_lem link frame.now }
-    ensures within { StandsIn (length frame.now) result }
-{
-    match packet_of(link, frame) {
-        Carried::Ipv4(at) => moved(at, contents_of_ipv4(&frame[at..])),
-        Carried::Ipv6(at) => moved(at, contents_of_ipv6(&frame[at..])),
-        Carried::Unfinished => Contents::Cut,
-        Carried::Foreign => Contents::Other,
-    }
-}
-
-/// What a frame contains for these captures.
 #[tactic(auto, unfolding(crate::specs::Packets::contents_read))]
 #[inline]
 pub(crate) fn contents_read(captures: Captures, link: LinkType, frame: &[u8]) -> Contents
@@ -57,7 +45,12 @@ pub(crate) fn contents_read(captures: Captures, link: LinkType, frame: &[u8]) ->
     ensures within { StandsIn (length frame.now) result }
 {
     match captures {
-        Captures::Any => contents_of(link, frame),
+        Captures::Any => match packet_of(link, frame) {
+            Carried::Ipv4(at) => moved(at, contents_of_ipv4(&frame[at..])),
+            Carried::Ipv6(at) => moved(at, contents_of_ipv6(&frame[at..])),
+            Carried::Unfinished => Contents::Cut,
+            Carried::Foreign => Contents::Other,
+        },
         Captures::Classic => match packet_of(link, frame) {
             Carried::Ipv4(at) if at == size_in_front(link) => {
                 match moved(at, contents_of_ipv4(&frame[at..])) {
@@ -70,7 +63,6 @@ pub(crate) fn contents_read(captures: Captures, link: LinkType, frame: &[u8]) ->
     }
 }
 
-/// How many octets a frame of a classic capture has in front of its packet.
 fn size_in_front(link: LinkType) -> usize
     ensures { result ≡ size_in_front_lem link }
 {
@@ -103,7 +95,6 @@ pub(crate) fn moved(by: usize, contents: Contents) -> Contents
     }
 }
 
-/// Where the packet begins that a frame carries.
 #[tactic(auto, unfolding(crate::specs::Packets::packet_of))]
 fn packet_of(link: LinkType, frame: &[u8]) -> Carried
     ensures carried { result ≡ packet_of_lem link frame.now }
@@ -158,7 +149,7 @@ fn carried_behind(type_at: usize, size: usize, frame: &[u8]) -> Carried
     match last.kind {
         ethernet::IPV4 => Carried::Ipv4(last.at),
         ethernet::IPV6 => Carried::Ipv6(last.at),
-        kind if is_tag(kind) => Carried::Unfinished,
+        tag::CUSTOMER | tag::SERVICE | tag::OLDER => Carried::Unfinished,
         _ => Carried::Foreign,
     }
 }
@@ -199,18 +190,6 @@ fn contents_of_ipv4(octets: &[u8]) -> Contents
     })
 }
 
-/// Whether UDP can stand behind this header of version 6: it names UDP, or a header that is looked behind.
-fn is_ipv6_udp(octets: &[u8]) -> bool
-    requires { 40 ≤ length octets.now }
-    ensures { result ≡ is_ipv6_udp_lem octets.now }
-{
-    let next = octets[packet_6::NEXT];
-    octets[0] / 16 == packet_6::VERSION
-        && (next == packet::UDP
-            || is_extension(u16::from(next))
-            || u16::from(next) == extension::FRAGMENT)
-}
-
 /// What a packet of version 6 contains (RFC 8200, 3 "IPv6 Header Format").
 #[tactic(auto, unfolding(crate::specs::Packets::contents_of_ipv6))]
 fn contents_of_ipv6(octets: &[u8]) -> Contents
@@ -220,7 +199,11 @@ fn contents_of_ipv6(octets: &[u8]) -> Contents
     if octets.len() < packet_6::SIZE {
         return Contents::Cut;
     }
-    if !is_ipv6_udp(octets) {
+    let leads_on = match u16::from(octets[packet_6::NEXT]) {
+        extension::HOP_BY_HOP | extension::ROUTING | extension::DESTINATION => true,
+        next => next == u16::from(packet::UDP) || next == extension::FRAGMENT,
+    };
+    if octets[0] / 16 != packet_6::VERSION || !leads_on {
         return Contents::Other;
     }
     let size = packet_6::SIZE + usize::from(two_octets(Order::Big, octets, packet_6::PAYLOAD));
@@ -251,10 +234,8 @@ fn contents_of_whole(octets: &[u8]) -> Contents
             },
         );
     }
-    if last.kind != extension::FRAGMENT || octets.len() - last.at < extension::SIZE {
-        return Contents::Other;
-    }
-    if octets[last.at] != packet::UDP {
+    let has_header = octets.len() - last.at >= extension::SIZE;
+    if last.kind != extension::FRAGMENT || !has_header || octets[last.at] != packet::UDP {
         return Contents::Other;
     }
     let offset = two_octets(Order::Big, octets, last.at + extension::OFFSET);

@@ -35,7 +35,6 @@ pub(crate) fn piece_of(fragment: &Fragment) -> Piece
     }
 }
 
-/// The octets of a piece.
 #[inline]
 pub(crate) fn piece_octets<'a>(file: &'a [u8], piece: &Piece) -> &'a [u8]
     ensures { result.now ≡ piece_octets_lem file.now piece.now }
@@ -48,7 +47,6 @@ pub(crate) fn piece_octets<'a>(file: &'a [u8], piece: &Piece) -> &'a [u8]
     &rest[..size.min(rest.len())]
 }
 
-/// Whether two pieces are equal in place, octets and what comes behind them.
 fn is_same(file: &[u8], one: &Piece, other: &Piece) -> bool
     ensures { result ≡ is_same_lem file.now one.now other.now }
 {
@@ -58,8 +56,6 @@ fn is_same(file: &[u8], one: &Piece, other: &Piece) -> bool
         && piece_octets(file, one) == piece_octets(file, other)
 }
 
-/// Whether a piece stands before another in one packet: it begins before it and ends before it or where it begins, and it has
-/// more behind it, or both name one end.
 #[inline]
 fn stands_before(one: &Piece, other: &Piece) -> bool
     ensures { result ≡ stands_before_lem one.now other.now }
@@ -101,7 +97,6 @@ impl Pieces {
         }
     }
 
-    /// Whether a piece is a repeat of one of these.
     pub(crate) fn has(&self, file: &[u8], piece: &Piece) -> bool
         ensures { result ≡ is_repeat file.now piece.now self.now }
     {
@@ -150,7 +145,6 @@ impl Pieces {
         Ok(())
     }
 
-    /// Drops the piece that came first.
     pub(crate) fn drop_oldest(&mut self)
         ensures { self.new ≡ drop 1 self.old }
     {
@@ -160,7 +154,6 @@ impl Pieces {
         }
     }
 
-    /// Whether they have all octets of the packet.
     pub(crate) fn is_whole(&self) -> bool
         ensures { result ≡ fills 0 (in_order self.now) }
     {
@@ -180,7 +173,6 @@ impl Pieces {
             .count()
     }
 
-    /// Appends their octets, one piece after another in the order of the packet.
     pub(crate) fn append_to(&self, file: &[u8], out: &mut Vec<u8>) -> Result<(), Memory>
         ensures { OnOk result (out.new.items ≡ out.old.items ++ joined file.now (in_order self.now)) }
     {

@@ -1,42 +1,23 @@
-ghost use Rattle.std.specs.Prelude.{◌≡◌, ◌≤◌, ◌<◌, ◌+◌, ◌*◌, ◌^◌, length, Some};
-ghost use Rattle.rtps_capture.specs.Times.{block_time as block_time_lem, fractions_of as fractions_of_lem, later_by as later_by_lem, nanoseconds_of as nanoseconds_of_lem, pair_at as pair_at_lem, record_time as record_time_lem};
+ghost use Rattle.std.specs.Prelude.{◌≡◌, ◌≤◌, ◌<◌, ◌+◌, ◌*◌, ◌^◌, length};
+ghost use Rattle.rtps_capture.specs.Times.{block_time as block_time_lem, later_by as later_by_lem, nanoseconds_of as nanoseconds_of_lem, pair_at as pair_at_lem, record_time as record_time_lem};
 ghost use Rattle.rtps_capture.specs.declared.layout.time.TheConstants.{SECOND};
 
 use crate::blocks::Interface;
-use crate::layout::{file, record, time};
+use crate::layout::{record, time};
 use crate::octet_number::four_octets;
 use rtps_ids::Order;
 
-/// What the fractions of a second are in the headers of a classic file.
-#[derive(Clone, Copy)]
-pub(crate) enum Fractions {
-    Microseconds,
-    Nanoseconds,
-}
-
-/// What they are in a file that begins with these octets, in this order.
-pub(crate) fn fractions_of(order: Order, octets: &[u8]) -> Fractions
-    requires { 4 ≤ length octets.now }
-    ensures { result ≡ fractions_of_lem order octets.now }
-{
-    if four_octets(order, octets, 0) == file::NANOSECONDS {
-        Fractions::Nanoseconds
-    } else {
-        Fractions::Microseconds
-    }
-}
-
-/// The time of the record at this place of a classic file.
 #[inline]
-pub(crate) fn record_time(fractions: Fractions, order: Order, octets: &[u8], at: usize) -> u64
+pub(crate) fn record_time(nanoseconds: bool, order: Order, octets: &[u8], at: usize) -> u64
     requires { at + 16 ≤ length octets.now }
-    ensures { result ≡ record_time_lem fractions order octets.now at }
+    ensures { result ≡ record_time_lem nanoseconds order octets.now at }
 {
     let seconds = u64::from(four_octets(order, octets, at + record::SECONDS));
     let fraction = u64::from(four_octets(order, octets, at + record::FRACTION));
-    match fractions {
-        Fractions::Microseconds => seconds * time::SECOND + fraction * time::MICROSECOND,
-        Fractions::Nanoseconds => seconds * time::SECOND + fraction,
+    if nanoseconds {
+        seconds * time::SECOND + fraction
+    } else {
+        seconds * time::SECOND + fraction * time::MICROSECOND
     }
 }
 
@@ -50,7 +31,6 @@ pub(crate) fn pair_at(order: Order, octets: &[u8], at: usize) -> u64
     high * (1 << 32) + u64::from(four_octets(order, octets, at + 4))
 }
 
-/// So many units of a clock in nanoseconds.
 #[tactic(auto, unfolding(crate::specs::Times::nanoseconds_of))]
 fn nanoseconds_of(resolution: u8, ticks: u64) -> u128
     ensures value { result ≡ nanoseconds_of_lem resolution ticks }
@@ -84,7 +64,7 @@ fn later_by(offset: u64, nanoseconds: u128) -> Option<u128>
 /// The time of a frame of this interface, whose block tells it in so many units. None where it is before 1970, or past what
 /// 64 bits count.
 pub(crate) fn block_time(interface: Interface, ticks: u64) -> Option<u64>
-    ensures { result ≡ block_time_lem interface (Some ticks) }
+    ensures { result ≡ block_time_lem interface ticks }
 {
     let nanoseconds = nanoseconds_of(interface.resolution, ticks);
     let counted = later_by(interface.offset, nanoseconds)?;

@@ -1,13 +1,1 @@
-pub mod Advice
-pub mod ByTopic
-pub mod Causes
-pub mod CheckJson
 pub mod CheckText
-pub mod GroupedNumber
-pub mod Laws
-pub mod Notes
-pub mod Parted
-pub mod Sections
-pub mod Table
-pub mod TopicTable
-pub mod Totals

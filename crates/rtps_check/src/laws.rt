@@ -1,11 +1,10 @@
 //! Laws of the definitions, each the contract of a function that does nothing.
 
-ghost use Rattle.rtps_text.specs.Asked.{AskedValue};
-ghost use Rattle.rtps_text.specs.Laws.{HasOneText};
-ghost use Rattle.rtps_check.specs.CheckJson.{IsCheckedJsonAs};
-ghost use Rattle.rtps_check.specs.Laws.{TellsWhyUnclean};
+ghost use Rattle.rtps_report.specs.Asked.{AskedValue};
+ghost use Rattle.rtps_report.specs.Laws.{HasOneText};
+ghost use Rattle.rtps_check.specs.CheckText.{IsCheckedJsonAs, TellsWhyUnclean};
 
-use rtps_evidence::laws::one_explanation;
+use rtps_report::laws::one_full_report;
 
 /// `check`, as JSON too, ends clean exactly where it gives no reason.
 pub fn unclean_has_a_reason()
@@ -16,5 +15,5 @@ pub fn unclean_has_a_reason()
 pub fn one_json()
     ensures { (asked : AskedValue) → HasOneText (IsCheckedJsonAs asked) }
 {
-    one_explanation();
+    one_full_report();
 }

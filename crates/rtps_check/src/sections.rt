@@ -1,94 +1,27 @@
-ghost use Rattle.std.specs.Prelude.{◌≡◌, ◌++◌, ◌∷◌, [], OnOk, IfOk, Some, map};
-ghost use Rattle.std.specs.List.{flat_map};
-ghost use Rattle.std.specs.Option.{option_map};
-ghost use Rattle.std.specs.String.{string_bytes};
+ghost use Rattle.std.specs.Prelude.{◌≡◌, ◌++◌, OnOk, IfOk, map, flat_map, option_map, string_bytes};
 ghost use Rattle.rtps_evidence.specs.Explanation.{evidence_value, explanation_value};
 ghost use Rattle.rtps_evidence.specs.Locations.{sent_value};
-ghost use Rattle.rtps_check.specs.Sections.{advice_line, first_missed_line, headed, is_noted as is_noted_lem, missed_text, noted_lines, payload_line, received_text, row_head, row_lines, section, topic_head, verdict_lines};
+ghost use Rattle.rtps_parts.specs.Parts.{part_text};
+ghost use Rattle.rtps_check.specs.CheckText.{advice_line, headed, missed_text, noted_lines, payload_line, row_head, row_lines, section, topic_head as topic_head_lem, verdict_lines};
 
-use crate::advice::{Scope, advice_of};
-use crate::totals::asked_about;
-use rtps_audit::Verdict;
-use rtps_evidence::{Evidence, Explanation, FirstMissed, Sent};
-use rtps_text::{
-    AcknowledgedLine, AnnouncedLine, AskedLine, ClaimedLine, NameOctets, QuestionsLine, ToldLine,
-    VerdictText, is_complete, push_sent,
+use rtps_evidence::{Evidence, Explanation, Grounds, Sent};
+use rtps_lines::{
+    AcknowledgedLine, AnnouncedLine, AskedLine, ClaimedLine, QuestionsLine, ToldLine, VerdictText,
+    push_sent,
 };
+use rtps_parts::{Part, render};
+use rtps_report::{Scope, advice_of, asked_about, is_noted, number_of};
 use std::alloc::{AllocError, Global};
-use std::fmt;
 
-/// Whether someone has to look at a row.
-fn is_noted(row: &Explanation<'_>) -> bool
-    ensures { result ≡ is_noted_lem (explanation_value row.now) }
+fn push_missed(text: &mut String, evidence: &Evidence<'_>) -> Result<(), AllocError>
+    ensures { OnOk result (string_bytes text.new ≡ string_bytes text.old ++ missed_text evidence.now.missed evidence.now.first_missed) }
 {
-    !is_complete(&row.evidence.verdict) || row.evidence.missed > 0
-}
-
-/// How many numbers are missed, if any.
-#[derive(Drop)]
-struct MissedText(u64);
-
-impl fmt::Display for MissedText {
-    ghost output = { λ text. Some (missed_text text.0) };
-
-    fn fmt<W: fmt::Write>(&self, f: &mut fmt::Formatter<W>) -> fmt::Result {
-        if self.0 == 0 {
-            return Ok(());
-        }
-        write!(f, ", missed {}", self.0)
+    match evidence.first_missed {
+        None => text.push_str("\n"),
+        Some(first) => write!(text, ", missed {}\n{}", evidence.missed, AskedLine(first)),
     }
 }
 
-/// The verdict, and how many of the numbers asked about are received.
-#[derive(Drop)]
-struct ReceivedText<'a>(u64, &'a Evidence<'a>);
-
-impl fmt::Display for ReceivedText<'_> {
-    ghost output = { λ text. Some (received_text text.0 (evidence_value text.1.now)) };
-
-    fn fmt<W: fmt::Write>(&self, f: &mut fmt::Formatter<W>) -> fmt::Result {
-        let evidence = self.1;
-        write!(
-            f,
-            "{}, received {} of {}{}",
-            VerdictText(evidence.verdict),
-            evidence.received,
-            asked_about(self.0, evidence.announcement),
-            MissedText(evidence.missed)
-        )
-    }
-}
-
-/// The line of a pair.
-#[derive(Drop)]
-struct RowHead<'a>(u64, &'a Explanation<'a>);
-
-impl fmt::Display for RowHead<'_> {
-    ghost output = { λ line. Some (row_head line.0 (explanation_value line.1.now)) };
-
-    fn fmt<W: fmt::Write>(&self, f: &mut fmt::Formatter<W>) -> fmt::Result {
-        let row = self.1;
-        writeln!(
-            f,
-            "  {} {} {}",
-            row.pair.writer,
-            row.pair.reader,
-            ReceivedText(self.0, &row.evidence)
-        )
-    }
-}
-
-/// Appends the line of the least number that is missed; nothing where none is.
-fn push_missed(text: &mut String, first: Option<FirstMissed>) -> Result<(), AllocError>
-    ensures { OnOk result (string_bytes text.new ≡ string_bytes text.old ++ first_missed_line first) }
-{
-    match first {
-        None => Ok(()),
-        Some(first) => write!(text, "{}", AskedLine(first)),
-    }
-}
-
-/// Appends the line of a payload that was sent for a number, if one was.
 fn push_payload(text: &mut String, number: i64, sent: Option<Sent<'_>>) -> Result<(), AllocError>
     ensures { OnOk result (string_bytes text.new ≡ string_bytes text.old ++ payload_line number (option_map sent_value sent.entry)) }
 {
@@ -99,66 +32,70 @@ fn push_payload(text: &mut String, number: i64, sent: Option<Sent<'_>>) -> Resul
     push_sent(text, number, sent)
 }
 
-/// Appends the lines of `why` that explain a verdict.
 fn push_verdict(text: &mut String, evidence: &Evidence<'_>) -> Result<(), AllocError>
-    ensures { OnOk result (string_bytes text.new
-        ≡ string_bytes text.old ++ verdict_lines evidence.now.verdict (evidence_value evidence.now)) }
+    ensures { OnOk result (string_bytes text.new ≡ string_bytes text.old ++ verdict_lines (evidence_value evidence.now)) }
 {
-    match evidence.verdict {
-        Verdict::Complete { .. } => Ok(()),
-        Verdict::Open { number } => {
+    let number = number_of(&evidence.verdict);
+    match evidence.grounds {
+        Grounds::Complete => Ok(()),
+        Grounds::Open {
+            teller,
+            asked_since,
+            last_asked,
+        } => {
             write!(
                 text,
                 "  {}  {}  {}",
                 AcknowledgedLine(evidence.acknowledgement),
-                ToldLine(number, evidence.teller),
-                QuestionsLine(evidence.asked_since, evidence.last_asked)
+                ToldLine(number, teller),
+                QuestionsLine(asked_since, last_asked)
             )
         }
-        Verdict::Conflict { number } => {
-            push_payload(text, number, evidence.first_sent)?;
-            push_payload(text, number, evidence.other_sent)
+        Grounds::Conflict { first, other } => {
+            push_payload(text, number, first)?;
+            push_payload(text, number, other)
         }
-        Verdict::Unfounded { number, .. } => {
+        Grounds::Unfounded { teller, claim } => {
             write!(
                 text,
                 "  {}  {}  {}",
                 AnnouncedLine(evidence.announcement),
-                ClaimedLine(evidence.claim),
-                ToldLine(number, evidence.teller)
+                ClaimedLine(claim),
+                ToldLine(number, teller)
             )
         }
     }
 }
 
-/// Appends what to do, behind an arrow.
+/// The line of a pair, up to how many of the numbers asked about are received.
+fn push_head(text: &mut String, row: &Explanation<'_>, from: u64) -> Result<(), AllocError>
+    ensures { OnOk result (string_bytes text.new ≡ string_bytes text.old ++ row_head from (explanation_value row.now)) }
+{
+    let evidence = &row.evidence;
+    write!(
+        text,
+        "  {} {} {}, received {} of {}",
+        row.pair.writer,
+        row.pair.reader,
+        VerdictText(evidence.verdict),
+        evidence.received,
+        asked_about(from, evidence.announcement)
+    )
+}
+
 fn push_advice(text: &mut String, evidence: &Evidence<'_>, scope: Scope) -> Result<(), AllocError>
     ensures { OnOk result (string_bytes text.new ≡ string_bytes text.old ++ advice_line scope (evidence_value evidence.now)) }
 {
-    text.push_str("    -> ")?;
-    text.push_str(advice_of(scope, evidence).sentence())?;
-    text.push_str("\n")
+    writeln!(text, "    -> {}", advice_of(scope, evidence).sentence())
 }
 
-/// Appends the lines of a pair.
 fn push_row(text: &mut String, row: &Explanation<'_>, scope: Scope) -> Result<(), AllocError>
     ensures { OnOk result (string_bytes text.new ≡ string_bytes text.old ++ row_lines scope (explanation_value row.now)) }
 {
-    write!(text, "{}", RowHead(scope.from, row))?;
-    push_missed(text, row.evidence.first_missed)?;
+    push_head(text, row, scope.from)?;
+    push_missed(text, &row.evidence)?;
     push_verdict(text, &row.evidence)?;
     push_advice(text, &row.evidence, scope)
-}
-
-/// Appends the lines of a pair that someone has to look at; nothing for another.
-fn push_noted(text: &mut String, row: &Explanation<'_>, scope: Scope) -> Result<(), AllocError>
-    ensures { OnOk result (string_bytes text.new ≡ string_bytes text.old ++ noted_lines scope (explanation_value row.now)) }
-{
-    if is_noted(row) {
-        push_row(text, row, scope)
-    } else {
-        Ok(())
-    }
 }
 
 /// The lines of those of these pairs that someone has to look at.
@@ -167,39 +104,39 @@ fn lines_of(alloc: Global, rows: &[Explanation<'_>], scope: Scope) -> Result<Str
 {
     let mut lines = String::new(alloc);
     for row in rows {
-        push_noted(&mut lines, row, scope)?;
+        if is_noted(row) {
+            push_row(&mut lines, row, scope)?;
+        }
     }
     Ok(lines)
 }
 
-/// Appends the line of a topic: its name and its type; nothing where there is no row.
-fn push_head(text: &mut String, rows: &[Explanation<'_>]) -> Result<(), AllocError>
-    ensures { OnOk result (string_bytes text.new ≡ string_bytes text.old ++ topic_head (map explanation_value rows.now)) }
+/// The line of a topic: its name and its type; nothing where there is no row.
+fn topic_head<'a>(rows: &[Explanation<'a>]) -> [Part<'a>; 4]
+    ensures { flat_map part_text result ≡ topic_head_lem (map explanation_value rows.now) }
 {
     match rows.first() {
-        None => Ok(()),
-        Some(row) => writeln!(
-            text,
-            "{} {}",
-            NameOctets(row.topic),
-            NameOctets(row.type_name)
-        ),
+        Some(row) => [
+            Part::Name(row.topic),
+            Part::Text(" "),
+            Part::Name(row.type_name),
+            Part::Text("\n"),
+        ],
+        None => [Part::Text(""); 4],
     }
 }
 
-/// Appends lines behind an empty one and the line of a topic; nothing where there are none.
-fn push_headed(text: &mut String, rows: &[Explanation<'_>], lines: &str) -> Result<(), AllocError>
-    ensures { OnOk result (string_bytes text.new ≡ string_bytes text.old ++ headed (topic_head (map explanation_value rows.now)) lines.now) }
+fn push_headed(text: &mut String, head: &[Part<'_>], lines: &str) -> Result<(), AllocError>
+    ensures { OnOk result (string_bytes text.new ≡ string_bytes text.old ++ headed (flat_map part_text head.now) lines.now) }
 {
     if lines.is_empty() {
         return Ok(());
     }
     text.push_str("\n")?;
-    push_head(text, rows)?;
+    render(text, head)?;
     text.push_str(lines)
 }
 
-/// Appends the lines of a topic behind an empty line; nothing where nobody has to look at one of its pairs.
 fn push_section(
     alloc: Global,
     text: &mut String,
@@ -209,10 +146,9 @@ fn push_section(
     ensures { OnOk result (string_bytes text.new ≡ string_bytes text.old ++ section scope (map explanation_value rows.now)) }
 {
     let lines = lines_of(alloc, rows, scope)?;
-    push_headed(text, rows, &lines)
+    push_headed(text, &topic_head(rows), &lines)
 }
 
-/// Appends the lines of topics.
 pub(crate) fn push_sections(
     alloc: Global,
     text: &mut String,

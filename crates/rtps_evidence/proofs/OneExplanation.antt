@@ -10,7 +10,8 @@ use Rattle.rtps_audit.specs.Laws.{HasOneReport}
 use Rattle.rtps_audit.specs.declared.report.Row.{Row}
 use Rattle.rtps_audit.specs.declared.verdict.Verdict.{Verdict}
 use Rattle.rtps_audit.specs.Placed.{placed_in}
-use Rattle.rtps_evidence.specs.Evidence.{IsEvidenceFrom, claim_by, first_by, other_by, teller_by}
+use Rattle.rtps_evidence.specs.Evidence.{IsEvidenceFrom}
+use Rattle.rtps_evidence.specs.Grounds.{grounds_by}
 use Rattle.rtps_evidence.specs.Explanation.{ExplanationValue, EvidenceValue, HasOneExplanation, IsNamed, evidence_value, explanation_value, row_of, topic_of, type_of}
 use Rattle.rtps_evidence.specs.declared.explanation.Explanation.{Explanation}
 use Rattle.rtps_evidence.specs.declared.evidence.Evidence.{Evidence}
@@ -27,13 +28,8 @@ one_evidence from pair intake one other same is also =
     let not_received = is.received.not_received ∙ sym also.received.not_received in
     let missed = is.missed.count ∙ sym also.missed.count in
     let first_missed = is.missed.first ∙ sym also.missed.first in
-    let asked_since = is.questions.count ∙ sym also.questions.count in
-    let last_asked = is.questions.last ∙ sym also.questions.last in
-    let teller = is.teller ∙ ap (λ (v : Verdict). teller_by v pair.writer pair.reader (placed_in intake.acts)) same ∙ sym also.teller in
-    let claim = is.claim ∙ ap (λ (v : Verdict). claim_by v pair.writer pair.reader (placed_in intake.acts)) same ∙ sym also.claim in
-    let first = is.first ∙ ap (λ (v : Verdict). first_by v pair.writer pair.reader (placed_in intake.acts)) same ∙ sym also.first in
-    let another = is.other ∙ ap (λ (v : Verdict). other_by v pair.writer pair.reader (placed_in intake.acts)) same ∙ sym also.other in
-    rw (same, announcement, acknowledgement, payloads, gone, untold, received, not_received, missed, first_missed, asked_since, last_asked, teller, claim, first, another) refl
+    let grounds = is.grounds ∙ ap (λ (v : Verdict). grounds_by v pair (placed_in intake.acts)) same ∙ sym also.grounds in
+    rw (same, announcement, acknowledgement, payloads, gone, untold, received, not_received, missed, first_missed, grounds) refl
 
 value_is : (one other : ExplanationValue) → one.pair ≡ other.pair → one.topic ≡ other.topic → one.type_name ≡ other.type_name → one.evidence ≡ other.evidence → one ≡ other
 value_is one other pair topic type_name evidence =

@@ -12,12 +12,9 @@ use Rattle.rtps_audit.specs.Delivery.{Word, greatest, is_asked, last_announced_f
 use Rattle.rtps_audit.specs.Answered.{last_among}
 use Rattle.rtps_audit.specs.Placed.{PlacedValue, is_from, placed_in}
 use Rattle.rtps_audit.specs.Speech.{announced_for, announced_of_body, speech_by, word_for, word_of}
-use Rattle.rtps_audit.specs.declared.verdict.Verdict.{Verdict}
-use Rattle.rtps_audit.specs.declared.verdict.Verdict.TheVariants.{Unfounded, Conflict, Open, Complete}
 use Rattle.rtps_audit.proofs.Offered.{last_is_last, speaker_is_origin}
 use Rattle.rtps_evidence.specs.Locations.{announcement_at, announcement_of, differs, first_sending, first_sent, number_said, other_sending, other_sent, payload_at, payload_for, payload_in, sends, sent_at, teller_at, teller_of, tells}
 use Rattle.rtps_evidence.specs.Amount.{AreAmounts, is_sent, is_told}
-use Rattle.rtps_evidence.specs.Evidence.{first_by, other_by, teller_by}
 use Rattle.rtps_evidence.specs.declared.amount.Amounts.{Amounts}
 use Rattle.rtps_evidence.proofs.CountLemmas.{count_same}
 use Rattle.rtps_evidence.proofs.FindLemmas.{any_filter, find_filter}
@@ -112,23 +109,3 @@ last_same from writer reader recording greatest_one last a b =
     let is : max (from - 1) (last_among writer (filter (is_from writer) (placed_in recording))) ≡ last_announced_from from (speech_by writer reader recording) = last_is_last from writer reader recording in
     let same : greatest_one ≡ last_among writer (filter (is_from writer) (placed_in recording)) = a ∙ made in
     omega arith
-
--- ---- by verdict
-
-pub teller_by_same : (verdict : Verdict) (writer reader : Guid) (acts : List PlacedValue) → teller_by verdict writer reader (filter (is_from writer) acts) ≡ teller_by verdict writer reader acts
-teller_by_same (Unfounded datagram number) writer reader acts = teller_same writer reader _ acts
-teller_by_same (Conflict number) writer reader acts = refl
-teller_by_same (Open number) writer reader acts = teller_same writer reader _ acts
-teller_by_same (Complete last) writer reader acts = refl
-
-pub first_by_same : (verdict : Verdict) (writer reader : Guid) (acts : List PlacedValue) → first_by verdict writer reader (filter (is_from writer) acts) ≡ first_by verdict writer reader acts
-first_by_same (Unfounded datagram number) writer reader acts = refl
-first_by_same (Conflict number) writer reader acts = first_same writer reader _ acts
-first_by_same (Open number) writer reader acts = refl
-first_by_same (Complete last) writer reader acts = refl
-
-pub other_by_same : (verdict : Verdict) (writer reader : Guid) (acts : List PlacedValue) → other_by verdict writer reader (filter (is_from writer) acts) ≡ other_by verdict writer reader acts
-other_by_same (Unfounded datagram number) writer reader acts = refl
-other_by_same (Conflict number) writer reader acts = other_same writer reader _ acts
-other_by_same (Open number) writer reader acts = refl
-other_by_same (Complete last) writer reader acts = refl

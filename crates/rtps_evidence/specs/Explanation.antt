@@ -1,7 +1,6 @@
 -- Why each pair of a recording has its verdict. own: the pairs and the counts are those of the report; each pair has the
 -- topic and the type of its two, and its evidence.
 use Rattle.std.specs.Prelude.{ℕ, ◌≡◌, List, [], All, map, Option, Some, None}
-use Rattle.std.specs.Option.{option_map}
 use Rattle.rtps_discovery.specs.Directory.{DirectoryValue, Entries, IsMapOf, settled_at}
 use Rattle.rtps_discovery.specs.Endpoint.{EndpointValue}
 use Rattle.rtps_discovery.specs.declared.matching.Pair.{Pair}
@@ -10,16 +9,14 @@ use Rattle.rtps_audit.specs.Report.{IsReportBy}
 use Rattle.rtps_audit.specs.declared.report.Report.{Report}
 use Rattle.rtps_audit.specs.declared.report.Row.{Row}
 use Rattle.rtps_audit.specs.declared.verdict.Verdict.{Verdict}
-use Rattle.rtps_evidence.specs.Locations.{SentValue, sent_value}
 use Rattle.rtps_evidence.specs.Evidence.{IsEvidenceFrom}
+use Rattle.rtps_evidence.specs.Grounds.{GroundsValue, grounds_value}
 use Rattle.rtps_evidence.specs.declared.last_announcement.Announcement.{Announcement}
 use Rattle.rtps_evidence.specs.declared.acknowledgement.Claim.{Claim}
 use Rattle.rtps_evidence.specs.declared.explanation.Explained.{Explained}
 use Rattle.rtps_evidence.specs.declared.explanation.Explanation.{Explanation}
 use Rattle.rtps_evidence.specs.declared.first_missed.FirstMissed.{FirstMissed}
-use Rattle.rtps_evidence.specs.declared.location.Location.{Location}
 use Rattle.rtps_evidence.specs.declared.not_received.NotReceived.{NotReceived}
-use Rattle.rtps_evidence.specs.declared.teller.Teller.{Teller}
 use Rattle.rtps_evidence.specs.declared.evidence.Evidence.{Evidence}
 
 -- evidence, with lists of octets where the type holds parts of the caller's datagrams
@@ -34,12 +31,7 @@ pub record EvidenceValue : Type 0 where
   pub not_received : Option NotReceived
   pub missed : ℕ
   pub first_missed : Option FirstMissed
-  pub asked_since : ℕ
-  pub last_asked : Option Location
-  pub teller : Option Teller
-  pub claim : Option Claim
-  pub first_sent : Option SentValue
-  pub other_sent : Option SentValue
+  pub grounds : GroundsValue
 
 -- the evidence of the code, as a value
 abbrev pub evidence_value : Evidence → EvidenceValue
@@ -55,12 +47,7 @@ evidence_value evidence =
       not_received = evidence.not_received;
       missed = evidence.missed;
       first_missed = evidence.first_missed;
-      asked_since = evidence.asked_since;
-      last_asked = evidence.last_asked;
-      teller = evidence.teller;
-      claim = evidence.claim;
-      first_sent = option_map sent_value evidence.first_sent;
-      other_sent = option_map sent_value evidence.other_sent;
+      grounds = grounds_value evidence.grounds;
     }
 
 -- a pair, what its two are about, and its evidence

@@ -5,6 +5,7 @@ pub mod Received
 pub mod Claimed
 pub mod Missed
 pub mod Questions
+pub mod Grounds
 pub mod Evidence
 pub mod Certificates
 pub mod Explanation

@@ -1,6 +1,6 @@
 -- Whether a reader was asked since its last answer. DDSI-RTPS 2.5, 8.3.8.6 "Heartbeat": one without the final flag asks for an
 -- answer. own: a reader that was not asked is late, and one that was asked and did not answer is gone.
-use Rattle.std.specs.Prelude.{Bool, false, ◌≡◌, ◌&&◌, not, List, filter, length, Option}
+use Rattle.std.specs.Prelude.{ℕ, Bool, false, ◌≡◌, ◌&&◌, not, List, filter, length, Option}
 use Rattle.std.specs.Option.{option_map}
 use Rattle.rtps_ids.specs.declared.identity.Guid.{Guid}
 use Rattle.rtps_receiver.specs.Speech.{is_answer, is_heard_by, is_spoken_by}
@@ -40,3 +40,11 @@ pub record AreAsked (place : Option Location) (writer reader : Guid) (acts : Lis
 -- how often the reader was asked since its last answer, and where at last
 abbrev pub AreQuestions : Guid → Guid → List PlacedValue → Questions → Type 0
 AreQuestions writer reader acts questions = AreAsked (place_answered writer reader acts) writer reader acts questions
+
+-- how often
+abbrev pub asked_since : Guid → Guid → List PlacedValue → ℕ
+asked_since writer reader acts = length (filter (questions_behind (place_answered writer reader acts) writer reader) acts)
+
+-- where at last
+abbrev pub last_asked : Guid → Guid → List PlacedValue → Option Location
+last_asked writer reader acts = option_map location_of (find_last (questions_behind (place_answered writer reader acts) writer reader) acts)

@@ -1,27 +1,19 @@
-ghost use Rattle.std.specs.Prelude.{ℕ, ◌≡◌, ◌<◌, ◌^◌, map, IfOk, List};
-ghost use Rattle.std.specs.Option.{option_map};
+ghost use Rattle.std.specs.Prelude.{◌≡◌, IfOk};
 ghost use Rattle.rtps_audit.specs.Index.{IsIndexBy};
 ghost use Rattle.rtps_audit.specs.Intake.{Intake};
-ghost use Rattle.rtps_audit.specs.Placed.{placed_in, placed_value};
-ghost use Rattle.rtps_audit.specs.Speech.{natural as natural_lem};
-ghost use Rattle.rtps_evidence.specs.Locations.{sent_value};
-ghost use Rattle.rtps_evidence.specs.Evidence.{claim_by as claim_by_lem, first_by as first_by_lem, other_by as other_by_lem, teller_by as teller_by_lem};
 
-use crate::acknowledgement::{Claim, find_acknowledgement, find_claim};
+use crate::acknowledgement::{Claim, find_acknowledgement};
 use crate::first_missed::FirstMissed;
+use crate::grounds::{Grounds, grounds_of};
 use crate::lacking::Exchange;
 use crate::last_announcement::Announcement;
-use crate::location::Location;
 use crate::missed::count_missed;
 use crate::missed_numbers::find_missed;
 use crate::not_received::NotReceived;
-use crate::questions::questions_since;
 use crate::received::count_received;
 use crate::rising::rising;
-use crate::sent_payload::{Sent, first_sent, other_sent};
-use crate::teller::{Teller, find_teller};
 use crate::writer_summary::WriterSummary;
-use rtps_audit::{Index, Placed, Row, Verdict};
+use rtps_audit::{Index, Row, Verdict};
 use rtps_discovery::Pair;
 use rtps_ids::{Memory, SeqNum};
 use std::alloc::Global;
@@ -51,20 +43,8 @@ pub struct Evidence<'a> {
     pub missed: u64,
     /// The least of them; None where there is none.
     pub first_missed: Option<FirstMissed>,
-    /// How many HEARTBEATs without the final flag the reader hears from the writer behind its last answer to it, or behind the
-    /// beginning where there is none.
-    pub asked_since: u64,
-    /// Where the last of them stands.
-    pub last_asked: Option<Location>,
-    /// Where the verdict is open or unfounded: the first act that tells the reader of its number, before the claim or behind
-    /// it; None where there is none.
-    pub teller: Option<Teller>,
-    /// Where the verdict is unfounded: the first answer in its datagram that claims its number.
-    pub claim: Option<Claim>,
-    /// Where the verdict is conflict: the first payload for its number.
-    pub first_sent: Option<Sent<'a>>,
-    /// Where the verdict is conflict: the first payload behind that one that is another.
-    pub other_sent: Option<Sent<'a>>,
+    /// What else the verdict rests on, by its kind.
+    pub grounds: Grounds<'a>,
 }
 
 impl<'a> Evidence<'a> {
@@ -110,7 +90,6 @@ impl<'a> Evidence<'a> {
         let missed = count_missed(&mut missed, index, row.pair, &summary.asked)?;
         let received = count_received(&mut lacking, index, row.pair, &summary.asked)?;
         let amounts = heard.amounts(&summary.asked)?;
-        let questions = questions_since(acts, answers, row.pair);
         Ok(Evidence {
             verdict: row.verdict,
             announcement: summary.announcement,
@@ -122,12 +101,7 @@ impl<'a> Evidence<'a> {
             not_received: received.not_received,
             missed: missed.count,
             first_missed: missed.first,
-            asked_since: questions.count,
-            last_asked: questions.last,
-            teller: teller_of(acts, row),
-            claim: claim_of(index, row),
-            first_sent: first_of(acts, row),
-            other_sent: other_of(acts, row),
+            grounds: grounds_of(index, row),
         })
     }
 
@@ -137,64 +111,5 @@ impl<'a> Evidence<'a> {
         ensures { (intake : Intake) → IsIndexBy intake index.now → IfOk result (IsEvidence pair intake) }
     {
         Evidence::of_from(alloc, index, pair, SeqNum::first())
-    }
-}
-
-/// A number of a verdict, or 0 for one below it.
-fn natural(number: i64) -> u64
-    ensures value { result ≡ natural_lem number }
-    ensures in_range { result < 2 ^ 63 }
-{
-    number.max(0).cast_unsigned()
-}
-
-/// The first of these acts that tells the number of a row, where it is open or unfounded.
-fn teller_of(acts: &[Placed<'_>], row: Row) -> Option<Teller>
-    ensures { result ≡ teller_by_lem row.verdict row.pair.writer row.pair.reader (map placed_value acts.now) }
-{
-    match row.verdict {
-        Verdict::Unfounded { number, .. } => find_teller(acts, row.pair, natural(number)),
-        Verdict::Open { number } => find_teller(acts, row.pair, natural(number)),
-        Verdict::Conflict { .. } => None,
-        Verdict::Complete { .. } => None,
-    }
-}
-
-/// The first answer of a pair that claims the number of the verdict in its datagram, where it is unfounded.
-fn claim_of(index: &Index<'_>, row: Row) -> Option<Claim>
-    ensures { (intake : Intake) → IsIndexBy intake index.now
-        → result ≡ claim_by_lem row.verdict row.pair.writer row.pair.reader (placed_in intake.acts) }
-{
-    match row.verdict {
-        Verdict::Unfounded { datagram, number } => {
-            find_claim(index, row.pair, datagram, natural(number))
-        }
-        Verdict::Conflict { .. } => None,
-        Verdict::Open { .. } => None,
-        Verdict::Complete { .. } => None,
-    }
-}
-
-/// The first payload by these acts for the number of the verdict, where it is conflict.
-fn first_of<'a>(acts: &[Placed<'a>], row: Row) -> Option<Sent<'a>>
-    ensures { option_map sent_value result ≡ first_by_lem row.verdict row.pair.writer row.pair.reader (map placed_value acts.now) }
-{
-    match row.verdict {
-        Verdict::Conflict { number } => first_sent(acts, row.pair, natural(number)),
-        Verdict::Unfounded { .. } => None,
-        Verdict::Open { .. } => None,
-        Verdict::Complete { .. } => None,
-    }
-}
-
-/// The first other payload by these acts for the number of the verdict, where it is conflict.
-fn other_of<'a>(acts: &[Placed<'a>], row: Row) -> Option<Sent<'a>>
-    ensures { option_map sent_value result ≡ other_by_lem row.verdict row.pair.writer row.pair.reader (map placed_value acts.now) }
-{
-    match row.verdict {
-        Verdict::Conflict { number } => other_sent(acts, row.pair, natural(number)),
-        Verdict::Unfounded { .. } => None,
-        Verdict::Open { .. } => None,
-        Verdict::Complete { .. } => None,
     }
 }

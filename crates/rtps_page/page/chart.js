@@ -8,48 +8,59 @@ const REACH = 12;
 // Above so many dots in sight they are small, and above so many answers there are no strokes.
 const MANY_DOTS = 3000;
 const MANY_ANSWERS = 150;
+const POINT = 'Point at a dot to read it.';
 
-// What is drawn of a row: dots for DATA that its reader hears, bands for numbers told gone, steps for what HEARTBEATs announce and
-// for what the reader acknowledged, and marks for the numbers and the datagram that its verdict is about.
+// What is drawn of a row: dots for DATA to its reader, bands for numbers that are told gone to it, steps for what HEARTBEATs announce
+// and for what the reader acknowledged, and marks for the numbers and the datagram that its verdict is about.
 function marksOf(report, row) {
-  const acts = report.actsOf(row);
-  const heard = acts.filter((act) => isHeard(act[act[2] === 'gone' ? 5 : 4], row.reader));
+  const acts = report.actsOf(row).map(entryParts);
+  const to = namesOf(row.reader);
+  const heard = acts.filter(({ named }) => to.includes(named));
+  const answers = report.basesOf(row).map(([x, at, base]) => ({ x, y: Number(base) - 1, at }));
   return {
-    dots: dotsOf(heard.filter((act) => act[2] === 'data')),
-    bands: bandsOf(heard.filter((act) => act[2] === 'gone')),
-    announced: stepsOf(acts.filter((act) => act[2] === 'announced').map(([datagram, , , last]) => [datagram, Number(last)])),
-    answers: report.basesOf(row).map(([datagram, at, base]) => ({ x: datagram, y: Number(base) - 1, at })),
-    acknowledged: stepsOf(report.basesOf(row).map(([datagram, , base]) => [datagram, Number(base) - 1])),
+    dots: dotsOf(heard.filter(({ what }) => what === 'data')),
+    bands: bandsOf(heard.filter(({ what }) => what === 'gone')),
+    announced: stepsOf(acts.filter(({ what }) => what === 'announced').map(({ x, numbers: [last] }) => ({ x, y: Number(last) }))),
+    answers,
+    acknowledged: stepsOf(answers),
     numbers: markedNumbers(row),
     datagrams: row.verdict === 'unfounded' ? [{ x: row.datagram, label: `datagram ${row.datagram}` }] : [],
   };
 }
 
-function markedNumbers(row) {
-  const found = [{ y: Number(row.number), label: `${row.verdict} ${row.number}` }];
-  if (row.first_missed) found.push({ y: Number(row.first_missed.number), label: `missed ${row.first_missed.number}` });
-  return found.filter((mark, at) => at === 0 || mark.y !== found[0].y);
+// The parts of an entry: where it stands, what it says, of which numbers, and whom it names.
+function entryParts([x, at, what, ...rest]) {
+  const count = what === 'gone' ? 2 : 1;
+  return { x, at, what, numbers: rest.slice(0, count), named: rest[count] };
+}
+
+// The names by which an entry is for a reader: it names nobody, or the reader, its participant or its entity.
+const namesOf = (reader) => [undefined, reader, prefixOf(reader), entityOf(reader)];
+
+function markedNumbers({ verdict, number, first_missed: missed }) {
+  const found = [{ y: Number(number), label: `${verdict} ${number}` }];
+  return missed && missed.number !== number ? [...found, { y: Number(missed.number), label: `missed ${missed.number}` }] : found;
 }
 
 // Each DATA as a dot; it is sent again where an earlier one has its number.
-function dotsOf(acts) {
+function dotsOf(entries) {
   const seen = new Set();
-  return acts.map(([datagram, at, , number]) => {
+  return entries.map(({ x, at, numbers: [number] }) => {
     const again = seen.has(number);
     seen.add(number);
-    return { x: datagram, y: Number(number), number, at, again };
+    return { x, y: Number(number), number, at, again };
   });
 }
 
 // From a datagram on these numbers are told gone. Of those that follow on what is gone already, the new ones alone.
-function bandsOf(acts) {
+function bandsOf(entries) {
   const bands = [];
   let below = 0;
-  for (const [datagram, , , from, to] of acts) {
-    const [low, high] = [Number(from), Number(to)];
+  for (const { x, numbers } of entries) {
+    const [low, high] = numbers.map(Number);
     if (high <= below) continue;
     const follows = low <= below + 1;
-    bands.push({ x: datagram, low: follows ? below + 1 : low, high, follows });
+    bands.push({ x, low: follows ? below + 1 : low, high, follows });
     if (follows) below = high;
   }
   return bands;
@@ -58,8 +69,8 @@ function bandsOf(acts) {
 // The greatest value so far, where it rises.
 function stepsOf(points) {
   const steps = [];
-  for (const [x, y] of points) {
-    if (steps.length === 0 || y > steps[steps.length - 1].y) steps.push({ x, y });
+  for (const point of points) {
+    if (steps.length === 0 || point.y > steps[steps.length - 1].y) steps.push(point);
   }
   return steps;
 }
@@ -74,20 +85,21 @@ function ticks(low, high, about) {
   return found;
 }
 
+// A mark of an axis, short enough for its room.
+const shortNumber = (n) => (n < 1e7 ? String(Math.round(n)) : n.toExponential(1).replace('e+', 'e'));
+
 class Chart {
   constructor(report, row) {
     this.marks = marksOf(report, row);
-    this.all = this.extent(report.counts.datagrams);
-    this.view = this.all;
-    this.at = null;
-    this.drag = null;
-    this.width = 0;
-    this.still = document.createElement('canvas');
+    this.all = this.extent(report.data.datagrams);
+    Object.assign(this, { view: this.all, at: null, drag: null, width: 0, still: document.createElement('canvas') });
     this.canvas = make('canvas', {
       tabindex: '0', role: 'application', 'aria-label': this.description(row), 'aria-describedby': 'chart-help',
     });
-    this.readout = make('p', { class: 'readout', role: 'status' }, 'Point at a dot to read it.');
-    this.element = make('figure', { class: 'chart' }, this.canvas, this.controls(), this.readout, legend(), this.help());
+    this.readout = make('p', { class: 'readout', role: 'status' }, POINT);
+    this.element = make('figure', { class: 'chart' }, this.canvas, this.controls(), this.readout, legend(),
+      make('figcaption', { id: 'chart-help' }, 'Datagrams to the right, numbers upwards. Drag to zoom, double-click to show all. Keys: left and '
+        + 'right go from dot to dot, + and − zoom, Shift and an arrow move, 0 shows all.'));
     this.listen();
   }
 
@@ -95,9 +107,8 @@ class Chart {
   extent(datagrams) {
     const { dots, bands, announced, acknowledged, numbers } = this.marks;
     let top = 1;
-    for (const { y } of [...announced, ...acknowledged, ...numbers]) top = Math.max(top, y);
+    for (const { y, high } of [...announced, ...acknowledged, ...numbers, ...bands]) top = Math.max(top, y ?? high);
     for (const { y } of dots) top = Math.max(top, y);
-    for (const { high } of bands) top = Math.max(top, high);
     return { x0: 0, x1: Math.max(2, datagrams + 1), y0: 0, y1: top * 1.06 + 1 };
   }
 
@@ -109,34 +120,20 @@ class Chart {
   }
 
   controls() {
-    const button = (label, act) => {
-      const element = make('button', { type: 'button' }, label);
-      element.addEventListener('click', act);
-      return element;
-    };
-    return make('div', { class: 'controls', role: 'group', 'aria-label': 'Chart' },
-      button('Zoom in', () => this.zoom(0.5)), button('Zoom out', () => this.zoom(2)),
-      button('Earlier', () => this.pan(-0.5, 0)), button('Later', () => this.pan(0.5, 0)),
-      button('Lower', () => this.pan(0, -0.5)), button('Higher', () => this.pan(0, 0.5)),
-      button('Show all', () => this.show(this.all)));
-  }
-
-  help() {
-    return make('figcaption', { id: 'chart-help' },
-      'Datagrams to the right, numbers upwards. Drag to zoom, double-click to show all. Keys: left and right go from dot to dot, + and − '
-      + 'zoom, Shift and an arrow move, 0 shows all.');
+    const acts = [
+      ['Zoom in', () => this.zoom(0.5)], ['Zoom out', () => this.zoom(2)], ['Earlier', () => this.pan(-0.5, 0)], ['Later', () => this.pan(0.5, 0)],
+      ['Lower', () => this.pan(0, -0.5)], ['Higher', () => this.pan(0, 0.5)], ['Show all', () => this.show(this.all)],
+    ];
+    return make('div', { class: 'controls', role: 'group', 'aria-label': 'Chart' }, ...acts.map(([label, act]) => makeButton(null, label, act)));
   }
 
   listen() {
-    const { canvas } = this;
-    canvas.addEventListener('pointermove', (event) => this.pointed(event));
-    canvas.addEventListener('pointerdown', (event) => this.pressed(event));
-    canvas.addEventListener('pointerup', (event) => this.released(event));
-    canvas.addEventListener('pointercancel', () => this.left());
-    canvas.addEventListener('pointerleave', () => this.left());
-    canvas.addEventListener('dblclick', () => this.show(this.all));
-    canvas.addEventListener('keydown', (event) => this.key(event));
-    new ResizeObserver(() => this.draw()).observe(canvas);
+    const acts = {
+      pointermove: (event) => this.pointed(event), pointerdown: (event) => this.pressed(event), pointerup: (event) => this.released(event),
+      pointercancel: () => this.left(), pointerleave: () => this.left(), dblclick: () => this.show(this.all), keydown: (event) => this.key(event),
+    };
+    for (const [name, act] of Object.entries(acts)) this.canvas.addEventListener(name, act);
+    new ResizeObserver(() => this.draw()).observe(this.canvas);
   }
 
   // ---- where things are
@@ -194,33 +191,30 @@ class Chart {
   }
 
   // A window of at least 4 datagrams and numbers that lies within all.
-  within([x0, x1, y0, y1]) {
+  within([left, right, bottom, top]) {
     const fit = (low, high, least, most) => {
       const size = Math.min(Math.max(high - low, Math.min(4, most - least)), most - least);
       const start = Math.min(Math.max((low + high - size) / 2, least), most - size);
       return [start, start + size];
     };
-    const { all } = this;
-    const [[left, right], [bottom, top]] = [fit(x0, x1, all.x0, all.x1), fit(y0, y1, all.y0, all.y1)];
-    return { x0: left, x1: right, y0: bottom, y1: top };
+    const [[x0, x1], [y0, y1]] = [fit(left, right, this.all.x0, this.all.x1), fit(bottom, top, this.all.y0, this.all.y1)];
+    return { x0, x1, y0, y1 };
   }
 
   choose(dot) {
     if (dot === this.at) return;
     this.at = dot;
-    this.readout.textContent = dot
-      ? `DATA of number ${dot.number} in datagram ${dot.x}, octet ${dot.at}${dot.again ? ', sent again' : ''}.`
-      : 'Point at a dot to read it.';
+    this.readout.textContent = dot ? `DATA of number ${dot.number} in datagram ${dot.x}, octet ${dot.at}${dot.again ? ', sent again' : ''}.` : POINT;
     this.paint();
   }
 
   pointed({ offsetX, offsetY }) {
-    if (this.drag) {
-      [this.drag.x1, this.drag.y1] = [offsetX, offsetY];
-      this.paint();
-    } else {
+    if (!this.drag) {
       this.choose(this.nearest(offsetX, offsetY));
+      return;
     }
+    [this.drag.x1, this.drag.y1] = [offsetX, offsetY];
+    this.paint();
   }
 
   pressed(event) {
@@ -231,16 +225,14 @@ class Chart {
 
   // A drag to the side alone leaves the numbers as they are; one upwards alone the datagrams.
   released({ offsetX, offsetY }) {
-    const { drag } = this;
+    const { drag, view: { x0, x1, y0, y1 } } = this;
     this.drag = null;
     if (!drag) return;
     const [a, b] = [this.valueAt(drag.x0, drag.y0), this.valueAt(drag.x1, drag.y1)];
-    const wide = Math.abs(drag.x1 - drag.x0) >= REACH;
-    const high = Math.abs(drag.y1 - drag.y0) >= REACH;
-    const { x0, x1, y0, y1 } = this.view;
+    const [wide, high] = [Math.abs(drag.x1 - drag.x0) >= REACH, Math.abs(drag.y1 - drag.y0) >= REACH];
+    const inOrder = (p, q) => [Math.min(p, q), Math.max(p, q)];
     if (wide || high) {
-      const sides = [...(wide ? [a.x, b.x] : [x0, x1]).sort((p, q) => p - q), ...(high ? [a.y, b.y] : [y0, y1]).sort((p, q) => p - q)];
-      this.show(this.within(sides));
+      this.show(this.within([...(wide ? inOrder(a.x, b.x) : [x0, x1]), ...(high ? inOrder(a.y, b.y) : [y0, y1])]));
     } else {
       this.choose(this.nearest(offsetX, offsetY));
       this.paint();
@@ -248,22 +240,15 @@ class Chart {
   }
 
   left() {
-    if (this.drag) return;
-    this.choose(null);
+    if (!this.drag) this.choose(null);
   }
 
   key(event) {
-    const acts = {
-      '+': () => this.zoom(0.5),
-      '=': () => this.zoom(0.5),
-      '-': () => this.zoom(2),
-      0: () => this.show(this.all),
-      ArrowLeft: () => (event.shiftKey ? this.pan(-0.2, 0) : this.step(-1)),
-      ArrowRight: () => (event.shiftKey ? this.pan(0.2, 0) : this.step(1)),
-      ArrowUp: event.shiftKey && (() => this.pan(0, 0.2)),
-      ArrowDown: event.shiftKey && (() => this.pan(0, -0.2)),
-    };
-    if (event.ctrlKey || event.metaKey || event.altKey || !Object.hasOwn(acts, event.key) || !acts[event.key]) return;
+    const acts = event.shiftKey
+      ? { ArrowLeft: () => this.pan(-0.2, 0), ArrowRight: () => this.pan(0.2, 0), ArrowUp: () => this.pan(0, 0.2), ArrowDown: () => this.pan(0, -0.2) }
+      : { ArrowLeft: () => this.step(-1), ArrowRight: () => this.step(1) };
+    Object.assign(acts, { '+': () => this.zoom(0.5), '=': () => this.zoom(0.5), '-': () => this.zoom(2), 0: () => this.show(this.all) });
+    if (event.ctrlKey || event.metaKey || event.altKey || !Object.hasOwn(acts, event.key)) return;
     event.preventDefault();
     acts[event.key]();
   }
@@ -273,8 +258,7 @@ class Chart {
     const dots = this.marks.dots.filter((dot) => this.isInSight(dot));
     if (dots.length === 0) return;
     const at = dots.indexOf(this.at);
-    const next = at < 0 ? (by > 0 ? 0 : dots.length - 1) : Math.min(Math.max(at + by, 0), dots.length - 1);
-    this.choose(dots[next]);
+    this.choose(at < 0 ? dots.at(by > 0 ? 0 : -1) : dots[Math.min(Math.max(at + by, 0), dots.length - 1)]);
   }
 
   // ---- drawing
@@ -289,8 +273,10 @@ class Chart {
     this.style = getComputedStyle(canvas);
     this.pen = still.getContext('2d');
     this.pen.scale(scale, scale);
-    this.axes();
-    this.clip();
+    this.drawAxes();
+    this.pen.beginPath();
+    this.pen.rect(EDGES.left, EDGES.top - 6, this.width - EDGES.left - EDGES.right, CHART_HEIGHT - EDGES.top - EDGES.bottom + 6);
+    this.pen.clip();
     this.drawBands();
     this.drawSteps(this.marks.announced, '--announced', 1.25);
     this.drawSteps(this.marks.acknowledged, '--acknowledged', 3.5);
@@ -303,24 +289,31 @@ class Chart {
   // Shows what is drawn, and over it the chosen dot and the frame of a drag.
   paint() {
     if (!this.style || !this.width) return;
-    const { canvas, still } = this;
-    this.pen = canvas.getContext('2d');
-    this.pen.setTransform(1, 0, 0, 1, 0, 0);
-    this.pen.clearRect(0, 0, canvas.width, canvas.height);
-    this.pen.drawImage(still, 0, 0);
-    this.pen.scale(canvas.width / this.width, canvas.height / CHART_HEIGHT);
-    this.drawChosen();
-    this.drawDrag();
-  }
-
-  clip() {
-    this.pen.beginPath();
-    this.pen.rect(EDGES.left, EDGES.top - 6, this.width - EDGES.left - EDGES.right, CHART_HEIGHT - EDGES.top - EDGES.bottom + 6);
-    this.pen.clip();
+    const { canvas, at, drag } = this;
+    const pen = canvas.getContext('2d');
+    pen.setTransform(1, 0, 0, 1, 0, 0);
+    pen.clearRect(0, 0, canvas.width, canvas.height);
+    pen.drawImage(this.still, 0, 0);
+    pen.scale(canvas.width / this.width, canvas.height / CHART_HEIGHT);
+    pen.strokeStyle = this.colour('--ink');
+    if (at && this.isInSight(at)) {
+      pen.lineWidth = 2;
+      pen.beginPath();
+      pen.arc(this.pixelX(at.x), this.pixelY(at.y), 7, 0, 7);
+      pen.stroke();
+    }
+    pen.lineWidth = 1;
+    if (drag) pen.strokeRect(Math.min(drag.x0, drag.x1), Math.min(drag.y0, drag.y1), Math.abs(drag.x1 - drag.x0), Math.abs(drag.y1 - drag.y0));
   }
 
   colour(name) {
     return this.style.getPropertyValue(name).trim();
+  }
+
+  // A pen of this colour and thickness.
+  penOf(colour, thickness) {
+    Object.assign(this.pen, { strokeStyle: this.colour(colour), fillStyle: this.colour(colour), lineWidth: thickness });
+    return this.pen;
   }
 
   line(x0, y0, x1, y1) {
@@ -330,42 +323,34 @@ class Chart {
     this.pen.stroke();
   }
 
-  axes() {
-    const { pen, view, width } = this;
-    pen.font = `12px ${this.style.fontFamily}`;
-    pen.fillStyle = this.colour('--faint');
-    pen.strokeStyle = this.colour('--line');
-    pen.lineWidth = 1;
-    pen.textBaseline = 'middle';
-    pen.textAlign = 'right';
+  drawAxes() {
+    const { view, width } = this;
+    const pen = this.penOf('--faint', 1);
+    Object.assign(pen, { font: `12px ${this.style.fontFamily}`, strokeStyle: this.colour('--line'), textBaseline: 'middle', textAlign: 'right' });
     for (const y of ticks(view.y0, view.y1, 6)) {
       this.line(EDGES.left, this.pixelY(y), width - EDGES.right, this.pixelY(y));
       pen.fillText(shortNumber(y), EDGES.left - 8, this.pixelY(y));
     }
+    pen.fillText('datagram', width - EDGES.right, CHART_HEIGHT - 8);
     pen.textBaseline = 'top';
     for (const x of ticks(view.x0, view.x1, Math.max(2, width / 110))) {
       this.line(this.pixelX(x), CHART_HEIGHT - EDGES.bottom, this.pixelX(x), CHART_HEIGHT - EDGES.bottom + 4);
       pen.textAlign = this.pixelX(x) > width - 30 ? 'right' : 'center';
       pen.fillText(shortNumber(x), Math.min(this.pixelX(x), width - 4), CHART_HEIGHT - EDGES.bottom + 6);
     }
-    pen.textAlign = 'right';
-    pen.fillText('datagram', width - EDGES.right, CHART_HEIGHT - 13);
-    pen.textAlign = 'left';
-    pen.textBaseline = 'middle';
+    Object.assign(pen, { textAlign: 'left', textBaseline: 'middle' });
     pen.fillText('number', 4, 8);
   }
 
   drawBands() {
-    const { pen } = this;
-    pen.fillStyle = this.colour('--band');
-    pen.strokeStyle = this.colour('--band-edge');
-    pen.lineWidth = 1;
-    this.outline(this.marks.bands.filter(({ follows }) => follows).map(({ x, high }) => ({ x, y: high + 0.5 })));
-    pen.lineTo(this.pixelX(this.all.x1), this.pixelY(0));
-    pen.fill();
-    pen.stroke();
+    const pen = this.penOf('--band-edge', 1);
     const right = this.pixelX(this.all.x1);
     const drawn = new Set();
+    pen.fillStyle = this.colour('--band');
+    this.outline(this.marks.bands.filter(({ follows }) => follows).map(({ x, high }) => ({ x, y: high + 0.5 })));
+    pen.lineTo(right, this.pixelY(0));
+    pen.fill();
+    pen.stroke();
     for (const { x, low, high } of this.marks.bands.filter(({ follows }) => !follows)) {
       const [left, top, bottom] = [this.pixelX(x), this.pixelY(high + 0.5), this.pixelY(low - 0.5)];
       const key = `${Math.round(left)} ${Math.round(top)} ${Math.round(bottom)}`;
@@ -394,8 +379,7 @@ class Chart {
   }
 
   drawSteps(steps, colour, thickness) {
-    this.pen.strokeStyle = this.colour(colour);
-    this.pen.lineWidth = thickness;
+    this.penOf(colour, thickness);
     this.outline(steps);
     this.pen.stroke();
   }
@@ -404,22 +388,16 @@ class Chart {
   drawAnswers() {
     const answers = this.marks.answers.filter((answer) => this.isInSight(answer));
     if (answers.length > MANY_ANSWERS) return;
-    this.pen.strokeStyle = this.colour('--acknowledged');
-    this.pen.lineWidth = 1.25;
-    for (const { x, y } of answers) {
-      this.line(this.pixelX(x), this.pixelY(y) - 6, this.pixelX(x), this.pixelY(y) + 6);
-    }
+    this.penOf('--acknowledged', 1.25);
+    for (const { x, y } of answers) this.line(this.pixelX(x), this.pixelY(y) - 6, this.pixelX(x), this.pixelY(y) + 6);
   }
 
   // Where there are many, one of those that fall on one pixel.
   drawDots() {
-    const { pen } = this;
+    const pen = this.penOf('--data', 1.25);
     const dots = this.marks.dots.filter((dot) => this.isInSight(dot));
     const radius = dots.length > MANY_DOTS ? 1.2 : dots.length > 400 ? 2.2 : 3.2;
     const drawn = new Set();
-    pen.fillStyle = this.colour('--data');
-    pen.strokeStyle = this.colour('--data');
-    pen.lineWidth = 1.25;
     for (const dot of dots) {
       const [x, y] = [this.pixelX(dot.x), this.pixelY(dot.y)];
       const key = (Math.round(x) * CHART_HEIGHT + Math.round(y)) * 2 + Number(dot.again);
@@ -432,41 +410,14 @@ class Chart {
     }
   }
 
-  drawChosen() {
-    const { pen, at } = this;
-    if (!at || !this.isInSight(at)) return;
-    pen.strokeStyle = this.colour('--ink');
-    pen.lineWidth = 2;
-    pen.beginPath();
-    pen.arc(this.pixelX(at.x), this.pixelY(at.y), 7, 0, 7);
-    pen.stroke();
-    this.drawDotWords();
-  }
-
-  // Beside the chosen dot, where there is room.
-  drawDotWords() {
-    const { pen, width, at } = this;
-    const isRight = this.pixelX(at.x) > width / 2;
-    pen.fillStyle = this.colour('--ink');
-    pen.font = `12px ${this.style.fontFamily}`;
-    pen.textAlign = isRight ? 'right' : 'left';
-    pen.textBaseline = 'middle';
-    const [x, y] = [this.pixelX(at.x) + (isRight ? -12 : 12), Math.max(EDGES.top + 4, this.pixelY(at.y))];
-    this.words(`${at.number} in datagram ${at.x}, octet ${at.at}`, x, y);
-  }
-
-  // The number of the verdict and the datagram of `unfounded`, as dashed lines with their words.
+  // The numbers that the verdict is about and the datagram of `unfounded`, as dashed lines with their words.
   drawMarks() {
-    const { pen, width } = this;
-    pen.strokeStyle = this.colour('--mark');
-    pen.fillStyle = this.colour('--mark');
-    pen.lineWidth = 1.5;
+    const { width } = this;
+    const pen = this.penOf('--mark', 1.5);
+    Object.assign(pen, { font: `bold 12px ${this.style.fontFamily}`, textBaseline: 'bottom' });
     pen.setLineDash([6, 4]);
-    pen.font = `bold 12px ${this.style.fontFamily}`;
-    pen.textBaseline = 'bottom';
     for (const { y, label } of this.marks.numbers) {
       this.line(EDGES.left, this.pixelY(y), width, this.pixelY(y));
-      pen.textAlign = 'left';
       this.words(label, EDGES.left + 4, this.pixelY(y) - 3);
     }
     for (const { x, label } of this.marks.datagrams) {
@@ -483,46 +434,27 @@ class Chart {
     const { pen } = this;
     pen.save();
     pen.setLineDash([]);
-    pen.strokeStyle = this.colour('--sheet');
-    pen.lineWidth = 4;
-    pen.lineJoin = 'round';
+    Object.assign(pen, { strokeStyle: this.colour('--sheet'), lineWidth: 4, lineJoin: 'round' });
     pen.strokeText(text, x, y);
     pen.fillText(text, x, y);
     pen.restore();
   }
-
-  drawDrag() {
-    if (!this.drag) return;
-    const { x0, y0, x1, y1 } = this.drag;
-    this.pen.strokeStyle = this.colour('--ink');
-    this.pen.lineWidth = 1;
-    this.pen.strokeRect(Math.min(x0, x1), Math.min(y0, y1), Math.abs(x1 - x0), Math.abs(y1 - y0));
-  }
-}
-
-// A mark of an axis, short enough for its room.
-function shortNumber(n) {
-  return n < 1e7 ? String(Math.round(n)) : n.toExponential(1).replace('e+', 'e');
 }
 
 // ---- the legend
 
 const SVG = 'http://www.w3.org/2000/svg';
 
-function drawn(tag, attributes) {
+function drawn(tag, attributes, ...children) {
   const element = document.createElementNS(SVG, tag);
   for (const [name, value] of Object.entries(attributes)) element.setAttribute(name, value);
+  element.append(...children);
   return element;
 }
 
-function sign(...shapes) {
-  const svg = drawn('svg', { viewBox: '0 0 24 14', width: '24', height: '14', 'aria-hidden': 'true' });
-  svg.append(...shapes);
-  return svg;
-}
-
 function legend() {
-  const item = (text, ...shapes) => make('li', null, sign(...shapes), text);
+  const item = (text, ...shapes) => make('li', null,
+    drawn('svg', { viewBox: '0 0 24 14', width: '24', height: '14', 'aria-hidden': 'true' }, ...shapes), text);
   return make('ul', { class: 'legend' },
     item('DATA to this reader', drawn('circle', { class: 'sent', cx: 12, cy: 7, r: 4 })),
     item('sent again', drawn('circle', { class: 'again', cx: 12, cy: 7, r: 4.5 })),

@@ -7,10 +7,9 @@ function start() {
   const pairs = new Pairs(report);
   showParticipants(report);
   document.getElementById('page').hidden = false;
-  const go = () => goToAddress(pairs);
-  window.addEventListener('hashchange', go);
-  go();
-  listenForColours();
+  window.addEventListener('hashchange', () => goToAddress(pairs));
+  goToAddress(pairs);
+  listenForPaper(pairs);
 }
 
 function goToAddress(pairs) {
@@ -18,12 +17,12 @@ function goToAddress(pairs) {
   if (at !== undefined) pairs.goTo(Number(at) - 1);
 }
 
-// A chart has the colours of the moment in which it is drawn; on paper the light ones.
-function listenForColours() {
+// A chart has the colours of the moment in which it is drawn; on paper the light ones. All rows go on paper.
+function listenForPaper(pairs) {
   matchMedia('(prefers-color-scheme: dark)').addEventListener('change', redrawChart);
   const onPaper = (isOnPaper) => () => {
     document.documentElement.classList.toggle('printed', isOnPaper);
-    redrawChart();
+    pairs.showAll(isOnPaper);
   };
   window.addEventListener('beforeprint', onPaper(true));
   window.addEventListener('afterprint', onPaper(false));
@@ -32,6 +31,7 @@ function listenForColours() {
 try {
   start();
 } catch (error) {
-  document.body.append(make('p', null, `This report cannot be shown here: ${error}`));
+  document.documentElement.classList.remove('scripted');
+  document.getElementById('text').prepend(make('p', null, `The tables of this report cannot be shown here: ${error}`));
   throw error;
 }

@@ -5,53 +5,43 @@
 let chartInSight = null;
 
 function pairDetail(report, row) {
-  const advice = adviceOf(report, row);
   return make('div', { class: 'detail-body' },
     make('div', { class: 'detail-words' },
       make('h3', null, `Pair ${row.at + 1}: `, ...topicName(row.topic)),
       make('p', { class: 'lead' }, verdictSentence(report, row)),
-      adviceBox(advice),
+      row.advice !== null && make('p', { class: 'advice' }, row.advice),
       make('h4', null, 'What it rests on'),
-      make('ul', null, ...evidenceSentences(report, row).map((sentence) => make('li', null, sentence))),
+      make('ul', null, ...evidenceSentences(row).map((sentence) => make('li', null, sentence))),
       make('h4', null, 'Who they are'),
-      endpointList(report, row),
+      make('dl', { class: 'ends-list' }, ...endParts(report, 'Writer', row.writer), ...endParts(report, 'Reader', row.reader),
+        make('dt', null, 'Type'), make('dd', null, ...typeName(row.type))),
       placeHelp(report, row)),
     make('div', { class: 'detail-chart' }, chartOf(report, row)));
 }
 
-function adviceBox({ means, todo }) {
-  return make('div', { class: 'advice' }, make('p', null, means), todo && make('p', null, make('b', null, 'What to do: '), todo));
+function endParts(report, side, guid) {
+  const [endpoint, participant] = [report.endpointOf.get(guid), report.participantOf(guid)];
+  return [make('dt', null, side), make('dd', null, ...endpointName(report, guid),
+    endpoint && make('div', { class: 'qos' }, `${endpoint.reliability}, ${endpoint.durability}`),
+    participant && make('div', { class: 'qos' }, `${participant.name} ${topicsText(participant)}`))];
 }
 
-function endpointList(report, row) {
-  const part = (side, guid) => {
-    const [endpoint, participant] = [report.endpointOf.get(guid), report.participantOf(guid)];
-    return [make('dt', null, side), make('dd', null, ...endpointName(report, guid),
-      endpoint ? make('div', { class: 'qos' }, `${endpoint.reliability}, ${endpoint.durability}`) : null,
-      participant ? make('div', { class: 'qos' }, `${participant.name} ${topicsText(participant)}`) : null)];
-  };
-  return make('dl', { class: 'ends-list' }, ...part('Writer', row.writer), ...part('Reader', row.reader),
-    make('dt', null, 'Type'), make('dd', null, ...typeName(row.type)));
-}
-
-// How a place is found: in the words of the first one that the row has.
-function placeHelp(report, row) {
+// How a place is found: in the words of the first one that the row has. A datagram is a frame of its own where no frame was
+// ignored and no packet was put together.
+function placeHelp({ data }, row) {
   const place = row.claimed || row.acknowledged || row.announced;
   if (!place) return null;
-  const frame = report.counts.ignored === 0 ? ` It is frame ${place.datagram} in Wireshark.` : '';
+  const frame = data.ignored === 0 && !data.options.any ? ` It is frame ${place.datagram} in Wireshark.` : '';
   return make('p', { class: 'hint' }, `An octet is counted from 0 in the UDP payload. “rtps-audit show” prints datagram ${place.datagram}, and `
     + `a line for each submessage in it with its octet, such as ${place.at}.${frame}`);
 }
 
 function chartOf(report, row) {
-  chartInSight = null;
-  if (!report.actsOf(row)) {
-    return make('p', { class: 'no-chart' }, 'The chart of this pair was left out: a page has room for 200,000 acts and answers, and other '
-      + 'pairs came first. A recording of fewer participants brings it: cut one by tshark, so that all traffic of some participants stays (the '
-      + 'guide, section 7, “Larger recordings”, says how).');
-  }
-  chartInSight = new Chart(report, row);
-  return chartInSight.element;
+  chartInSight = report.basesOf(row) ? new Chart(report, row) : null;
+  if (chartInSight) return chartInSight.element;
+  return make('p', { class: 'no-chart' }, 'The chart of this pair was left out: a page has room for 200,000 acts and answers, and other pairs '
+    + 'came first. A recording of fewer participants brings it: cut one by tshark, so that all traffic of some participants stays (the guide, '
+    + 'section 7, “Larger recordings”, says how).');
 }
 
 function redrawChart() {

@@ -5,24 +5,19 @@
 const FIRST_ROWS = 100;
 const MORE_ROWS = 500;
 
-const byNumber = (member) => (a, b) => compareNumbers(member(a), member(b));
 const byText = (member) => (a, b) => (a[member] < b[member] ? -1 : Number(a[member] > b[member]));
-const byCount = (member) => byNumber((row) => row[member]);
+const byCount = (numberOf) => (a, b) => compareNumbers(numberOf(a), numberOf(b));
 const worse = (a, b) => a.rank - b.rank;
 
 // Where no number is announced or acknowledged, 0 stands in the order and a dash on the page.
-function placeColumn(name, head, numberOf) {
-  return {
-    name, head, class: 'count', compare: byNumber(numberOf),
-    cell: (report, row) => (row[name] ? String(numberOf(row)) : '–'),
-  };
+function placeColumn(name, head, member) {
+  const numberOf = (row) => (row[name] ? row[name][member] : 0);
+  return { name, head, class: 'count', compare: byCount(numberOf), cell: (report, row) => (row[name] ? String(numberOf(row)) : '–') };
 }
 
 function countColumn(name, head, isBad) {
-  return {
-    name, head, class: 'count', compare: byCount(name),
-    cell: (report, row) => (isBad && isAbove(row[name], 0) ? make('b', { class: 'bad' }, counted(row[name])) : counted(row[name])),
-  };
+  const cell = (report, row) => (isBad && isAbove(row[name], 0) ? make('b', { class: 'bad' }, counted(row[name])) : counted(row[name]));
+  return { name, head, class: 'count', compare: byCount((row) => row[name]), cell };
 }
 
 // The columns: name, head, order, and what stands in a cell.
@@ -30,8 +25,8 @@ const COLUMNS = [
   { name: 'verdict', head: 'Verdict', compare: (a, b) => worse(a, b) || compareNumbers(a.number, b.number), cell: verdictCell },
   { name: 'writer', head: 'Writer', compare: byText('writer'), cell: (report, row) => endpointName(report, row.writer) },
   { name: 'reader', head: 'Reader', compare: byText('reader'), cell: (report, row) => endpointName(report, row.reader) },
-  placeColumn('announced', 'Last announced', ({ announced }) => (announced ? announced.number : 0)),
-  placeColumn('acknowledged', 'Acknowledged below', ({ acknowledged }) => (acknowledged ? acknowledged.below : 0)),
+  placeColumn('announced', 'Last announced', 'number'),
+  placeColumn('acknowledged', 'Acknowledged below', 'below'),
   countColumn('payloads', 'Payloads', false),
   countColumn('gone', 'Gone', true),
   countColumn('untold', 'Untold', true),
@@ -42,27 +37,19 @@ const COLUMNS = [
 const WORST_FIRST = { name: 'worst', head: 'Worst first', compare: worse };
 const BY_TOPIC = { name: 'topic', head: 'Topic', compare: (a, b) => byText('topic')(a, b) || worse(a, b) };
 const BY_TYPE = { name: 'type', head: 'Type', compare: (a, b) => byText('type')(a, b) || worse(a, b) };
+const ORDERS = [WORST_FIRST, BY_TOPIC, BY_TYPE, ...COLUMNS];
 
 function verdictCell(report, row) {
-  const datagram = row.datagram === undefined ? null : make('span', { class: 'in-datagram' }, ` in datagram ${row.datagram}`);
-  const lost = row.kind === 'missed' ? `missed ${counted(row.missed)}` : row.kind === 'gone' ? `gone ${counted(row.gone)}` : null;
+  const lost = row.kind === 'missed' || row.kind === 'gone';
   return make('a', { href: `#pair-${row.at + 1}`, 'aria-expanded': 'false' },
-    badge(row.verdict, row.verdict), ' ', make('span', { class: 'number' }, String(row.number)), datagram,
-    lost && [' ', badge(row.kind, lost)], make('span', { class: 'hidden' }, `, pair ${row.at + 1}`));
+    badge(row.verdict, row.verdict), ' ', make('span', { class: 'number' }, String(row.number)),
+    row.datagram !== undefined && make('span', { class: 'in-datagram' }, ` in datagram ${row.datagram}`),
+    lost && [' ', badge(row.kind, `${row.kind} ${counted(row[row.kind])}`)], make('span', { class: 'hidden' }, `, pair ${row.at + 1}`));
 }
 
 class Pairs {
   constructor(report) {
-    this.report = report;
-    this.columns = COLUMNS.filter(({ name }) => report.hasReceived() || (name !== 'received' && name !== 'missed'));
-    this.orders = [WORST_FIRST, BY_TOPIC, BY_TYPE, ...this.columns];
-    this.words = [];
-    this.kinds = new Set();
-    this.order = WORST_FIRST;
-    this.isDown = false;
-    this.most = FIRST_ROWS;
-    this.chosen = null;
-    this.texts = null;
+    Object.assign(this, { report, words: [], kinds: new Set(), order: WORST_FIRST, isDown: false, most: FIRST_ROWS, chosen: null });
     this.sort();
     this.build();
     this.render();
@@ -75,70 +62,57 @@ class Pairs {
     this.sorted = [...this.report.rows].sort((a, b) => direction * this.order.compare(a, b) || a.at - b.at);
   }
 
-  // The text that a filter looks in: that of the topic once, and that of each row.
-  prepare() {
-    if (this.texts) return;
-    const { report } = this;
-    const groups = new Map(report.groups.map((group) => [group,
-      [group.topic, group.type, rosTopic(group.topic), rosType(group.type)].filter(Boolean).join(' ').toLowerCase()]));
-    this.texts = report.rows.map((row) => {
-      const ends = [report.participantOf(row.writer), report.participantOf(row.reader)].filter(Boolean);
-      const names = ends.map((participant) => `${participant.name} ${participant.nodes.join(' ')}`).join(' ');
-      return `${groups.get(row.group)} ${row.verdict} ${row.number} ${row.kind} ${row.writer} ${row.reader} ${names.toLowerCase()}`;
-    });
+  // Whether a row has a word: in the names of its topic and type, in those of its writer and reader, or in its verdict.
+  hasWord(word) {
+    const has = (...texts) => texts.some((text) => text !== null && text.toLowerCase().includes(word));
+    const { groups, data } = this.report;
+    const found = new Set(groups.filter(({ topic, type }) => has(topic, type, rosTopic(topic), rosType(type))));
+    for (const { guid } of data.endpoints) {
+      const { name, nodes } = this.report.participantOf(guid);
+      if (has(guid, name, ...nodes)) found.add(guid);
+    }
+    return ({ group, writer, reader, verdict, kind, number }) => (
+      found.has(group) || found.has(writer) || found.has(reader) || has(verdict, kind, String(number)));
   }
 
   matching() {
-    if (this.words.length === 0 && this.kinds.size === 0) return this.sorted;
-    if (this.words.length > 0) this.prepare();
-    return this.sorted.filter((row) => (this.kinds.size === 0 || this.kinds.has(row.kind))
-      && this.words.every((word) => this.texts[row.at].includes(word)));
+    const tests = this.words.map((word) => this.hasWord(word));
+    if (this.kinds.size > 0) tests.push(({ kind }) => this.kinds.has(kind));
+    return tests.reduce((rows, test) => rows.filter(test), this.sorted);
   }
 
   setFilter(text) {
     this.words = text.toLowerCase().split(/\s+/).filter(Boolean);
-    this.most = FIRST_ROWS;
-    this.render();
+    this.renderFirst();
   }
 
   setOrder(order) {
     // A head that is clicked again turns the order round. Counts begin with the greatest.
-    if (order === this.order) this.isDown = !this.isDown;
-    else [this.order, this.isDown] = [order, order.class === 'count'];
-    this.most = FIRST_ROWS;
+    this.isDown = order === this.order ? !this.isDown : order.class === 'count';
+    this.order = order;
     this.sort();
-    this.render();
+    this.renderFirst();
   }
 
   toggleKind(kind) {
     if (!this.kinds.delete(kind)) this.kinds.add(kind);
-    this.most = FIRST_ROWS;
-    this.render();
+    this.renderFirst();
   }
 
   // ---- the parts of the page
 
   build() {
-    this.filter = make('input', {
-      type: 'search', id: 'filter', autocomplete: 'off', spellcheck: 'false', placeholder: 'topic, node, verdict, GUID',
-    });
+    this.filter = make('input', { type: 'search', id: 'filter', autocomplete: 'off', spellcheck: 'false', placeholder: 'topic, node, verdict, GUID' });
     this.filter.addEventListener('input', () => this.setFilter(this.filter.value));
-    this.filter.addEventListener('focus', () => this.prepare());
-    this.select = make('select', { id: 'order' }, ...this.orders.map(({ name, head }) => make('option', { value: name }, head)));
-    this.select.addEventListener('change', () => this.setOrder(this.orders.find(({ name }) => name === this.select.value)));
-    this.turn = make('button', { type: 'button' }, 'Reverse');
-    this.turn.addEventListener('click', () => this.setOrder(this.order));
+    this.select = make('select', { id: 'order' }, ...ORDERS.map(({ name, head }) => make('option', { value: name }, head)));
+    this.select.addEventListener('change', () => this.setOrder(ORDERS.find(({ name }) => name === this.select.value)));
     this.status = make('p', { id: 'shown', role: 'status' });
-    this.more = make('button', { type: 'button', class: 'more' }, 'Show more');
-    this.more.addEventListener('click', () => {
-      this.most += MORE_ROWS;
-      this.render();
-    });
+    this.more = makeButton({ class: 'more' }, 'Show more', () => this.showMore());
     this.table = make('table', { class: 'pairs' }, make('caption', { class: 'hidden' }, 'Pairs by topic'), this.heads());
     this.table.addEventListener('click', (event) => this.clicked(event));
     const tools = make('div', { class: 'tools' },
       make('label', { for: 'filter' }, 'Filter'), this.filter,
-      make('label', { for: 'order' }, 'Order'), this.select, this.turn);
+      make('label', { for: 'order' }, 'Order'), this.select, makeButton(null, 'Reverse', () => this.setOrder(this.order)));
     const wide = make('div', { class: 'wide' }, this.table);
     tools.hidden = wide.hidden = this.report.rows.length === 0;
     document.getElementById('pairs').append(tools, this.status, wide, this.more);
@@ -146,29 +120,41 @@ class Pairs {
   }
 
   heads() {
-    const cells = this.columns.map((column) => {
-      const button = make('button', { type: 'button' }, column.head);
-      button.addEventListener('click', () => this.setOrder(column));
-      return make('th', { scope: 'col', class: `${column.name} ${column.class || ''}` }, button);
-    });
-    return make('thead', null, make('tr', null, ...cells));
+    return make('thead', null, make('tr', null, ...COLUMNS.map((column) => make('th',
+      { scope: 'col', class: `${column.name} ${column.class || ''}` }, makeButton(null, column.head, () => this.setOrder(column))))));
   }
 
   // A button for each kind that there is, which shows these alone.
   buildVerdicts() {
-    const buttons = KINDS.filter((kind) => this.report.countOf(kind) > 0).map((kind) => {
-      const button = make('button', { type: 'button', class: `badge ${kind}`, 'aria-pressed': 'false' },
-        `${counted(this.report.countOf(kind))} ${KIND_WORDS[kind]}`);
-      button.addEventListener('click', () => {
+    const countOf = (kind) => this.report.rows.filter((row) => row.kind === kind).length;
+    this.buttons = KINDS.filter(countOf).map((kind) => makeButton({ class: `badge ${kind}`, 'aria-pressed': 'false' },
+      `${counted(countOf(kind))} ${KIND_WORDS[kind]}`, (button) => {
         this.toggleKind(kind);
         button.setAttribute('aria-pressed', String(this.kinds.has(kind)));
-      });
-      return button;
-    });
-    document.getElementById('verdicts').append(...buttons);
+      }));
+    document.getElementById('verdicts').append(...this.buttons);
   }
 
   // ---- what is shown
+
+  renderFirst() {
+    this.most = FIRST_ROWS;
+    this.render();
+  }
+
+  // Shows more rows. Where these are the last ones, the focus goes to the first of them.
+  showMore() {
+    const first = this.most;
+    this.most += MORE_ROWS;
+    this.render();
+    if (this.more.hidden) this.table.querySelectorAll('tr.pair > th a')[first].focus();
+  }
+
+  // Shows all rows that match, as on paper, or as many as before.
+  showAll(isAll) {
+    [this.most, this.before] = isAll ? [Infinity, this.most] : [this.before, null];
+    this.render();
+  }
 
   render() {
     const rows = this.matching();
@@ -176,7 +162,7 @@ class Pairs {
     this.table.querySelectorAll('tbody').forEach((body) => body.remove());
     this.table.append(...this.bodies(rows, shown));
     this.table.querySelectorAll('thead th').forEach((head, at) => {
-      if (this.columns[at] === this.order) head.setAttribute('aria-sort', this.isDown ? 'descending' : 'ascending');
+      if (COLUMNS[at] === this.order) head.setAttribute('aria-sort', this.isDown ? 'descending' : 'ascending');
       else head.removeAttribute('aria-sort');
     });
     this.select.value = this.order.name;
@@ -187,32 +173,29 @@ class Pairs {
 
   statusText(found, shown) {
     const all = this.report.rows.length;
-    if (all === 0) return 'There is none: see what weakens this report.';
-    const of = found === all ? plural(all, 'pair') : `${counted(found)} of ${plural(all, 'pair')}`;
-    return shown < found ? `${of}; the first ${counted(shown)} are shown.` : `${of}.`;
+    // The first lines of the text say what to do where there is none.
+    if (all === 0) return document.querySelector('#text pre').textContent.split('\n\n')[0].replace(/\s+/g, ' ');
+    return shown < found ? `${partOf(found, all, 'pair')}; the first ${counted(shown)} are shown.` : `${partOf(found, all, 'pair')}.`;
   }
 
   // The rows by topic, in the order of the first of each.
   bodies(rows, shown) {
     const sizes = new Map();
-    for (const row of rows) sizes.set(row.group, (sizes.get(row.group) || 0) + 1);
+    for (const { group } of rows) sizes.set(group, (sizes.get(group) || 0) + 1);
     const bodies = new Map();
     for (const row of shown) {
-      if (!bodies.has(row.group)) bodies.set(row.group, make('tbody', null, this.groupRow(row.group, sizes.get(row.group))));
-      bodies.get(row.group).append(this.row(row));
+      entryOf(bodies, row.group, () => make('tbody', null, this.groupRow(row.group, sizes.get(row.group)))).append(this.row(row));
     }
-    return [...bodies.values()];
+    return bodies.values();
   }
 
-  groupRow(group, size) {
-    const all = group.rows.length;
-    const pairs = size === all ? plural(all, 'pair') : `${counted(size)} of ${plural(all, 'pair')}`;
-    return make('tr', { class: 'group' }, make('th', { scope: 'rowgroup', colspan: this.columns.length },
-      ...topicName(group.topic), make('span', { class: 'type' }, ...typeName(group.type)), make('span', { class: 'size' }, pairs)));
+  groupRow({ topic, type, rows }, size) {
+    return make('tr', { class: 'group' }, make('th', { scope: 'rowgroup', colspan: COLUMNS.length }, ...topicName(topic),
+      make('span', { class: 'type' }, ...typeName(type)), make('span', { class: 'size' }, partOf(size, rows.length, 'pair'))));
   }
 
   row(row) {
-    const cells = this.columns.map((column, at) => make(at === 0 ? 'th' : 'td',
+    const cells = COLUMNS.map((column, at) => make(at === 0 ? 'th' : 'td',
       { class: `${column.name} ${column.class || ''}`, ...(at === 0 ? { scope: 'row' } : {}) }, column.cell(this.report, row)));
     return make('tr', { id: `pair-${row.at + 1}`, class: `pair ${row.kind}` }, ...cells);
   }
@@ -225,13 +208,9 @@ class Pairs {
     if (!line || (link && !link.closest('th')) || event.ctrlKey || event.metaKey || event.shiftKey || String(getSelection())) return;
     event.preventDefault();
     const at = Number(line.id.slice('pair-'.length)) - 1;
-    this.choose(at === this.chosen ? null : at);
-    history.replaceState(null, '', this.chosen === null ? '#' : `#${line.id}`);
-  }
-
-  choose(at) {
-    this.chosen = at;
+    this.chosen = at === this.chosen ? null : at;
     this.showChosen();
+    history.replaceState(null, '', this.chosen === null ? '#' : `#${line.id}`);
   }
 
   // Shows the pair of an address, also where the filter or the length of the table leaves it out.
@@ -242,7 +221,7 @@ class Pairs {
     if (!document.getElementById(`pair-${at + 1}`)) {
       this.filter.value = `${writer} ${reader}`;
       this.kinds.clear();
-      document.querySelectorAll('#verdicts button').forEach((button) => button.setAttribute('aria-pressed', 'false'));
+      this.buttons.forEach((button) => button.setAttribute('aria-pressed', 'false'));
       this.setFilter(this.filter.value);
     } else {
       this.showChosen();
@@ -263,7 +242,7 @@ class Pairs {
     line.classList.add('chosen');
     line.querySelector('th a').setAttribute('aria-expanded', 'true');
     line.after(make('tr', { class: 'detail' },
-      make('td', { colspan: this.columns.length }, pairDetail(this.report, this.report.rows[this.chosen]))));
+      make('td', { colspan: COLUMNS.length }, pairDetail(this.report, this.report.rows[this.chosen]))));
     redrawChart();
   }
 }

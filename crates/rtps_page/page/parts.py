@@ -3,8 +3,8 @@
 
     parts.py > ../src/page_parts.rt      writes head, middle and tail as constants
 
-The page is head, rows, middle, data and tail. Rows are the plain lines of the report that are shown without scripts, and data
-is an object of JSON. What stands in page.html for the two is a small stored report to work on the page with, and is left out.
+The page is head, text, middle, data and tail. The text is that of `check`, and the data is an object of JSON. What stands in
+page.html for the two is a small stored report to work on the page with, and is left out.
 Style and scripts stand in the page itself, without their comments and indents, and its policy allows these alone, by their
 hashes, and no connection.
 """
@@ -18,7 +18,7 @@ FOLDER = os.path.dirname(os.path.abspath(__file__))
 STYLE = re.compile(r'<link rel="stylesheet" href="([a-z]+\.css)">')
 SCRIPT = re.compile(r'<script src="([a-z]+\.js)"></script>')
 # The recorded parts, each between what stands before and behind it.
-RECORDED = re.compile(r'(<pre id="rows"[^>]*>[^\n]*\n)(.*?)(</pre>.*<script type="application/json" id="data">)(.*?)(</script>)', re.DOTALL)
+RECORDED = re.compile(r'(<pre [^>]*>\n)(.*?)(</pre>.*<script type="application/json" id="data">)(.*?)(</script>)', re.DOTALL)
 
 
 def file_of(name):
@@ -70,9 +70,9 @@ def parts():
     return page[:found.end(1)], found.group(3), page[found.start(5):]
 
 
-def stored(rows, data):
+def stored(text, data):
     """page.html with these recorded parts in place of those that it has"""
-    return RECORDED.sub(lambda found: f'{found.group(1)}{rows}{found.group(3)}{data}{found.group(5)}', file_of('page.html'))
+    return RECORDED.sub(lambda found: f'{found.group(1)}{text}{found.group(3)}{data}{found.group(5)}', file_of('page.html'))
 
 
 def literal(text):
@@ -84,7 +84,7 @@ def literal(text):
 
 def constants():
     """head, middle and tail as a file of constants"""
-    whats = 'What stands before the lines of rows', 'What stands between them and the data', 'What stands behind the data'
+    whats = 'What stands before the text', 'What stands between it and the data', 'What stands behind the data'
     lines = ['//! The constant texts of a page, which `page/parts.py` makes of the files beside it.\n']
     for name, what, part in zip(('HEAD', 'MIDDLE', 'TAIL'), whats, parts()):
         lines.append(f'\n/// {what}.\npub(crate) const {name}: &str = {literal(part)};\n')

@@ -1,22 +1,19 @@
 -- The tokens of entries, of a writer and of answers, and that a writer says the acts that are from it.
-use Rattle.std.proofs.Common.{◌≡◌, ◌++◌, ◌∷◌, [], ◌∙◌, ℕ, ℤ, List, Bool, true, false, ap, append_assoc, codes, cond, decimal, filter, map, refl, sym}
+use Rattle.std.proofs.Common.{◌≡◌, ◌++◌, ◌∷◌, [], ◌∙◌, ℕ, ℤ, List, Bool, true, false, ap, append_assoc, codes, cond, decimal, filter, map, refl, sym, map-id, flat_map}
 use Rattle.std.proofs.lemmas.List.Concat.{flat_map-append}
 use Rattle.std.proofs.lemmas.List.Folds.{flat_map-map}
-use Rattle.std.specs.List.{flat_map}
 use Rattle.json.specs.Json.{Json, string as json_string}
-use Rattle.json.specs.Token.{Token, begin_array, begin_object, end_array, end_object, key, number, string}
-use Rattle.json.specs.Tree.{json_tokens}
+use Rattle.rtps_report.specs.Vocabulary.{Location, Pair}
 use Rattle.rtps_ids.specs.declared.identity.Guid.{Guid}
 use Rattle.rtps_receiver.specs.Speech.{is_spoken_by}
-use Rattle.rtps_discovery.specs.declared.matching.Pair.{Pair}
 use Rattle.rtps_audit.specs.Placed.{PlacedValue, answers_among, is_from}
 use Rattle.rtps_audit.proofs.Offered.{speaker_is_origin}
-use Rattle.rtps_evidence.specs.declared.location.Location.{Location}
-use Rattle.rtps_text.specs.JsonText.{array_of, count_json, number_json}
-use Rattle.rtps_text.specs.ListText.{guid_text}
-use Rattle.rtps_page.specs.ChartEntries.{base_json, entries_by, entries_of, entry_json, named_json}
-use Rattle.rtps_page.specs.PageData.{answers_json, writer_json}
-use Rattle.rtps_page.proofs.PageLemmas.{array_tokens}
+use Rattle.rtps_lines.specs.JsonText.{count_json}
+use Rattle.rtps_page.specs.ChartEntries.{entries_of}
+use Rattle.rtps_page.proofs.Written.{answers_json, array_of, base_json, begin_array, begin_object, end_array, end_object, entries_by, entry_json, guid_text, json_tokens, key, mapped_tokens, named_json, number, number_json, string, Token, writer_json}
+
+array_tokens : (values : List Json) → json_tokens (array_of values) ≡ begin_array ∷ (flat_map json_tokens values ++ end_array ∷ [])
+array_tokens values = ap (λ l. json_tokens (array_of l)) (sym (map-id values)) ∙ mapped_tokens (λ value. value) values
 
 -- the tokens of an entry, part by part
 pub entry_tokens : (place : Location) (named kind : List ℕ) (numbers : List ℤ)

@@ -4,4 +4,4 @@ pub mod ReadLemmas
 pub mod PageLemmas
 pub mod EntryLemmas
 pub mod ChartLemmas
-pub mod Utf8Lemmas
+pub mod Written

@@ -1,46 +1,22 @@
 -- The tokens of what the data of a page is made of, and how deep it nests.
-use Rattle.std.proofs.Common.{◌≡◌, ◌≤◌, ◌++◌, ◌∷◌, [], ◌∙◌, ℕ, ℤ, List, Bool, true, false, ap, append_assoc, arith, codes, filter, map, pos, refl, sym, Option, None, Some, ◌-◌, ◌==◌, length, nat_lt, if◌then◌else◌, is_some}
-use Rattle.std.proofs.lemmas.List.Folds.{flat_map-map}
-use Rattle.std.specs.List.{flat_map}
+use Rattle.std.proofs.Common.{◌≤◌, ◌++◌, ◌∷◌, [], ℕ, ℤ, List, Bool, true, false, arith, codes, filter, map, pos, Option, None, Some, ◌-◌, ◌==◌, length, nat_lt, if◌then◌else◌, is_some, flat_map}
 use Rattle.json.specs.Json.{Json, max_depth, string}
-use Rattle.json.specs.Token.{begin_array, begin_object, end_array, end_object}
-use Rattle.json.specs.Tree.{depth, items_depth, items_tokens, json_tokens, members_depth}
+use Rattle.json.specs.Tree.{depth, items_depth, members_depth}
+use Rattle.rtps_report.specs.Vocabulary.{Location, Pair, PayloadValue}
 use Rattle.rtps_ids.specs.declared.identity.Guid.{Guid}
 use Rattle.rtps_receiver.specs.Values.{ActBodyValue}
 use Rattle.rtps_receiver.specs.Values.ActBodyValue.{Data, Heartbeat, AckNack, Gap, DataFrag}
 use Rattle.rtps_discovery.specs.Directory.{DirectoryValue, settled_in}
-use Rattle.rtps_discovery.specs.declared.matching.Pair.{Pair}
 use Rattle.rtps_receiver.specs.Speech.{is_spoken_by}
-use Rattle.rtps_wire.specs.Values.{PayloadValue}
 use Rattle.rtps_audit.specs.Placed.{PlacedValue, answers_among}
-use Rattle.rtps_audit.specs.declared.report.Counts.{Counts}
-use Rattle.rtps_evidence.specs.Explanation.{ExplanationValue}
-use Rattle.rtps_evidence.specs.declared.location.Location.{Location}
-use Rattle.rtps_text.specs.Asked.{AskedValue}
-use Rattle.rtps_text.specs.JsonText.{Member, array_of, items_of, members_of, number_json, object_of, tokens_of}
-use Rattle.rtps_text.specs.Recording.{RecordingValue}
-use Rattle.rtps_text.proofs.Offered.{joined, report_depth, whole}
-use Rattle.rtps_page.specs.ChartEntries.{base_json, entries_at, entries_of, entry_json, gone_json, members_of as numbers_of, named_json, one_gone_json, piece_json}
-use Rattle.rtps_page.specs.ChartRoom.{charted_pairs, writers_behind}
-use Rattle.rtps_page.specs.PageData.{acts_judged, answers_json, chart_members, directory_members, endpoint_json, expect_json, guid_json, option_members, page_json, report_members, writer_json}
-
--- ---- tokens
-
-list_tokens : (values : List Json) → items_tokens (items_of values) ≡ flat_map json_tokens values ++ end_array ∷ []
-list_tokens [] = refl
-list_tokens (value ∷ values) = ap (λ l. json_tokens value ++ l) (list_tokens values) ∙ sym (append_assoc (json_tokens value) (flat_map json_tokens values) (end_array ∷ []))
-
--- an array
-pub array_tokens : (values : List Json) → json_tokens (array_of values) ≡ begin_array ∷ (flat_map json_tokens values ++ end_array ∷ [])
-array_tokens values = ap (λ l. begin_array ∷ l) (list_tokens values)
-
--- an array of values that are made alike
-pub mapped_tokens : {X : Type 0} (f : X → Json) (xs : List X) → json_tokens (array_of (map f xs)) ≡ begin_array ∷ (flat_map (λ x. json_tokens (f x)) xs ++ end_array ∷ [])
-mapped_tokens f xs = array_tokens (map f xs) ∙ ap (λ l. begin_array ∷ (l ++ end_array ∷ [])) (flat_map-map json_tokens f xs)
-
--- an object
-pub object_tokens : (members : List Member) → json_tokens (object_of members) ≡ begin_object ∷ (tokens_of members ++ end_object ∷ [])
-object_tokens members = ap (λ l. begin_object ∷ l) (whole members)
+use Rattle.rtps_report.specs.Asked.{AskedValue}
+use Rattle.rtps_lines.specs.JsonText.{items_of, members_of}
+use Rattle.rtps_report.specs.FullReport.{ReportValue}
+use Rattle.rtps_report.specs.Recording.{RecordingValue}
+use Rattle.rtps_lines.proofs.Offered.{check_depth, joined}
+use Rattle.rtps_page.specs.ChartEntries.{entries_of, members_of as numbers_of, piece_json}
+use Rattle.rtps_page.specs.Page.{page_json, pairs_with_charts}
+use Rattle.rtps_page.proofs.Written.{acts_judged, answers_json, base_json, chart_members, check_members, directory_members, endpoint_json, entries_at, entry_json, expect_json, gone_json, guid_json, named_json, number_json, object_of, one_gone_json, option_members, own_members, writer_json, writers_behind}
 
 -- ---- depth
 
@@ -109,10 +85,6 @@ options_within asked any =
     let topics = mapped_within 0 string (λ topic. omega arith) asked.rows.topics in
     omega (arith, topics, expect_within asked.expect)
 
-report_part : (asked : AskedValue) (rows : List ExplanationValue) (counts : Counts) (recording : RecordingValue)
-    → members_depth (members_of (report_members asked rows counts recording)) ≤ 5
-report_part asked rows counts recording = omega (arith, options_within asked (is_some recording.reasons), report_depth rows counts recording)
-
 directory_part : (directory : DirectoryValue) → members_depth (members_of (directory_members directory)) ≤ 5
 directory_part directory =
     let participants = mapped_within 0 guid_json (λ guid. omega arith) directory.participants in
@@ -125,11 +97,11 @@ chart_part acts pairs =
     let answers = mapped_within 3 (answers_json acts) (answers_within acts) pairs in
     omega (arith, writers, answers)
 
-pub page_within : (asked : AskedValue) (rows : List ExplanationValue) (counts : Counts) (recording : RecordingValue) (directory : DirectoryValue)
-    → depth (page_json asked rows counts recording directory) ≤ max_depth
-page_within asked rows counts recording directory =
-    let acts = acts_judged asked recording in
-    let pairs = charted_pairs acts rows in
-    let late = joined 5 (directory_members directory) (chart_members acts pairs) (directory_part directory) (chart_part acts pairs) in
-    let all = joined 5 (report_members asked rows counts recording) (directory_members directory ++ chart_members acts pairs) (report_part asked rows counts recording) late in
+pub page_within : (asked : AskedValue) (recording : RecordingValue) (report : ReportValue) (directory : DirectoryValue)
+    → depth (page_json asked recording report directory) ≤ max_depth
+page_within asked recording report directory =
+    let pairs = pairs_with_charts asked recording report in
+    let charts = chart_members (acts_judged asked recording) pairs in
+    let late = joined 5 (directory_members directory) charts (directory_part directory) (chart_part (acts_judged asked recording) pairs) in
+    let all = joined 5 (check_members asked recording report) (own_members asked recording directory pairs) (omega (arith, check_depth asked recording report)) (omega (arith, late, options_within asked (is_some recording.reasons))) in
     omega (arith, all)

@@ -1,9 +1,8 @@
 -- The grammar of JSON reads the same tokens where markup in a text that was printed is written as its two digits.
-use Rattle.std.proofs.Common.{◌≡◌, ◌<◌, ◌≤◌, ◌++◌, ◌∷◌, [], ◌∙◌, ◌&&◌, ◌⊎◌, ℕ, zero, suc, List, Some, Bool, true, false, ap, ap₂, append_assoc, append-nil, arith, cond, inl, inr, option_and_then, refl, subst, sym}
-use Rattle.std.proofs.lemmas.Bool.{cases_eq, cases_lt, le-ltb, ne_eqb}
+use Rattle.std.proofs.Common.{◌≡◌, ◌<◌, ◌≤◌, ◌++◌, ◌∷◌, [], ◌∙◌, ◌&&◌, ◌⊎◌, ℕ, zero, suc, List, Some, Bool, true, false, ap, ap₂, append_assoc, append-nil, arith, cond, inl, inr, option_and_then, refl, subst, sym, le-ltb, ne_eqb}
+use Rattle.std.proofs.lemmas.Bool.{cases_eq, cases_lt}
 use Rattle.std.proofs.lemmas.List.Concat.{flat_map-append}
 use lib.Utf8.{encode}
-use Rattle.hex.specs.Hex.{encode_with}
 use Rattle.json.specs.Json.{Json, Items, Members, null, boolean, number, string, array, object, no_items, item, no_members, member, document, if_last, max_depth, value}
 use Rattle.json.specs.Lex.{Lexeme, Mode, between, colon, comma, fresh, in_string, lex, lex_byte, operator, other, punctuate, space, string_token, token, tokens}
 use Rattle.json.specs.Print.{ArePrintable, ArePrintableOrBad, IsPrintable, begins, ends, escape, escape_byte, print, print_from, quoted, separator, token_text}
@@ -41,28 +40,13 @@ each_holds P (suc n) h x lt = go (each_holds P n h.1 x) (cases_eq x n)
     go below (inr ne) = below (omega arith)
 
 controls : Each Passes 32
-unfolding safe_octet encode_with escape_byte content lex code_unit short_escape encode
+unfolding safe_octet escape_byte content lex code_unit short_escape encode
 controls = (record { read = λ r. refl; lexed = λ r. refl }, (record { read = λ r. refl; lexed = λ r. refl }, (record { read = λ r. refl; lexed = λ r. refl }, (record { read = λ r. refl; lexed = λ r. refl }, (record { read = λ r. refl; lexed = λ r. refl }, (record { read = λ r. refl; lexed = λ r. refl }, (record { read = λ r. refl; lexed = λ r. refl }, (record { read = λ r. refl; lexed = λ r. refl }, (record { read = λ r. refl; lexed = λ r. refl }, (record { read = λ r. refl; lexed = λ r. refl }, (record { read = λ r. refl; lexed = λ r. refl }, (record { read = λ r. refl; lexed = λ r. refl }, (record { read = λ r. refl; lexed = λ r. refl }, (record { read = λ r. refl; lexed = λ r. refl }, (record { read = λ r. refl; lexed = λ r. refl }, (record { read = λ r. refl; lexed = λ r. refl }, (record { read = λ r. refl; lexed = λ r. refl }, (record { read = λ r. refl; lexed = λ r. refl }, (record { read = λ r. refl; lexed = λ r. refl }, (record { read = λ r. refl; lexed = λ r. refl }, (record { read = λ r. refl; lexed = λ r. refl }, (record { read = λ r. refl; lexed = λ r. refl }, (record { read = λ r. refl; lexed = λ r. refl }, (record { read = λ r. refl; lexed = λ r. refl }, (record { read = λ r. refl; lexed = λ r. refl }, (record { read = λ r. refl; lexed = λ r. refl }, (record { read = λ r. refl; lexed = λ r. refl }, (record { read = λ r. refl; lexed = λ r. refl }, (record { read = λ r. refl; lexed = λ r. refl }, (record { read = λ r. refl; lexed = λ r. refl }, (record { read = λ r. refl; lexed = λ r. refl }, (record { read = λ r. refl; lexed = λ r. refl }, tt))))))))))))))))))))))))))))))))
 
-quote_passes : Passes 34
-unfolding safe_octet encode_with escape_byte content lex short_escape
-quote_passes = record { read = λ r. refl; lexed = λ r. refl }
-
-backslash_passes : Passes 92
-unfolding safe_octet encode_with escape_byte content lex short_escape
-backslash_passes = record { read = λ r. refl; lexed = λ r. refl }
-
-ampersand_passes : Passes 38
-unfolding safe_octet encode_with escape_byte content lex code_unit encode
-ampersand_passes = record { read = λ r. refl; lexed = λ r. refl }
-
-less_passes : Passes 60
-unfolding safe_octet encode_with escape_byte content lex code_unit encode
-less_passes = record { read = λ r. refl; lexed = λ r. refl }
-
-greater_passes : Passes 62
-unfolding safe_octet encode_with escape_byte content lex code_unit encode
-greater_passes = record { read = λ r. refl; lexed = λ r. refl }
+-- the octets that are escaped in a string, and those that are markup
+special : Passes 34 × Passes 92 × Passes 38 × Passes 60 × Passes 62
+unfolding safe_octet escape_byte content lex code_unit short_escape encode
+special = (record { read = λ r. refl; lexed = λ r. refl }, record { read = λ r. refl; lexed = λ r. refl }, record { read = λ r. refl; lexed = λ r. refl }, record { read = λ r. refl; lexed = λ r. refl }, record { read = λ r. refl; lexed = λ r. refl })
 
 stays_inside : (o s : Bool) (x : ℕ) (r : List ℕ) (k : Mode → List Lexeme) → lex_byte in_string (cond o operator (cond s space other)) x r k ≡ k in_string
 stays_inside true s x r k = refl
@@ -85,12 +69,12 @@ passes : (x : ℕ) → Passes x
 passes x = go (cases_eq x 34) (cases_eq x 92) (cases_lt x 32) (marks x)
   where
     go : (x ≡ 34) ⊎ (x ≡ 34 → ⊥) → (x ≡ 92) ⊎ (x ≡ 92 → ⊥) → (x < 32) ⊎ (32 ≤ x) → Marks x → Passes x
-    go (inl e) b c m = subst Passes (sym e) quote_passes
-    go (inr q) (inl e) c m = subst Passes (sym e) backslash_passes
+    go (inl e) b c m = subst Passes (sym e) special.0
+    go (inr q) (inl e) c m = subst Passes (sym e) special.1
     go (inr q) (inr b) (inl c) m = each_holds Passes 32 controls x c
-    go (inr q) (inr b) (inr l) (ampersand e) = subst Passes (sym e) ampersand_passes
-    go (inr q) (inr b) (inr l) (less e) = subst Passes (sym e) less_passes
-    go (inr q) (inr b) (inr l) (greater e) = subst Passes (sym e) greater_passes
+    go (inr q) (inr b) (inr l) (ampersand e) = subst Passes (sym e) special.2
+    go (inr q) (inr b) (inr l) (less e) = subst Passes (sym e) special.3
+    go (inr q) (inr b) (inr l) (greater e) = subst Passes (sym e) special.4
     go (inr q) (inr b) (inr l) (no_mark a s g) = plain_passes x q b l (itself x q b l a s g)
 
 safe_more : (x : ℕ) (s r : List ℕ) → safe_text in_json (escape (x ∷ s)) ++ r ≡ safe_text in_json (escape_byte x) ++ (safe_text in_json (escape s) ++ r)
@@ -128,30 +112,14 @@ lex-safe_quoted s r = ap (lex between) (safe_quoted s r) ∙ ap₂ (λ o l. toke
 value_ends : (ts : List Token) → ends_word (print_from true ts) ≡ true
 unfolding print_from
 value_ends [] = refl
-value_ends (t.begin_object ∷ ts) = refl
-value_ends (t.end_object ∷ ts) = refl
-value_ends (t.begin_array ∷ ts) = refl
-value_ends (t.end_array ∷ ts) = refl
-value_ends (t.key s ∷ ts) = refl
-value_ends (t.string s ∷ ts) = refl
-value_ends (t.number s ∷ ts) = refl
-value_ends (t.boolean b ∷ ts) = refl
-value_ends (t.null ∷ ts) = refl
 value_ends (t.bad ∷ ts) = refl
+value_ends (tok ∷ ts) = refl
 
 safe_value_ends : (ts : List Token) → ends_word (safe_text in_json (print_from true ts)) ≡ true
 unfolding print_from safe_octet
 safe_value_ends [] = refl
-safe_value_ends (t.begin_object ∷ ts) = refl
-safe_value_ends (t.end_object ∷ ts) = refl
-safe_value_ends (t.begin_array ∷ ts) = refl
-safe_value_ends (t.end_array ∷ ts) = refl
-safe_value_ends (t.key s ∷ ts) = refl
-safe_value_ends (t.string s ∷ ts) = refl
-safe_value_ends (t.number s ∷ ts) = refl
-safe_value_ends (t.boolean b ∷ ts) = refl
-safe_value_ends (t.null ∷ ts) = refl
 safe_value_ends (t.bad ∷ ts) = refl
+safe_value_ends (tok ∷ ts) = refl
 
 -- two texts behind a token that give the same lexemes
 record Alike (tok : Token) (one two : List ℕ) : Type 0 where
@@ -207,16 +175,8 @@ same_lexemes after (tok ∷ ts) h =
 -- ---- values
 
 abbrev is_sound : Token → Bool
-is_sound t.begin_object = true
-is_sound t.end_object = true
-is_sound t.begin_array = true
-is_sound t.end_array = true
-is_sound (t.key s) = true
-is_sound (t.string s) = true
-is_sound (t.number s) = true
-is_sound (t.boolean b) = true
-is_sound t.null = true
 is_sound t.bad = false
+is_sound tok = true
 
 abbrev are_sound : List Token → Bool
 are_sound [] = true
@@ -250,16 +210,9 @@ mutual
 printable : (ts : List Token) → ArePrintableOrBad ts → are_sound ts ≡ true → ArePrintable ts
 unfolding ArePrintable
 printable [] h k = tt
-printable (t.begin_object ∷ ts) h k = (tt, printable ts h.1 k)
-printable (t.end_object ∷ ts) h k = (tt, printable ts h.1 k)
-printable (t.begin_array ∷ ts) h k = (tt, printable ts h.1 k)
-printable (t.end_array ∷ ts) h k = (tt, printable ts h.1 k)
-printable (t.key s ∷ ts) h k = (tt, printable ts h.1 k)
-printable (t.string s ∷ ts) h k = (tt, printable ts h.1 k)
 printable (t.number s ∷ ts) h k = (h.0, printable ts h.1 k)
-printable (t.boolean b ∷ ts) h k = (tt, printable ts h.1 k)
-printable (t.null ∷ ts) h k = (tt, printable ts h.1 k)
 printable (t.bad ∷ ts) h k = absurd (let no = k in cc)
+printable (tok ∷ ts) h k = (tt, printable ts h.1 k)
 
 -- a value whose text is read back as its tokens is read back from the text without markup
 pub reads_back : (json : Json) → depth json ≤ max_depth → tokens (print (json_tokens json)) ≡ json_tokens json → document (safe_text in_json (print (json_tokens json))) ≡ Some json

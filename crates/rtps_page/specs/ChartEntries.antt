@@ -2,8 +2,8 @@
 -- and 8.3.8.6 "Heartbeat".
 -- own: an entry is an array of JSON and no object, since there can be very many. A HEARTBEAT says two things: that the numbers
 -- below its first are gone, and the last number. A GAP has an entry for the numbers below its list, and one for each of its list.
-use Rattle.std.specs.Prelude.{ℕ, ℤ, pos, ◌-◌, nat_lt, ◌++◌, ◌==◌, if◌then◌else◌, List, [], ◌∷◌, codes, filter, length, map, Option, None, Some}
-use Rattle.std.specs.List.{flat_map, range_with_len}
+use Rattle.std.specs.Prelude.{ℕ, ℤ, pos, ◌-◌, nat_lt, ◌++◌, ◌==◌, if◌then◌else◌, List, [], ◌∷◌, codes, filter, length, map, Option, None, Some, flat_map}
+use Rattle.std.specs.List.{range_with_len}
 use Rattle.hex.specs.Hex.{encode_lower}
 use Rattle.json.specs.Json.{Json, string}
 use Rattle.rtps_ids.specs.NumberSet.{NumberSetValue, is_member}
@@ -20,7 +20,7 @@ use Rattle.rtps_audit.specs.Placed.{PlacedValue}
 use Rattle.rtps_audit.specs.declared.answer.Answer.{Answer}
 use Rattle.rtps_evidence.specs.Locations.{location_of}
 use Rattle.rtps_evidence.specs.declared.location.Location.{Location}
-use Rattle.rtps_text.specs.JsonText.{array_of, count_json, number_json}
+use Rattle.rtps_lines.specs.JsonText.{array_of, count_json, number_json}
 
 -- the participant that an act is sent to; nothing where it is sent to everyone
 abbrev pub prefix_text : Option GuidPrefix → List ℕ

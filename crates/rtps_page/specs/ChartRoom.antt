@@ -7,13 +7,13 @@ use Rattle.rtps_ids.specs.declared.identity.Guid.{Guid}
 use Rattle.rtps_discovery.specs.declared.matching.Pair.{Pair}
 use Rattle.rtps_audit.specs.Placed.{PlacedValue, answers_among, is_guid}
 use Rattle.rtps_evidence.specs.Explanation.{ExplanationValue}
-use Rattle.rtps_text.specs.AuditText.{is_complete}
+use Rattle.rtps_report.specs.Reported.{is_complete}
 use Rattle.rtps_page.specs.ChartEntries.{entries_by}
 use Rattle.rtps_page.specs.declared.chart_room.Need.{Need}
 use Rattle.rtps_page.specs.declared.chart_room.Room.{Room}
 use Rattle.rtps_page.specs.declared.chart_room.TheConstants.{ENTRIES}
-use Rattle.rtps_page.specs.declared.turn.Turn.{Turn}
-use Rattle.rtps_page.specs.declared.turn.Turn.TheVariants.{Incomplete, Complete}
+use Rattle.rtps_page.specs.declared.chart_room.Turn.{Turn}
+use Rattle.rtps_page.specs.declared.chart_room.Turn.TheVariants.{Incomplete, Complete}
 
 -- it is the turn of a row that is complete, or is not
 abbrev pub is_turn : Turn → Bool → Bool

@@ -1,6 +1,4 @@
 pub mod SafeText
 pub mod ChartEntries
 pub mod ChartRoom
-pub mod PageData
-pub mod PlainRows
 pub mod Page

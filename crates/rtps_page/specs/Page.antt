@@ -1,56 +1,139 @@
--- The page of a recording, and how its run ends. HTML Living Standard, 13.1 "Writing HTML documents".
--- own: a page is three constant texts with two recorded ones between them: lines of the rows for where scripts are switched
--- off, and the data from which the scripts of the page make all that it shows. No tag and no entity can begin in what is recorded.
-use Rattle.std.specs.Prelude.{ℕ, ◌≡◌, ◌++◌, List, map, Some}
-use Rattle.json.specs.Json.{Json, document}
+-- The page of a recording. HTML Living Standard, 13.1 "Writing HTML documents"; RFC 8259 "The JavaScript Object Notation (JSON) Data
+-- Interchange Format".
+-- own: a page is three constant texts with two recorded ones between them: the text of `check`, which is shown where scripts do not run
+-- and is printed, and the data from which the scripts of the page make all that they show. No tag can begin in what is recorded. The
+-- data is the object of `check --json`; behind its members stand what was asked, what discovery announced as `list` prints it, and for
+-- the rows that have a chart what their writers say and their readers answer, in the order given here.
+use Rattle.std.specs.Prelude.{ℕ, ◌≡◌, Bool, is_some, ◌++◌, List, [], ◌∷◌, codes, map, Option, None, Some, IsUtf8}
+use Rattle.json.specs.Json.{Json, boolean, null, string, document}
+use Rattle.json.specs.Lex.{tokens}
 use Rattle.json.specs.Print.{print}
 use Rattle.json.specs.Tree.{json_tokens}
-use Rattle.rtps_discovery.specs.Directory.{DirectoryValue, IsMapOf}
-use Rattle.rtps_audit.specs.Intake.{acts_together}
-use Rattle.rtps_evidence.specs.Explanation.{ExplanationValue, explanation_value}
-use Rattle.rtps_evidence.specs.declared.explanation.Explained.{Explained}
-use Rattle.rtps_fragments.specs.RecordedSamples.{intake_as}
-use Rattle.rtps_text.specs.Asked.{AskedValue}
-use Rattle.rtps_text.specs.Findings.{ending_as}
-use Rattle.rtps_text.specs.Recording.{RecordingValue}
-use Rattle.rtps_text.specs.WhyText.{IsExplainedAs, facts_of_rows}
-use Rattle.rtps_text.specs.declared.text.Ending.{Ending}
-use Rattle.rtps_page.specs.PageData.{json_in, page_json, rows_in}
-use Rattle.rtps_page.specs.PlainRows.{plain_rows}
-use Rattle.rtps_page.specs.SafeText.{IsSafe, in_json, in_line, safe_text}
-use Rattle.rtps_page.specs.declared.page_data.Subject.{Subject}
+use Rattle.rtps_report.specs.Vocabulary.{acts_together, Intake, intake_as, Pair}
+use Rattle.rtps_ids.specs.declared.identity.Guid.{Guid}
+use Rattle.rtps_discovery.specs.Directory.{DirectoryValue, settled_in, IsMapOf}
+use Rattle.rtps_discovery.specs.Endpoint.{EndpointValue}
+use Rattle.rtps_audit.specs.Placed.{PlacedValue, answers_among, placed_in}
+use Rattle.rtps_report.specs.Asked.{AskedValue, are_read, asked_value}
+use Rattle.rtps_report.specs.FullReport.{ReportValue, report_value, rows_of}
+use Rattle.rtps_report.specs.Recording.{RecordingValue}
+use Rattle.rtps_lines.specs.CheckMembers.{check_members}
+use Rattle.rtps_lines.specs.JsonText.{Member, array_of, count_json, name_json, object_of}
+use Rattle.rtps_lines.specs.QosNames.{durability_text, reliability_text, side_text}
+use Rattle.rtps_parts.specs.Names.{guid_text}
+use Rattle.rtps_page.specs.ChartEntries.{base_json, entries_by}
+use Rattle.rtps_page.specs.ChartRoom.{charted_pairs, writers_behind}
+use Rattle.rtps_page.specs.declared.page_data.Shown.{Shown}
+use Rattle.rtps_page.specs.SafeText.{IsSafe, IsShownAs, in_html, in_json, safe_text}
 use Rattle.rtps_page.specs.declared.page_parts.TheConstants.{HEAD, MIDDLE, TAIL}
 
--- the lines of these rows as they stand in the page
-abbrev pub rows_text : List ExplanationValue → List ℕ
-rows_text rows = safe_text in_line (plain_rows rows)
+-- how many rows were expected, or null
+abbrev pub expect_json : Option ℕ → Json
+expect_json None = null
+expect_json (Some rows) = count_json rows
+
+-- what was asked, and whether any capture was read
+abbrev pub option_members : AskedValue → Bool → List Member
+option_members asked any = (codes "from", count_json asked.from) ∷ (codes "any", boolean any) ∷ (codes "fragments", boolean (are_read asked.fragments))
+    ∷ (codes "observed", boolean asked.rows.observed) ∷ (codes "strict", boolean asked.strict)
+    ∷ (codes "topics", array_of (map string asked.rows.topics)) ∷ (codes "expect", expect_json asked.expect) ∷ []
+
+-- a GUID as a string
+abbrev pub guid_json : Guid → Json
+guid_json guid = string (guid_text guid)
+
+-- an endpoint, in the words of `list`
+abbrev pub endpoint_members : EndpointValue → List Member
+endpoint_members endpoint = (codes "guid", guid_json endpoint.guid) ∷ (codes "side", string (side_text endpoint.side))
+    ∷ (codes "topic", name_json endpoint.topic) ∷ (codes "type", name_json endpoint.type_name)
+    ∷ (codes "reliability", string (reliability_text endpoint.reliability)) ∷ (codes "durability", string (durability_text endpoint.durability)) ∷ []
+
+-- an endpoint as an object
+abbrev pub endpoint_json : EndpointValue → Json
+endpoint_json endpoint = object_of (endpoint_members endpoint)
+
+-- a writer, and the entries of what it says
+abbrev pub writer_json : List PlacedValue → Guid → Json
+writer_json acts writer = object_of ((codes "guid", guid_json writer) ∷ (codes "acts", array_of (entries_by writer acts)) ∷ [])
+
+-- a pair, and the answers of its reader to its writer
+abbrev pub answers_json : List PlacedValue → Pair → Json
+answers_json acts pair = object_of ((codes "writer", guid_json pair.writer) ∷ (codes "reader", guid_json pair.reader)
+    ∷ (codes "bases", array_of (map base_json (answers_among pair acts))) ∷ [])
+
+-- what was asked, as a member
+abbrev pub options_member : AskedValue → RecordingValue → Member
+options_member asked recording = (codes "options", object_of (option_members asked (is_some recording.reasons)))
+
+-- what was announced
+abbrev pub directory_members : DirectoryValue → List Member
+directory_members directory = (codes "participants", array_of (map guid_json directory.participants))
+    ∷ (codes "endpoints", array_of (map endpoint_json (settled_in directory.endpoints))) ∷ []
+
+-- what the charts of these pairs show
+abbrev pub chart_members : List PlacedValue → List Pair → List Member
+chart_members acts pairs = (codes "writers", array_of (map (writer_json acts) (writers_behind None pairs)))
+    ∷ (codes "answers", array_of (map (answers_json acts) pairs)) ∷ []
+
+-- the acts that the verdicts are by, with their places
+abbrev pub acts_judged : AskedValue → RecordingValue → List PlacedValue
+acts_judged asked recording = placed_in (intake_as asked.fragments recording.datagrams).acts
+
+-- what a page has beside the object of `check --json`, for charts of these pairs
+abbrev pub own_members : AskedValue → RecordingValue → DirectoryValue → List Pair → List Member
+own_members asked recording directory pairs =
+    options_member asked recording ∷ (directory_members directory ++ chart_members (acts_judged asked recording) pairs)
+
+-- which rows have a chart
+abbrev pub pairs_with_charts : AskedValue → RecordingValue → ReportValue → List Pair
+pairs_with_charts asked recording report = charted_pairs (acts_judged asked recording) (rows_of report)
+
+-- all of it
+abbrev pub page_json : AskedValue → RecordingValue → ReportValue → DirectoryValue → Json
+page_json asked recording report directory =
+    object_of (check_members asked recording report ++ own_members asked recording directory (pairs_with_charts asked recording report))
+
+-- what the report of a page is by
+abbrev pub intake_in : Shown → Intake
+intake_in shown = intake_as shown.report.now.asked.now.fragments shown.report.now.recording.now.datagrams
+
+-- the members of what the code makes a page of, with charts of these pairs
+abbrev pub members_in : Shown → List Pair → List Member
+members_in shown pairs =
+    let asked = asked_value shown.report.now.asked.now in
+    let recording = shown.report.now.recording.now in
+    check_members asked recording (report_value shown.report.now) ++ own_members asked recording shown.directory.now pairs
+
+-- its data
+abbrev pub json_in : Shown → Json
+json_in shown = page_json (asked_value shown.report.now.asked.now) shown.report.now.recording.now (report_value shown.report.now) shown.directory.now
+
+-- this is the text of a value, in UTF-8, and its tokens are read back
+pub record IsPrinted (value : Json) (text : List ℕ) : Type 0 where
+  pub is_text : text ≡ print (json_tokens value)
+  pub utf8 : IsUtf8 text
+  pub reads_back : tokens (print (json_tokens value)) ≡ json_tokens value
+
+-- ---- the page
 
 -- a value of JSON as it stands in the page
 abbrev pub data_text : Json → List ℕ
 data_text value = safe_text in_json (print (json_tokens value))
 
--- the page with these rows and this data
-abbrev pub page_text : List ExplanationValue → Json → List ℕ
-page_text rows value = HEAD.now ++ (rows_text rows ++ (MIDDLE.now ++ (data_text value ++ TAIL.now)))
+-- the page with this text and this data
+abbrev pub page_text : List ℕ → Json → List ℕ
+page_text plain value = HEAD.now ++ (safe_text in_html plain ++ (MIDDLE.now ++ (data_text value ++ TAIL.now)))
 
--- the page of rows and a value: nothing of it that is recorded has markup, and the grammar of JSON reads the value back
-pub record IsPageWith (rows : List ExplanationValue) (value : Json) (page : List ℕ) : Type 0 where
-  pub is_page : page ≡ page_text rows value
-  pub rows_are_safe : IsSafe (rows_text rows)
+-- The page of a text and a value: a browser shows the text as it is, no markup can begin in the data, and the grammar of JSON reads the
+-- value back from it.
+pub record IsPageWith (plain : List ℕ) (value : Json) (page : List ℕ) : Type 0 where
+  pub is_page : page ≡ page_text plain value
+  pub text_is_shown : IsShownAs plain (safe_text in_html plain)
   pub data_is_safe : IsSafe (data_text value)
   pub reads_back : document (data_text value) ≡ Some value
 
--- the page of what the code makes one of
-abbrev pub IsPageOf : Subject → List ℕ → Type 0
-IsPageOf subject page = IsPageWith (rows_in subject) (json_in subject) page
-
--- what `page` answers: the page of those rows of the report that are asked for, each explained, and of what discovery announced,
--- and the ending by what is found of them
-pub record IsPage (asked : AskedValue) (recording : RecordingValue) (page : List ℕ) (ending : Ending) : Type 0 where
-  pub explained : Explained
-  pub explains : IsExplainedAs asked recording.datagrams explained
+-- the page of a report, and of what discovery announced, with this text
+pub record IsPageOf (asked : AskedValue) (recording : RecordingValue) (report : ReportValue) (plain page : List ℕ) : Type 0 where
   pub directory : DirectoryValue
   pub is_map : IsMapOf (acts_together (intake_as asked.fragments recording.datagrams).announcing) directory
-  pub is_page : IsPageWith (map explanation_value explained.rows.items)
-      (page_json asked (map explanation_value explained.rows.items) explained.counts recording directory) page
-  pub ends : ending ≡ ending_as asked (facts_of_rows (map explanation_value explained.rows.items) explained.counts recording)
+  pub is_page : IsPageWith plain (page_json asked recording report directory) page

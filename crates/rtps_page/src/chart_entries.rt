@@ -1,20 +1,15 @@
-ghost use Rattle.std.specs.Prelude.{◌≡◌, ◌<◌, ◌^◌, ◌++◌, ◌∷◌, [], codes, OnOk};
-ghost use Rattle.std.specs.List.{flat_map};
-ghost use Rattle.std.specs.Option.{option_map};
-ghost use Rattle.std.specs.String.{string_bytes};
+ghost use Rattle.std.specs.Prelude.{◌≡◌, ◌<◌, ◌^◌, ◌++◌, ◌∷◌, [], codes, OnOk, flat_map, string_bytes};
 ghost use Rattle.json.specs.Tree.{json_tokens};
 ghost use Rattle.rtps_receiver.specs.Values.{act_body_value};
-ghost use Rattle.rtps_wire.specs.Values.{payload_value};
 ghost use Rattle.rtps_audit.specs.Placed.{placed_value};
-ghost use Rattle.rtps_page.specs.ChartEntries.{audience_text, entries_of, entry_json, entries_at, gone_json, members_of, named_json, one_gone_json, piece_json};
-ghost use Rattle.rtps_text.specs.JsonText.{number_json};
+ghost use Rattle.rtps_page.specs.ChartEntries.{audience_text, entries_of, entry_json, entries_at, gone_json, members_of, named_json, one_gone_json};
 
 use crate::entry_counts::has_number;
 use json::Writer;
 use rtps_audit::Placed;
 use rtps_evidence::Location;
 use rtps_ids::NumberSet;
-use rtps_receiver::{ActBody, Audience, EVERY_READER, FragmentBody};
+use rtps_receiver::{ActBody, Audience, EVERY_READER};
 use rtps_wire::HeartbeatBody;
 use std::alloc::AllocError;
 
@@ -25,7 +20,6 @@ pub(crate) struct EntryHead<'a> {
     pub(crate) named: &'a str,
 }
 
-/// Appends whom an act names.
 #[tactic(auto, unfolding(crate::specs::ChartEntries::audience_text))]
 pub(crate) fn push_audience(text: &mut String, audience: Option<Audience>) -> Result<(), AllocError>
     ensures { OnOk result (string_bytes text.new ≡ string_bytes text.old ++ audience_text audience) }
@@ -42,18 +36,6 @@ pub(crate) fn push_audience(text: &mut String, audience: Option<Audience>) -> Re
     write!(text, ".{}", audience.reader)
 }
 
-/// Appends numbers.
-fn push_numbers(writer: &mut Writer, numbers: &[i64]) -> Result<(), AllocError>
-    ensures tokens { OnOk result (writer.new.tokens ≡ writer.old.tokens ++ flat_map (λ number. json_tokens (number_json number)) numbers.now) }
-    ensures before { writer.new.before ≡ writer.old.before }
-{
-    for number in numbers {
-        writer.i64(*number)?;
-    }
-    Ok(())
-}
-
-/// Appends whom an act names, where it names someone.
 fn push_named(writer: &mut Writer, named: &str) -> Result<(), AllocError>
     ensures tokens { OnOk result (writer.new.tokens ≡ writer.old.tokens ++ flat_map json_tokens (named_json named.now)) }
     ensures before { writer.new.before ≡ writer.old.before }
@@ -64,7 +46,6 @@ fn push_named(writer: &mut Writer, named: &str) -> Result<(), AllocError>
     writer.string(named)
 }
 
-/// Appends an entry of this kind.
 fn push_entry(
     writer: &mut Writer,
     head: EntryHead<'_>,
@@ -79,26 +60,13 @@ fn push_entry(
     writer.u64(head.place.datagram)?;
     writer.u64(head.place.at as u64)?;
     writer.string(kind)?;
-    push_numbers(writer, numbers)?;
+    for number in numbers {
+        writer.i64(*number)?;
+    }
     push_named(writer, head.named)?;
     writer.end_array()
 }
 
-/// Appends an entry of one number.
-fn push_one(
-    writer: &mut Writer,
-    head: EntryHead<'_>,
-    kind: &str,
-    number: i64,
-) -> Result<(), AllocError>
-    ensures tokens { OnOk result (writer.new.tokens
-        ≡ writer.old.tokens ++ json_tokens (entry_json head.entry.place head.entry.named.now kind.now (number ∷ []))) }
-    ensures before { writer.new.before ≡ writer.old.before }
-{
-    push_entry(writer, head, kind, &[number])
-}
-
-/// Appends the entry of the last number of a HEARTBEAT.
 fn push_last(
     writer: &mut Writer,
     head: EntryHead<'_>,
@@ -108,10 +76,9 @@ fn push_last(
         ≡ writer.old.tokens ++ json_tokens (entry_json head.entry.place head.entry.named.now (codes "announced") (heartbeat.now.last ∷ []))) }
     ensures before { writer.new.before ≡ writer.old.before }
 {
-    push_one(writer, head, "announced", heartbeat.last)
+    push_entry(writer, head, "announced", &[heartbeat.last])
 }
 
-/// Appends the entry that the numbers from one on and below another are gone; nothing where there are none.
 fn push_gone(
     writer: &mut Writer,
     head: EntryHead<'_>,
@@ -134,7 +101,6 @@ fn push_gone(
     )
 }
 
-/// Appends the entry that one number is gone.
 fn push_one_gone(writer: &mut Writer, head: EntryHead<'_>, number: u64) -> Result<(), AllocError>
     requires { number < 2 ^ 63 }
     ensures tokens { OnOk result (writer.new.tokens
@@ -145,7 +111,6 @@ fn push_one_gone(writer: &mut Writer, head: EntryHead<'_>, number: u64) -> Resul
     push_entry(writer, head, "gone", &[number, number])
 }
 
-/// Appends an entry for each number of a set: that it is gone.
 fn push_members(writer: &mut Writer, head: EntryHead<'_>, set: &NumberSet) -> Result<(), AllocError>
     ensures tokens { OnOk result (writer.new.tokens ≡ writer.old.tokens
         ++ flat_map (λ number. json_tokens (one_gone_json head.entry.place head.entry.named.now number)) (members_of set.now)) }
@@ -161,7 +126,6 @@ fn push_members(writer: &mut Writer, head: EntryHead<'_>, set: &NumberSet) -> Re
     Ok(())
 }
 
-/// Appends the entries of an act of a writer. Whom it names is written to `text` first.
 pub(crate) fn push_entries(
     writer: &mut Writer,
     text: &mut String,
@@ -182,30 +146,13 @@ pub(crate) fn push_entries(
     push_said(writer, head, &placed.act.body)
 }
 
-/// Appends the entry of fragments; nothing where the act tells the sample that was put together of them.
-fn push_piece(
-    writer: &mut Writer,
-    head: EntryHead<'_>,
-    piece: &FragmentBody<'_>,
-) -> Result<(), AllocError>
-    ensures tokens { OnOk result (writer.new.tokens
-        ≡ writer.old.tokens ++ flat_map json_tokens (piece_json head.entry.place head.entry.named.now piece.now.number (option_map payload_value piece.now.told))) }
-    ensures before { writer.new.before ≡ writer.old.before }
-{
-    match piece.told {
-        Some(_) => Ok(()),
-        None => push_one(writer, head, "data", piece.number.get()),
-    }
-}
-
-/// Appends the entries of what an act says.
 fn push_said(writer: &mut Writer, head: EntryHead<'_>, body: &ActBody<'_>) -> Result<(), AllocError>
     ensures tokens { OnOk result (writer.new.tokens
         ≡ writer.old.tokens ++ flat_map json_tokens (entries_at head.entry.place head.entry.named.now (act_body_value body.now))) }
     ensures before { writer.new.before ≡ writer.old.before }
 {
     match body {
-        ActBody::Data(data) => push_one(writer, head, "data", data.number.get()),
+        ActBody::Data(data) => push_entry(writer, head, "data", &[data.number.get()]),
         ActBody::Heartbeat(heartbeat) => {
             push_gone(writer, head, 1, heartbeat.first.get().cast_unsigned())?;
             push_last(writer, head, heartbeat)
@@ -215,7 +162,10 @@ fn push_said(writer: &mut Writer, head: EntryHead<'_>, body: &ActBody<'_>) -> Re
             push_gone(writer, head, start, gap.list.base().cast_unsigned())?;
             push_members(writer, head, &gap.list)
         }
-        ActBody::DataFrag(piece) => push_piece(writer, head, piece),
+        ActBody::DataFrag(piece) => match piece.told {
+            Some(_) => Ok(()),
+            None => push_entry(writer, head, "data", &[piece.number.get()]),
+        },
         ActBody::AckNack(_) => Ok(()),
     }
 }

@@ -4,31 +4,44 @@ ghost use Rattle.rtps_audit.specs.Index.{IsIndexBy};
 ghost use Rattle.rtps_audit.specs.Intake.{Intake};
 ghost use Rattle.rtps_audit.specs.Placed.{placed_in};
 ghost use Rattle.rtps_page.specs.ChartEntries.{entries_by};
-ghost use Rattle.rtps_page.specs.ChartRoom.{charted_pairs, given_from, is_last as is_last_lem, need_behind as need_behind_lem, need_of, room_behind as room_behind_lem, used_behind as used_behind_lem};
+ghost use Rattle.rtps_page.specs.ChartRoom.{charted_pairs, given_from, is_last as is_last_lem, is_turn as is_turn_lem, need_behind as need_behind_lem, need_of, room_behind as room_behind_lem, used_behind as used_behind_lem};
 
 use crate::entry_counts::entries_of_writer;
-use crate::turn::{Turn, is_turn};
 use rtps_audit::Index;
 use rtps_discovery::Pair;
 use rtps_evidence::Explanation;
 use rtps_ids::Guid;
-use rtps_text::is_complete;
+use rtps_report::is_complete;
 use std::alloc::{AllocError, Global};
 
 /// How many entries a page has room for.
 const ENTRIES: u128 = 200_000;
 
+/// Rows that are not complete come first, on the page and where room is given.
+#[derive(Clone, Copy, PartialEq, Eq, Debug)]
+pub(crate) enum Turn {
+    Incomplete,
+    Complete,
+}
+
+fn is_turn(turn: Turn, complete: bool) -> bool
+    ensures { result ≡ is_turn_lem turn complete }
+{
+    match turn {
+        Turn::Incomplete => !complete,
+        Turn::Complete => complete,
+    }
+}
+
 /// What a row takes of the room.
 #[derive(Clone, Copy, Debug)]
 pub(crate) struct Need {
     pub(crate) pair: Pair,
-    /// Whether its verdict is that it is complete.
     pub(crate) complete: bool,
     /// How many entries its writer has.
     pub(crate) acts: u128,
     /// How many answers its reader has.
     pub(crate) bases: u64,
-    /// Whether it is given room.
     pub(crate) charted: bool,
 }
 
@@ -64,7 +77,6 @@ fn entries_known(index: &Index<'_>, before: Option<Known>, writer: Guid) -> Know
     }
 }
 
-/// What each row takes.
 fn needs_of(
     alloc: Global,
     index: &Index<'_>,
@@ -89,7 +101,6 @@ fn needs_of(
     Ok(needs)
 }
 
-/// Whether the writer is the last one.
 pub(crate) fn is_last(last: Option<Guid>, writer: Guid) -> bool
     ensures { result ≡ is_last_lem last writer }
 {

@@ -1,25 +1,24 @@
-ghost use Rattle.std.specs.Prelude.{ℕ, ◌≡◌, ◌++◌, filter, map, IfOk, List, None, OnOk};
-ghost use Rattle.std.specs.List.{flat_map};
+ghost use Rattle.std.specs.Prelude.{ℕ, ◌≡◌, ◌++◌, ◌∷◌, codes, map, IfOk, List, None, OnOk};
+ghost use Rattle.json.specs.Token.{key};
 ghost use Rattle.json.specs.Tree.{json_tokens};
-ghost use Rattle.rtps_receiver.specs.Speech.{is_spoken_by};
 ghost use Rattle.rtps_audit.specs.Index.{IsIndexBy};
 ghost use Rattle.rtps_audit.specs.Intake.{Intake};
-ghost use Rattle.rtps_audit.specs.Placed.{placed_in, placed_value};
-ghost use Rattle.rtps_page.specs.ChartEntries.{entries_by};
+ghost use Rattle.rtps_audit.specs.Placed.{placed_in};
+ghost use Rattle.rtps_lines.specs.JsonText.{array_of};
 ghost use Rattle.rtps_page.specs.ChartRoom.{writers_behind};
-ghost use Rattle.rtps_page.specs.PageData.{writer_json};
+ghost use Rattle.rtps_page.specs.Page.{writer_json};
 
 use crate::chart_entries::push_entries;
 use crate::chart_room::is_last;
 use json::Writer;
-use rtps_audit::{Index, Placed};
+use rtps_audit::Index;
 use rtps_discovery::Pair;
 use rtps_ids::Guid;
-use rtps_text::push_guid;
+use rtps_lines::push_guid;
 use std::alloc::{AllocError, Global};
 
 /// The writers of these pairs that follow one another, each once.
-pub(crate) fn writers_of(alloc: Global, pairs: &[Pair]) -> Result<Vec<Guid>, AllocError>
+fn writers_of(alloc: Global, pairs: &[Pair]) -> Result<Vec<Guid>, AllocError>
     ensures { IfOk result (λ writers. writers.items ≡ writers_behind None pairs.now) }
 {
     let mut writers = Vec::new(alloc);
@@ -33,25 +32,6 @@ pub(crate) fn writers_of(alloc: Global, pairs: &[Pair]) -> Result<Vec<Guid>, All
     Ok(writers)
 }
 
-/// Appends the entries of a writer by these acts.
-fn push_acts(
-    writer: &mut Writer,
-    text: &mut String,
-    acts: &[Placed<'_>],
-    guid: Guid,
-) -> Result<(), AllocError>
-    ensures tokens { OnOk result (writer.new.tokens ≡ writer.old.tokens ++ flat_map json_tokens (entries_by guid (map placed_value acts.now))) }
-    ensures before { writer.new.before ≡ writer.old.before }
-{
-    for placed in acts {
-        if placed.act.spoken_by(guid) {
-            push_entries(writer, text, placed)?;
-        }
-    }
-    Ok(())
-}
-
-/// Appends the object of a writer.
 fn push_writer(
     writer: &mut Writer,
     text: &mut String,
@@ -62,28 +42,37 @@ fn push_writer(
         → OnOk result (writer.new.tokens ≡ writer.old.tokens ++ json_tokens (writer_json (placed_in intake.acts) guid)) }
     ensures before { writer.new.before ≡ writer.old.before }
 {
+    let acts = index.acts_of(guid);
     writer.begin_object()?;
     push_guid(writer, text, "guid", guid)?;
     writer.key("acts")?;
     writer.begin_array()?;
-    push_acts(writer, text, index.acts_of(guid), guid)?;
+    for placed in acts {
+        if placed.act.spoken_by(guid) {
+            push_entries(writer, text, placed)?;
+        }
+    }
     writer.end_array()?;
     writer.end_object()
 }
 
-/// Appends the objects of writers.
 pub(crate) fn push_writers(
+    alloc: Global,
     writer: &mut Writer,
-    text: &mut String,
     index: &Index<'_>,
-    guids: &[Guid],
+    pairs: &[Pair],
 ) -> Result<(), AllocError>
     ensures tokens { (intake : Intake) → IsIndexBy intake index.now
-        → OnOk result (writer.new.tokens ≡ writer.old.tokens ++ flat_map (λ guid. json_tokens (writer_json (placed_in intake.acts) guid)) guids.now) }
+        → OnOk result (writer.new.tokens ≡ writer.old.tokens ++ key (codes "writers")
+        ∷ json_tokens (array_of (map (writer_json (placed_in intake.acts)) (writers_behind None pairs.now)))) }
     ensures before { writer.new.before ≡ writer.old.before }
 {
-    for guid in guids {
-        push_writer(writer, text, index, *guid)?;
+    let mut text = String::new(alloc);
+    let guids = writers_of(alloc, pairs)?;
+    writer.key("writers")?;
+    writer.begin_array()?;
+    for guid in &guids {
+        push_writer(writer, &mut text, index, *guid)?;
     }
-    Ok(())
+    writer.end_array()
 }

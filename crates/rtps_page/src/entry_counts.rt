@@ -1,5 +1,4 @@
-ghost use Rattle.std.specs.Prelude.{ℕ, ◌≡◌, ◌≤◌, ◌<◌, ◌^◌, length, map, List};
-ghost use Rattle.std.specs.Option.{option_map};
+ghost use Rattle.std.specs.Prelude.{ℕ, ◌≡◌, ◌≤◌, ◌<◌, ◌^◌, length, map, List, option_map};
 ghost use Rattle.rtps_ids.specs.NumberSet.{is_member};
 ghost use Rattle.rtps_receiver.specs.Values.{act_body_value};
 ghost use Rattle.rtps_wire.specs.Values.{payload_value};
@@ -11,7 +10,6 @@ use rtps_audit::Placed;
 use rtps_ids::{Guid, NumberSet};
 use rtps_receiver::{ActBody, FragmentBody};
 
-/// Whether a number is in a set.
 pub(crate) fn has_number(set: &NumberSet, number: u64) -> bool
     requires { number < 2 ^ 63 }
     ensures { result ≡ is_member set.now number }
@@ -19,7 +17,6 @@ pub(crate) fn has_number(set: &NumberSet, number: u64) -> bool
     set.contains(number.cast_signed())
 }
 
-/// How many numbers a set has.
 fn members_among(set: &NumberSet) -> u64
     ensures value { result ≡ length (members_of set.now) }
     ensures few { result ≤ 256 }

@@ -11,9 +11,6 @@ mod page;
 mod page_data;
 mod page_directory;
 mod page_parts;
-mod plain_lines;
-mod plain_rows;
 mod safe_text;
-mod turn;
 
 pub use page::page_text;

@@ -1,19 +1,17 @@
 ghost use Rattle.std.specs.Prelude.{◌≡◌, ◌++◌, ◌∷◌, codes, map, OnOk};
-ghost use Rattle.std.specs.List.{flat_map};
 ghost use Rattle.json.specs.Token.{key};
 ghost use Rattle.json.specs.Tree.{json_tokens};
 ghost use Rattle.rtps_discovery.specs.Directory.{settled_in};
 ghost use Rattle.rtps_discovery.specs.Endpoint.{endpoint_value};
-ghost use Rattle.rtps_text.specs.JsonText.{array_of, tokens_of};
-ghost use Rattle.rtps_page.specs.PageData.{directory_members, endpoint_json, endpoint_members, guid_json};
+ghost use Rattle.rtps_lines.specs.JsonText.{array_of, tokens_of};
+ghost use Rattle.rtps_page.specs.Page.{directory_members, endpoint_json, guid_json};
 
 use json::Writer;
 use rtps_discovery::{Directory, Endpoint};
 use rtps_ids::{Guid, Memory};
-use rtps_text::{durability_name, push_guid, push_name, push_text, reliability_name, side_name};
+use rtps_lines::{durability_name, push_guid, push_name, push_text, reliability_name, side_name};
 use std::alloc::AllocError;
 
-/// Appends a GUID, which is written to `text` first.
 fn push_one_guid(writer: &mut Writer, text: &mut String, guid: Guid) -> Result<(), AllocError>
     ensures tokens { OnOk result (writer.new.tokens ≡ writer.old.tokens ++ json_tokens (guid_json guid)) }
     ensures before { writer.new.before ≡ writer.old.before }
@@ -23,18 +21,6 @@ fn push_one_guid(writer: &mut Writer, text: &mut String, guid: Guid) -> Result<(
     writer.string(text)
 }
 
-/// Appends GUIDs.
-fn push_guids(writer: &mut Writer, text: &mut String, guids: &[Guid]) -> Result<(), AllocError>
-    ensures tokens { OnOk result (writer.new.tokens ≡ writer.old.tokens ++ flat_map (λ guid. json_tokens (guid_json guid)) guids.now) }
-    ensures before { writer.new.before ≡ writer.old.before }
-{
-    for guid in guids {
-        push_one_guid(writer, text, *guid)?;
-    }
-    Ok(())
-}
-
-/// Appends the object of an endpoint.
 fn push_endpoint(
     writer: &mut Writer,
     text: &mut String,
@@ -44,19 +30,6 @@ fn push_endpoint(
     ensures before { writer.new.before ≡ writer.old.before }
 {
     writer.begin_object()?;
-    push_endpoint_members(writer, text, endpoint)?;
-    writer.end_object()
-}
-
-/// Appends what is told of an endpoint.
-fn push_endpoint_members(
-    writer: &mut Writer,
-    text: &mut String,
-    endpoint: &Endpoint<'_>,
-) -> Result<(), AllocError>
-    ensures tokens { OnOk result (writer.new.tokens ≡ writer.old.tokens ++ tokens_of (endpoint_members (endpoint_value endpoint.now))) }
-    ensures before { writer.new.before ≡ writer.old.before }
-{
     push_guid(writer, text, "guid", endpoint.guid)?;
     push_text(writer, "side", side_name(endpoint.side))?;
     push_name(writer, text, "topic", endpoint.topic)?;
@@ -66,26 +39,10 @@ fn push_endpoint_members(
         "reliability",
         reliability_name(endpoint.reliability),
     )?;
-    push_text(writer, "durability", durability_name(endpoint.durability))
+    push_text(writer, "durability", durability_name(endpoint.durability))?;
+    writer.end_object()
 }
 
-/// Appends the objects of endpoints.
-fn push_endpoints(
-    writer: &mut Writer,
-    text: &mut String,
-    endpoints: &[Endpoint<'_>],
-) -> Result<(), AllocError>
-    ensures tokens { OnOk result (writer.new.tokens
-        ≡ writer.old.tokens ++ flat_map (λ endpoint. json_tokens (endpoint_json (endpoint_value endpoint))) endpoints.now) }
-    ensures before { writer.new.before ≡ writer.old.before }
-{
-    for endpoint in endpoints {
-        push_endpoint(writer, text, endpoint)?;
-    }
-    Ok(())
-}
-
-/// Appends the array of participants.
 fn push_participants(
     writer: &mut Writer,
     text: &mut String,
@@ -98,12 +55,13 @@ fn push_participants(
     let participants = directory.participants()?;
     writer.key("participants")?;
     writer.begin_array()?;
-    push_guids(writer, text, &participants)?;
+    for guid in &participants {
+        push_one_guid(writer, text, *guid)?;
+    }
     writer.end_array()?;
     Ok(())
 }
 
-/// Appends the array of endpoints whose announcements agree.
 fn push_settled(
     writer: &mut Writer,
     text: &mut String,
@@ -116,12 +74,13 @@ fn push_settled(
     let endpoints = directory.endpoints()?;
     writer.key("endpoints")?;
     writer.begin_array()?;
-    push_endpoints(writer, text, &endpoints)?;
+    for endpoint in &endpoints {
+        push_endpoint(writer, text, endpoint)?;
+    }
     writer.end_array()?;
     Ok(())
 }
 
-/// Appends what was announced.
 pub(crate) fn push_directory(
     writer: &mut Writer,
     text: &mut String,

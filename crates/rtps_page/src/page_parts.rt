@@ -1,12 +1,12 @@
 //! The constant texts of a page, which `page/parts.py` makes of the files beside it.
 
-/// What stands before the lines of rows.
+/// What stands before the text.
 pub(crate) const HEAD: &str = "\
 <!DOCTYPE html>\n\
 <html lang=\"en\">\n\
 <head>\n\
 <meta charset=\"utf-8\">\n\
-<meta http-equiv=\"Content-Security-Policy\" content=\"default-src 'none'; style-src 'sha256-enYgoXRT/G0PzIRirf8CEM28Fhw4eE54Vq1XbcE16AE='; script-src 'sha256-hC2KsasgTdKc6ko3xOdPgznnygFpeC9B8UTpn2WWcd0=' 'sha256-cDsLkF+fVtmAPxY30r6qoaikQVMRjMdNFNIKOmplYBA=' 'sha256-uwADOMDPFlSumjTHXORp1u3LgQpNDCW3fk2OvkzCqZg=' 'sha256-xdEzlNEeICrer3qbFUfgwCtmg9ZDPq42E4bqU6apqA8=' 'sha256-3zNhondsbJ5y45fEQ9G2LmaEoJ4Jxrie6PFzcRhvE9c=' 'sha256-MW1SO3tdmHKiaLw8ZATRgwXqqXuf/e00UWfvy8UI2Pg=' 'sha256-Lb6QuKCPEHfJ+L7+sAu5XS1o6YvzIy94dXgiziZ4hTM=' 'sha256-aQRHS7bdGjBAGOi81N+WUopBRJRGwI5A8/s5r5+VODY=' 'sha256-2g33eBKhYklrFLVFG3umGVbvJUcicIx6MdIw2fc9QGQ=' 'sha256-yzEnTDGIDLMZkdiHV0nen5L44p7VQ9WGXqz1leJvtq0='; base-uri 'none'; form-action 'none'\">\n\
+<meta http-equiv=\"Content-Security-Policy\" content=\"default-src 'none'; style-src 'sha256-5Matp3vUqurPM/celnTcJM8H1diRfsGjsIYZDLuPO+E='; script-src 'sha256-hpmW3mDyoQhB9f0WRZW6RarG+nvTxqFH2yl+nJ5/Zek=' 'sha256-4m0Zvp4yPhZU+hsOPdCLwwGTTtPNMvonLvPVGj1daow=' 'sha256-t/Fy7qbxOivCta0h5rWNDMDLtqWiE1QQyxkTIcElvIY=' 'sha256-V9i+tQzAWYr0brjHPpBlo5biQJI+1S1KgTOuMpTYcLQ=' 'sha256-NikLX9/5lTItUh3Sn3PpUOZ5YaqjeB3+nnpq7SuYFk4=' 'sha256-d7We5lL4dteDLFrr8UpIwIw5zKj82CL+aKdX1LPBTDM=' 'sha256-wbJhtUpqsk0s9oyp/Ft8r5IaPHYg8yqqV5kbJCrDo14=' 'sha256-a64MlvRxtMk09t4YyIQ2yu/FeH0hkM4c9/vl0ecHmEo=' 'sha256-sCXFjC7sAIBdHE94tOm7YOLCTC/RZZdFccZuApfVqCs=' 'sha256-L5++YkTFEJl3kdO/H0jWJMkHnWI15lupByHpRLDl5VA='; base-uri 'none'; form-action 'none'\">\n\
 <meta name=\"viewport\" content=\"width=device-width, initial-scale=1\">\n\
 <meta name=\"color-scheme\" content=\"light dark\">\n\
 <meta name=\"referrer\" content=\"no-referrer\">\n\
@@ -72,7 +72,8 @@ p { margin: 0 0 6px; }\n\
 ul { margin: 0; padding-left: 1.2em; }\n\
 a { color: var(--link); }\n\
 code, pre { font-family: ui-monospace, 'SF Mono', Consolas, 'DejaVu Sans Mono', monospace; font-size: 0.85em; }\n\
-pre#rows { tab-size: 14; overflow-x: auto; }\n\
+#text pre { overflow-x: auto; }\n\
+.scripted #text { display: none; }\n\
 :focus-visible { outline: 3px solid var(--focus); outline-offset: 2px; }\n\
 section:focus { outline: none; }\n\
 [hidden] { display: none !important; }\n\
@@ -80,7 +81,8 @@ section:focus { outline: none; }\n\
 .skip { position: absolute; left: -999px; }\n\
 .skip:focus { left: 16px; top: 4px; background: var(--sheet); padding: 4px 8px; z-index: 2; }\n\
 #asked, #line { color: var(--faint); font-size: 0.9rem; }\n\
-#explained { color: var(--faint); max-width: 90ch; }\n\
+#explained { color: var(--faint); max-width: 90ch; font-size: 0.9rem; }\n\
+#received { font-weight: 600; }\n\
 .badge {\n\
 display: inline-block;\n\
 padding: 0 8px;\n\
@@ -117,11 +119,11 @@ th { font-weight: 600; }\n\
 thead th { white-space: nowrap; border-bottom: 2px solid var(--ink); vertical-align: bottom; }\n\
 td p:last-child { margin-bottom: 0; }\n\
 .topics { table-layout: fixed; min-width: 640px; }\n\
-.topics th:nth-child(1) { width: 22%; }\n\
-.topics th:nth-child(2) { width: 32%; }\n\
-.topics th:nth-child(3) { width: 12%; }\n\
+.topics th:nth-child(1) { width: 24%; }\n\
+.topics th:nth-child(2) { width: 40%; }\n\
 .topics .which { padding: 0; list-style: none; font-size: 0.88rem; }\n\
-.todo { font-weight: 600; }\n\
+.advice::first-letter, .notes li::first-letter { text-transform: uppercase; }\n\
+.topics .advice { font-weight: 600; }\n\
 .pairs thead th { white-space: normal; min-width: 70px; }\n\
 .pairs thead th.writer, .pairs thead th.reader { min-width: 150px; }\n\
 .pairs thead button { all: unset; cursor: pointer; text-decoration: underline dotted; text-underline-offset: 3px; }\n\
@@ -164,10 +166,12 @@ grid-template-columns: minmax(0, 5fr) minmax(0, 7fr);\n\
 gap: 20px;\n\
 padding: 12px 14px 16px;\n\
 border-left: 4px solid var(--ink);\n\
+position: sticky;\n\
+left: 0;\n\
+max-width: calc(min(1240px, 100vw) - 32px);\n\
 }\n\
 .lead { font-weight: 600; }\n\
-.advice { border: 1px solid var(--faint); border-radius: 4px; padding: 8px 10px; background: var(--sheet); }\n\
-.advice p:last-child { margin: 0; }\n\
+.detail-words .advice { border: 1px solid var(--faint); border-radius: 4px; padding: 8px 10px; background: var(--sheet); }\n\
 .ends-list { display: grid; grid-template-columns: max-content 1fr; gap: 2px 12px; margin: 0 0 8px; }\n\
 .ends-list dt { color: var(--faint); }\n\
 .ends-list dd { margin: 0; }\n\
@@ -195,12 +199,12 @@ touch-action: pan-y;\n\
 .legend .acknowledged { stroke: var(--acknowledged); stroke-width: 3.5; }\n\
 .legend .answer { stroke: var(--acknowledged); stroke-width: 1.25; }\n\
 .legend .mark { stroke: var(--mark); stroke-width: 1.5; stroke-dasharray: 5 3; }\n\
-.warnings li { margin-bottom: 6px; }\n\
+.notes li { margin-bottom: 6px; }\n\
 .counts { display: grid; grid-template-columns: repeat(auto-fill, minmax(480px, 1fr)); gap: 0 28px; margin: 0; font-size: 0.92rem; }\n\
 .counts > div { display: grid; grid-template-columns: 96px 84px 1fr; gap: 10px; padding: 4px 0; border-bottom: 1px solid var(--line); }\n\
 .counts dt { font-weight: 600; }\n\
 .counts dd { margin: 0; }\n\
-.apart { border-left: 3px solid var(--open); padding-left: 8px; }\n\
+.endpoints .unpaired .in-pairs { color: var(--faint); }\n\
 footer { margin-top: 32px; padding-top: 4px; border-top: 1px solid var(--line); color: var(--faint); font-size: 0.88rem; }\n\
 footer h2 { font-size: 1rem; margin: 8px 0 4px; }\n\
 @media (max-width: 980px) {\n\
@@ -218,9 +222,6 @@ border: 0;\n\
 padding: 2px 0;\n\
 }\n\
 .topics tr { border-bottom: 1px solid var(--line); padding: 8px 0; }\n\
-.topics .since br { display: none; }\n\
-.topics .since b::before { content: 'Since '; }\n\
-.topics .since b::after { content: ', '; }\n\
 .pairs .count { display: none; }\n\
 .pairs thead th.writer, .pairs thead th.reader, .pairs tr.pair > th, .pairs thead th { min-width: 0; }\n\
 .pairs tr.pair > th { padding-left: 0; }\n\
@@ -231,13 +232,15 @@ tr.group .type, tr.group .size { display: block; margin-left: 0; }\n\
 .endpoints tr { border-bottom: 1px solid var(--line); padding: 6px 0; }\n\
 .endpoints tbody tr:not(.group) th { padding-left: 0; }\n\
 .counts { grid-template-columns: 1fr; }\n\
-.detail-body { padding: 10px 8px; }\n\
+.detail-body { padding: 10px 8px; max-width: calc(100vw - 24px); }\n\
 }\n\
 @media print {\n\
 html { font-size: 11px; }\n\
 body { max-width: none; padding: 0; }\n\
 .skip, .tools, .controls, .readout, .more, figcaption { display: none; }\n\
 .wide { overflow: visible; }\n\
+.scripted #text { display: block; break-before: page; }\n\
+#text pre { white-space: pre-wrap; overflow-wrap: anywhere; }\n\
 .pairs thead button { text-decoration: none; }\n\
 .pairs { font-size: 0.85rem; }\n\
 .topics, .pairs thead th, .pairs thead th.writer, .pairs thead th.reader, .pairs tr.pair > th { min-width: 0; }\n\
@@ -245,7 +248,7 @@ body { max-width: none; padding: 0; }\n\
 thead { display: table-header-group; }\n\
 tr.pair, .topics tr, .chart, .advice { break-inside: avoid; }\n\
 h2, tr.group { break-after: avoid; }\n\
-.detail-body { grid-template-columns: 1fr; }\n\
+.detail-body { grid-template-columns: 1fr; max-width: none; }\n\
 .badge { print-color-adjust: exact; }\n\
 a { color: inherit; }\n\
 }\n\
@@ -253,26 +256,19 @@ a { color: inherit; }\n\
 * { animation: none !important; transition: none !important; scroll-behavior: auto !important; }\n\
 }\n\
 </style>\n\
+<script>'use strict';\n\
+document.documentElement.classList.add('scripted');\n\
+</script>\n\
 </head>\n\
 <body>\n\
-<noscript>\n\
-<h1>rtps-audit: a report</h1>\n\
-<p>Scripts are switched off here. These are the rows of the report: at most 1,000 that are not complete, then at most 1,000 that are.\n\
-“Acknowledged” is the number below which the reader acknowledged all. Save this file and open it from your disk to see what\n\
-each row rests on, and what to do.</p>\n\
-<pre id=\"rows\" tabindex=\"0\">verdict\tnumber\tannounced\tacknowledged\tpayloads\tgone\tuntold\ttopic\ttype\twriter\treader\n\
-";
-
-/// What stands between them and the data.
-pub(crate) const MIDDLE: &str = "\
-</pre>\n\
-</noscript>\n\
 <div id=\"page\" hidden>\n\
 <a class=\"skip\" href=\"#pairs\">To the pairs</a>\n\
 <header>\n\
 <p id=\"asked\"></p>\n\
 <h1 id=\"outcome\"></h1>\n\
-<p id=\"explained\"></p>\n\
+<p id=\"received\"></p>\n\
+<p id=\"explained\">A pair is a reliable writer and a reliable reader of one topic that match. It is complete if the reader acknowledged every\n\
+sample that the writer announced.</p>\n\
 <p id=\"line\"></p>\n\
 <div id=\"verdicts\" role=\"group\" aria-label=\"Show only pairs with these verdicts\"></div>\n\
 </header>\n\
@@ -280,8 +276,8 @@ pub(crate) const MIDDLE: &str = "\
 <section id=\"topics\" aria-labelledby=\"topics-head\">\n\
 <h2 id=\"topics-head\">What to look at</h2>\n\
 </section>\n\
-<section id=\"warnings\" aria-labelledby=\"warnings-head\">\n\
-<h2 id=\"warnings-head\">What weakens this report</h2>\n\
+<section id=\"notes\" aria-labelledby=\"notes-head\">\n\
+<h2 id=\"notes-head\">What weakens this report</h2>\n\
 </section>\n\
 <section id=\"pairs\" aria-labelledby=\"pairs-head\" tabindex=\"-1\">\n\
 <h2 id=\"pairs-head\">Pairs</h2>\n\
@@ -301,6 +297,19 @@ learns of numbers only by DATA, GAP and HEARTBEAT. A recording at the writer’s
 network lost, and that can only leave a row open.</p>\n\
 </footer>\n\
 </div>\n\
+<section id=\"text\">\n\
+<noscript>\n\
+<h1>rtps-audit: a report</h1>\n\
+<p>Scripts are switched off here. Save this file and open it from your disk to see tables, and what each pair said.</p>\n\
+</noscript>\n\
+<h2>The report as text</h2>\n\
+<pre tabindex=\"0\">\n\
+";
+
+/// What stands between it and the data.
+pub(crate) const MIDDLE: &str = "\
+</pre>\n\
+</section>\n\
 <script type=\"application/json\" id=\"data\">";
 
 /// What stands behind the data.
@@ -319,7 +328,7 @@ return isLarge(number) || (announced !== null && isLarge(announced.number)) || (
 }\n\
 function valueOf(text) {\n\
 const value = JSON.parse(text);\n\
-if (!isLarge(value.options.from) && !value.report.pairs.some(isRounded)) return value;\n\
+if (!isLarge(value.options.from) && !value.pairs.some(isRounded)) return value;\n\
 return JSON.parse(text.replace(STRING_OR_LARGE, (found) => (found[0] === '\"' ? found : `\"${found}\"`)));\n\
 }\n\
 function compareNumbers(a, b) {\n\
@@ -327,152 +336,69 @@ if (typeof a === 'number' && typeof b === 'number') return a - b;\n\
 const [x, y] = [BigInt(a), BigInt(b)];\n\
 return x < y ? -1 : Number(x > y);\n\
 }\n\
-function isAbove(a, b) {\n\
-return compareNumbers(a, b) > 0;\n\
-}\n\
-function sumOf(rows, member) {\n\
-let sum = 0n;\n\
-for (const row of rows) sum += BigInt(row[member]);\n\
-return sum;\n\
-}\n\
-function counted(n) {\n\
-return String(n).replace(/\\B(?=(\\d{3})+$)/g, ',');\n\
-}\n\
-function plural(n, noun, nouns) {\n\
-return `${counted(n)} ${String(n) === '1' ? noun : nouns || `${noun}s`}`;\n\
-}\n\
-function kindOf(row) {\n\
-if (row.verdict !== 'complete') return row.verdict;\n\
-if (row.missed && isAbove(row.missed, 0)) return 'missed';\n\
-return isAbove(row.gone, 0) ? 'gone' : 'complete';\n\
-}\n\
+const isAbove = (a, b) => compareNumbers(a, b) > 0;\n\
+const sumOf = (rows, numberOf) => rows.reduce((sum, row) => sum + BigInt(numberOf(row)), 0n);\n\
+const counted = (n) => String(n).replace(/\\B(?=(\\d{3})+$)/g, ',');\n\
+const plural = (n, noun, nouns = `${noun}s`) => `${counted(n)} ${String(n) === '1' ? noun : nouns}`;\n\
+const partOf = (n, all, noun) => (n === all ? plural(all, noun) : `${counted(n)} of ${plural(all, noun)}`);\n\
+const askedAbout = ({ payloads, gone, untold }) => BigInt(payloads) + BigInt(gone) + BigInt(untold);\n\
 const prefixOf = (guid) => guid.slice(0, 24);\n\
-const entityOf = (guid) => guid.slice(25);\n\
-function askedAbout(row) {\n\
-return BigInt(row.payloads) + BigInt(row.gone) + BigInt(row.untold);\n\
+const entityOf = (guid) => guid.slice(24);\n\
+function kindOf({ verdict, missed, gone }) {\n\
+if (verdict !== 'complete') return verdict;\n\
+return isAbove(missed, 0) ? 'missed' : isAbove(gone, 0) ? 'gone' : 'complete';\n\
 }\n\
-const RELIABILITIES = ['best-effort', 'reliable'];\n\
-const DURABILITIES = ['volatile', 'transient-local', 'transient', 'persistent'];\n\
+function entryOf(map, key, made) {\n\
+if (!map.has(key)) map.set(key, made());\n\
+return map.get(key);\n\
+}\n\
 class Report {\n\
 constructor(data) {\n\
-this.options = data.options;\n\
-this.counts = data.report;\n\
-this.malformed = data.report.refused - data.of_one_octet;\n\
-this.endpoints = data.endpoints;\n\
-this.rows = data.report.pairs;\n\
+this.data = data;\n\
+this.rows = data.pairs;\n\
 this.groups = groupsOf(this.rows);\n\
-this.acts = new Map(data.writers.map((writer) => [writer.guid, writer.acts]));\n\
-this.answers = data.answers;\n\
-this.bases = null;\n\
-this.dataOf = new Map();\n\
+this.acts = new Map(data.writers.map(({ guid, acts }) => [guid, acts]));\n\
 this.endpointOf = new Map(data.endpoints.map((endpoint) => [endpoint.guid, endpoint]));\n\
 this.participants = participantsOf(data);\n\
-this.classes = classesOf(data.endpoints);\n\
-this.keptApart = keptApart(this);\n\
+this.bases = null;\n\
 }\n\
-hasReceived() {\n\
-return this.rows.length > 0 && this.rows[0].received !== undefined;\n\
+counts() {\n\
+return Object.entries(this.data).filter(([, value]) => typeof value === 'number');\n\
 }\n\
-actsOf(row) {\n\
-return this.basesOf(row) && this.acts.get(row.writer);\n\
+basesOf({ writer, reader }) {\n\
+this.bases ||= new Map(this.data.answers.map((answer) => [answer.writer + answer.reader, answer.bases]));\n\
+return this.bases.get(writer + reader);\n\
 }\n\
-basesOf(row) {\n\
-if (this.bases === null) this.bases = new Map(this.answers.map((answer) => [`${answer.writer} ${answer.reader}`, answer.bases]));\n\
-return this.bases.get(`${row.writer} ${row.reader}`);\n\
-}\n\
-sent(row, number) {\n\
-if (!this.actsOf(row)) return [];\n\
-if (!this.dataOf.has(row.writer)) this.dataOf.set(row.writer, dataByNumber(this.actsOf(row)));\n\
-return this.dataOf.get(row.writer).get(number) || [];\n\
+actsOf({ writer }) {\n\
+return this.acts.get(writer);\n\
 }\n\
 participantOf(guid) {\n\
 return this.participants.get(prefixOf(guid));\n\
 }\n\
-countOf(kind) {\n\
-return this.rows.reduce((sum, row) => sum + (row.kind === kind), 0);\n\
-}\n\
-}\n\
-function dataByNumber(acts) {\n\
-const found = new Map();\n\
-for (const act of acts) {\n\
-if (act[2] !== 'data') continue;\n\
-if (!found.has(act[3])) found.set(act[3], []);\n\
-found.get(act[3]).push(act);\n\
-}\n\
-return found;\n\
 }\n\
 function groupsOf(rows) {\n\
-const groups = new Map();\n\
+const topics = new Map();\n\
 for (const [at, row] of rows.entries()) {\n\
+const { topic, type } = row;\n\
 row.at = at;\n\
 row.kind = kindOf(row);\n\
 row.rank = KINDS.indexOf(row.kind);\n\
-const key = `${row.topic}\\n${row.type}`;\n\
-let group = groups.get(key);\n\
-if (!group) {\n\
-group = { topic: row.topic, type: row.type, rows: [] };\n\
-groups.set(key, group);\n\
+row.group = entryOf(entryOf(topics, topic, () => new Map()), type, () => ({ topic, type, rows: [] }));\n\
+row.group.rows.push(row);\n\
 }\n\
-row.group = group;\n\
-group.rows.push(row);\n\
-}\n\
-return [...groups.values()];\n\
+return [...topics.values()].flatMap((types) => [...types.values()]);\n\
 }\n\
 function participantsOf(data) {\n\
-const guids = new Map(data.participants.map((guid) => [prefixOf(guid), guid]));\n\
-for (const { guid } of data.endpoints) if (!guids.has(prefixOf(guid))) guids.set(prefixOf(guid), null);\n\
-const participants = new Map();\n\
-for (const prefix of [...guids.keys()].sort()) {\n\
-const at = participants.size + 1;\n\
-participants.set(prefix, { at, name: `P${at}`, prefix, guid: guids.get(prefix), endpoints: [], nodes: [] });\n\
-}\n\
+const guids = new Map([...data.endpoints.map(({ guid }) => [prefixOf(guid), null]), ...data.participants.map((guid) => [prefixOf(guid), guid])]);\n\
+const participants = new Map([...guids.keys()].sort().map((prefix, at) => (\n\
+[prefix, { at: at + 1, name: `P${at + 1}`, prefix, guid: guids.get(prefix), endpoints: [], nodes: [] }])));\n\
 for (const endpoint of data.endpoints) {\n\
-const participant = participants.get(prefixOf(endpoint.guid));\n\
-participant.endpoints.push(endpoint);\n\
+const { endpoints, nodes } = participants.get(prefixOf(endpoint.guid));\n\
 const node = nodeOf(endpoint);\n\
-if (node && !participant.nodes.includes(node)) participant.nodes.push(node);\n\
+endpoints.push(endpoint);\n\
+if (node && !nodes.includes(node)) nodes.push(node);\n\
 }\n\
 return participants;\n\
-}\n\
-function classesOf(endpoints) {\n\
-const topics = new Map();\n\
-for (const endpoint of endpoints) {\n\
-if (!topics.has(endpoint.topic)) topics.set(endpoint.topic, new Map());\n\
-const classes = topics.get(endpoint.topic);\n\
-const key = [endpoint.type, endpoint.side, endpoint.reliability, endpoint.durability].join('\\n');\n\
-if (!classes.has(key)) classes.set(key, { ...endpoint, members: [] });\n\
-classes.get(key).members.push(endpoint);\n\
-}\n\
-return topics;\n\
-}\n\
-function differences(writer, reader) {\n\
-const found = [];\n\
-if (writer.type !== reader.type) found.push('type');\n\
-if (RELIABILITIES.indexOf(writer.reliability) < RELIABILITIES.indexOf(reader.reliability)) found.push('reliability');\n\
-if (DURABILITIES.indexOf(writer.durability) < DURABILITIES.indexOf(reader.durability)) found.push('durability');\n\
-return found;\n\
-}\n\
-const MOST_APART = 5;\n\
-function othersOf(report, endpoint) {\n\
-const [matches, apart] = [[], []];\n\
-for (const other of report.classes.get(endpoint.topic).values()) {\n\
-if (other.side === endpoint.side) continue;\n\
-const reasons = endpoint.side === 'writer' ? differences(endpoint, other) : differences(other, endpoint);\n\
-if (reasons.length === 0) matches.push(other);\n\
-else if (apart.length < MOST_APART) apart.push({ other, reasons });\n\
-}\n\
-return { matches, apart };\n\
-}\n\
-function keptApart(report) {\n\
-return [...report.classes.values()].flatMap((classes) => {\n\
-const found = [];\n\
-const sides = [...classes.values()];\n\
-for (const writer of sides.filter(({ side }) => side === 'writer')) {\n\
-if (found.length >= MOST_APART) break;\n\
-for (const { other, reasons } of othersOf(report, writer).apart) found.push({ writer, reader: other, reasons });\n\
-}\n\
-return found.slice(0, MOST_APART);\n\
-});\n\
 }\n\
 </script>\n\
 <script>'use strict';\n\
@@ -487,392 +413,94 @@ function rosType(type) {\n\
 const [, before, name] = /^(.*)::dds_::(.*)_$/.exec(type) || [];\n\
 return name === undefined ? null : `${before}::${name}`.replaceAll('::', '/');\n\
 }\n\
-const isOfService = (topic) => /^r[qr]\\//.test(topic);\n\
-function shownTopic(topic) {\n\
-return rosTopic(topic) || topic;\n\
-}\n\
-function nodeOf(endpoint) {\n\
-const [, name] = (endpoint.side === 'reader' && /^rq\\/(.*)\\/get_parametersRequest$/.exec(endpoint.topic)) || [];\n\
+function nodeOf({ side, topic }) {\n\
+const [, name] = (side === 'reader' && /^rq\\/(.*)\\/get_parametersRequest$/.exec(topic)) || [];\n\
 return name === undefined ? null : `/${name}`;\n\
 }\n\
 function make(tag, attributes, ...children) {\n\
 const element = document.createElement(tag);\n\
-for (const [name, value] of Object.entries(attributes || {})) {\n\
-if (value !== null && value !== undefined) element.setAttribute(name, value);\n\
-}\n\
-element.append(...children.flat().filter((child) => child !== null && child !== undefined));\n\
-return element;\n\
+for (const [name, value] of Object.entries(attributes || {})) element.setAttribute(name, value);\n\
+return fill(element, ...children);\n\
 }\n\
 function fill(element, ...children) {\n\
-element.replaceChildren(...children.flat().filter((child) => child !== null && child !== undefined));\n\
+element.replaceChildren(...children.flat().filter((child) => child !== null && child !== false));\n\
+return element;\n\
 }\n\
-function topicName(topic) {\n\
-const ros = rosTopic(topic);\n\
-return ros ? [make('b', { class: 'name' }, ros), ' ', make('span', { class: 'dds' }, topic)] : [make('b', { class: 'name' }, topic)];\n\
+function makeButton(attributes, label, act) {\n\
+const button = make('button', { type: 'button', ...attributes }, label);\n\
+button.addEventListener('click', () => act(button));\n\
+return button;\n\
 }\n\
-function typeName(type) {\n\
-const ros = rosType(type);\n\
-return ros ? [make('span', { class: 'name' }, ros), ' ', make('span', { class: 'dds' }, type)] : [make('span', { class: 'name' }, type)];\n\
+function bothNames(tag, ros, dds) {\n\
+return ros ? [make(tag, { class: 'name' }, ros), ' ', make('span', { class: 'dds' }, dds)] : [make(tag, { class: 'name' }, dds)];\n\
 }\n\
+const topicName = (topic) => bothNames('b', rosTopic(topic), topic);\n\
+const typeName = (type) => bothNames('span', rosType(type), type);\n\
 function guidText(guid) {\n\
-const text = make('code', { class: 'guid' });\n\
-text.append(guid.slice(0, 12), make('wbr'), guid.slice(12, 24), make('wbr'), guid.slice(24));\n\
-return text;\n\
+return make('code', { class: 'guid' }, guid.slice(0, 12), make('wbr'), guid.slice(12, 24), make('wbr'), guid.slice(24));\n\
 }\n\
 function endpointName(report, guid) {\n\
 const participant = report.participantOf(guid);\n\
-const short = participant && make('a', { href: `#participant-${participant.at}`, class: 'short' }, participant.name);\n\
-const node = participant && participant.nodes.length > 0 && make('span', { class: 'node' }, ` ${nodesText(participant)}`);\n\
-return [short || null, node || null, short ? ' ' : null, guidText(guid)];\n\
+if (!participant) return [guidText(guid)];\n\
+return [make('a', { href: `#participant-${participant.at}`, class: 'short' }, participant.name),\n\
+participant.nodes.length > 0 && make('span', { class: 'node' }, ` ${nodesText(participant)}`), ' ', guidText(guid)];\n\
 }\n\
-const NAMED_TOPICS = 4;\n\
-function nodesText(participant) {\n\
-const { nodes } = participant;\n\
+function nodesText({ nodes }) {\n\
 return nodes.length < 3 ? nodes.join(', ') : `${nodes[0]}, ${nodes[1]} and ${nodes.length - 2} more`;\n\
 }\n\
-function topicsText(participant) {\n\
+const NAMED_TOPICS = 4;\n\
+function topicsText({ endpoints }) {\n\
 const part = (side, verb) => {\n\
-const ends = participant.endpoints.filter((endpoint) => endpoint.side === side && !isOfService(endpoint.topic));\n\
-const topics = [...new Set(ends.map(({ topic }) => shownTopic(topic)))].sort();\n\
+const ends = endpoints.filter((endpoint) => endpoint.side === side && !/^r[qr]\\//.test(endpoint.topic));\n\
+const topics = [...new Set(ends.map(({ topic }) => rosTopic(topic) || topic))].sort();\n\
 const more = topics.length > NAMED_TOPICS ? ` and ${topics.length - NAMED_TOPICS} more` : '';\n\
-return topics.length === 0 ? null : `${verb} ${topics.slice(0, NAMED_TOPICS).join(', ')}${more}`;\n\
+return topics.length > 0 && `${verb} ${topics.slice(0, NAMED_TOPICS).join(', ')}${more}`;\n\
 };\n\
 return [part('writer', 'writes'), part('reader', 'reads')].filter(Boolean).join('; ');\n\
 }\n\
 function tableHead(...heads) {\n\
 return make('thead', null, make('tr', null, ...heads.map((head) => make('th', { scope: 'col' }, head))));\n\
 }\n\
-function badge(kind, words) {\n\
-return make('span', { class: `badge ${kind}` }, words);\n\
-}\n\
-</script>\n\
-<script>'use strict';\n\
-const SHARED_MEMORY = 'Shared memory and TCP are not in such a recording.';\n\
-const QUIET_END = 'Record to a quiet end: stop publishing, wait some seconds, then stop the recording, with the writers still alive.';\n\
-const KEEP_MORE = 'Raise the writer’s history depth or lifespan.';\n\
-const NEVER_WHOLE = 'Record at the writer’s side, from before the start, and look for dropped frames.';\n\
-function putTogetherText({ any, fragments }) {\n\
-const ways = [!any && '--any, which puts IP packets together', !fragments && '--fragments, which puts samples together'];\n\
-return `Use ${ways.filter(Boolean).join(', and ')}.`;\n\
-}\n\
-const inDatagram = (place) => `datagram ${place.datagram}`;\n\
-function isHeard(to, reader) {\n\
-if (to === undefined) return true;\n\
-const [prefix, entity] = to.split('.');\n\
-return (prefix === '' || prefix === prefixOf(reader)) && (entity === undefined || entity === entityOf(reader));\n\
-}\n\
-function sentBehind(report, row, number, place) {\n\
-const isBehind = ([datagram, at]) => datagram > place.datagram || (datagram === place.datagram && at > place.at);\n\
-return report.sent(row, number).find((act) => isBehind(act) && isHeard(act[4], row.reader));\n\
-}\n\
-const asksForIt = (row) => row.first_missed && row.first_missed.number === row.number && row.first_missed;\n\
-function askedForText({ number, first_missed: missed }) {\n\
-return `The reader asked for sample ${number} in ${inDatagram(missed.asked)}: at that moment it did not have it.`;\n\
-}\n\
-const OPEN = [\n\
-{\n\
-fits: ({ row, report }) => row.acknowledged === null && report.basesOf(row) && report.basesOf(row).length === 0,\n\
-means: () => 'No answer of this reader to this writer is in the recording, or “undirected” counts them.',\n\
-todo: () => `Record both directions, on this interface. ${SHARED_MEMORY}`,\n\
-},\n\
-{\n\
-fits: ({ row }) => row.told === null,\n\
-means: ({ row }) => `Sample ${row.number} is announced, but this recording does not send it to this reader.`,\n\
-todo: () => 'Look at “fragments” and “ignored”; else it was not sent.',\n\
-},\n\
-{\n\
-fits: ({ row }) => asksForIt(row) && asksForIt(row).gone !== null,\n\
-means: ({ row }) => `${askedForText(row)} Then it was told that ${row.number} is gone, in ${inDatagram(row.first_missed.gone)}.`,\n\
-todo: () => `The reader did not answer that yet: record longer. ${KEEP_MORE}`,\n\
-},\n\
-{\n\
-fits: ({ row, report }) => asksForIt(row) && sentBehind(report, row, row.number, row.first_missed.asked),\n\
-means: ({ row, report }) => {\n\
-const [datagram] = sentBehind(report, row, row.number, row.first_missed.asked);\n\
-return `${askedForText(row)} It was sent again in datagram ${datagram}.`;\n\
-},\n\
-todo: () => 'The reader did not answer that yet: record longer. Else look at the reader and the network.',\n\
-},\n\
-{\n\
-fits: ({ row, report }) => asksForIt(row) && report.actsOf(row),\n\
-means: ({ row }) => `${askedForText(row)} Nothing in the recording sends it again.`,\n\
-todo: () => 'The writer does not resend: look at the writer.',\n\
-},\n\
-{\n\
-fits: ({ row }) => asksForIt(row),\n\
-means: ({ row }) => askedForText(row),\n\
-todo: ({ row }) => `Look in “show” behind it for a data line with number ${row.number}. If there is one, the reader did not answer it yet: `\n\
-+ 'record longer. If not, the writer does not resend: look at the writer.',\n\
-},\n\
-{\n\
-fits: ({ row, report }) => row.acknowledged === null && !report.basesOf(row),\n\
-means: () => 'The reader acknowledged nothing.',\n\
-todo: () => `If no answer of it is in the recording, record both directions, on this interface. ${SHARED_MEMORY}`,\n\
-},\n\
-{\n\
-fits: ({ row }) => row.asked_since === 0,\n\
-means: () => 'The reader was not asked since its last answer; it may have all.',\n\
-todo: () => QUIET_END,\n\
-},\n\
-{\n\
-fits: ({ row }) => row.asked_since !== undefined,\n\
-means: ({ row }) => `The reader was asked ${plural(row.asked_since, 'time')} since its last answer, last in `\n\
-+ `${inDatagram(row.last_asked)}.`,\n\
-todo: () => 'The reader has ended, or nothing reaches it, or its answers take another way: look at the reader and the network.',\n\
-},\n\
-{\n\
-fits: () => true,\n\
-means: () => 'The reader may have it and was not asked, or it lacks it, or it has ended.',\n\
-todo: ({ row }) => `In “show” look behind the reader’s last answer. Its bits ask for ${row.number} and nothing sends it again: look at `\n\
-+ 'the writer. No heartbeat with “final 0” comes after it: record to a quiet end. Else look at the reader and the network.',\n\
-},\n\
-];\n\
-const CONFLICT = [\n\
-{\n\
-fits: () => true,\n\
-means: ({ row }) => `Sample ${row.number} was sent with one payload in ${inDatagram(row.sent[0])} and with another in `\n\
-+ `${inDatagram(row.sent[1])}.`,\n\
-todo: () => 'Do both come from one address and port? If not, two processes use one GUID: two machines have the same disk image, or a '\n\
-+ 'restart kept the GUID. If the second is a resend, its octets must be those of the first: the writer has a defect.',\n\
-},\n\
-];\n\
-const LITTLE_MORE = 10;\n\
-const notSentText = ({ number }) => `Nothing in the recording sends sample ${number} or says that it is gone.`;\n\
-const UNFOUNDED = [\n\
-{\n\
-fits: ({ row }) => row.told !== null && row.told.datagram === row.datagram,\n\
-means: ({ row }) => `Sample and answer are in one datagram, ${row.datagram}.`,\n\
-todo: () => 'A relay packed them, or the recording was changed: record at the writer.',\n\
-},\n\
-{\n\
-fits: ({ row }) => row.told !== null,\n\
-means: ({ row }) => `Sample ${row.number} was first ${toldHow(row.told)} in ${inDatagram(row.told)}, behind the `\n\
-+ 'answer. The datagrams are out of order, as in captures of two hosts that were merged; or the copy that the reader received is not '\n\
-+ 'in the recording.',\n\
-todo: () => 'Record at the writer’s side, on one interface, and see whether tcpdump dropped packets.',\n\
-},\n\
-{\n\
-fits: ({ report: { counts, options } }) => (isAbove(counts.fragments, 0) && !options.fragments)\n\
-|| (isAbove(counts.ignored || 0, 0) && !options.any),\n\
-means: ({ row }) => `${notSentText(row)} It may have come in fragments, or in a frame that gave no datagram.`,\n\
-todo: ({ report }) => putTogetherText(report.options),\n\
-},\n\
-{\n\
-fits: ({ report: { counts } }) => isAbove(counts.fragments, 0),\n\
-means: ({ row }) => `${notSentText(row)} It may have come in fragments of which the recording has not all.`,\n\
-todo: () => NEVER_WHOLE,\n\
-},\n\
-{\n\
-fits: ({ row }) => row.announced === null || isAbove(row.number, row.announced.number),\n\
-means: ({ row }) => `The reader acknowledges sample ${row.number}, which nobody announced.`,\n\
-todo: () => 'It is a defect, or another writer had this GUID before.',\n\
-},\n\
-{\n\
-fits: ({ row, from }) => BigInt(row.number) - BigInt(from) < LITTLE_MORE,\n\
-means: () => 'The recording began too late, or the reader joined late.',\n\
-todo: ({ row }) => 'Begin to record before the participants start. If the reader joined late, try '\n\
-+ `--from ${BigInt(row.number) + BigInt(row.untold)}.`,\n\
-},\n\
-{\n\
-fits: () => true,\n\
-means: ({ row }) => notSentText(row),\n\
-todo: () => 'Frames were dropped: see what tcpdump says at its end; or these samples took another way (shared memory).',\n\
-},\n\
-];\n\
-const COMPLETE = [\n\
-{\n\
-fits: ({ row }) => row.announced === null,\n\
-means: ({ from }) => (from === 1 ? 'The writer announced no number.' : `The writer announced no number from ${from} on.`),\n\
-todo: () => 'Did it write at all in this recording?',\n\
-},\n\
-{\n\
-fits: ({ row }) => row.kind === 'missed',\n\
-means: ({ row }) => `The reader asked for sample ${row.first_missed.number} in ${inDatagram(row.first_missed.asked)}, so it lacked it. `\n\
-+ (row.first_missed.gone ? `Then it was told that it is gone, in ${inDatagram(row.first_missed.gone)}.` : 'Nothing shows that it got it.'),\n\
-todo: () => KEEP_MORE,\n\
-},\n\
-{\n\
-fits: ({ row }) => row.kind === 'gone',\n\
-means: ({ row }) => `The reader did not get ${plural(row.gone, 'sample')}: ${String(row.gone) === '1' ? 'it was' : 'they were'} only `\n\
-+ 'said to be gone.',\n\
-todo: () => 'It is no fault if the reader joined late and they are older (--from leaves them out), or if its content filter does not '\n\
-+ 'want them. Else raise the writer’s history depth or lifespan.',\n\
-},\n\
-{\n\
-fits: ({ row }) => row.received !== undefined && BigInt(row.received) === askedAbout(row),\n\
-means: () => 'Every sample has reached the reader.',\n\
-todo: () => null,\n\
-},\n\
-{\n\
-fits: ({ row }) => row.received !== undefined,\n\
-means: () => 'The reader received these samples, or was told that they are gone. With KEEP_LAST, the default of ROS 2, no recording shows '\n\
-+ 'which. Nothing here shows that it lacked one.',\n\
-todo: () => null,\n\
-},\n\
-{\n\
-fits: () => true,\n\
-means: () => 'With KEEP_ALL and no lifespan, a reader that did not join late received all samples. With KEEP_LAST, the default of ROS 2, a '\n\
-+ 'sample may still be lost: the writer said that it is gone, and the reader acknowledged it.',\n\
-todo: () => null,\n\
-},\n\
-];\n\
-const CASES = { open: OPEN, conflict: CONFLICT, unfounded: UNFOUNDED, complete: COMPLETE };\n\
-const factsOf = (report, row) => ({ report, row, from: report.options.from });\n\
-function caseOf(report, row) {\n\
-const facts = factsOf(report, row);\n\
-return CASES[row.verdict].find((one) => one.fits(facts));\n\
-}\n\
-function adviceOf(report, row) {\n\
-const [facts, found] = [factsOf(report, row), caseOf(report, row)];\n\
-return { means: found.means(facts), todo: found.todo(facts) };\n\
-}\n\
-const RECORD_EARLY = 'Begin to record before the participants start: the report knows them by discovery.';\n\
-const WARNINGS = [\n\
-noPairs, tooFewPairs, ignoredFrames, fragments, unsettledEndpoints, malformedDatagrams, undirectedAnswers, topicsKeptApart,\n\
-pairsWithNumbersGone,\n\
-];\n\
-function warningsOf(report) {\n\
-return WARNINGS.map((warning) => warning(report)).filter(Boolean);\n\
-}\n\
-function noPairs({ rows, options, endpoints }) {\n\
-if (rows.length > 0) return null;\n\
-const count = 'No pairs';\n\
-if (options.topics.length > 0) {\n\
-return { count, means: 'No topic that was asked for has a reliable pair here.', todo: 'See below which topics there are.' };\n\
-}\n\
-if (endpoints.length === 0) {\n\
-return {\n\
-count,\n\
-means: 'No writer and no reader is announced in this recording, so nothing was audited.',\n\
-todo: `${RECORD_EARLY} A process with many endpoints may announce them in IP fragments: use --any, or make a text with tshark.`,\n\
+const badge = (kind, words) => make('span', { class: `badge ${kind}` }, words);\n\
+function inParts(section, noun, items, [first, next], append) {\n\
+let shown = 0;\n\
+const button = makeButton({ class: 'more' }, '', () => more(next)[0].focus());\n\
+const more = (count) => {\n\
+const elements = append(items.slice(shown, shown + count));\n\
+shown += elements.length;\n\
+button.hidden = shown === items.length;\n\
+button.textContent = `Show ${plural(items.length - shown, `more ${noun}`)}`;\n\
+return button.hidden ? elements : [button];\n\
 };\n\
-}\n\
-return {\n\
-count,\n\
-means: 'No reliable writer has a reliable reader that matches, so nothing was audited.',\n\
-todo: 'See below what keeps them apart. Else an announcement is not in the recording: it began too late, or it came in IP fragments '\n\
-+ '(--any).',\n\
-};\n\
-}\n\
-function tooFewPairs({ rows, options }) {\n\
-if (options.expect === null || !isAbove(options.expect, rows.length)) return null;\n\
-return {\n\
-count: plural(rows.length, 'pair'),\n\
-means: `${counted(options.expect)} were expected.`,\n\
-todo: 'See below which endpoints have no match, and what keeps them apart.',\n\
-};\n\
-}\n\
-function ignoredFrames({ counts, options }) {\n\
-if (!isAbove(counts.ignored || 0, 0)) return null;\n\
-const kinds = ['pieces', 'cut', 'other', 'links'].filter((name) => counts[name] !== undefined).map((name) => `${name} ${counted(counts[name])}`);\n\
-return {\n\
-count: plural(counts.ignored, 'frame ignored', 'frames ignored'),\n\
-means: `They gave no datagram${kinds.length ? ` (${kinds.join(', ')})` : ''}: samples or announcements may be in them. ARP, TCP and `\n\
-+ 'ICMP do no harm.',\n\
-todo: options.any\n\
-? 'Record without a snap length (tcpdump -s), and to the end.'\n\
-: 'IP fragments, IPv6 and VLAN tags are read with --any, or make a text with tshark. Record without a snap length.',\n\
-};\n\
-}\n\
-function fragments({ counts, options }) {\n\
-if (!isAbove(counts.fragments, 0)) return null;\n\
-return {\n\
-count: plural(counts.fragments, 'fragment'),\n\
-means: options.fragments\n\
-? 'Their samples never came whole, so rows of them are unfounded or open.'\n\
-: 'Submessages of fragmented samples were not read as samples. Their rows are unfounded or open, also if all is well.',\n\
-todo: options.fragments ? NEVER_WHOLE : putTogetherText(options),\n\
-};\n\
-}\n\
-function unsettledEndpoints({ counts }) {\n\
-if (!isAbove(counts.unsettled, 0)) return null;\n\
-return {\n\
-count: plural(counts.unsettled, 'unsettled endpoint'),\n\
-means: 'Their announcements differ, so they are in no pair: a restart with the same GUID, or a QoS that changed.',\n\
-todo: 'Let each start make a GUID of its own, and keep the QoS.',\n\
-};\n\
-}\n\
-function malformedDatagrams({ malformed }) {\n\
-if (!isAbove(malformed, 0)) return null;\n\
-return {\n\
-count: plural(malformed, 'malformed datagram'),\n\
-means: 'What stands before the fault is used, and what stands behind it is not.',\n\
-todo: '“rtps-audit show” names the fault of each, in a line that begins with “refused”.',\n\
-};\n\
-}\n\
-function undirectedAnswers({ counts }) {\n\
-if (!isAbove(counts.undirected, 0)) return null;\n\
-return {\n\
-count: plural(counts.undirected, 'undirected answer'),\n\
-means: 'These ACKNACKs name no participant as destination, so they acknowledge nothing here: their rows stay open.',\n\
-todo: 'Read these rows with care.',\n\
-};\n\
-}\n\
-function topicsKeptApart({ keptApart: apart }) {\n\
-if (apart.length === 0) return null;\n\
-const reasonText = (writer, reader) => (member) => (member === 'type'\n\
-? `the types are ${rosType(writer.type) || writer.type} and ${rosType(reader.type) || reader.type}`\n\
-: `the reader asks for ${reader[member]}, the writer offers ${writer[member]}`);\n\
-const texts = apart.slice(0, 3).map(({ writer, reader, reasons }) => (\n\
-`${shownTopic(writer.topic)} (${reasons.map(reasonText(writer, reader)).join('; ')})`));\n\
-return {\n\
-count: plural(new Set(apart.map(({ writer }) => writer.topic)).size, 'topic kept apart', 'topics kept apart'),\n\
-means: `A writer and a reader do not match, so they are in no pair: ${texts.join(', ')}${apart.length > 3 ? ', and others, below' : ''}.`,\n\
-todo: 'Let the writer offer what the reader asks for, and both have one type.',\n\
-};\n\
-}\n\
-function pairsWithNumbersGone({ rows }) {\n\
-const count = rows.filter((row) => row.verdict === 'complete' && isAbove(row.gone, 0)).length;\n\
-if (count === 0) return null;\n\
-return {\n\
-count: plural(count, 'complete pair with numbers gone', 'complete pairs with numbers gone'),\n\
-means: 'Complete does not always mean received. Their readers did not get these numbers: they were only said to be gone.',\n\
-todo: 'It is no fault if the reader joined late and they are older (--from leaves them out). Else raise the writer’s history depth or '\n\
-+ 'lifespan.',\n\
-};\n\
+section.append(button);\n\
+more(first);\n\
 }\n\
 </script>\n\
 <script>'use strict';\n\
 const KIND_OF_ACT = { data: 'a DATA', heartbeat: 'a HEARTBEAT', gap: 'a GAP', data_frag: 'a DATA_FRAG' };\n\
-const toldHow = ({ by }) => (by === 'data' || by === 'data_frag' ? 'sent' : 'told');\n\
-function placeText(place) {\n\
-return `datagram ${place.datagram}, octet ${place.at}`;\n\
-}\n\
+const placeText = ({ datagram, at }) => `datagram ${datagram}, octet ${at}`;\n\
 const actText = (act) => `${KIND_OF_ACT[act.by] || act.by} in ${placeText(act)}`;\n\
-function verdictSentence(report, row) {\n\
-const { number } = row;\n\
-if (row.verdict === 'unfounded') {\n\
-return `In datagram ${row.datagram} the reader acknowledged sample ${number}, but nothing before that sent it ${number} or said that `\n\
-+ `${number} is gone.`;\n\
-}\n\
-if (row.verdict === 'conflict') return `The writer sent two different payloads for sample ${number} to this reader.`;\n\
-if (row.verdict === 'open') return openSentence(row);\n\
-return completeSentence(row, report.options.from);\n\
-}\n\
-function openSentence(row) {\n\
-const { number, announced } = row;\n\
+const VERDICTS = {\n\
+unfounded: ({ number, datagram }) => `In datagram ${datagram} the reader acknowledged sample ${number}, but nothing before that sent it `\n\
++ `${number} or said that ${number} is gone.`,\n\
+conflict: ({ number }) => `The writer sent two different payloads for sample ${number} to this reader.`,\n\
+open: openSentence,\n\
+complete: completeSentence,\n\
+};\n\
+const verdictSentence = (report, row) => VERDICTS[row.verdict](row, report.data.options.from);\n\
+function openSentence({ number, announced }) {\n\
 if (number === announced.number) return `The reader may lack sample ${number}: it is announced, and the reader never acknowledged it.`;\n\
 return `The reader may lack samples ${number} to ${announced.number}: they are announced, and the reader never acknowledged them.`;\n\
 }\n\
-function completeSentence(row, from) {\n\
-if (row.announced === null) return from === 1 ? 'The writer announced no number.' : `The writer announced no number from ${from} on.`;\n\
-const all = `The reader acknowledged each sample from ${from} to ${row.number}`;\n\
-if (row.kind === 'missed') return `${all}, but it missed ${row.missed === 1 ? `sample ${row.first_missed.number}` : `${counted(row.missed)} of them`}.`;\n\
-if (row.kind === 'gone') return `${all}, but ${counted(row.gone)} of them ${String(row.gone) === '1' ? 'was' : 'were'} only said to be gone.`;\n\
+function completeSentence({ kind, number, announced, missed, first_missed: first, gone }, from) {\n\
+if (announced === null) return from === 1 ? 'The writer announced no number.' : `The writer announced no number from ${from} on.`;\n\
+const all = `The reader acknowledged each sample from ${from} to ${number}`;\n\
+if (kind === 'missed') return `${all}, but it missed ${missed === 1 ? `sample ${first.number}` : `${counted(missed)} of them`}.`;\n\
+if (kind === 'gone') return `${all}, but ${counted(gone)} of them ${gone === 1 ? 'was' : 'were'} only said to be gone.`;\n\
 return `${all}.`;\n\
 }\n\
-function sinceOf(row) {\n\
-const { number, told, announced } = row;\n\
-if (row.verdict === 'unfounded') return { datagram: row.datagram, what: `${number} acknowledged too early` };\n\
-if (row.verdict === 'conflict') return { datagram: row.sent[1].datagram, what: `${number} sent with another payload` };\n\
-if (row.verdict === 'open' && told) return { datagram: told.datagram, what: `${number} first ${toldHow(told)}` };\n\
-if (row.verdict === 'open') return { datagram: announced.datagram, what: `${announced.number} announced` };\n\
-if (row.kind === 'missed') return { datagram: row.first_missed.asked.datagram, what: `${row.first_missed.number} asked for` };\n\
-const { gone, number: first } = (row.kind === 'gone' && row.not_received) || {};\n\
-return gone ? { datagram: gone.datagram, what: `${first} told gone` } : null;\n\
-}\n\
-function evidenceSentences(report, row) {\n\
-return [...commonSentences(row), ...receivedSentences(report, row), ...shownSentences(row)];\n\
+function evidenceSentences(row) {\n\
+return [...commonSentences(row), ...receivedSentences(row), ...OWN_SENTENCES[row.verdict](row)];\n\
 }\n\
 function commonSentences(row) {\n\
 const { announced, acknowledged } = row;\n\
@@ -881,76 +509,64 @@ announced ? `The writer announced number ${announced.number}, first by ${actText
 acknowledged\n\
 ? `The reader acknowledged all numbers below ${acknowledged.below}, first by an ACKNACK in ${placeText(acknowledged)}.`\n\
 : 'The reader acknowledged nothing.',\n\
-`Of ${plural(askedAbout(row), 'number')}, ${counted(row.payloads)} ${String(row.payloads) === '1' ? 'was' : 'were'} sent to this reader, `\n\
+`Of ${plural(askedAbout(row), 'number')}, ${counted(row.payloads)} ${row.payloads === 1 ? 'was' : 'were'} sent to this reader, `\n\
 + `${counted(row.gone)} only said to be gone, and ${counted(row.untold)} neither.`,\n\
 ];\n\
 }\n\
-function receivedSentences(report, row) {\n\
-if (row.received === undefined) return [];\n\
+function receivedSentences(row) {\n\
+const { missed, first_missed: first, not_received: lacked } = row;\n\
 const found = [`The recording proves ${counted(row.received)} of ${plural(askedAbout(row), 'number')} received.`];\n\
-if (isAbove(row.missed, 0)) {\n\
-const { number, asked, gone } = row.first_missed;\n\
-found.push(`The reader missed ${plural(row.missed, 'number')}: it asked for ${number} in ${placeText(asked)}, `\n\
-+ (gone ? `and then ${number} was told gone by ${actText(gone)}.` : `and ${number} was not told gone since.`));\n\
+if (first) {\n\
+found.push(`The reader missed ${plural(missed, 'number')}: it asked for ${first.number} in ${placeText(first.asked)}, and `\n\
++ (first.gone ? `then ${first.number} was told gone by ${actText(first.gone)}.` : `${first.number} was not told gone since.`));\n\
 }\n\
-if (row.not_received) found.push(notReceivedSentence(row));\n\
+if (lacked) found.push(`Number ${lacked.number} may not be received: ${lackedText(lacked)}.`);\n\
 return found;\n\
 }\n\
-function notReceivedSentence(row) {\n\
-const { number, gone, acknowledged } = row.not_received;\n\
-if (!acknowledged) return `Number ${number} may not be received: it is not acknowledged.`;\n\
-if (gone) return `Number ${number} may not be received: it was told gone by ${actText(gone)}, and acknowledged in ${placeText(acknowledged)}.`;\n\
-return `Number ${number} may not be received: nothing told it before it was acknowledged in ${placeText(acknowledged)}.`;\n\
+function lackedText({ gone, acknowledged }) {\n\
+if (!acknowledged) return 'it is not acknowledged';\n\
+if (gone) return `it was told gone by ${actText(gone)}, and acknowledged in ${placeText(acknowledged)}`;\n\
+return `nothing told it before it was acknowledged in ${placeText(acknowledged)}`;\n\
 }\n\
-function shownSentences(row) {\n\
-const told = row.told\n\
-? `Number ${row.number} was first told by ${actText(row.told)}.`\n\
-: `Nothing in the recording tells number ${row.number} to this reader.`;\n\
-if (row.verdict === 'open') return row.asked_since === undefined ? [told] : [told, askedSentence(row)];\n\
-if (row.verdict === 'conflict') return row.sent.map((sent) => `Number ${row.number} was sent with ${payloadText(sent)} in ${placeText(sent)}.`);\n\
-if (row.verdict === 'unfounded') {\n\
-return [`The reader acknowledged all numbers below ${row.claimed.below} in ${placeText(row.claimed)}.`, told];\n\
+const OWN_SENTENCES = {\n\
+open: (row) => [tellerSentence(row), askedSentence(row)],\n\
+conflict: ({ number, sent }) => sent.map((one) => `Number ${number} was sent with ${payloadText(one)} in ${placeText(one)}.`),\n\
+unfounded: (row) => [`The reader acknowledged all numbers below ${row.claimed.below} in ${placeText(row.claimed)}.`, tellerSentence(row)],\n\
+complete: () => [],\n\
+};\n\
+function tellerSentence({ number, told }) {\n\
+return told ? `Number ${number} was first told by ${actText(told)}.` : `Nothing in the recording tells number ${number} to this reader.`;\n\
 }\n\
-return [];\n\
+function askedSentence({ asked_since: count, last_asked: last }) {\n\
+if (!last) return 'The writer did not ask for an answer since the reader’s last one.';\n\
+return `The writer asked ${plural(count, 'time')} for an answer since the reader’s last one, last in ${placeText(last)}.`;\n\
 }\n\
-function askedSentence(row) {\n\
-if (isAbove(row.asked_since, 0)) {\n\
-return `The writer asked ${plural(row.asked_since, 'time')} for an answer since the reader’s last one, last in ${placeText(row.last_asked)}.`;\n\
+function payloadText({ payload, octets }) {\n\
+return payload === 'absent' ? 'no payload' : `${payload === 'key' ? 'a key' : 'a sample'} of ${plural(octets, 'octet')}`;\n\
 }\n\
-return 'The writer did not ask for an answer since the reader’s last one.';\n\
-}\n\
-function payloadText(sent) {\n\
-if (sent.payload === 'absent') return 'no payload';\n\
-return `${sent.payload === 'key' ? 'a key' : 'a sample'} of ${plural(sent.octets, 'octet')}`;\n\
-}\n\
-function outcomeSentence(report) {\n\
-const missed = report.hasReceived() ? sumOf(report.rows, 'missed') : 0n;\n\
-const complete = completePairs(report);\n\
-if (missed === 0n) return complete;\n\
-return `${complete}, and ${plural(missed, 'sample')} ${missed === 1n ? 'was' : 'were'} missed`;\n\
-}\n\
-function completePairs(report) {\n\
-const all = report.rows.length;\n\
-const complete = report.rows.reduce((sum, row) => sum + (row.verdict === 'complete'), 0);\n\
-if (all === 0) return 'No pair was audited';\n\
-if (all === 1) return complete ? 'The only pair is complete' : 'The only pair is not complete';\n\
-if (complete === all) return `All ${counted(all)} pairs are complete`;\n\
-return `${counted(complete)} of ${counted(all)} pairs ${complete === 1 ? 'is' : 'are'} complete`;\n\
+const outcomeSentence = ({ status, because }) => (status === 'clean' ? 'Clean' : `Not clean: ${because.join('; ')}`);\n\
+function receivedSentence(rows) {\n\
+if (rows.length === 0) return 'No pair was audited.';\n\
+const complete = rows.filter(({ verdict }) => verdict === 'complete').length;\n\
+const [received, asked] = [sumOf(rows, (row) => row.received), sumOf(rows, askedAbout)];\n\
+return `${counted(complete)} of ${plural(rows.length, 'pair')} ${rows.length === 1 ? 'is' : 'are'} complete. The recording proves `\n\
++ `${counted(received)} of ${plural(asked, 'number')} received.`;\n\
 }\n\
 </script>\n\
 <script>'use strict';\n\
-const FIRST_LINES = 8;\n\
-const MORE_LINES = 200;\n\
+const TOPIC_LINES = [8, 200];\n\
+const NAMED_PAIRS = 3;\n\
 function showOverview(report) {\n\
-const outcome = outcomeSentence(report);\n\
+const outcome = outcomeSentence(report.data);\n\
+const at = (id) => document.getElementById(id);\n\
 document.title = `${outcome}: rtps-audit`;\n\
-fill(document.getElementById('asked'), 'rtps-audit, a report of ', askedText(report.options));\n\
-fill(document.getElementById('outcome'), outcome);\n\
-fill(document.getElementById('line'), make('a', { href: '#counts' }, 'Counts'), `: ${countsText(report)}`);\n\
-document.getElementById('explained').textContent = explanation(report);\n\
-showTopics(report);\n\
-showWarnings(report);\n\
-showCounts(report);\n\
+fill(at('asked'), 'rtps-audit, a report of ', askedText(report.data.options));\n\
+fill(at('outcome'), outcome);\n\
+fill(at('received'), receivedSentence(report.rows));\n\
+fill(at('line'), make('a', { href: '#counts' }, 'Counts'), `: ${report.counts().map(([name, n]) => `${name} ${counted(n)}`).join(', ')}`);\n\
+showTopics(report, at('topics'));\n\
+showNotes(report.data.notes, at('notes'));\n\
+showCounts(report, at('counts'));\n\
 }\n\
 function askedText(options) {\n\
 const words = [\n\
@@ -962,106 +578,55 @@ options.expect !== null && `--expect ${options.expect}`,\n\
 const numbers = options.from === 1 ? 'all numbers' : `the numbers from ${options.from} on`;\n\
 return words.length === 0 ? [`${numbers}, without options`] : [`${numbers}, with `, make('code', null, words.join(' '))];\n\
 }\n\
-function explanation(report) {\n\
-const text = 'A pair is a reliable writer and a reliable reader of one topic that match. It is complete if the reader acknowledged '\n\
-+ 'every sample that the writer announced.';\n\
-if (!report.hasReceived()) return text;\n\
-const asked = report.rows.reduce((sum, row) => sum + askedAbout(row), 0n);\n\
-const received = sumOf(report.rows, 'received');\n\
-const proved = `${text} The recording proves ${counted(received)} of ${plural(asked, 'sample')} received`;\n\
-return received === asked ? `${proved}.` : `${proved}; of the others it does not tell.`;\n\
-}\n\
-function findings(report) {\n\
-const found = new Map();\n\
-for (const row of report.rows) {\n\
-if (row.kind === 'complete') continue;\n\
-const advice = caseOf(report, row);\n\
-if (!found.has(row.group)) found.set(row.group, new Map());\n\
-const cases = found.get(row.group);\n\
-if (!cases.has(advice)) cases.set(advice, { group: row.group, kind: row.kind, rows: [] });\n\
-cases.get(advice).rows.push(row);\n\
-}\n\
-const lines = [...found.values()].flatMap((cases) => [...cases.values()]);\n\
-return lines.sort((a, b) => a.rows[0].rank - b.rows[0].rank || b.rows.length - a.rows.length || a.rows[0].at - b.rows[0].at);\n\
-}\n\
-function showTopics(report) {\n\
-const section = document.getElementById('topics');\n\
-const lines = findings(report);\n\
-section.hidden = lines.length === 0;\n\
-if (section.hidden) return;\n\
-const body = make('tbody', null);\n\
-section.append(make('div', { class: 'wide' }, make('table', { class: 'topics' },\n\
-make('caption', { class: 'hidden' }, 'Topics with something to look at'),\n\
-tableHead('Topic', 'What happened', 'Since', 'What to do'), body)));\n\
-appendLines(report, section, body, lines, FIRST_LINES);\n\
-}\n\
-function appendLines(report, section, body, lines, most) {\n\
-body.append(...lines.slice(0, most).map((line) => topicLine(report, line)));\n\
-const rest = lines.slice(most);\n\
-if (rest.length > 0) section.append(moreButton(rest.length, 'line', () => appendLines(report, section, body, rest, MORE_LINES)));\n\
-}\n\
-function moreButton(count, noun, show) {\n\
-const button = make('button', { type: 'button', class: 'more' }, `Show ${plural(count, 'more ' + noun)}`);\n\
-button.addEventListener('click', () => {\n\
-button.remove();\n\
-show();\n\
-});\n\
-return button;\n\
-}\n\
-function topicLine(report, line) {\n\
-const [first] = line.rows;\n\
-const { group, rows } = line;\n\
-const { means, todo } = adviceOf(report, first);\n\
-const since = earliest(rows);\n\
-return make('tr', { class: line.kind },\n\
-make('th', { scope: 'row' }, make('div', null, ...topicName(group.topic)), make('div', { class: 'type' }, ...typeName(group.type))),\n\
-make('td', null,\n\
-make('p', null, badge(line.kind, KIND_WORDS[line.kind]), ` ${counted(rows.length)} of ${plural(group.rows.length, 'pair')}`),\n\
-make('p', null, rows.length === 1 ? verdictSentence(report, first) : manySentence(line)),\n\
-make('ul', { class: 'which' }, ...rows.slice(0, 3).map((row) => make('li', null, pairLink(report, row))),\n\
-rows.length > 3 ? make('li', null, `and ${counted(rows.length - 3)} more`) : null)),\n\
-make('td', { class: 'since' }, since ? [make('b', null, `datagram ${since.datagram}`), make('br'), since.what] : '–'),\n\
-make('td', null, make('p', null, rows.length === 1 ? means : `Of pair ${first.at + 1}: ${means}`), todo && make('p', { class: 'todo' }, todo)));\n\
-}\n\
-function earliest(rows) {\n\
-let found = null;\n\
+function topicLines(rows) {\n\
+const lines = new Map();\n\
 for (const row of rows) {\n\
-const since = sinceOf(row);\n\
-if (since && (found === null || since.datagram < found.datagram)) found = since;\n\
+if (row.advice !== null) entryOf(entryOf(lines, row.group, () => new Map()), row.kind + row.advice, () => []).push(row);\n\
 }\n\
-return found;\n\
+return [...lines.values()].flatMap((found) => [...found.values()])\n\
+.sort(([a, ...more], [b, ...others]) => a.rank - b.rank || others.length - more.length || a.at - b.at);\n\
 }\n\
-function manySentence({ kind, rows }) {\n\
-const readers = plural(new Set(rows.map((row) => row.reader)).size, 'reader');\n\
-if (kind === 'unfounded') return `${readers} acknowledged samples that nothing before in the recording told.`;\n\
-if (kind === 'conflict') return `${readers} heard two different payloads for one sample.`;\n\
-if (kind === 'open') return `${readers} may lack samples that are announced and were never acknowledged.`;\n\
-if (kind === 'missed') return `${readers} missed ${plural(sumOf(rows, 'missed'), 'sample')}: asked for, and never seen to come.`;\n\
-return `${readers} did not get ${plural(sumOf(rows, 'gone'), 'sample')}: they were only said to be gone.`;\n\
+function showTopics(report, section) {\n\
+const lines = topicLines(report.rows);\n\
+const body = make('tbody', null);\n\
+section.hidden = lines.length === 0;\n\
+section.append(make('div', { class: 'wide' }, make('table', { class: 'topics' },\n\
+make('caption', { class: 'hidden' }, 'Topics with something to look at'), tableHead('Topic', 'What happened', 'What to do'), body)));\n\
+inParts(section, 'line', lines, TOPIC_LINES, (some) => {\n\
+const shown = some.map((rows) => topicLine(report, rows));\n\
+body.append(...shown);\n\
+return shown;\n\
+});\n\
+}\n\
+function topicLine(report, rows) {\n\
+const [first] = rows;\n\
+const { topic, type, rows: all } = first.group;\n\
+const links = rows.slice(0, NAMED_PAIRS).map((row) => make('li', null, pairLink(report, row)));\n\
+const sentence = verdictSentence(report, first);\n\
+return make('tr', { class: first.kind, tabindex: '-1' },\n\
+make('th', { scope: 'row' }, make('div', null, ...topicName(topic)), make('div', { class: 'type' }, ...typeName(type))),\n\
+make('td', null, make('p', null, badge(first.kind, KIND_WORDS[first.kind]), ` ${counted(rows.length)} of ${plural(all.length, 'pair')}`),\n\
+make('p', null, rows.length === 1 ? sentence : `Pair ${first.at + 1}: ${sentence}`),\n\
+make('ul', { class: 'which' }, ...links, rows.length > NAMED_PAIRS && make('li', null, `and ${counted(rows.length - NAMED_PAIRS)} more`))),\n\
+make('td', { class: 'advice' }, first.advice));\n\
 }\n\
 function pairLink(report, row) {\n\
-const names = [row.writer, row.reader].map((guid) => {\n\
+const [writer, reader] = [row.writer, row.reader].map((guid) => {\n\
 const participant = report.participantOf(guid);\n\
-if (!participant) return guid;\n\
-return participant.nodes.length ? `${participant.name} ${nodesText(participant)}` : participant.name;\n\
+return participant ? `${participant.name} ${nodesText(participant)}`.trim() : guid;\n\
 });\n\
-return make('a', { href: `#pair-${row.at + 1}` }, `pair ${row.at + 1}`, make('span', { class: 'ends' }, `: ${names[0]} to ${names[1]}`));\n\
+return make('a', { href: `#pair-${row.at + 1}` }, `pair ${row.at + 1}`, make('span', { class: 'ends' }, `: ${writer} to ${reader}`));\n\
 }\n\
-function showWarnings(report) {\n\
-const section = document.getElementById('warnings');\n\
-const warnings = warningsOf(report);\n\
-section.hidden = warnings.length === 0;\n\
-section.append(make('ul', { class: 'warnings' }, ...warnings.map((warning) => make('li', null,\n\
-make('b', null, `${warning.count}.`), ` ${warning.means} `, make('span', { class: 'todo' }, warning.todo)))));\n\
-}\n\
-const countNames = (report) => Object.keys(report.counts).filter((name) => name !== 'pairs');\n\
-function countsText(report) {\n\
-return countNames(report).map((name) => `${name} ${counted(report.counts[name])}`).join(', ');\n\
+function showNotes(notes, section) {\n\
+section.hidden = notes.length === 0;\n\
+section.append(make('ul', { class: 'notes' }, ...notes.map((note) => {\n\
+const [what, ...todo] = note.split(' -> ');\n\
+return make('li', null, make('b', null, what), ...todo.map((words) => ` -> ${words}`));\n\
+})));\n\
 }\n\
 const MEANINGS = {\n\
 datagrams: 'datagrams in the recording',\n\
-refused: 'malformed datagrams. What stands before the fault is used. One of one octet is harmless: Cyclone DDS sends itself one when '\n\
-+ 'it ends',\n\
+refused: 'malformed datagrams, also those of one octet or none; what stands before the fault is used',\n\
 skipped: 'submessages that are not read: padding, vendors’ own, security',\n\
 fragments: 'submessages of fragmented samples that were not read as samples',\n\
 undirected: 'ACKNACKs that name no participant as destination',\n\
@@ -1072,10 +637,9 @@ cut: 'ignored frames whose captured octets end too early',\n\
 other: 'ignored frames that carry no UDP over IP',\n\
 links: 'ignored frames of links that are not read',\n\
 };\n\
-function showCounts(report) {\n\
-const list = countNames(report).map((name) => make('div', null,\n\
-make('dt', null, name), make('dd', { class: 'count' }, counted(report.counts[name])), make('dd', null, MEANINGS[name] || '')));\n\
-document.getElementById('counts').append(make('dl', { class: 'counts' }, ...list));\n\
+function showCounts(report, section) {\n\
+section.append(make('dl', { class: 'counts' }, ...report.counts().map(([name, n]) => make('div', null,\n\
+make('dt', null, name), make('dd', { class: 'count' }, counted(n)), make('dd', null, MEANINGS[name] || '')))));\n\
 }\n\
 </script>\n\
 <script>'use strict';\n\
@@ -1084,48 +648,55 @@ const EDGES = { left: 64, right: 14, top: 18, bottom: 34 };\n\
 const REACH = 12;\n\
 const MANY_DOTS = 3000;\n\
 const MANY_ANSWERS = 150;\n\
+const POINT = 'Point at a dot to read it.';\n\
 function marksOf(report, row) {\n\
-const acts = report.actsOf(row);\n\
-const heard = acts.filter((act) => isHeard(act[act[2] === 'gone' ? 5 : 4], row.reader));\n\
+const acts = report.actsOf(row).map(entryParts);\n\
+const to = namesOf(row.reader);\n\
+const heard = acts.filter(({ named }) => to.includes(named));\n\
+const answers = report.basesOf(row).map(([x, at, base]) => ({ x, y: Number(base) - 1, at }));\n\
 return {\n\
-dots: dotsOf(heard.filter((act) => act[2] === 'data')),\n\
-bands: bandsOf(heard.filter((act) => act[2] === 'gone')),\n\
-announced: stepsOf(acts.filter((act) => act[2] === 'announced').map(([datagram, , , last]) => [datagram, Number(last)])),\n\
-answers: report.basesOf(row).map(([datagram, at, base]) => ({ x: datagram, y: Number(base) - 1, at })),\n\
-acknowledged: stepsOf(report.basesOf(row).map(([datagram, , base]) => [datagram, Number(base) - 1])),\n\
+dots: dotsOf(heard.filter(({ what }) => what === 'data')),\n\
+bands: bandsOf(heard.filter(({ what }) => what === 'gone')),\n\
+announced: stepsOf(acts.filter(({ what }) => what === 'announced').map(({ x, numbers: [last] }) => ({ x, y: Number(last) }))),\n\
+answers,\n\
+acknowledged: stepsOf(answers),\n\
 numbers: markedNumbers(row),\n\
 datagrams: row.verdict === 'unfounded' ? [{ x: row.datagram, label: `datagram ${row.datagram}` }] : [],\n\
 };\n\
 }\n\
-function markedNumbers(row) {\n\
-const found = [{ y: Number(row.number), label: `${row.verdict} ${row.number}` }];\n\
-if (row.first_missed) found.push({ y: Number(row.first_missed.number), label: `missed ${row.first_missed.number}` });\n\
-return found.filter((mark, at) => at === 0 || mark.y !== found[0].y);\n\
+function entryParts([x, at, what, ...rest]) {\n\
+const count = what === 'gone' ? 2 : 1;\n\
+return { x, at, what, numbers: rest.slice(0, count), named: rest[count] };\n\
 }\n\
-function dotsOf(acts) {\n\
+const namesOf = (reader) => [undefined, reader, prefixOf(reader), entityOf(reader)];\n\
+function markedNumbers({ verdict, number, first_missed: missed }) {\n\
+const found = [{ y: Number(number), label: `${verdict} ${number}` }];\n\
+return missed && missed.number !== number ? [...found, { y: Number(missed.number), label: `missed ${missed.number}` }] : found;\n\
+}\n\
+function dotsOf(entries) {\n\
 const seen = new Set();\n\
-return acts.map(([datagram, at, , number]) => {\n\
+return entries.map(({ x, at, numbers: [number] }) => {\n\
 const again = seen.has(number);\n\
 seen.add(number);\n\
-return { x: datagram, y: Number(number), number, at, again };\n\
+return { x, y: Number(number), number, at, again };\n\
 });\n\
 }\n\
-function bandsOf(acts) {\n\
+function bandsOf(entries) {\n\
 const bands = [];\n\
 let below = 0;\n\
-for (const [datagram, , , from, to] of acts) {\n\
-const [low, high] = [Number(from), Number(to)];\n\
+for (const { x, numbers } of entries) {\n\
+const [low, high] = numbers.map(Number);\n\
 if (high <= below) continue;\n\
 const follows = low <= below + 1;\n\
-bands.push({ x: datagram, low: follows ? below + 1 : low, high, follows });\n\
+bands.push({ x, low: follows ? below + 1 : low, high, follows });\n\
 if (follows) below = high;\n\
 }\n\
 return bands;\n\
 }\n\
 function stepsOf(points) {\n\
 const steps = [];\n\
-for (const [x, y] of points) {\n\
-if (steps.length === 0 || y > steps[steps.length - 1].y) steps.push({ x, y });\n\
+for (const point of points) {\n\
+if (steps.length === 0 || point.y > steps[steps.length - 1].y) steps.push(point);\n\
 }\n\
 return steps;\n\
 }\n\
@@ -1137,28 +708,26 @@ const found = [];\n\
 for (let at = Math.ceil(low / step) * step; at <= high && found.length < 50; at += step) found.push(at);\n\
 return found;\n\
 }\n\
+const shortNumber = (n) => (n < 1e7 ? String(Math.round(n)) : n.toExponential(1).replace('e+', 'e'));\n\
 class Chart {\n\
 constructor(report, row) {\n\
 this.marks = marksOf(report, row);\n\
-this.all = this.extent(report.counts.datagrams);\n\
-this.view = this.all;\n\
-this.at = null;\n\
-this.drag = null;\n\
-this.width = 0;\n\
-this.still = document.createElement('canvas');\n\
+this.all = this.extent(report.data.datagrams);\n\
+Object.assign(this, { view: this.all, at: null, drag: null, width: 0, still: document.createElement('canvas') });\n\
 this.canvas = make('canvas', {\n\
 tabindex: '0', role: 'application', 'aria-label': this.description(row), 'aria-describedby': 'chart-help',\n\
 });\n\
-this.readout = make('p', { class: 'readout', role: 'status' }, 'Point at a dot to read it.');\n\
-this.element = make('figure', { class: 'chart' }, this.canvas, this.controls(), this.readout, legend(), this.help());\n\
+this.readout = make('p', { class: 'readout', role: 'status' }, POINT);\n\
+this.element = make('figure', { class: 'chart' }, this.canvas, this.controls(), this.readout, legend(),\n\
+make('figcaption', { id: 'chart-help' }, 'Datagrams to the right, numbers upwards. Drag to zoom, double-click to show all. Keys: left and '\n\
++ 'right go from dot to dot, + and − zoom, Shift and an arrow move, 0 shows all.'));\n\
 this.listen();\n\
 }\n\
 extent(datagrams) {\n\
 const { dots, bands, announced, acknowledged, numbers } = this.marks;\n\
 let top = 1;\n\
-for (const { y } of [...announced, ...acknowledged, ...numbers]) top = Math.max(top, y);\n\
+for (const { y, high } of [...announced, ...acknowledged, ...numbers, ...bands]) top = Math.max(top, y ?? high);\n\
 for (const { y } of dots) top = Math.max(top, y);\n\
-for (const { high } of bands) top = Math.max(top, high);\n\
 return { x0: 0, x1: Math.max(2, datagrams + 1), y0: 0, y1: top * 1.06 + 1 };\n\
 }\n\
 description(row) {\n\
@@ -1168,32 +737,19 @@ return `Chart of datagrams and numbers: ${plural(dots.length, 'DATA', 'DATA')} t
 + `${plural(answers.length, 'answer')} of the reader, and a line at ${row.verdict} ${row.number}.`;\n\
 }\n\
 controls() {\n\
-const button = (label, act) => {\n\
-const element = make('button', { type: 'button' }, label);\n\
-element.addEventListener('click', act);\n\
-return element;\n\
-};\n\
-return make('div', { class: 'controls', role: 'group', 'aria-label': 'Chart' },\n\
-button('Zoom in', () => this.zoom(0.5)), button('Zoom out', () => this.zoom(2)),\n\
-button('Earlier', () => this.pan(-0.5, 0)), button('Later', () => this.pan(0.5, 0)),\n\
-button('Lower', () => this.pan(0, -0.5)), button('Higher', () => this.pan(0, 0.5)),\n\
-button('Show all', () => this.show(this.all)));\n\
-}\n\
-help() {\n\
-return make('figcaption', { id: 'chart-help' },\n\
-'Datagrams to the right, numbers upwards. Drag to zoom, double-click to show all. Keys: left and right go from dot to dot, + and − '\n\
-+ 'zoom, Shift and an arrow move, 0 shows all.');\n\
+const acts = [\n\
+['Zoom in', () => this.zoom(0.5)], ['Zoom out', () => this.zoom(2)], ['Earlier', () => this.pan(-0.5, 0)], ['Later', () => this.pan(0.5, 0)],\n\
+['Lower', () => this.pan(0, -0.5)], ['Higher', () => this.pan(0, 0.5)], ['Show all', () => this.show(this.all)],\n\
+];\n\
+return make('div', { class: 'controls', role: 'group', 'aria-label': 'Chart' }, ...acts.map(([label, act]) => makeButton(null, label, act)));\n\
 }\n\
 listen() {\n\
-const { canvas } = this;\n\
-canvas.addEventListener('pointermove', (event) => this.pointed(event));\n\
-canvas.addEventListener('pointerdown', (event) => this.pressed(event));\n\
-canvas.addEventListener('pointerup', (event) => this.released(event));\n\
-canvas.addEventListener('pointercancel', () => this.left());\n\
-canvas.addEventListener('pointerleave', () => this.left());\n\
-canvas.addEventListener('dblclick', () => this.show(this.all));\n\
-canvas.addEventListener('keydown', (event) => this.key(event));\n\
-new ResizeObserver(() => this.draw()).observe(canvas);\n\
+const acts = {\n\
+pointermove: (event) => this.pointed(event), pointerdown: (event) => this.pressed(event), pointerup: (event) => this.released(event),\n\
+pointercancel: () => this.left(), pointerleave: () => this.left(), dblclick: () => this.show(this.all), keydown: (event) => this.key(event),\n\
+};\n\
+for (const [name, act] of Object.entries(acts)) this.canvas.addEventListener(name, act);\n\
+new ResizeObserver(() => this.draw()).observe(this.canvas);\n\
 }\n\
 pixelX(x) {\n\
 return EDGES.left + (x - this.view.x0) / (this.view.x1 - this.view.x0) * (this.width - EDGES.left - EDGES.right);\n\
@@ -1234,31 +790,28 @@ const { x0, x1, y0, y1 } = this.view;\n\
 const [dx, dy] = [right * (x1 - x0), up * (y1 - y0)];\n\
 this.show(this.within([x0 + dx, x1 + dx, y0 + dy, y1 + dy]));\n\
 }\n\
-within([x0, x1, y0, y1]) {\n\
+within([left, right, bottom, top]) {\n\
 const fit = (low, high, least, most) => {\n\
 const size = Math.min(Math.max(high - low, Math.min(4, most - least)), most - least);\n\
 const start = Math.min(Math.max((low + high - size) / 2, least), most - size);\n\
 return [start, start + size];\n\
 };\n\
-const { all } = this;\n\
-const [[left, right], [bottom, top]] = [fit(x0, x1, all.x0, all.x1), fit(y0, y1, all.y0, all.y1)];\n\
-return { x0: left, x1: right, y0: bottom, y1: top };\n\
+const [[x0, x1], [y0, y1]] = [fit(left, right, this.all.x0, this.all.x1), fit(bottom, top, this.all.y0, this.all.y1)];\n\
+return { x0, x1, y0, y1 };\n\
 }\n\
 choose(dot) {\n\
 if (dot === this.at) return;\n\
 this.at = dot;\n\
-this.readout.textContent = dot\n\
-? `DATA of number ${dot.number} in datagram ${dot.x}, octet ${dot.at}${dot.again ? ', sent again' : ''}.`\n\
-: 'Point at a dot to read it.';\n\
+this.readout.textContent = dot ? `DATA of number ${dot.number} in datagram ${dot.x}, octet ${dot.at}${dot.again ? ', sent again' : ''}.` : POINT;\n\
 this.paint();\n\
 }\n\
 pointed({ offsetX, offsetY }) {\n\
-if (this.drag) {\n\
+if (!this.drag) {\n\
+this.choose(this.nearest(offsetX, offsetY));\n\
+return;\n\
+}\n\
 [this.drag.x1, this.drag.y1] = [offsetX, offsetY];\n\
 this.paint();\n\
-} else {\n\
-this.choose(this.nearest(offsetX, offsetY));\n\
-}\n\
 }\n\
 pressed(event) {\n\
 if (event.button !== 0) return;\n\
@@ -1266,37 +819,28 @@ this.canvas.setPointerCapture(event.pointerId);\n\
 this.drag = { x0: event.offsetX, y0: event.offsetY, x1: event.offsetX, y1: event.offsetY };\n\
 }\n\
 released({ offsetX, offsetY }) {\n\
-const { drag } = this;\n\
+const { drag, view: { x0, x1, y0, y1 } } = this;\n\
 this.drag = null;\n\
 if (!drag) return;\n\
 const [a, b] = [this.valueAt(drag.x0, drag.y0), this.valueAt(drag.x1, drag.y1)];\n\
-const wide = Math.abs(drag.x1 - drag.x0) >= REACH;\n\
-const high = Math.abs(drag.y1 - drag.y0) >= REACH;\n\
-const { x0, x1, y0, y1 } = this.view;\n\
+const [wide, high] = [Math.abs(drag.x1 - drag.x0) >= REACH, Math.abs(drag.y1 - drag.y0) >= REACH];\n\
+const inOrder = (p, q) => [Math.min(p, q), Math.max(p, q)];\n\
 if (wide || high) {\n\
-const sides = [...(wide ? [a.x, b.x] : [x0, x1]).sort((p, q) => p - q), ...(high ? [a.y, b.y] : [y0, y1]).sort((p, q) => p - q)];\n\
-this.show(this.within(sides));\n\
+this.show(this.within([...(wide ? inOrder(a.x, b.x) : [x0, x1]), ...(high ? inOrder(a.y, b.y) : [y0, y1])]));\n\
 } else {\n\
 this.choose(this.nearest(offsetX, offsetY));\n\
 this.paint();\n\
 }\n\
 }\n\
 left() {\n\
-if (this.drag) return;\n\
-this.choose(null);\n\
+if (!this.drag) this.choose(null);\n\
 }\n\
 key(event) {\n\
-const acts = {\n\
-'+': () => this.zoom(0.5),\n\
-'=': () => this.zoom(0.5),\n\
-'-': () => this.zoom(2),\n\
-0: () => this.show(this.all),\n\
-ArrowLeft: () => (event.shiftKey ? this.pan(-0.2, 0) : this.step(-1)),\n\
-ArrowRight: () => (event.shiftKey ? this.pan(0.2, 0) : this.step(1)),\n\
-ArrowUp: event.shiftKey && (() => this.pan(0, 0.2)),\n\
-ArrowDown: event.shiftKey && (() => this.pan(0, -0.2)),\n\
-};\n\
-if (event.ctrlKey || event.metaKey || event.altKey || !Object.hasOwn(acts, event.key) || !acts[event.key]) return;\n\
+const acts = event.shiftKey\n\
+? { ArrowLeft: () => this.pan(-0.2, 0), ArrowRight: () => this.pan(0.2, 0), ArrowUp: () => this.pan(0, 0.2), ArrowDown: () => this.pan(0, -0.2) }\n\
+: { ArrowLeft: () => this.step(-1), ArrowRight: () => this.step(1) };\n\
+Object.assign(acts, { '+': () => this.zoom(0.5), '=': () => this.zoom(0.5), '-': () => this.zoom(2), 0: () => this.show(this.all) });\n\
+if (event.ctrlKey || event.metaKey || event.altKey || !Object.hasOwn(acts, event.key)) return;\n\
 event.preventDefault();\n\
 acts[event.key]();\n\
 }\n\
@@ -1304,8 +848,7 @@ step(by) {\n\
 const dots = this.marks.dots.filter((dot) => this.isInSight(dot));\n\
 if (dots.length === 0) return;\n\
 const at = dots.indexOf(this.at);\n\
-const next = at < 0 ? (by > 0 ? 0 : dots.length - 1) : Math.min(Math.max(at + by, 0), dots.length - 1);\n\
-this.choose(dots[next]);\n\
+this.choose(at < 0 ? dots.at(by > 0 ? 0 : -1) : dots[Math.min(Math.max(at + by, 0), dots.length - 1)]);\n\
 }\n\
 draw() {\n\
 const { canvas, still } = this;\n\
@@ -1316,8 +859,10 @@ for (const each of [canvas, still]) [each.width, each.height] = [Math.round(this
 this.style = getComputedStyle(canvas);\n\
 this.pen = still.getContext('2d');\n\
 this.pen.scale(scale, scale);\n\
-this.axes();\n\
-this.clip();\n\
+this.drawAxes();\n\
+this.pen.beginPath();\n\
+this.pen.rect(EDGES.left, EDGES.top - 6, this.width - EDGES.left - EDGES.right, CHART_HEIGHT - EDGES.top - EDGES.bottom + 6);\n\
+this.pen.clip();\n\
 this.drawBands();\n\
 this.drawSteps(this.marks.announced, '--announced', 1.25);\n\
 this.drawSteps(this.marks.acknowledged, '--acknowledged', 3.5);\n\
@@ -1328,22 +873,28 @@ this.paint();\n\
 }\n\
 paint() {\n\
 if (!this.style || !this.width) return;\n\
-const { canvas, still } = this;\n\
-this.pen = canvas.getContext('2d');\n\
-this.pen.setTransform(1, 0, 0, 1, 0, 0);\n\
-this.pen.clearRect(0, 0, canvas.width, canvas.height);\n\
-this.pen.drawImage(still, 0, 0);\n\
-this.pen.scale(canvas.width / this.width, canvas.height / CHART_HEIGHT);\n\
-this.drawChosen();\n\
-this.drawDrag();\n\
+const { canvas, at, drag } = this;\n\
+const pen = canvas.getContext('2d');\n\
+pen.setTransform(1, 0, 0, 1, 0, 0);\n\
+pen.clearRect(0, 0, canvas.width, canvas.height);\n\
+pen.drawImage(this.still, 0, 0);\n\
+pen.scale(canvas.width / this.width, canvas.height / CHART_HEIGHT);\n\
+pen.strokeStyle = this.colour('--ink');\n\
+if (at && this.isInSight(at)) {\n\
+pen.lineWidth = 2;\n\
+pen.beginPath();\n\
+pen.arc(this.pixelX(at.x), this.pixelY(at.y), 7, 0, 7);\n\
+pen.stroke();\n\
 }\n\
-clip() {\n\
-this.pen.beginPath();\n\
-this.pen.rect(EDGES.left, EDGES.top - 6, this.width - EDGES.left - EDGES.right, CHART_HEIGHT - EDGES.top - EDGES.bottom + 6);\n\
-this.pen.clip();\n\
+pen.lineWidth = 1;\n\
+if (drag) pen.strokeRect(Math.min(drag.x0, drag.x1), Math.min(drag.y0, drag.y1), Math.abs(drag.x1 - drag.x0), Math.abs(drag.y1 - drag.y0));\n\
 }\n\
 colour(name) {\n\
 return this.style.getPropertyValue(name).trim();\n\
+}\n\
+penOf(colour, thickness) {\n\
+Object.assign(this.pen, { strokeStyle: this.colour(colour), fillStyle: this.colour(colour), lineWidth: thickness });\n\
+return this.pen;\n\
 }\n\
 line(x0, y0, x1, y1) {\n\
 this.pen.beginPath();\n\
@@ -1351,41 +902,33 @@ this.pen.moveTo(x0, y0);\n\
 this.pen.lineTo(x1, y1);\n\
 this.pen.stroke();\n\
 }\n\
-axes() {\n\
-const { pen, view, width } = this;\n\
-pen.font = `12px ${this.style.fontFamily}`;\n\
-pen.fillStyle = this.colour('--faint');\n\
-pen.strokeStyle = this.colour('--line');\n\
-pen.lineWidth = 1;\n\
-pen.textBaseline = 'middle';\n\
-pen.textAlign = 'right';\n\
+drawAxes() {\n\
+const { view, width } = this;\n\
+const pen = this.penOf('--faint', 1);\n\
+Object.assign(pen, { font: `12px ${this.style.fontFamily}`, strokeStyle: this.colour('--line'), textBaseline: 'middle', textAlign: 'right' });\n\
 for (const y of ticks(view.y0, view.y1, 6)) {\n\
 this.line(EDGES.left, this.pixelY(y), width - EDGES.right, this.pixelY(y));\n\
 pen.fillText(shortNumber(y), EDGES.left - 8, this.pixelY(y));\n\
 }\n\
+pen.fillText('datagram', width - EDGES.right, CHART_HEIGHT - 8);\n\
 pen.textBaseline = 'top';\n\
 for (const x of ticks(view.x0, view.x1, Math.max(2, width / 110))) {\n\
 this.line(this.pixelX(x), CHART_HEIGHT - EDGES.bottom, this.pixelX(x), CHART_HEIGHT - EDGES.bottom + 4);\n\
 pen.textAlign = this.pixelX(x) > width - 30 ? 'right' : 'center';\n\
 pen.fillText(shortNumber(x), Math.min(this.pixelX(x), width - 4), CHART_HEIGHT - EDGES.bottom + 6);\n\
 }\n\
-pen.textAlign = 'right';\n\
-pen.fillText('datagram', width - EDGES.right, CHART_HEIGHT - 13);\n\
-pen.textAlign = 'left';\n\
-pen.textBaseline = 'middle';\n\
+Object.assign(pen, { textAlign: 'left', textBaseline: 'middle' });\n\
 pen.fillText('number', 4, 8);\n\
 }\n\
 drawBands() {\n\
-const { pen } = this;\n\
-pen.fillStyle = this.colour('--band');\n\
-pen.strokeStyle = this.colour('--band-edge');\n\
-pen.lineWidth = 1;\n\
-this.outline(this.marks.bands.filter(({ follows }) => follows).map(({ x, high }) => ({ x, y: high + 0.5 })));\n\
-pen.lineTo(this.pixelX(this.all.x1), this.pixelY(0));\n\
-pen.fill();\n\
-pen.stroke();\n\
+const pen = this.penOf('--band-edge', 1);\n\
 const right = this.pixelX(this.all.x1);\n\
 const drawn = new Set();\n\
+pen.fillStyle = this.colour('--band');\n\
+this.outline(this.marks.bands.filter(({ follows }) => follows).map(({ x, high }) => ({ x, y: high + 0.5 })));\n\
+pen.lineTo(right, this.pixelY(0));\n\
+pen.fill();\n\
+pen.stroke();\n\
 for (const { x, low, high } of this.marks.bands.filter(({ follows }) => !follows)) {\n\
 const [left, top, bottom] = [this.pixelX(x), this.pixelY(high + 0.5), this.pixelY(low - 0.5)];\n\
 const key = `${Math.round(left)} ${Math.round(top)} ${Math.round(bottom)}`;\n\
@@ -1411,28 +954,21 @@ pen.lineTo(x, y);\n\
 if (column !== null) pen.lineTo(this.pixelX(this.all.x1), y);\n\
 }\n\
 drawSteps(steps, colour, thickness) {\n\
-this.pen.strokeStyle = this.colour(colour);\n\
-this.pen.lineWidth = thickness;\n\
+this.penOf(colour, thickness);\n\
 this.outline(steps);\n\
 this.pen.stroke();\n\
 }\n\
 drawAnswers() {\n\
 const answers = this.marks.answers.filter((answer) => this.isInSight(answer));\n\
 if (answers.length > MANY_ANSWERS) return;\n\
-this.pen.strokeStyle = this.colour('--acknowledged');\n\
-this.pen.lineWidth = 1.25;\n\
-for (const { x, y } of answers) {\n\
-this.line(this.pixelX(x), this.pixelY(y) - 6, this.pixelX(x), this.pixelY(y) + 6);\n\
-}\n\
+this.penOf('--acknowledged', 1.25);\n\
+for (const { x, y } of answers) this.line(this.pixelX(x), this.pixelY(y) - 6, this.pixelX(x), this.pixelY(y) + 6);\n\
 }\n\
 drawDots() {\n\
-const { pen } = this;\n\
+const pen = this.penOf('--data', 1.25);\n\
 const dots = this.marks.dots.filter((dot) => this.isInSight(dot));\n\
 const radius = dots.length > MANY_DOTS ? 1.2 : dots.length > 400 ? 2.2 : 3.2;\n\
 const drawn = new Set();\n\
-pen.fillStyle = this.colour('--data');\n\
-pen.strokeStyle = this.colour('--data');\n\
-pen.lineWidth = 1.25;\n\
 for (const dot of dots) {\n\
 const [x, y] = [this.pixelX(dot.x), this.pixelY(dot.y)];\n\
 const key = (Math.round(x) * CHART_HEIGHT + Math.round(y)) * 2 + Number(dot.again);\n\
@@ -1444,37 +980,13 @@ if (dot.again) pen.stroke();\n\
 else pen.fill();\n\
 }\n\
 }\n\
-drawChosen() {\n\
-const { pen, at } = this;\n\
-if (!at || !this.isInSight(at)) return;\n\
-pen.strokeStyle = this.colour('--ink');\n\
-pen.lineWidth = 2;\n\
-pen.beginPath();\n\
-pen.arc(this.pixelX(at.x), this.pixelY(at.y), 7, 0, 7);\n\
-pen.stroke();\n\
-this.drawDotWords();\n\
-}\n\
-drawDotWords() {\n\
-const { pen, width, at } = this;\n\
-const isRight = this.pixelX(at.x) > width / 2;\n\
-pen.fillStyle = this.colour('--ink');\n\
-pen.font = `12px ${this.style.fontFamily}`;\n\
-pen.textAlign = isRight ? 'right' : 'left';\n\
-pen.textBaseline = 'middle';\n\
-const [x, y] = [this.pixelX(at.x) + (isRight ? -12 : 12), Math.max(EDGES.top + 4, this.pixelY(at.y))];\n\
-this.words(`${at.number} in datagram ${at.x}, octet ${at.at}`, x, y);\n\
-}\n\
 drawMarks() {\n\
-const { pen, width } = this;\n\
-pen.strokeStyle = this.colour('--mark');\n\
-pen.fillStyle = this.colour('--mark');\n\
-pen.lineWidth = 1.5;\n\
+const { width } = this;\n\
+const pen = this.penOf('--mark', 1.5);\n\
+Object.assign(pen, { font: `bold 12px ${this.style.fontFamily}`, textBaseline: 'bottom' });\n\
 pen.setLineDash([6, 4]);\n\
-pen.font = `bold 12px ${this.style.fontFamily}`;\n\
-pen.textBaseline = 'bottom';\n\
 for (const { y, label } of this.marks.numbers) {\n\
 this.line(EDGES.left, this.pixelY(y), width, this.pixelY(y));\n\
-pen.textAlign = 'left';\n\
 this.words(label, EDGES.left + 4, this.pixelY(y) - 3);\n\
 }\n\
 for (const { x, label } of this.marks.datagrams) {\n\
@@ -1489,37 +1001,22 @@ words(text, x, y) {\n\
 const { pen } = this;\n\
 pen.save();\n\
 pen.setLineDash([]);\n\
-pen.strokeStyle = this.colour('--sheet');\n\
-pen.lineWidth = 4;\n\
-pen.lineJoin = 'round';\n\
+Object.assign(pen, { strokeStyle: this.colour('--sheet'), lineWidth: 4, lineJoin: 'round' });\n\
 pen.strokeText(text, x, y);\n\
 pen.fillText(text, x, y);\n\
 pen.restore();\n\
 }\n\
-drawDrag() {\n\
-if (!this.drag) return;\n\
-const { x0, y0, x1, y1 } = this.drag;\n\
-this.pen.strokeStyle = this.colour('--ink');\n\
-this.pen.lineWidth = 1;\n\
-this.pen.strokeRect(Math.min(x0, x1), Math.min(y0, y1), Math.abs(x1 - x0), Math.abs(y1 - y0));\n\
-}\n\
-}\n\
-function shortNumber(n) {\n\
-return n < 1e7 ? String(Math.round(n)) : n.toExponential(1).replace('e+', 'e');\n\
 }\n\
 const SVG = 'http://www.w3.org/2000/svg';\n\
-function drawn(tag, attributes) {\n\
+function drawn(tag, attributes, ...children) {\n\
 const element = document.createElementNS(SVG, tag);\n\
 for (const [name, value] of Object.entries(attributes)) element.setAttribute(name, value);\n\
+element.append(...children);\n\
 return element;\n\
 }\n\
-function sign(...shapes) {\n\
-const svg = drawn('svg', { viewBox: '0 0 24 14', width: '24', height: '14', 'aria-hidden': 'true' });\n\
-svg.append(...shapes);\n\
-return svg;\n\
-}\n\
 function legend() {\n\
-const item = (text, ...shapes) => make('li', null, sign(...shapes), text);\n\
+const item = (text, ...shapes) => make('li', null,\n\
+drawn('svg', { viewBox: '0 0 24 14', width: '24', height: '14', 'aria-hidden': 'true' }, ...shapes), text);\n\
 return make('ul', { class: 'legend' },\n\
 item('DATA to this reader', drawn('circle', { class: 'sent', cx: 12, cy: 7, r: 4 })),\n\
 item('sent again', drawn('circle', { class: 'again', cx: 12, cy: 7, r: 4.5 })),\n\
@@ -1533,48 +1030,38 @@ item('what the verdict is about', drawn('path', { class: 'mark', d: 'M1 7H23' })
 <script>'use strict';\n\
 let chartInSight = null;\n\
 function pairDetail(report, row) {\n\
-const advice = adviceOf(report, row);\n\
 return make('div', { class: 'detail-body' },\n\
 make('div', { class: 'detail-words' },\n\
 make('h3', null, `Pair ${row.at + 1}: `, ...topicName(row.topic)),\n\
 make('p', { class: 'lead' }, verdictSentence(report, row)),\n\
-adviceBox(advice),\n\
+row.advice !== null && make('p', { class: 'advice' }, row.advice),\n\
 make('h4', null, 'What it rests on'),\n\
-make('ul', null, ...evidenceSentences(report, row).map((sentence) => make('li', null, sentence))),\n\
+make('ul', null, ...evidenceSentences(row).map((sentence) => make('li', null, sentence))),\n\
 make('h4', null, 'Who they are'),\n\
-endpointList(report, row),\n\
+make('dl', { class: 'ends-list' }, ...endParts(report, 'Writer', row.writer), ...endParts(report, 'Reader', row.reader),\n\
+make('dt', null, 'Type'), make('dd', null, ...typeName(row.type))),\n\
 placeHelp(report, row)),\n\
 make('div', { class: 'detail-chart' }, chartOf(report, row)));\n\
 }\n\
-function adviceBox({ means, todo }) {\n\
-return make('div', { class: 'advice' }, make('p', null, means), todo && make('p', null, make('b', null, 'What to do: '), todo));\n\
-}\n\
-function endpointList(report, row) {\n\
-const part = (side, guid) => {\n\
+function endParts(report, side, guid) {\n\
 const [endpoint, participant] = [report.endpointOf.get(guid), report.participantOf(guid)];\n\
 return [make('dt', null, side), make('dd', null, ...endpointName(report, guid),\n\
-endpoint ? make('div', { class: 'qos' }, `${endpoint.reliability}, ${endpoint.durability}`) : null,\n\
-participant ? make('div', { class: 'qos' }, `${participant.name} ${topicsText(participant)}`) : null)];\n\
-};\n\
-return make('dl', { class: 'ends-list' }, ...part('Writer', row.writer), ...part('Reader', row.reader),\n\
-make('dt', null, 'Type'), make('dd', null, ...typeName(row.type)));\n\
+endpoint && make('div', { class: 'qos' }, `${endpoint.reliability}, ${endpoint.durability}`),\n\
+participant && make('div', { class: 'qos' }, `${participant.name} ${topicsText(participant)}`))];\n\
 }\n\
-function placeHelp(report, row) {\n\
+function placeHelp({ data }, row) {\n\
 const place = row.claimed || row.acknowledged || row.announced;\n\
 if (!place) return null;\n\
-const frame = report.counts.ignored === 0 ? ` It is frame ${place.datagram} in Wireshark.` : '';\n\
+const frame = data.ignored === 0 && !data.options.any ? ` It is frame ${place.datagram} in Wireshark.` : '';\n\
 return make('p', { class: 'hint' }, `An octet is counted from 0 in the UDP payload. “rtps-audit show” prints datagram ${place.datagram}, and `\n\
 + `a line for each submessage in it with its octet, such as ${place.at}.${frame}`);\n\
 }\n\
 function chartOf(report, row) {\n\
-chartInSight = null;\n\
-if (!report.actsOf(row)) {\n\
-return make('p', { class: 'no-chart' }, 'The chart of this pair was left out: a page has room for 200,000 acts and answers, and other '\n\
-+ 'pairs came first. A recording of fewer participants brings it: cut one by tshark, so that all traffic of some participants stays (the '\n\
-+ 'guide, section 7, “Larger recordings”, says how).');\n\
-}\n\
-chartInSight = new Chart(report, row);\n\
-return chartInSight.element;\n\
+chartInSight = report.basesOf(row) ? new Chart(report, row) : null;\n\
+if (chartInSight) return chartInSight.element;\n\
+return make('p', { class: 'no-chart' }, 'The chart of this pair was left out: a page has room for 200,000 acts and answers, and other pairs '\n\
++ 'came first. A recording of fewer participants brings it: cut one by tshark, so that all traffic of some participants stays (the guide, '\n\
++ 'section 7, “Larger recordings”, says how).');\n\
 }\n\
 function redrawChart() {\n\
 if (chartInSight) chartInSight.draw();\n\
@@ -1583,28 +1070,23 @@ if (chartInSight) chartInSight.draw();\n\
 <script>'use strict';\n\
 const FIRST_ROWS = 100;\n\
 const MORE_ROWS = 500;\n\
-const byNumber = (member) => (a, b) => compareNumbers(member(a), member(b));\n\
 const byText = (member) => (a, b) => (a[member] < b[member] ? -1 : Number(a[member] > b[member]));\n\
-const byCount = (member) => byNumber((row) => row[member]);\n\
+const byCount = (numberOf) => (a, b) => compareNumbers(numberOf(a), numberOf(b));\n\
 const worse = (a, b) => a.rank - b.rank;\n\
-function placeColumn(name, head, numberOf) {\n\
-return {\n\
-name, head, class: 'count', compare: byNumber(numberOf),\n\
-cell: (report, row) => (row[name] ? String(numberOf(row)) : '–'),\n\
-};\n\
+function placeColumn(name, head, member) {\n\
+const numberOf = (row) => (row[name] ? row[name][member] : 0);\n\
+return { name, head, class: 'count', compare: byCount(numberOf), cell: (report, row) => (row[name] ? String(numberOf(row)) : '–') };\n\
 }\n\
 function countColumn(name, head, isBad) {\n\
-return {\n\
-name, head, class: 'count', compare: byCount(name),\n\
-cell: (report, row) => (isBad && isAbove(row[name], 0) ? make('b', { class: 'bad' }, counted(row[name])) : counted(row[name])),\n\
-};\n\
+const cell = (report, row) => (isBad && isAbove(row[name], 0) ? make('b', { class: 'bad' }, counted(row[name])) : counted(row[name]));\n\
+return { name, head, class: 'count', compare: byCount((row) => row[name]), cell };\n\
 }\n\
 const COLUMNS = [\n\
 { name: 'verdict', head: 'Verdict', compare: (a, b) => worse(a, b) || compareNumbers(a.number, b.number), cell: verdictCell },\n\
 { name: 'writer', head: 'Writer', compare: byText('writer'), cell: (report, row) => endpointName(report, row.writer) },\n\
 { name: 'reader', head: 'Reader', compare: byText('reader'), cell: (report, row) => endpointName(report, row.reader) },\n\
-placeColumn('announced', 'Last announced', ({ announced }) => (announced ? announced.number : 0)),\n\
-placeColumn('acknowledged', 'Acknowledged below', ({ acknowledged }) => (acknowledged ? acknowledged.below : 0)),\n\
+placeColumn('announced', 'Last announced', 'number'),\n\
+placeColumn('acknowledged', 'Acknowledged below', 'below'),\n\
 countColumn('payloads', 'Payloads', false),\n\
 countColumn('gone', 'Gone', true),\n\
 countColumn('untold', 'Untold', true),\n\
@@ -1614,25 +1096,17 @@ countColumn('missed', 'Missed', true),\n\
 const WORST_FIRST = { name: 'worst', head: 'Worst first', compare: worse };\n\
 const BY_TOPIC = { name: 'topic', head: 'Topic', compare: (a, b) => byText('topic')(a, b) || worse(a, b) };\n\
 const BY_TYPE = { name: 'type', head: 'Type', compare: (a, b) => byText('type')(a, b) || worse(a, b) };\n\
+const ORDERS = [WORST_FIRST, BY_TOPIC, BY_TYPE, ...COLUMNS];\n\
 function verdictCell(report, row) {\n\
-const datagram = row.datagram === undefined ? null : make('span', { class: 'in-datagram' }, ` in datagram ${row.datagram}`);\n\
-const lost = row.kind === 'missed' ? `missed ${counted(row.missed)}` : row.kind === 'gone' ? `gone ${counted(row.gone)}` : null;\n\
+const lost = row.kind === 'missed' || row.kind === 'gone';\n\
 return make('a', { href: `#pair-${row.at + 1}`, 'aria-expanded': 'false' },\n\
-badge(row.verdict, row.verdict), ' ', make('span', { class: 'number' }, String(row.number)), datagram,\n\
-lost && [' ', badge(row.kind, lost)], make('span', { class: 'hidden' }, `, pair ${row.at + 1}`));\n\
+badge(row.verdict, row.verdict), ' ', make('span', { class: 'number' }, String(row.number)),\n\
+row.datagram !== undefined && make('span', { class: 'in-datagram' }, ` in datagram ${row.datagram}`),\n\
+lost && [' ', badge(row.kind, `${row.kind} ${counted(row[row.kind])}`)], make('span', { class: 'hidden' }, `, pair ${row.at + 1}`));\n\
 }\n\
 class Pairs {\n\
 constructor(report) {\n\
-this.report = report;\n\
-this.columns = COLUMNS.filter(({ name }) => report.hasReceived() || (name !== 'received' && name !== 'missed'));\n\
-this.orders = [WORST_FIRST, BY_TOPIC, BY_TYPE, ...this.columns];\n\
-this.words = [];\n\
-this.kinds = new Set();\n\
-this.order = WORST_FIRST;\n\
-this.isDown = false;\n\
-this.most = FIRST_ROWS;\n\
-this.chosen = null;\n\
-this.texts = null;\n\
+Object.assign(this, { report, words: [], kinds: new Set(), order: WORST_FIRST, isDown: false, most: FIRST_ROWS, chosen: null });\n\
 this.sort();\n\
 this.build();\n\
 this.render();\n\
@@ -1641,85 +1115,79 @@ sort() {\n\
 const direction = this.isDown ? -1 : 1;\n\
 this.sorted = [...this.report.rows].sort((a, b) => direction * this.order.compare(a, b) || a.at - b.at);\n\
 }\n\
-prepare() {\n\
-if (this.texts) return;\n\
-const { report } = this;\n\
-const groups = new Map(report.groups.map((group) => [group,\n\
-[group.topic, group.type, rosTopic(group.topic), rosType(group.type)].filter(Boolean).join(' ').toLowerCase()]));\n\
-this.texts = report.rows.map((row) => {\n\
-const ends = [report.participantOf(row.writer), report.participantOf(row.reader)].filter(Boolean);\n\
-const names = ends.map((participant) => `${participant.name} ${participant.nodes.join(' ')}`).join(' ');\n\
-return `${groups.get(row.group)} ${row.verdict} ${row.number} ${row.kind} ${row.writer} ${row.reader} ${names.toLowerCase()}`;\n\
-});\n\
+hasWord(word) {\n\
+const has = (...texts) => texts.some((text) => text !== null && text.toLowerCase().includes(word));\n\
+const { groups, data } = this.report;\n\
+const found = new Set(groups.filter(({ topic, type }) => has(topic, type, rosTopic(topic), rosType(type))));\n\
+for (const { guid } of data.endpoints) {\n\
+const { name, nodes } = this.report.participantOf(guid);\n\
+if (has(guid, name, ...nodes)) found.add(guid);\n\
+}\n\
+return ({ group, writer, reader, verdict, kind, number }) => (\n\
+found.has(group) || found.has(writer) || found.has(reader) || has(verdict, kind, String(number)));\n\
 }\n\
 matching() {\n\
-if (this.words.length === 0 && this.kinds.size === 0) return this.sorted;\n\
-if (this.words.length > 0) this.prepare();\n\
-return this.sorted.filter((row) => (this.kinds.size === 0 || this.kinds.has(row.kind))\n\
-&& this.words.every((word) => this.texts[row.at].includes(word)));\n\
+const tests = this.words.map((word) => this.hasWord(word));\n\
+if (this.kinds.size > 0) tests.push(({ kind }) => this.kinds.has(kind));\n\
+return tests.reduce((rows, test) => rows.filter(test), this.sorted);\n\
 }\n\
 setFilter(text) {\n\
 this.words = text.toLowerCase().split(/\\s+/).filter(Boolean);\n\
-this.most = FIRST_ROWS;\n\
-this.render();\n\
+this.renderFirst();\n\
 }\n\
 setOrder(order) {\n\
-if (order === this.order) this.isDown = !this.isDown;\n\
-else [this.order, this.isDown] = [order, order.class === 'count'];\n\
-this.most = FIRST_ROWS;\n\
+this.isDown = order === this.order ? !this.isDown : order.class === 'count';\n\
+this.order = order;\n\
 this.sort();\n\
-this.render();\n\
+this.renderFirst();\n\
 }\n\
 toggleKind(kind) {\n\
 if (!this.kinds.delete(kind)) this.kinds.add(kind);\n\
-this.most = FIRST_ROWS;\n\
-this.render();\n\
+this.renderFirst();\n\
 }\n\
 build() {\n\
-this.filter = make('input', {\n\
-type: 'search', id: 'filter', autocomplete: 'off', spellcheck: 'false', placeholder: 'topic, node, verdict, GUID',\n\
-});\n\
+this.filter = make('input', { type: 'search', id: 'filter', autocomplete: 'off', spellcheck: 'false', placeholder: 'topic, node, verdict, GUID' });\n\
 this.filter.addEventListener('input', () => this.setFilter(this.filter.value));\n\
-this.filter.addEventListener('focus', () => this.prepare());\n\
-this.select = make('select', { id: 'order' }, ...this.orders.map(({ name, head }) => make('option', { value: name }, head)));\n\
-this.select.addEventListener('change', () => this.setOrder(this.orders.find(({ name }) => name === this.select.value)));\n\
-this.turn = make('button', { type: 'button' }, 'Reverse');\n\
-this.turn.addEventListener('click', () => this.setOrder(this.order));\n\
+this.select = make('select', { id: 'order' }, ...ORDERS.map(({ name, head }) => make('option', { value: name }, head)));\n\
+this.select.addEventListener('change', () => this.setOrder(ORDERS.find(({ name }) => name === this.select.value)));\n\
 this.status = make('p', { id: 'shown', role: 'status' });\n\
-this.more = make('button', { type: 'button', class: 'more' }, 'Show more');\n\
-this.more.addEventListener('click', () => {\n\
-this.most += MORE_ROWS;\n\
-this.render();\n\
-});\n\
+this.more = makeButton({ class: 'more' }, 'Show more', () => this.showMore());\n\
 this.table = make('table', { class: 'pairs' }, make('caption', { class: 'hidden' }, 'Pairs by topic'), this.heads());\n\
 this.table.addEventListener('click', (event) => this.clicked(event));\n\
 const tools = make('div', { class: 'tools' },\n\
 make('label', { for: 'filter' }, 'Filter'), this.filter,\n\
-make('label', { for: 'order' }, 'Order'), this.select, this.turn);\n\
+make('label', { for: 'order' }, 'Order'), this.select, makeButton(null, 'Reverse', () => this.setOrder(this.order)));\n\
 const wide = make('div', { class: 'wide' }, this.table);\n\
 tools.hidden = wide.hidden = this.report.rows.length === 0;\n\
 document.getElementById('pairs').append(tools, this.status, wide, this.more);\n\
 this.buildVerdicts();\n\
 }\n\
 heads() {\n\
-const cells = this.columns.map((column) => {\n\
-const button = make('button', { type: 'button' }, column.head);\n\
-button.addEventListener('click', () => this.setOrder(column));\n\
-return make('th', { scope: 'col', class: `${column.name} ${column.class || ''}` }, button);\n\
-});\n\
-return make('thead', null, make('tr', null, ...cells));\n\
+return make('thead', null, make('tr', null, ...COLUMNS.map((column) => make('th',\n\
+{ scope: 'col', class: `${column.name} ${column.class || ''}` }, makeButton(null, column.head, () => this.setOrder(column))))));\n\
 }\n\
 buildVerdicts() {\n\
-const buttons = KINDS.filter((kind) => this.report.countOf(kind) > 0).map((kind) => {\n\
-const button = make('button', { type: 'button', class: `badge ${kind}`, 'aria-pressed': 'false' },\n\
-`${counted(this.report.countOf(kind))} ${KIND_WORDS[kind]}`);\n\
-button.addEventListener('click', () => {\n\
+const countOf = (kind) => this.report.rows.filter((row) => row.kind === kind).length;\n\
+this.buttons = KINDS.filter(countOf).map((kind) => makeButton({ class: `badge ${kind}`, 'aria-pressed': 'false' },\n\
+`${counted(countOf(kind))} ${KIND_WORDS[kind]}`, (button) => {\n\
 this.toggleKind(kind);\n\
 button.setAttribute('aria-pressed', String(this.kinds.has(kind)));\n\
-});\n\
-return button;\n\
-});\n\
-document.getElementById('verdicts').append(...buttons);\n\
+}));\n\
+document.getElementById('verdicts').append(...this.buttons);\n\
+}\n\
+renderFirst() {\n\
+this.most = FIRST_ROWS;\n\
+this.render();\n\
+}\n\
+showMore() {\n\
+const first = this.most;\n\
+this.most += MORE_ROWS;\n\
+this.render();\n\
+if (this.more.hidden) this.table.querySelectorAll('tr.pair > th a')[first].focus();\n\
+}\n\
+showAll(isAll) {\n\
+[this.most, this.before] = isAll ? [Infinity, this.most] : [this.before, null];\n\
+this.render();\n\
 }\n\
 render() {\n\
 const rows = this.matching();\n\
@@ -1727,7 +1195,7 @@ const shown = rows.slice(0, this.most);\n\
 this.table.querySelectorAll('tbody').forEach((body) => body.remove());\n\
 this.table.append(...this.bodies(rows, shown));\n\
 this.table.querySelectorAll('thead th').forEach((head, at) => {\n\
-if (this.columns[at] === this.order) head.setAttribute('aria-sort', this.isDown ? 'descending' : 'ascending');\n\
+if (COLUMNS[at] === this.order) head.setAttribute('aria-sort', this.isDown ? 'descending' : 'ascending');\n\
 else head.removeAttribute('aria-sort');\n\
 });\n\
 this.select.value = this.order.name;\n\
@@ -1737,28 +1205,24 @@ this.showChosen();\n\
 }\n\
 statusText(found, shown) {\n\
 const all = this.report.rows.length;\n\
-if (all === 0) return 'There is none: see what weakens this report.';\n\
-const of = found === all ? plural(all, 'pair') : `${counted(found)} of ${plural(all, 'pair')}`;\n\
-return shown < found ? `${of}; the first ${counted(shown)} are shown.` : `${of}.`;\n\
+if (all === 0) return document.querySelector('#text pre').textContent.split('\\n\\n')[0].replace(/\\s+/g, ' ');\n\
+return shown < found ? `${partOf(found, all, 'pair')}; the first ${counted(shown)} are shown.` : `${partOf(found, all, 'pair')}.`;\n\
 }\n\
 bodies(rows, shown) {\n\
 const sizes = new Map();\n\
-for (const row of rows) sizes.set(row.group, (sizes.get(row.group) || 0) + 1);\n\
+for (const { group } of rows) sizes.set(group, (sizes.get(group) || 0) + 1);\n\
 const bodies = new Map();\n\
 for (const row of shown) {\n\
-if (!bodies.has(row.group)) bodies.set(row.group, make('tbody', null, this.groupRow(row.group, sizes.get(row.group))));\n\
-bodies.get(row.group).append(this.row(row));\n\
+entryOf(bodies, row.group, () => make('tbody', null, this.groupRow(row.group, sizes.get(row.group)))).append(this.row(row));\n\
 }\n\
-return [...bodies.values()];\n\
+return bodies.values();\n\
 }\n\
-groupRow(group, size) {\n\
-const all = group.rows.length;\n\
-const pairs = size === all ? plural(all, 'pair') : `${counted(size)} of ${plural(all, 'pair')}`;\n\
-return make('tr', { class: 'group' }, make('th', { scope: 'rowgroup', colspan: this.columns.length },\n\
-...topicName(group.topic), make('span', { class: 'type' }, ...typeName(group.type)), make('span', { class: 'size' }, pairs)));\n\
+groupRow({ topic, type, rows }, size) {\n\
+return make('tr', { class: 'group' }, make('th', { scope: 'rowgroup', colspan: COLUMNS.length }, ...topicName(topic),\n\
+make('span', { class: 'type' }, ...typeName(type)), make('span', { class: 'size' }, partOf(size, rows.length, 'pair'))));\n\
 }\n\
 row(row) {\n\
-const cells = this.columns.map((column, at) => make(at === 0 ? 'th' : 'td',\n\
+const cells = COLUMNS.map((column, at) => make(at === 0 ? 'th' : 'td',\n\
 { class: `${column.name} ${column.class || ''}`, ...(at === 0 ? { scope: 'row' } : {}) }, column.cell(this.report, row)));\n\
 return make('tr', { id: `pair-${row.at + 1}`, class: `pair ${row.kind}` }, ...cells);\n\
 }\n\
@@ -1768,12 +1232,9 @@ const link = event.target.closest('a, button');\n\
 if (!line || (link && !link.closest('th')) || event.ctrlKey || event.metaKey || event.shiftKey || String(getSelection())) return;\n\
 event.preventDefault();\n\
 const at = Number(line.id.slice('pair-'.length)) - 1;\n\
-this.choose(at === this.chosen ? null : at);\n\
-history.replaceState(null, '', this.chosen === null ? '#' : `#${line.id}`);\n\
-}\n\
-choose(at) {\n\
-this.chosen = at;\n\
+this.chosen = at === this.chosen ? null : at;\n\
 this.showChosen();\n\
+history.replaceState(null, '', this.chosen === null ? '#' : `#${line.id}`);\n\
 }\n\
 goTo(at) {\n\
 if (at === this.chosen || !this.report.rows[at]) return;\n\
@@ -1782,7 +1243,7 @@ this.chosen = at;\n\
 if (!document.getElementById(`pair-${at + 1}`)) {\n\
 this.filter.value = `${writer} ${reader}`;\n\
 this.kinds.clear();\n\
-document.querySelectorAll('#verdicts button').forEach((button) => button.setAttribute('aria-pressed', 'false'));\n\
+this.buttons.forEach((button) => button.setAttribute('aria-pressed', 'false'));\n\
 this.setFilter(this.filter.value);\n\
 } else {\n\
 this.showChosen();\n\
@@ -1802,91 +1263,51 @@ if (!line) return;\n\
 line.classList.add('chosen');\n\
 line.querySelector('th a').setAttribute('aria-expanded', 'true');\n\
 line.after(make('tr', { class: 'detail' },\n\
-make('td', { colspan: this.columns.length }, pairDetail(this.report, this.report.rows[this.chosen]))));\n\
+make('td', { colspan: COLUMNS.length }, pairDetail(this.report, this.report.rows[this.chosen]))));\n\
 redrawChart();\n\
 }\n\
 }\n\
 </script>\n\
 <script>'use strict';\n\
-const FIRST_ENDPOINTS = 100;\n\
-const NAMED_MATCHES = 3;\n\
+const PARTICIPANT_LINES = [20, 200];\n\
 function showParticipants(report) {\n\
 const section = document.getElementById('participants');\n\
 const participants = [...report.participants.values()];\n\
-section.append(make('p', null, participantsText(report, participants.length)));\n\
+const pairsOf = new Map();\n\
+for (const row of report.rows) for (const guid of [row.writer, row.reader]) entryOf(pairsOf, guid, () => []).push(row);\n\
+section.append(make('p', null, participants.length === 0\n\
+? 'None is announced.'\n\
+: `${plural(participants.length, 'participant')}, mostly one process each, with ${plural(report.data.endpoints.length, 'endpoint')}. `\n\
++ 'Pairs of best-effort endpoints are not audited.'));\n\
 if (participants.length === 0) return;\n\
 const table = make('table', { class: 'endpoints' }, make('caption', { class: 'hidden' }, 'Endpoints by participant'),\n\
-tableHead('Endpoint', 'Topic', 'QoS', 'Matches'));\n\
+tableHead('Endpoint', 'Topic', 'QoS', 'Pairs of this report'));\n\
 section.append(make('div', { class: 'wide' }, table));\n\
-appendParticipants(report, section, table, participants, FIRST_ENDPOINTS);\n\
+inParts(section, 'participant', participants, PARTICIPANT_LINES, (some) => {\n\
+const bodies = some.map((participant) => participantBody(report, participant, pairsOf));\n\
+table.append(...bodies);\n\
+return bodies.map((body) => body.querySelector('tr'));\n\
+});\n\
 }\n\
-function participantsText(report, count) {\n\
-const ends = plural(report.endpoints.length, 'endpoint');\n\
-return [\n\
-count === 0 ? 'None is announced.' : `${plural(count, 'participant')}, mostly one process each, with ${ends}.`,\n\
-report.endpoints.some(({ topic }) => isOfService(topic)) && 'A service that nobody calls has no match; that is no fault.',\n\
-].filter(Boolean).join(' ');\n\
-}\n\
-function appendParticipants(report, section, table, participants, most) {\n\
-let [at, count] = [0, 0];\n\
-while (at < participants.length && (count < most || count === 0)) {\n\
-const participant = participants[at];\n\
-table.append(participantBody(report, participant));\n\
-count += participant.endpoints.length + 1;\n\
-at += 1;\n\
-}\n\
-const rest = participants.slice(at);\n\
-if (rest.length > 0) section.append(moreButton(rest.length, 'participant', () => appendParticipants(report, section, table, rest, 10 * most)));\n\
-}\n\
-function participantBody(report, participant) {\n\
-const nodes = participant.nodes.length ? ` ${participant.nodes.length === 1 ? 'node' : 'nodes'} ${participant.nodes.join(', ')}` : '';\n\
+function participantBody(report, participant, pairsOf) {\n\
+const { name, nodes, prefix, guid, endpoints } = participant;\n\
 const head = make('tr', { class: 'group', id: `participant-${participant.at}`, tabindex: '-1' },\n\
-make('th', { scope: 'rowgroup', colspan: 4 },\n\
-make('b', { class: 'name' }, participant.name), make('span', { class: 'node' }, nodes), ' ',\n\
-make('code', { class: 'guid' }, participant.prefix),\n\
-participant.guid ? null : make('span', { class: 'hint' }, ' (its own announcement is not in the recording)')));\n\
-if (participant.endpoints.length === 0) {\n\
-return make('tbody', null, head, make('tr', null, make('td', { colspan: 4 }, 'It announced no endpoint.')));\n\
+make('th', { scope: 'rowgroup', colspan: 4 }, make('b', { class: 'name' }, name),\n\
+make('span', { class: 'node' }, nodes.length > 0 && ` ${nodes.length === 1 ? 'node' : 'nodes'} ${nodes.join(', ')}`), ' ',\n\
+make('code', { class: 'guid' }, prefix),\n\
+guid === null && make('span', { class: 'hint' }, ' (its own announcement is not in the recording)')));\n\
+const ordered = [...endpoints].sort((a, b) => byText('side')(b, a) || byText('topic')(a, b));\n\
+const lines = ordered.map((endpoint) => endpointRow(report, endpoint, pairsOf.get(endpoint.guid) || []));\n\
+return make('tbody', null, head, ...lines, endpoints.length === 0 && make('tr', null, make('td', { colspan: 4 }, 'It announced no endpoint.')));\n\
 }\n\
-const ordered = [...participant.endpoints].sort((a, b) => byText('side')(b, a) || byText('topic')(a, b));\n\
-return make('tbody', null, head, ...ordered.map((endpoint) => endpointRow(report, endpoint)));\n\
-}\n\
-function endpointRow(report, endpoint) {\n\
-const { matches, apart } = othersOf(report, endpoint);\n\
-return make('tr', { class: matches.length ? 'matched' : 'unmatched' },\n\
-make('th', { scope: 'row' }, endpoint.side, ' ', make('code', { class: 'guid' }, entityOf(endpoint.guid))),\n\
+function endpointRow(report, endpoint, rows) {\n\
+const links = rows.slice(0, NAMED_PAIRS).flatMap((row, at) => [at > 0 && ', ', pairLink(report, row)]);\n\
+const pairs = rows.length === 0 ? 'in no pair' : [...links, rows.length > NAMED_PAIRS && ` and ${counted(rows.length - NAMED_PAIRS)} more`];\n\
+return make('tr', { class: rows.length > 0 ? 'paired' : 'unpaired' },\n\
+make('th', { scope: 'row' }, endpoint.side, ' ', make('code', { class: 'guid' }, endpoint.guid.slice(25))),\n\
 make('td', null, make('div', null, ...topicName(endpoint.topic)), make('div', { class: 'type' }, ...typeName(endpoint.type))),\n\
 make('td', null, `${endpoint.reliability}, ${endpoint.durability}`),\n\
-make('td', null, matchText(report, endpoint, matches), ...apart.map((found) => apartText(report, endpoint, found))));\n\
-}\n\
-const otherSide = (endpoint) => (endpoint.side === 'writer' ? 'reader' : 'writer');\n\
-function matchText(report, endpoint, matches) {\n\
-const members = matches.flatMap((other) => other.members);\n\
-if (members.length === 0) return make('p', null, badge('none', 'no match'), ` No ${otherSide(endpoint)} of this topic matches.`);\n\
-const reliable = members.filter((other) => other.reliability === 'reliable' && endpoint.reliability === 'reliable').length;\n\
-const rest = members.length - reliable;\n\
-const note = rest === 0 ? '' : reliable === 0 ? ' (best-effort: not audited)' : ` (${counted(rest)} best-effort: not audited)`;\n\
-return make('p', null, `${plural(members.length, otherSide(endpoint))}: `, ...participantLinks(report, members), note);\n\
-}\n\
-function participantLinks(report, members) {\n\
-const participants = [...new Set(members.map(({ guid }) => report.participantOf(guid)))];\n\
-const links = participants.slice(0, NAMED_MATCHES).flatMap((participant, at) => [\n\
-at > 0 ? ', ' : '',\n\
-make('a', { href: `#participant-${participant.at}` }, participant.name),\n\
-participant.nodes.length ? ` ${nodesText(participant)}` : '',\n\
-]);\n\
-return participants.length > NAMED_MATCHES ? [...links, ` and ${counted(participants.length - NAMED_MATCHES)} more`] : links;\n\
-}\n\
-function apartText(report, endpoint, { other, reasons }) {\n\
-const [writer, reader] = endpoint.side === 'writer' ? [endpoint, other] : [other, endpoint];\n\
-const texts = reasons.map((member) => (member === 'type'\n\
-? [`the type of the ${other.side} is `, ...typeName(other.type)]\n\
-: [`the reader asks for ${reader[member]}, and the writer offers ${writer[member]}`]));\n\
-const count = other.members.length;\n\
-return make('p', { class: 'apart' },\n\
-count === 1 ? `A ${other.side} of this topic does not match (` : `${plural(count, other.side)} of this topic do not match (`,\n\
-...participantLinks(report, other.members), '): ',\n\
-...texts.flatMap((text, at) => (at > 0 ? ['; ', ...text] : text)), '.');\n\
+make('td', { class: 'in-pairs' }, pairs));\n\
 }\n\
 </script>\n\
 <script>'use strict';\n\
@@ -1896,20 +1317,19 @@ showOverview(report);\n\
 const pairs = new Pairs(report);\n\
 showParticipants(report);\n\
 document.getElementById('page').hidden = false;\n\
-const go = () => goToAddress(pairs);\n\
-window.addEventListener('hashchange', go);\n\
-go();\n\
-listenForColours();\n\
+window.addEventListener('hashchange', () => goToAddress(pairs));\n\
+goToAddress(pairs);\n\
+listenForPaper(pairs);\n\
 }\n\
 function goToAddress(pairs) {\n\
 const [, at] = /^#pair-(\\d+)$/.exec(location.hash) || [];\n\
 if (at !== undefined) pairs.goTo(Number(at) - 1);\n\
 }\n\
-function listenForColours() {\n\
+function listenForPaper(pairs) {\n\
 matchMedia('(prefers-color-scheme: dark)').addEventListener('change', redrawChart);\n\
 const onPaper = (isOnPaper) => () => {\n\
 document.documentElement.classList.toggle('printed', isOnPaper);\n\
-redrawChart();\n\
+pairs.showAll(isOnPaper);\n\
 };\n\
 window.addEventListener('beforeprint', onPaper(true));\n\
 window.addEventListener('afterprint', onPaper(false));\n\
@@ -1917,7 +1337,8 @@ window.addEventListener('afterprint', onPaper(false));\n\
 try {\n\
 start();\n\
 } catch (error) {\n\
-document.body.append(make('p', null, `This report cannot be shown here: ${error}`));\n\
+document.documentElement.classList.remove('scripted');\n\
+document.getElementById('text').prepend(make('p', null, `The tables of this report cannot be shown here: ${error}`));\n\
 throw error;\n\
 }\n\
 </script>\n\

@@ -1,14 +1,36 @@
-ghost use Rattle.std.specs.Prelude.{ℕ, ◌≡◌, ◌≤◌, ◌-◌, ◌++◌, drop, length, take, List, OnOk};
-ghost use Rattle.rtps_page.specs.SafeText.{safe_octet, safe_text};
+ghost use Rattle.std.specs.Prelude.{ℕ, ◌≡◌, ◌≤◌, ◌-◌, ◌++◌, true, drop, length, take, List, OnOk};
+ghost use Rattle.rtps_page.specs.SafeText.{escape_in, is_markup, safe_octet, safe_text};
 
 use memchr::memchr3;
 use std::alloc::AllocError;
 
-static DIGITS: [u8; 16] = *b"0123456789abcdef";
+/// Where a text stands in the page.
+#[derive(Clone, Copy)]
+pub(crate) enum Place {
+    /// In the text of an element.
+    Html,
+    /// In a string of JSON, or between two.
+    Json,
+}
 
-/// Appends a text with its octets `&`, `<` and `>` as two digits behind `before`. After an `Err` some of it is appended.
-pub(crate) fn push_safe(out: &mut Vec<u8>, before: &[u8], text: &[u8]) -> Result<(), AllocError>
-    ensures { OnOk result (out.new.items ≡ out.old.items ++ safe_text before.now text.now) }
+/// What is written there for `&`, `<` or `>`.
+fn escape_of(place: Place, octet: u8) -> &'static str
+    requires { is_markup octet ≡ true }
+    ensures { result.now ≡ escape_in place octet }
+{
+    match (place, octet) {
+        (Place::Html, b'&') => "&amp;",
+        (Place::Html, b'<') => "&lt;",
+        (Place::Html, _) => "&gt;",
+        (Place::Json, b'&') => "\\u0026",
+        (Place::Json, b'<') => "\\u003c",
+        (Place::Json, _) => "\\u003e",
+    }
+}
+
+/// Appends a text without its octets `&`, `<` and `>`. After an `Err` some of it is appended.
+pub(crate) fn push_safe(out: &mut Vec<u8>, place: Place, text: &[u8]) -> Result<(), AllocError>
+    ensures { OnOk result (out.new.items ≡ out.old.items ++ safe_text (escape_in place) text.now) }
 {
     let mut start = 0;
     'runs: while start < text.len() {
@@ -16,7 +38,7 @@ pub(crate) fn push_safe(out: &mut Vec<u8>, before: &[u8], text: &[u8]) -> Result
         out.extend_from_slice(&text[start..end])?;
         start = end;
         if end < text.len() {
-            push_octet(out, before, text[end])?;
+            push_octet(out, place, text[end])?;
             start = end + 1;
         }
     }
@@ -28,8 +50,8 @@ fn plain_end(text: &[u8], start: usize) -> usize
     requires { start ≤ length text.now }
     ensures onward { start ≤ result }
     ensures within { result ≤ length text.now }
-    ensures plain { (before : List ℕ) → safe_text before (drop start text.now)
-        ≡ take (result - start) (drop start text.now) ++ safe_text before (drop result text.now) }
+    ensures plain { (escape : ℕ → List ℕ) → safe_text escape (drop start text.now)
+        ≡ take (result - start) (drop start text.now) ++ safe_text escape (drop result text.now) }
 {
     match memchr3(b'&', b'<', b'>', &text[start..]) {
         Some(place) => start + place,
@@ -37,17 +59,14 @@ fn plain_end(text: &[u8], start: usize) -> usize
     }
 }
 
-/// Appends what stands for an octet.
-#[tactic(auto, unfolding(crate::specs::SafeText::safe_octet, hex::specs::Hex::encode_with))]
-fn push_octet(out: &mut Vec<u8>, before: &[u8], octet: u8) -> Result<(), AllocError>
-    ensures { OnOk result (out.new.items ≡ out.old.items ++ safe_octet before.now octet) }
+#[tactic(auto, unfolding(crate::specs::SafeText::safe_octet))]
+fn push_octet(out: &mut Vec<u8>, place: Place, octet: u8) -> Result<(), AllocError>
+    ensures { OnOk result (out.new.items ≡ out.old.items ++ safe_octet (escape_in place) octet) }
 {
     if octet != b'&' && octet != b'<' && octet != b'>' {
         out.push(octet)?;
         return Ok(());
     }
-    out.extend_from_slice(before)?;
-    out.push(DIGITS[(octet / 16) as usize])?;
-    out.push(DIGITS[(octet % 16) as usize])?;
+    out.extend_from_slice(escape_of(place, octet).as_bytes())?;
     Ok(())
 }

@@ -1,10 +1,3 @@
-pub mod ListLemmas
-pub mod PiecesLemmas
-pub mod ShowLemmas
-pub mod FragmentLemmas
-pub mod DigitLemmas
-pub mod JsonLemmas
-pub mod PartLemmas
-mod AskedLemmas
-mod StayLemmas
+mod DigitLemmas
 pub mod Offered
+mod ShowLemmas

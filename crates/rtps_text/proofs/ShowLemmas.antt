@@ -1,5 +1,5 @@
 -- Facts on what `show` prints.
-use Rattle.std.proofs.Common.{◌≡◌, ℕ, ◌+◌, List, [], ◌∷◌, ◌++◌, ◌<◌, length, drop, drop_of_length-le, arith, Option, None, Some, Ok, refl, ap, append_assoc, ◌∙◌}
+use Rattle.std.proofs.Common.{◌≡◌, ℕ, ◌+◌, List, [], ◌∷◌, ◌++◌, ◌<◌, length, drop, drop_of_length-le, arith, Option, None, Some, Ok, refl, sym, ap, append_assoc, ◌∙◌}
 use Rattle.rtps_receiver.proofs.Offered.{gathered-one}
 use Rattle.rtps_receiver.specs.Acts.{gathered, state_behind}
 use Rattle.rtps_receiver.specs.declared.state.State.{State}
@@ -40,7 +40,7 @@ outcomes_text-item fragments state item later not =
     plain (Some value) = ap (fragments_line state item value) not
 
 -- the line of what is skipped, and those of the later ones in the same state
-pub outcomes_text-skipped : (fragments : ℕ → Option DataFragValue) (state : State) (item : ItemValue) (later : List Outcome) (id : ℕ) → item.body ≡ Skipped id
+outcomes_text-skipped : (fragments : ℕ → Option DataFragValue) (state : State) (item : ItemValue) (later : List Outcome) (id : ℕ) → item.body ≡ Skipped id
     → outcomes_text fragments state (Ok item ∷ later) ≡ unread_line state item.at id (fragments item.at) ++ outcomes_text fragments state later
 outcomes_text-skipped fragments state item later id is =
     let same : state_behind state (item ∷ []) ≡ state = rw is refl in
@@ -51,6 +51,17 @@ outcomes_text-skipped fragments state item later id is =
     unread : (found : Option DataFragValue) → line_with state item found ≡ unread_line state item.at id found
     unread None = ap (body_line state item.at item.order) is
     unread (Some value) = ap (λ body. fragments_line state item value (skipped_id body)) is
+
+-- the lines so far, with that of what is skipped, and those behind it
+pub unread_more : (fragments : ℕ → Option DataFragValue) (state : State) (old new start : List ℕ) (left later : List Outcome) (item : ItemValue) (id at : ℕ)
+    → new ≡ old ++ unread_line state at id (fragments at) → left ≡ Ok item ∷ later → item.body ≡ Skipped id → at ≡ item.at
+    → old ++ outcomes_text fragments state left ≡ start → new ++ outcomes_text fragments state later ≡ start
+unread_more fragments state old new start left later item id at line next is place so_far =
+    ap (λ bytes. bytes ++ outcomes_text fragments state later) line
+    ∙ append_assoc old (unread_line state at id (fragments at)) (outcomes_text fragments state later)
+    ∙ ap (λ n. old ++ (unread_line state n id (fragments n) ++ outcomes_text fragments state later)) place
+    ∙ ap (λ bytes. old ++ bytes) (sym (outcomes_text-skipped fragments state item later id is))
+    ∙ ap (λ (more : List Outcome). old ++ outcomes_text fragments state more) (sym next) ∙ so_far
 
 -- past the end of a datagram nothing is read
 pub nothing_behind : (datagram : List ℕ) (at : ℕ) → length datagram < at → None ≡ data_frag_at (drop at datagram)

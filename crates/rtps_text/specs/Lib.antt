@@ -1,13 +1,4 @@
-pub mod Asked
-pub mod AuditText
-pub mod WhyText
-pub mod JsonText
 pub mod ListText
-pub mod DatagramSpan
-pub mod Findings
-pub mod Recording
-pub mod Room
+pub mod ReportText
 pub mod SampleText
 pub mod ShowText
-pub mod ShowTail
-pub mod Laws

@@ -1,59 +1,19 @@
 -- What `list` prints of a recording.
 -- own: one line for each participant, endpoint and pair, of fields with one space between them, and counts at the end.
-use Rattle.std.specs.Prelude.{ℕ, ◌≡◌, ◌==◌, ◌++◌, ◌&&◌, not, nat_le, Bool, true, false, if◌then◌else◌, List, [], ◌∷◌, codes, length}
-use Rattle.std.specs.Fmt.{decimal}
-use Rattle.std.specs.List.{flat_map}
-use Rattle.hex.specs.Hex.{encode_lower}
+use Rattle.std.specs.Prelude.{ℕ, ◌≡◌, ◌++◌, Bool, true, false, List, [], ◌∷◌, codes, length, decimal, flat_map}
+use Rattle.rtps_report.specs.Vocabulary.{acts_in}
+use Rattle.rtps_report.specs.declared.findings.Ending.{Ending}
+use Rattle.rtps_report.specs.declared.findings.Ending.TheVariants.{Clean}
 use Rattle.rtps_ids.specs.declared.identity.Guid.{Guid}
-use Rattle.rtps_receiver.specs.Acts.{acts_in}
 use Rattle.rtps_discovery.specs.Directory.{DirectoryValue, IsMapOf, settled_in, unsettled_in}
 use Rattle.rtps_discovery.specs.Endpoint.{EndpointValue}
 use Rattle.rtps_discovery.specs.Matching.{matches_among}
 use Rattle.rtps_discovery.specs.Notice.{faults_in}
-use Rattle.rtps_discovery.specs.declared.endpoint.Durability.{Durability}
-use Rattle.rtps_discovery.specs.declared.endpoint.Durability.TheVariants.{Volatile, TransientLocal, Transient, Persistent}
-use Rattle.rtps_discovery.specs.declared.endpoint.Reliability.{Reliability}
-use Rattle.rtps_discovery.specs.declared.endpoint.Reliability.TheVariants.{BestEffort, Reliable}
-use Rattle.rtps_discovery.specs.declared.endpoint.Side.{Side}
-use Rattle.rtps_discovery.specs.declared.endpoint.Side.TheVariants.{Writer, Reader}
 use Rattle.rtps_discovery.specs.declared.matching.Match.{Match}
-use Rattle.rtps_text.specs.Recording.{RecordingValue}
-use Rattle.rtps_text.specs.ShowText.{line_of}
-use Rattle.rtps_text.specs.declared.text.Ending.{Ending}
-use Rattle.rtps_text.specs.declared.text.Ending.TheVariants.{Clean}
-
--- a GUID: its prefix, a dot and its entity id
-abbrev pub guid_text : Guid → List ℕ
-guid_text guid = encode_lower guid.prefix.0 ++ 46 ∷ encode_lower guid.entity.0
-
--- whether an octet of a name stands for itself: plain ASCII does, but for the quote (34) and the backslash (92)
-abbrev pub stands_for_itself : ℕ → Bool
-stands_for_itself octet = (nat_le 32 octet && nat_le octet 126) && (not (octet == 34) && not (octet == 92))
-
--- an octet of a name: as it is, or `\x` and two digits
-unfoldable pub octet_text : ℕ → List ℕ
-octet_text octet = if stands_for_itself octet then octet ∷ [] else codes "\\x" ++ encode_lower (octet ∷ [])
-
--- a name between quotes
-abbrev pub name_text : List ℕ → List ℕ
-name_text name = 34 ∷ (flat_map octet_text name ++ 34 ∷ [])
-
--- the word for a side
-unfoldable pub side_text : Side → List ℕ
-side_text Writer = codes "writer"
-side_text Reader = codes "reader"
-
--- the word for a reliability
-unfoldable pub reliability_text : Reliability → List ℕ
-reliability_text BestEffort = codes "best-effort"
-reliability_text Reliable = codes "reliable"
-
--- the word for a durability
-unfoldable pub durability_text : Durability → List ℕ
-durability_text Volatile = codes "volatile"
-durability_text TransientLocal = codes "transient-local"
-durability_text Transient = codes "transient"
-durability_text Persistent = codes "persistent"
+use Rattle.rtps_report.specs.Recording.{RecordingValue}
+use Rattle.rtps_lines.specs.Lines.{line_of}
+use Rattle.rtps_lines.specs.QosNames.{durability_text, reliability_text, side_text}
+use Rattle.rtps_parts.specs.Names.{guid_text, name_text}
 
 -- the word for whether both of a match are reliable
 unfoldable pub match_text : Bool → List ℕ
@@ -87,11 +47,8 @@ directory_text directory faults =
     ++ (flat_map match_line (matches_among (settled_in directory.endpoints))
     ++ counts_line (length directory.participants) (length (settled_in directory.endpoints)) (length (unsettled_in directory.endpoints)) faults))
 
--- this is the text of the map of all acts
-abbrev pub IsListOf : List (List ℕ) → List ℕ → Type 0
-IsListOf datagrams text =
-    (directory : DirectoryValue) × IsMapOf (acts_in datagrams) directory × (text ≡ directory_text directory (faults_in (acts_in datagrams)))
-
--- what `list` answers: that text, and it is clean
+-- what `list` answers: the text of the map of all acts, and it is clean
 abbrev pub IsListed : RecordingValue → List ℕ → Ending → Type 0
-IsListed recording text ending = IsListOf recording.datagrams text × (ending ≡ Clean)
+IsListed recording text ending =
+    ((directory : DirectoryValue) × IsMapOf (acts_in recording.datagrams) directory × (text ≡ directory_text directory (faults_in (acts_in recording.datagrams))))
+    × (ending ≡ Clean)

@@ -1,8 +1,7 @@
 -- What `sample` prints.
 -- own: the smallest recording with a writer, a reader and a verdict: six datagrams, as DDSI-RTPS 2.5, 9.4 "Mapping of
 -- the RTPS Messages" lays them out, one a line.
-use Rattle.std.specs.Prelude.{ℕ, codes, List, [], ◌∷◌, ◌++◌}
-use Rattle.std.specs.List.{flat_map}
+use Rattle.std.specs.Prelude.{ℕ, codes, List, [], ◌∷◌, ◌++◌, flat_map}
 
 -- the writer's participant and the writer; the reader; DATA 1, 2 and 3, the last with a HEARTBEAT from 1 to 3; an ACKNACK of base 4
 abbrev pub sample_datagrams : List (List ℕ)

@@ -1,10 +1,10 @@
 -- What `show` prints of a recording.
 -- own: one line for each datagram, submessage and refusal, of fields with one space between them, so that
 -- common tools can search it and take it apart.
-use Rattle.std.specs.Prelude.{ℕ, ◌≡◌, ◌+◌, ◌/◌, ◌==◌, ◌++◌, Bool, if◌then◌else◌, List, [], ◌∷◌, codes, drop, length, map, slice_index, Option, Some, None}
-use Rattle.std.specs.Fmt.{decimal, signed_decimal}
+use Rattle.std.specs.Prelude.{ℕ, ◌≡◌, ◌<◌, ◌+◌, ◌/◌, ◌==◌, ◌||◌, ◌++◌, Bool, if◌then◌else◌, List, [], ◌∷◌, codes, drop, is_some, length, map, slice_index, Option, Some, None, decimal, flat_map, All}
+use Rattle.std.specs.Fmt.{signed_decimal}
 use Rattle.std.specs.Int.{to_be_bytes, w32}
-use Rattle.std.specs.List.{enumerate_from, flat_map, range_with_len}
+use Rattle.std.specs.List.{enumerate_from, range_with_len}
 use Rattle.hex.specs.Hex.{encode_lower}
 use Rattle.rtps_ids.specs.NumberSet.{NumberSetValue}
 use Rattle.rtps_ids.specs.declared.identity.GuidPrefix.{GuidPrefix}
@@ -14,32 +14,26 @@ use Rattle.rtps_ids.specs.declared.identity.Version.{Version}
 use Rattle.rtps_ids.specs.declared.order.Order.{Order}
 use Rattle.rtps_ids.specs.declared.order.Order.TheVariants.{Big, Little}
 use Rattle.rtps_params.specs.Lists.{ListValue}
-use Rattle.rtps_receiver.specs.Acts.{gathered, state_at_start}
+use Rattle.rtps_receiver.specs.Acts.{gathered, says_destination, says_source, says_time, state_at_start}
 use Rattle.rtps_receiver.specs.declared.state.State.{State}
 use Rattle.rtps_wire.specs.DataFrag.{DataFragValue, data_frag_at}
 use Rattle.rtps_wire.specs.Message.{Reading}
 use Rattle.rtps_wire.specs.Reading.{Outcome, items_among, reading_of, refusal_among}
 use Rattle.rtps_wire.specs.Skipped.{skipped_id}
-use Rattle.rtps_wire.specs.Values.{BodyValue, DataValue, ItemValue, PayloadValue}
+use Rattle.rtps_wire.specs.Values.{BodyValue, DataValue, ItemValue}
 use Rattle.rtps_wire.specs.Values.BodyValue.{Data, Heartbeat, AckNack, Gap, InfoTs, InfoDst, InfoSrc, Skipped}
-use Rattle.rtps_wire.specs.Values.PayloadValue.{Absent, Whole, Key}
 use Rattle.rtps_wire.specs.declared.body.AckNackBody.{AckNackBody}
 use Rattle.rtps_wire.specs.declared.body.GapBody.{GapBody}
 use Rattle.rtps_wire.specs.declared.body.HeartbeatBody.{HeartbeatBody}
 use Rattle.rtps_wire.specs.declared.fault.Refusal.{Refusal}
 use Rattle.rtps_wire.specs.FaultText.{fault_name}
 use Rattle.rtps_wire.specs.declared.header.Header.{Header}
-use Rattle.rtps_text.specs.Recording.{RecordingValue}
-use Rattle.rtps_text.specs.declared.text.Ending.{Ending}
-use Rattle.rtps_text.specs.declared.text.Ending.TheVariants.{Clean}
+use Rattle.rtps_report.specs.Recording.{RecordingValue}
+use Rattle.rtps_lines.specs.Lines.{line_of, payload_text}
+use Rattle.rtps_report.specs.declared.findings.Ending.{Ending}
+use Rattle.rtps_report.specs.declared.findings.Ending.TheVariants.{Clean}
 use Rattle.rtps_fragments.specs.declared.fragments.Fragments.{Fragments}
 use Rattle.rtps_fragments.specs.declared.fragments.Fragments.TheVariants as fragments
-
--- a line of fields: a space (32) after each, but a line feed (10) after the last
-abbrev pub line_of : List (List ℕ) → List ℕ
-line_of [] = 10 ∷ []
-line_of (field ∷ []) = field ++ 10 ∷ []
-line_of (field ∷ next ∷ fields) = field ++ 32 ∷ line_of (next ∷ fields)
 
 -- the word for an order of octets
 unfoldable pub order_text : Order → List ℕ
@@ -53,12 +47,6 @@ digit_of flag = if flag then codes "1" else codes "0"
 -- a version, as in 2.5
 unfoldable pub version_text : Version → List ℕ
 version_text version = decimal version.major ++ codes "." ++ decimal version.minor
-
--- the kind of a payload, and how many octets it has
-unfoldable pub payload_text : PayloadValue → List ℕ
-payload_text Absent = codes "absent"
-payload_text (Whole octets) = codes "whole " ++ decimal (length octets)
-payload_text (Key octets) = codes "key " ++ decimal (length octets)
 
 -- how many octets the inline QoS has, its sentinel included
 unfoldable pub qos_octets : Option ListValue → ℕ
@@ -91,6 +79,18 @@ destination_text (Some prefix) = encode_lower prefix.0
 unfoldable pub state_text : State → List ℕ
 state_text state =
     codes "from " ++ (encode_lower state.source.prefix.0 ++ (codes " to " ++ (destination_text state.dest ++ (codes " time " ++ time_text state.stamp))))
+
+-- The end of the line of an act in this state. The lines of all acts in one state end alike, so that the program puts it together once.
+abbrev pub tail_text : State → List ℕ
+tail_text state = codes " " ++ (state_text state ++ codes "\n")
+
+-- what is kept of the line of an act for the next one is such an end, where there is anything
+abbrev pub IsTailIn : State → List ℕ → Type 0
+IsTailIn state tail = 0 < length tail → tail ≡ tail_text state
+
+-- whether a body says something of the state of what follows it
+abbrev pub says_of_state : BodyValue → Bool
+says_of_state body = is_some (says_source body) || (is_some (says_destination body) || is_some (says_time body))
 
 -- the line of a DATA: its name, the place of its first octet, the order of the octets of its numbers, its fields, and the state
 -- at its place
@@ -234,3 +234,14 @@ IsShownWith choice recording text ending = (text ≡ show_text choice recording.
 -- what it answers where fragments are not read
 abbrev pub IsShown : RecordingValue → List ℕ → Ending → Type 0
 IsShown = IsShownWith fragments.Skipped
+
+-- ---- what holds of it
+
+-- no submessage of these datagrams is a DATA_FRAG with fragments that can be used
+abbrev pub HasNoFragments : List (List ℕ) → Type 0
+HasNoFragments datagrams = All (λ datagram. All (λ item. data_frag_at (drop item.at datagram) ≡ None) (reading_of datagram).items) datagrams
+
+-- Of such datagrams `show` prints the same, whether fragments are read or not. own: an option must change nothing where there is
+-- nothing of what it asks for.
+abbrev pub ShowsTheSameWithoutFragments : Type 0
+ShowsTheSameWithoutFragments = (datagrams : List (List ℕ)) → HasNoFragments datagrams → show_text fragments.Read datagrams ≡ show_text fragments.Skipped datagrams

@@ -1,19 +1,18 @@
 //! Laws of the definitions, each the contract of a function that does nothing.
 
 ghost use Rattle.std.specs.Prelude.{ℕ};
-ghost use Rattle.rtps_text.specs.Asked.{AskedValue, plainly};
-ghost use Rattle.rtps_text.specs.AuditText.{IsAuditedAs, IsAuditedFrom};
-ghost use Rattle.rtps_text.specs.JsonText.{IsJsonTextAs, IsJsonTextFrom};
-ghost use Rattle.rtps_text.specs.Laws.{ExplainedRowsAreByFragments, HasOneText, HaveOneText, RowsAreByFragments, ShowsTheSameWithoutFragments, StaysWithoutFragments};
+ghost use Rattle.rtps_report.specs.Asked.{AskedValue, plainly};
+ghost use Rattle.rtps_text.specs.ReportText.{IsAuditedAs, IsAuditedFrom, IsJsonTextAs, IsJsonTextFrom, IsExplainedTextAs, IsExplainedTextFrom};
+ghost use Rattle.rtps_report.specs.Laws.{HasOneText, HaveOneText, StaysWithoutFragments};
+ghost use Rattle.rtps_text.specs.ShowText.{ShowsTheSameWithoutFragments, IsShown, IsShownWith};
 ghost use Rattle.rtps_text.specs.ListText.{IsListed};
-ghost use Rattle.rtps_text.specs.ShowText.{IsShown, IsShownWith};
-ghost use Rattle.rtps_text.specs.WhyText.{IsExplainedTextAs, IsExplainedTextFrom};
 ghost use Rattle.rtps_fragments.specs.declared.fragments.Fragments.{Fragments};
 
 use rtps_audit::laws::one_report;
 use rtps_discovery::laws::one_map;
 use rtps_evidence::laws::one_explanation;
-use rtps_fragments::laws::{intake_stays_without_fragments, recorded_verdict_is_of_runs};
+use rtps_fragments::laws::intake_stays_without_fragments;
+use rtps_report::laws::one_full_report;
 
 /// What is printed of a recording, and how a run on it ends, is decided by its datagrams alone; by `audit`, as JSON too,
 /// and `why`, also by how many frames of a capture were ignored and for which reasons, and by what is
@@ -32,6 +31,7 @@ pub fn one_text()
     one_map();
     one_report();
     one_explanation();
+    one_full_report();
 }
 
 /// Where nothing but a number is asked, `audit`, as JSON too, and `why` print what they print by this number, and end as they
@@ -47,15 +47,6 @@ pub fn options_change_nothing()
 pub fn show_is_the_same_without_fragments()
     ensures { ShowsTheSameWithoutFragments }
 {}
-
-/// Where fragments are read, the verdict of each row of the report is that by all runs in which its reader takes fragments one by one,
-/// of the numbers that are asked about; so is the verdict of each row that is explained.
-pub fn rows_are_by_fragments()
-    ensures reported { RowsAreByFragments }
-    ensures explained { ExplainedRowsAreByFragments }
-{
-    recorded_verdict_is_of_runs();
-}
 
 /// Where no submessage of a recording belongs to fragments, `audit`, as JSON too, and `why` print the same, and end in the same way,
 /// whether fragments are read or not.

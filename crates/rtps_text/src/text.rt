@@ -3,34 +3,12 @@
 ghost use Rattle.std.specs.Prelude.{◌≡◌};
 ghost use Rattle.rtps_text.specs.SampleText.{sample as sample_lines};
 
-use crate::findings::Findings;
-
-pub(crate) mod asked_evidence;
-mod asked_report;
-pub(crate) mod audit_lines;
 pub(crate) mod audit_text;
-pub(crate) mod delivery_lines;
 mod item_lines;
-mod json_delivery;
-pub(crate) mod json_members;
-pub(crate) mod json_object;
-pub(crate) mod list_lines;
 pub(crate) mod list_text;
 mod parts;
 pub(crate) mod show_text;
-pub(crate) mod why_lines;
 pub(crate) mod why_text;
-
-/// How a run ends that wrote its whole text.
-#[derive(Clone, Copy, Debug, PartialEq, Eq)]
-pub enum Ending {
-    /// There is nothing to report.
-    Clean,
-    /// An audit found a pair that is not complete, and what else was asked of its report is so.
-    Unclean,
-    /// Something that was asked of a report beside complete pairs is not so.
-    Unmet(Findings),
-}
 
 /// A recording to try: a participant, its writer and a reader of the topic `pose`, the samples 1 to 3, and the
 /// acknowledgement of all of them. The audit of it finds the pair complete.

@@ -7,9 +7,9 @@ use Rattle.rtps_capture.specs.declared.capture.CaptureFault.{CaptureFault}
 use Rattle.rtps_capture.specs.declared.capture.CaptureFault.TheVariants as kind
 use Rattle.rtps_capture.specs.declared.captures.Captures.{Captures}
 use Rattle.rtps_capture.specs.declared.byte_range.ByteRange.{ByteRange}
-use Rattle.rtps_text.specs.DatagramSpan.{AreSpans, end_of, pieces, start_of}
-use Rattle.rtps_text.specs.declared.datagram_span.DatagramSpan.{DatagramSpan}
-use Rattle.rtps_text.specs.Recording.{ignored_by}
+use Rattle.rtps_report.specs.DatagramSpan.{AreSpans, end_of, pieces, start_of}
+use Rattle.rtps_report.specs.declared.datagram_span.DatagramSpan.{DatagramSpan}
+use Rattle.rtps_report.specs.Recording.{ignored_by}
 use Rattle.rtps_tool.specs.Outcomes.{IsFaultOf}
 use Rattle.rtps_tool.specs.RecordingCapture.{octets_in, reasons_of, reasons_told, rec_fault_of, recording_told}
 

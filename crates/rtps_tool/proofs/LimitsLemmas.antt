@@ -8,7 +8,7 @@ use Rattle.rtps_capture.specs.Opening.{order_of}
 use Rattle.rtps_capture.specs.declared.capture.CaptureFault.{CaptureFault}
 use Rattle.rtps_capture.proofs.Offered.{capture_read-within}
 use Rattle.rtps_digits.specs.Pairs.{octets_of}
-use Rattle.rtps_text.specs.Recording.{RecordingValue}
+use Rattle.rtps_report.specs.Recording.{RecordingValue}
 use Rattle.rtps_tool.specs.Forms.{begins_capture, recording_in, recording_in_form, recording_within}
 use Rattle.rtps_tool.specs.Laws.{StaysWithin, TextsStayTexts}
 use Rattle.rtps_tool.specs.Lines.{lines_of}

@@ -2,9 +2,9 @@
 use Rattle.std.proofs.Common.{◌≡◌, ℕ, List, ◌++◌, Option, Some, None, Ok, Err, Result, sym, ◌∙◌, ap, subst, append-nil, arith}
 use Rattle.std.specs.Prelude.{max}
 use Rattle.std.specs.Io.KnownBytes.{Appends, Consumes, IsAtEnd}
-use Rattle.rtps_text.specs.Laws.{HasOneText}
-use Rattle.rtps_text.specs.Recording.{RecordingValue}
-use Rattle.rtps_text.specs.declared.text.Ending.{Ending}
+use Rattle.rtps_report.specs.Laws.{HasOneText}
+use Rattle.rtps_report.specs.Recording.{RecordingValue}
+use Rattle.rtps_report.specs.declared.findings.Ending.{Ending}
 use Rattle.rtps_tool.specs.Choices.{RunsBy}
 use Rattle.rtps_tool.specs.Commands.{IsTextOf}
 use Rattle.rtps_tool.specs.Options.{OptionsValue}

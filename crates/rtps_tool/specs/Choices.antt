@@ -2,9 +2,9 @@
 -- own: each subcommand is one run.
 use Rattle.std.specs.Prelude.{ℕ, ◌≡◌, List, Option, Some, None, Result}
 use Rattle.rtps_fragments.specs.declared.fragments.Fragments.{Fragments}
-use Rattle.rtps_text.specs.Asked.{AskedValue, plainly}
+use Rattle.rtps_report.specs.Asked.{AskedValue, plainly}
 use Rattle.rtps_text.specs.SampleText.{sample}
-use Rattle.rtps_text.specs.declared.text.Ending.{Ending}
+use Rattle.rtps_report.specs.declared.findings.Ending.{Ending}
 use Rattle.rtps_tool.specs.Commands.{IsTextOf}
 use Rattle.rtps_tool.specs.Options.{OptionsValue, asked_by}
 use Rattle.rtps_tool.specs.Runs.{RunsWithin, Writes}

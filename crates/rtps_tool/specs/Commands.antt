@@ -1,27 +1,39 @@
 -- What is printed of a recording.
--- own: a text, and how the run ends.
+-- own: a text, and how the run ends. All forms of a report are forms of one value.
 use Rattle.std.specs.Prelude.{ℕ, List}
-use Rattle.rtps_check.specs.CheckJson.{IsCheckedJsonAs}
-use Rattle.rtps_check.specs.CheckText.{IsCheckedAs}
-use Rattle.rtps_text.specs.Asked.{AskedValue}
-use Rattle.rtps_text.specs.AuditText.{IsAuditedAs}
-use Rattle.rtps_text.specs.JsonText.{IsJsonTextAs}
+use Rattle.rtps_report.specs.Asked.{AskedValue}
+use Rattle.rtps_report.specs.FullReport.{IsTold, ReportValue, rows_of}
+use Rattle.rtps_report.specs.Recording.{RecordingValue}
+use Rattle.rtps_report.specs.declared.findings.Ending.{Ending}
+use Rattle.rtps_check.specs.CheckText.{IsCheckJson, IsCheckText}
+use Rattle.rtps_page.specs.Page.{IsPageOf}
+use Rattle.rtps_text.specs.ReportText.{IsReportLine, IsAuditedAs, IsExplainedRows}
 use Rattle.rtps_text.specs.ListText.{IsListed}
-use Rattle.rtps_text.specs.Recording.{RecordingValue}
 use Rattle.rtps_text.specs.ShowText.{IsShownWith}
-use Rattle.rtps_text.specs.WhyText.{IsExplainedTextAs}
-use Rattle.rtps_text.specs.declared.text.Ending.{Ending}
-use Rattle.rtps_page.specs.Page.{IsPage}
 use Rattle.rtps_tool.specs.declared.runs.Command.{Command}
-use Rattle.rtps_tool.specs.declared.runs.Command.TheVariants.{Check, CheckJson, Show, List as ListCommand, Audit, Json, Why, Page}
+use Rattle.rtps_tool.specs.declared.runs.Command.TheVariants as command
+use Rattle.rtps_tool.specs.declared.runs.Form.{Form}
+use Rattle.rtps_tool.specs.declared.runs.Form.TheVariants.{Check, CheckJson, Json, Why, Page}
+
+-- the page of a report: it shows the text of `check` where scripts do not run
+abbrev pub IsPageForm : AskedValue → RecordingValue → ReportValue → List ℕ → Type 0
+IsPageForm asked recording report text = (plain : List ℕ) × IsCheckText asked recording report plain × IsPageOf asked recording report plain text
+
+-- a report in a form
+abbrev pub IsFormOf : Form → AskedValue → RecordingValue → ReportValue → List ℕ → Type 0
+IsFormOf Check asked recording report text = IsCheckText asked recording report text
+IsFormOf CheckJson asked recording report text = IsCheckJson asked recording report text
+IsFormOf Json asked recording report text = IsReportLine (rows_of report) report.explained.counts recording text
+IsFormOf Why asked recording report text = IsExplainedRows (rows_of report) report.explained.counts recording text
+IsFormOf Page asked recording report text = IsPageForm asked recording report text
 
 -- by a command and what is asked of an audit: of this recording, this text and this ending
 abbrev pub IsTextOf : Command → AskedValue → RecordingValue → List ℕ → Ending → Type 0
-IsTextOf Check asked = IsCheckedAs asked
-IsTextOf CheckJson asked = IsCheckedJsonAs asked
-IsTextOf Show asked = IsShownWith asked.fragments
-IsTextOf ListCommand asked = IsListed
-IsTextOf Audit asked = IsAuditedAs asked
-IsTextOf Json asked = IsJsonTextAs asked
-IsTextOf Why asked = IsExplainedTextAs asked
-IsTextOf Page asked = IsPage asked
+IsTextOf command.Check asked = IsTold (IsFormOf Check) asked
+IsTextOf command.CheckJson asked = IsTold (IsFormOf CheckJson) asked
+IsTextOf command.Show asked = IsShownWith asked.fragments
+IsTextOf command.List asked = IsListed
+IsTextOf command.Audit asked = IsAuditedAs asked
+IsTextOf command.Json asked = IsTold (IsFormOf Json) asked
+IsTextOf command.Why asked = IsTold (IsFormOf Why) asked
+IsTextOf command.Page asked = IsTold (IsFormOf Page) asked

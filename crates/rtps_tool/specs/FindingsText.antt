@@ -2,9 +2,9 @@
 -- own: a line on standard error for each finding, which says what it is by the word of the report, and how many.
 use Rattle.std.specs.Prelude.{ℕ, Bool, true, false, ◌==◌, ◌++◌, if◌then◌else◌, List, [], ◌∷◌, codes, Option, None, Some}
 use Rattle.std.specs.Fmt.{decimal}
-use Rattle.rtps_text.specs.declared.findings.FewRows.{FewRows}
-use Rattle.rtps_text.specs.declared.findings.Findings.{Findings}
-use Rattle.rtps_text.specs.declared.recording.Links.{Links}
+use Rattle.rtps_report.specs.declared.findings.FewRows.{FewRows}
+use Rattle.rtps_report.specs.declared.findings.Findings.{Findings}
+use Rattle.rtps_report.specs.declared.recording.Links.{Links}
 
 -- the line of fewer rows than were expected, with LF (10)
 unfoldable pub few_line : Option FewRows → List ℕ
@@ -27,6 +27,7 @@ links_by n (Some first) =
     if n == 0 then []
     else codes "rtps-audit: not clean: links " ++ (decimal n ++ (codes ", the first of type " ++ (decimal first ++ 10 ∷ [])))
 
+-- the line of frames of links that are not read; nothing where there are none
 unfoldable pub links_line : Links → List ℕ
 links_line links = links_by links.number links.first
 

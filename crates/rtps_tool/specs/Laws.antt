@@ -2,8 +2,8 @@
 -- input decides it, and a limit that is raised must not change what was told within it.
 use Rattle.std.specs.Prelude.{ℕ, ◌<◌, ◌≡◌, ◌≤◌, true, false, All, List, Option, Some, Ok, Err}
 use Rattle.std.specs.Io.KnownBytes.{Appends}
-use Rattle.rtps_text.specs.Recording.{RecordingValue}
-use Rattle.rtps_text.specs.declared.text.Ending.{Ending}
+use Rattle.rtps_report.specs.Recording.{RecordingValue}
+use Rattle.rtps_report.specs.declared.findings.Ending.{Ending}
 use Rattle.rtps_tool.specs.Forms.{begins_capture, recording_within}
 use Rattle.rtps_tool.specs.RecordingText.{recording_of_text}
 use Rattle.rtps_tool.specs.Runs.{Runs, RunsWithin}

@@ -1,7 +1,7 @@
 -- What a run prints, and of what. own: what is asked of a report is said in words, which the options borrow.
 use Rattle.std.specs.Prelude.{ℕ, map}
 use Rattle.std.specs.String.{string_bytes}
-use Rattle.rtps_text.specs.Asked.{AskedValue, asked_value, plainly}
+use Rattle.rtps_report.specs.Asked.{AskedValue, asked_value, plainly}
 use Rattle.rtps_tool.specs.Limits.{usual}
 use Rattle.rtps_capture.specs.declared.captures.Captures.{Captures}
 use Rattle.rtps_capture.specs.declared.captures.Captures.TheVariants.{Classic}

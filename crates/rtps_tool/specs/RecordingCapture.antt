@@ -8,8 +8,8 @@ use Rattle.rtps_capture.specs.declared.capture.CaptureFault.{CaptureFault}
 use Rattle.rtps_capture.specs.declared.capture.CaptureFault.TheVariants as capture_fault
 use Rattle.rtps_capture.specs.declared.captures.Captures.{Captures}
 use Rattle.rtps_capture.specs.declared.captures.Captures.TheVariants.{Any, Classic}
-use Rattle.rtps_text.specs.Recording.{RecordingValue, ignored_by}
-use Rattle.rtps_text.specs.declared.recording.Reasons.{Reasons}
+use Rattle.rtps_report.specs.Recording.{RecordingValue, ignored_by}
+use Rattle.rtps_report.specs.declared.recording.Reasons.{Reasons}
 use Rattle.rtps_tool.specs.declared.faults.RecFault.{RecFault}
 use Rattle.rtps_tool.specs.declared.faults.RecFault.TheVariants.{BadCapture, CutCapture, Damaged, Memory, TooMany}
 

@@ -4,7 +4,7 @@ use Rattle.std.specs.Prelude.{ℕ, ◌==◌, ◌&&◌, nat_le, nat_lt, not, Bool
 use Rattle.std.specs.List.{enumerate_from, filter_map}
 use Rattle.hex.specs.Hex.{decode_of}
 use Rattle.rtps_digits.specs.Pairs.{octets_of}
-use Rattle.rtps_text.specs.Recording.{RecordingValue}
+use Rattle.rtps_report.specs.Recording.{RecordingValue}
 use Rattle.rtps_tool.specs.Lines.{lines_of}
 use Rattle.rtps_tool.specs.declared.faults.RecFault.{RecFault}
 use Rattle.rtps_tool.specs.declared.faults.RecFault.TheVariants.{BadHex, TooLong, TooMany}

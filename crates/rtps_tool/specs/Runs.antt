@@ -2,7 +2,7 @@
 -- own: all is read before anything is written, so that a text never stands for a part of the input.
 use Rattle.std.specs.Prelude.{ℕ, ◌≡◌, ◌≢◌, ◌<◌, ◌≤◌, List, length, take, Option, Result, Ok, Err}
 use Rattle.std.specs.Io.KnownBytes.{Appends, Consumes, Keeps, IsAtEnd}
-use Rattle.rtps_text.specs.Recording.{RecordingValue}
+use Rattle.rtps_report.specs.Recording.{RecordingValue}
 use Rattle.rtps_tool.specs.Forms.{recording_within}
 use Rattle.rtps_tool.specs.Limits.{usual}
 use Rattle.rtps_capture.specs.declared.captures.Captures.{Captures}
@@ -12,8 +12,8 @@ use Rattle.rtps_tool.specs.declared.faults.RecFault.TheVariants.{Memory as RecMe
 use Rattle.rtps_tool.specs.declared.faults.RunFault.{RunFault}
 use Rattle.rtps_tool.specs.declared.faults.RunFault.TheVariants.{Recording, Input, Output, Memory}
 use Rattle.rtps_tool.specs.declared.runs.Limits.{Limits}
-use Rattle.rtps_text.specs.declared.text.Ending.{Ending}
-use Rattle.rtps_text.specs.declared.text.Ending.TheVariants.{Clean}
+use Rattle.rtps_report.specs.declared.findings.Ending.{Ending}
+use Rattle.rtps_report.specs.declared.findings.Ending.TheVariants.{Clean}
 
 -- these octets were read: all that the reader had, or more of it than a recording may have
 pub record Reads (limits : Limits) (old new : Option (List ℕ)) (text : List ℕ) : Type 0 where

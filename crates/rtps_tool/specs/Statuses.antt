@@ -2,8 +2,8 @@
 -- own: 0 where all is well, 1 where an audit found something, 2 where what was given is refused, 3 where the system failed.
 use Rattle.std.specs.Prelude.{ℕ, Result, Ok, Err}
 use Rattle.rtps_tool.specs.declared.faults.RecFault.TheVariants.{BadHex, TooLong, TooMany, Memory, BadCapture, CutCapture, Damaged}
-use Rattle.rtps_text.specs.declared.text.Ending.{Ending}
-use Rattle.rtps_text.specs.declared.text.Ending.TheVariants.{Clean, Unclean, Unmet}
+use Rattle.rtps_report.specs.declared.findings.Ending.{Ending}
+use Rattle.rtps_report.specs.declared.findings.Ending.TheVariants.{Clean, Unclean, Unmet}
 use Rattle.rtps_tool.specs.declared.faults.RunFault.{RunFault}
 use Rattle.rtps_tool.specs.declared.faults.RunFault.TheVariants.{Recording, Input, Output, Memory as RunMemory}
 

@@ -15,7 +15,7 @@ use Rattle.clap.specs.declared.error.kind.ErrorKind.TheVariants.{DisplayHelp, Di
 use Rattle.std.specs.String.{string_bytes}
 use Rattle.rtps_fragments.specs.declared.fragments.Fragments.{Fragments}
 use Rattle.rtps_fragments.specs.declared.fragments.Fragments.TheVariants.{Read}
-use Rattle.rtps_text.specs.Asked.{are_read}
+use Rattle.rtps_report.specs.Asked.{are_read}
 use Rattle.rtps_tool.specs.Limits.{usual}
 use Rattle.rtps_capture.specs.declared.captures.Captures.{Captures}
 use Rattle.rtps_capture.specs.declared.captures.Captures.TheVariants.{Classic, Any}

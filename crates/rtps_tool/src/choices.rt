@@ -1,6 +1,6 @@
 ghost use Rattle.std.specs.Prelude.{◌≡◌};
 ghost use Rattle.std.specs.Option.{option_map};
-ghost use Rattle.rtps_text.specs.Asked.{asked_value};
+ghost use Rattle.rtps_report.specs.Asked.{asked_value};
 ghost use Rattle.rtps_tool.specs.Choices.{RunsBy, audit_command as audit_command_lem, check_command as check_command_lem, options_of, shown_with as shown_with_lem};
 ghost use Rattle.rtps_tool.specs.Options.{options_value};
 ghost use Rattle.rtps_tool.specs.Words.{file_name};
@@ -11,7 +11,7 @@ use crate::follow::Follow;
 use crate::runs::{Command, Options, run, run_sample};
 use rtps_capture::Captures;
 use rtps_ids::SeqNum;
-use rtps_text::{Asked, Ending, Fragments, Rows, Watch};
+use rtps_report::{Asked, Ending, Fragments, Rows, Watch};
 use std::alloc::Global;
 use std::io::{Read, Write};
 
@@ -117,7 +117,10 @@ fn shown_with(fragments: Fragments) -> Asked<'static>
 {
     Asked {
         from: SeqNum::first(),
-        rows: Rows::all(),
+        rows: Rows {
+            topics: &[],
+            observed: false,
+        },
         expect: None,
         strict: false,
         fragments,

@@ -8,7 +8,7 @@ use crate::command::{GREATEST, flag, fragments_of, is_given};
 use clap::builder::ValueParser;
 use clap::{Arg, ArgAction, ArgMatches, Command};
 use rtps_ids::SeqNum;
-use rtps_text::{Asked, Fragments, Rows};
+use rtps_report::{Asked, Fragments, Rows};
 use std::alloc::{AllocError, Global};
 
 /// What the words ask of a report, beside the number from which on it asks.
@@ -27,7 +27,7 @@ pub struct Demands {
 }
 
 impl Demands {
-    ghost use Rattle.rtps_text.specs.Asked.{asked_value};
+    ghost use Rattle.rtps_report.specs.Asked.{asked_value};
     ghost use Rattle.rtps_tool.specs.Options.{asked_by};
 
     /// What they ask, by the numbers from `from` on.
@@ -59,7 +59,8 @@ const EXPECT_HELP: &str =
 
 const STRICT_HELP: &str =
     "Status 1 also if there is no row, a row has missed numbers, or something of \
-    the recording is left out: fragments, unsettled endpoints, frames in pieces or cut. Sets --any";
+    the recording is left out: fragments, unsettled endpoints, frames in pieces, cut, or of \
+    links that are not read. Sets --any";
 
 /// The option that chooses rows by their topics.
 fn pattern_option<'a>(alloc: Global) -> Arg<'a>

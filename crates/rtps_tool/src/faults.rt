@@ -5,7 +5,7 @@ ghost use Rattle.rtps_tool.specs.Statuses.{status_of};
 
 use rtps_capture::CaptureFault;
 use rtps_ids::Memory;
-use rtps_text::Ending;
+use rtps_report::Ending;
 use std::alloc::{AllocError, AllocFailed};
 use std::fmt;
 use std::io::Write;

@@ -2,7 +2,7 @@ ghost use Rattle.std.specs.Prelude.{◌≡◌, true, Some};
 ghost use Rattle.std.specs.Io.KnownBytes.{Appends};
 ghost use Rattle.rtps_tool.specs.FindingsText.{count_line, empty_line, few_line, findings_text, lines_of_counts, lines_of_rows, links_line};
 
-use rtps_text::{FewRows, Findings, Links};
+use rtps_report::{FewRows, Findings, Links};
 use std::fmt;
 use std::io::Write;
 

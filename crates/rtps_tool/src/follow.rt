@@ -1,4 +1,4 @@
-use rtps_text::Unwatched;
+use rtps_report::Unwatched;
 
 /// Is told of a run what was read, beside how far an audit is ([`crate::Watch`]).
 pub trait Follow {

@@ -1,12 +1,10 @@
 //! Laws of the definitions, as contracts of functions that do nothing.
 
 ghost use Rattle.std.specs.Prelude.{ℕ};
-ghost use Rattle.rtps_text.specs.Asked.{AskedValue};
-ghost use Rattle.rtps_text.specs.AuditText.{IsAuditedAs, IsAuditedFrom};
-ghost use Rattle.rtps_text.specs.JsonText.{IsJsonTextAs, IsJsonTextFrom};
+ghost use Rattle.rtps_report.specs.Asked.{AskedValue};
+ghost use Rattle.rtps_text.specs.ReportText.{IsAuditedAs, IsAuditedFrom, IsJsonTextAs, IsJsonTextFrom, IsExplainedTextAs, IsExplainedTextFrom};
 ghost use Rattle.rtps_text.specs.ListText.{IsListed};
 ghost use Rattle.rtps_text.specs.ShowText.{IsShown};
-ghost use Rattle.rtps_text.specs.WhyText.{IsExplainedTextAs, IsExplainedTextFrom};
 ghost use Rattle.rtps_tool.specs.Laws.{NoTextBeginsAsACapture, RunsAgree, RunsAgreeWithin, StaysWithin, TextsStayTexts};
 ghost use Rattle.rtps_tool.specs.Words.{WordsAreWanted};
 

@@ -23,7 +23,7 @@ pub use form::either::{read_recording, read_recording_within};
 pub use rtps_capture::{
     CAPTURE_HEADER_SIZE, Captures, LinkType, is_pcapng, link_type_numbered, unread_link_type,
 };
-pub use rtps_text::{
+pub use rtps_report::{
     Asked, Datagrams, Ending, FewRows, Findings, Recording, Rows, Unwatched, Watch,
 };
 pub use runs::{

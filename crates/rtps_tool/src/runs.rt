@@ -1,11 +1,14 @@
 ghost use Rattle.std.specs.Prelude.{◌≡◌, IfOk};
 ghost use Rattle.std.specs.String.{string_bytes};
-ghost use Rattle.rtps_text.specs.Asked.{asked_value};
-ghost use Rattle.rtps_text.specs.AuditText.{IsAudited, IsAuditedFrom};
+ghost use Rattle.rtps_report.specs.Asked.{asked_value};
+ghost use Rattle.rtps_text.specs.ReportText.{IsAudited, IsAuditedFrom};
 ghost use Rattle.rtps_text.specs.ListText.{IsListed};
 ghost use Rattle.rtps_text.specs.SampleText.{sample};
 ghost use Rattle.rtps_text.specs.ShowText.{IsShown};
-ghost use Rattle.rtps_tool.specs.Commands.{IsTextOf};
+ghost use Rattle.rtps_audit.specs.Index.{IsIndexBy};
+ghost use Rattle.rtps_fragments.specs.RecordedSamples.{intake_as};
+ghost use Rattle.rtps_report.specs.FullReport.{IsTold, report_value};
+ghost use Rattle.rtps_tool.specs.Commands.{IsFormOf, IsPageForm, IsTextOf};
 ghost use Rattle.rtps_tool.specs.Limits.{usual as usual_lem};
 ghost use Rattle.rtps_tool.specs.Runs.{Runs, RunsWithin, Writes};
 
@@ -16,10 +19,10 @@ use rtps_capture::Captures;
 use rtps_check::{check_json, check_text};
 use rtps_ids::{Memory, SeqNum};
 use rtps_page::page_text;
-use rtps_text::{
-    Asked, Ending, Recording, Unwatched, Watch, audit_text, json_text, list_text, sample_text,
-    show_text, why_text,
+use rtps_report::{
+    Asked, Ending, FullReport, Recording, Samples, Subject, Unwatched, Watch, report_on,
 };
+use rtps_text::{audit_text, json_text, list_text, sample_text, show_text, why_text};
 use std::alloc::Global;
 use std::io::{Read, Write};
 
@@ -126,16 +129,67 @@ fn text_of<P: Watch>(
 ) -> Result<(String, Ending), Memory>
     ensures { IfOk result (λ answer. IsTextOf options.now.command (asked_value options.now.asked) recording.now (string_bytes answer.0) answer.1) }
 {
+    let asked = &options.asked;
+    let subject = Subject { recording, asked };
     match options.command {
-        Command::Check => check_text(alloc, recording, &options.asked, watch),
-        Command::CheckJson => check_json(alloc, recording, &options.asked, watch),
-        Command::Show => show_text(alloc, recording, options.asked.fragments),
+        Command::Check => told(alloc, Form::Check, subject, watch),
+        Command::CheckJson => told(alloc, Form::CheckJson, subject, watch),
+        Command::Show => show_text(alloc, recording, asked.fragments),
         Command::List => list_text(alloc, recording),
-        Command::Audit => audit_text(alloc, recording, &options.asked, watch),
-        Command::Json => json_text(alloc, recording, &options.asked, watch),
-        Command::Why => why_text(alloc, recording, &options.asked, watch),
-        Command::Page => page_text(alloc, recording, &options.asked, watch),
+        Command::Audit => audit_text(alloc, recording, asked, watch),
+        Command::Json => told(alloc, Form::Json, subject, watch),
+        Command::Why => told(alloc, Form::Why, subject, watch),
+        Command::Page => told(alloc, Form::Page, subject, watch),
     }
+}
+
+/// In which form a report is told, with what each of its rows rests on.
+#[derive(Clone, Copy, Debug, PartialEq, Eq)]
+enum Form {
+    Check,
+    CheckJson,
+    Json,
+    Why,
+    Page,
+}
+
+/// The report that is asked for, in a form, and how the run ends.
+fn told<P: Watch>(
+    alloc: Global,
+    form: Form,
+    subject: Subject<'_>,
+    watch: &mut P,
+) -> Result<(String, Ending), Memory>
+    ensures { IfOk result (λ answer. IsTold (IsFormOf form) (asked_value subject.entry.asked.now) subject.entry.recording.now (string_bytes answer.0) answer.1) }
+{
+    let mut samples = Samples::none(alloc);
+    let report = report_on(alloc, subject, &mut samples, watch)?;
+    let text = form_text(alloc, form, &report)?;
+    Ok((text, report.ending))
+}
+
+/// A report in a form.
+fn form_text(alloc: Global, form: Form, report: &FullReport<'_>) -> Result<String, Memory>
+    requires { IsIndexBy (intake_as report.now.asked.now.fragments report.now.recording.now.datagrams) report.now.index }
+    ensures { IfOk result (λ text. IsFormOf form (asked_value report.now.asked.now) report.now.recording.now (report_value report.now) (string_bytes text)) }
+{
+    let text = match form {
+        Form::Check => check_text(alloc, report)?,
+        Form::CheckJson => check_json(alloc, report)?,
+        Form::Json => json_text(alloc, report)?,
+        Form::Why => why_text(alloc, report)?,
+        Form::Page => return page_of(alloc, report),
+    };
+    Ok(text)
+}
+
+/// A report as a page, which shows the text of `check` where scripts do not run.
+fn page_of(alloc: Global, report: &FullReport<'_>) -> Result<String, Memory>
+    requires { IsIndexBy (intake_as report.now.asked.now.fragments report.now.recording.now.datagrams) report.now.index }
+    ensures { IfOk result (λ text. IsPageForm (asked_value report.now.asked.now) report.now.recording.now (report_value report.now) (string_bytes text)) }
+{
+    let plain = check_text(alloc, report)?;
+    page_text(alloc, report, &plain)
 }
 
 /// [`run`] that shows, within the usual limits.

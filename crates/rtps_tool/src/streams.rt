@@ -13,7 +13,7 @@ use crate::form::either::{begins_capture, read_recording_within};
 use crate::form::line_reader::{KEPT_MAX, LineReader};
 use crate::runs::Limits;
 use rtps_capture::Captures;
-use rtps_text::{Recording, make_room, push_octets};
+use rtps_report::{Recording, make_room, push_octets};
 use std::alloc::{AllocError, Global};
 use std::io::{Read, Write};
 

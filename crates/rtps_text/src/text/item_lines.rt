@@ -1,25 +1,21 @@
-ghost use Rattle.std.specs.Prelude.{◌≡◌, ◌++◌, OnOk, codes, length};
-ghost use Rattle.std.specs.Fmt.{decimal, signed_decimal};
-ghost use Rattle.std.specs.Option.{option_map};
-ghost use Rattle.std.specs.String.{string_bytes};
+ghost use Rattle.std.specs.Prelude.{◌≡◌, ◌++◌, OnOk, codes, length, decimal, option_map, string_bytes};
+ghost use Rattle.std.specs.Fmt.{signed_decimal};
 ghost use Rattle.hex.specs.Hex.{encode_lower};
 ghost use Rattle.rtps_params.specs.Lists.{list_value};
 ghost use Rattle.rtps_wire.specs.DataFrag.{data_frag_value};
 ghost use Rattle.rtps_wire.specs.Values.{data_value, item_value};
-ghost use Rattle.rtps_text.specs.ShowTail.{IsTailIn};
-ghost use Rattle.rtps_text.specs.ShowText.{ack_nack_line, data_frag_line, data_line, gap_line, heartbeat_line, info_dst_line, info_src_line, info_ts_line, item_line, bitmap_text, digit_of, order_text, qos_octets as qos_octets_lem, skipped_line, version_text};
+ghost use Rattle.rtps_text.specs.ShowText.{IsTailIn, ack_nack_line, data_frag_line, data_line, gap_line, heartbeat_line, info_dst_line, info_src_line, info_ts_line, item_line, bitmap_text, digit_of, order_text, qos_octets as qos_octets_lem, skipped_line, version_text};
 
 use crate::text::parts::{
-    order_name, push_bitmap, push_digits, push_field, push_final, push_id, push_key, push_live,
-    push_payload, push_tail, push_time, push_version,
+    order_name, push_bitmap, push_digits, push_flag, push_id, push_tail, push_time, push_version,
 };
 use rtps_ids::{EntityId, GuidPrefix, NumberSet, Order, Stamp, Vendor, Version};
+use rtps_lines::{push_field, push_payload};
 use rtps_params::ParamList;
 use rtps_receiver::State;
 use rtps_wire::{AckNackBody, Body, DataBody, DataFrag, GapBody, HeartbeatBody, Item};
 use std::alloc::AllocError;
 
-/// Appends the line of a submessage, at whose place the receiver is in this state. The tail is kept from line to line.
 pub(crate) fn push_item(
     text: &mut String,
     tail: &mut String,
@@ -47,7 +43,6 @@ pub(crate) fn push_item(
     }
 }
 
-/// Appends what each line but that of a skipped submessage begins with.
 #[inline(always)]
 fn push_head(text: &mut String, name: &str, at: usize, order: Order) -> Result<(), AllocError>
     ensures { OnOk result (string_bytes text.new
@@ -58,7 +53,6 @@ fn push_head(text: &mut String, name: &str, at: usize, order: Order) -> Result<(
     text.push_str(order_name(order))
 }
 
-/// Appends what the line of an act begins with, up to the entities that it names.
 fn push_act(
     text: &mut String,
     name: &str,
@@ -78,7 +72,6 @@ fn push_act(
     push_digits(text, &writer.0)
 }
 
-/// Appends the line of a DATA.
 fn push_data(
     text: &mut String,
     tail: &mut String,
@@ -98,7 +91,6 @@ fn push_data(
     push_tail(text, tail, state)
 }
 
-/// Appends the line of a DATA_FRAG that is read.
 pub(crate) fn push_data_frag(
     text: &mut String,
     tail: &mut String,
@@ -123,7 +115,6 @@ pub(crate) fn push_data_frag(
     push_tail(text, tail, state)
 }
 
-/// Appends the fields that say which fragments there are.
 fn push_fragments(text: &mut String, data_frag: &DataFrag<'_>) -> Result<(), AllocError>
     ensures { OnOk result (string_bytes text.new
         ≡ string_bytes text.old ++ (codes " number " ++ (decimal data_frag.now.number
@@ -137,14 +128,13 @@ fn push_fragments(text: &mut String, data_frag: &DataFrag<'_>) -> Result<(), All
     push_field(text, " sample ", data_frag.shape.sample)
 }
 
-/// Appends how many octets the inline QoS has, whether the sample is a key, and how many octets the fragments have.
 fn push_sample(text: &mut String, data_frag: &DataFrag<'_>) -> Result<(), AllocError>
     ensures { OnOk result (string_bytes text.new
         ≡ string_bytes text.old ++ (codes " qos " ++ (decimal (qos_octets_lem (option_map list_value data_frag.now.qos))
         ++ (codes " key " ++ (digit_of data_frag.now.shape.is_key ++ (codes " octets " ++ decimal (length data_frag.now.octets.now))))))) }
 {
     push_field(text, " qos ", qos_octets(&data_frag.qos))?;
-    push_key(text, data_frag.shape.is_key)?;
+    push_flag(text, " key ", data_frag.shape.is_key)?;
     push_field(text, " octets ", data_frag.octets.len())
 }
 
@@ -159,7 +149,6 @@ fn qos_octets(qos: &Option<ParamList>) -> usize
     }
 }
 
-/// Appends the line of a HEARTBEAT.
 fn push_heartbeat(
     text: &mut String,
     tail: &mut String,
@@ -181,12 +170,11 @@ fn push_heartbeat(
         heartbeat.writer,
     )?;
     push_numbers(text, heartbeat)?;
-    push_final(text, heartbeat.is_final)?;
-    push_live(text, heartbeat.live)?;
+    push_flag(text, " final ", heartbeat.is_final)?;
+    push_flag(text, " live ", heartbeat.live)?;
     push_tail(text, tail, state)
 }
 
-/// Appends the fields of a heartbeat that are numbers.
 fn push_numbers(text: &mut String, heartbeat: &HeartbeatBody) -> Result<(), AllocError>
     ensures { OnOk result (string_bytes text.new
         ≡ string_bytes text.old ++ (codes " first " ++ (decimal heartbeat.now.first
@@ -197,7 +185,6 @@ fn push_numbers(text: &mut String, heartbeat: &HeartbeatBody) -> Result<(), Allo
     push_field(text, " count ", heartbeat.count)
 }
 
-/// Appends the line of an ACKNACK.
 fn push_ack_nack(
     text: &mut String,
     tail: &mut String,
@@ -220,11 +207,10 @@ fn push_ack_nack(
     )?;
     push_set(text, &ack_nack.set)?;
     push_field(text, " count ", ack_nack.count)?;
-    push_final(text, ack_nack.is_final)?;
+    push_flag(text, " final ", ack_nack.is_final)?;
     push_tail(text, tail, state)
 }
 
-/// Appends the line of a GAP.
 fn push_gap(
     text: &mut String,
     tail: &mut String,
@@ -243,7 +229,6 @@ fn push_gap(
     push_tail(text, tail, state)
 }
 
-/// Appends the base of a set, how many bits it has, and the bits.
 #[inline(always)]
 fn push_set(text: &mut String, set: &NumberSet) -> Result<(), AllocError>
     ensures { OnOk result (string_bytes text.new
@@ -255,7 +240,6 @@ fn push_set(text: &mut String, set: &NumberSet) -> Result<(), AllocError>
     push_bitmap(text, set)
 }
 
-/// Appends the line of an INFO_TS.
 fn push_info_ts(
     text: &mut String,
     at: usize,
@@ -270,7 +254,6 @@ fn push_info_ts(
     text.push_str("\n")
 }
 
-/// Appends the line of an INFO_DST.
 fn push_info_dst(
     text: &mut String,
     at: usize,
@@ -285,7 +268,6 @@ fn push_info_dst(
     text.push_str("\n")
 }
 
-/// Appends the line of an INFO_SRC.
 fn push_info_src(
     text: &mut String,
     at: usize,
@@ -300,7 +282,6 @@ fn push_info_src(
     push_origin(text, version, vendor, prefix)
 }
 
-/// Appends the end of a line: by which protocol someone sends, who made it, and who it is.
 pub(crate) fn push_origin(
     text: &mut String,
     version: Version,
@@ -319,7 +300,6 @@ pub(crate) fn push_origin(
     text.push_str("\n")
 }
 
-/// Appends the line of a submessage that is skipped.
 pub(crate) fn push_skipped(text: &mut String, at: usize, id: u8) -> Result<(), AllocError>
     ensures { OnOk result (string_bytes text.new ≡ string_bytes text.old ++ skipped_line at id) }
 {

@@ -1,19 +1,18 @@
-ghost use Rattle.std.specs.Prelude.{◌≡◌, ◌++◌, [], IfOk, OnOk};
-ghost use Rattle.std.specs.String.{string_bytes};
+ghost use Rattle.std.specs.Prelude.{◌≡◌, ◌++◌, [], IfOk, OnOk, Some, string_bytes, flat_map};
 ghost use Rattle.rtps_discovery.specs.Directory.{IsMapOf};
 ghost use Rattle.rtps_discovery.specs.Endpoint.{endpoint_value};
-ghost use Rattle.std.specs.List.{flat_map};
 ghost use Rattle.rtps_receiver.specs.Acts.{acts_in};
 ghost use Rattle.rtps_discovery.specs.Notice.{faults_in};
-ghost use Rattle.rtps_text.specs.ListText.{IsListed, directory_text as directory_text_lem, endpoint_line, match_line, participant_line};
+ghost use Rattle.rtps_text.specs.ListText.{IsListed, directory_text as directory_text_lem, endpoint_line, match_line, match_text, participant_line};
 
-use crate::recording::Recording;
-use crate::text::Ending;
-use crate::text::list_lines::{CountsLine, EndpointLine, MatchLine, ParticipantLine};
 use rtps_discovery::{Directory, Endpoint, Match};
 use rtps_ids::{Guid, Memory};
+use rtps_lines::{durability_name, reliability_name, side_name};
+use rtps_parts::NameText;
 use rtps_receiver::Walk;
+use rtps_report::{Ending, Recording};
 use std::alloc::{AllocError, Global};
+use std::fmt;
 
 /// What `list` prints of a recording, and that it ends [`Ending::Clean`].
 /// `Memory` is answered where the text, or what is kept for it, cannot grow.
@@ -45,38 +44,35 @@ fn note_datagrams<'a>(
     Ok(faults)
 }
 
-/// The lines of a directory, and of so many faults.
 fn directory_text(alloc: Global, directory: &Directory<'_>, faults: u128) -> Result<String, Memory>
     ensures { IfOk result (λ text. string_bytes text ≡ directory_text_lem directory.now faults) }
 {
     let participants = directory.participants()?;
     let endpoints = directory.endpoints()?;
     let matches = directory.matched()?;
-    let counts = CountsLine {
-        participants: participants.len(),
-        endpoints: endpoints.len(),
-        unsettled: directory.unsettled(),
-        faults,
-    };
     let mut text = String::new(alloc);
     push_participants(&mut text, &participants)?;
     push_endpoints(&mut text, &endpoints)?;
     push_matches(&mut text, &matches)?;
-    write!(text, "{counts}")?;
+    writeln!(
+        text,
+        "participants {} endpoints {} unsettled {} faults {faults}",
+        participants.len(),
+        endpoints.len(),
+        directory.unsettled()
+    )?;
     Ok(text)
 }
 
-/// Appends the lines of participants.
 fn push_participants(text: &mut String, guids: &[Guid]) -> Result<(), AllocError>
     ensures { OnOk result (string_bytes text.new ≡ string_bytes text.old ++ flat_map participant_line guids.now) }
 {
     for guid in guids {
-        write!(text, "{}", ParticipantLine(*guid))?;
+        writeln!(text, "participant {guid}")?;
     }
     Ok(())
 }
 
-/// Appends the lines of endpoints.
 fn push_endpoints(text: &mut String, endpoints: &[Endpoint<'_>]) -> Result<(), AllocError>
     ensures { OnOk result (string_bytes text.new
         ≡ string_bytes text.old ++ flat_map (λ endpoint. endpoint_line (endpoint_value endpoint)) endpoints.now) }
@@ -87,7 +83,6 @@ fn push_endpoints(text: &mut String, endpoints: &[Endpoint<'_>]) -> Result<(), A
     Ok(())
 }
 
-/// Appends the lines of matches.
 fn push_matches(text: &mut String, matches: &[Match]) -> Result<(), AllocError>
     ensures { OnOk result (string_bytes text.new ≡ string_bytes text.old ++ flat_map match_line matches.now) }
 {
@@ -95,4 +90,55 @@ fn push_matches(text: &mut String, matches: &[Match]) -> Result<(), AllocError>
         write!(text, "{}", MatchLine(*found))?;
     }
     Ok(())
+}
+
+#[derive(Drop)]
+struct MatchLine(Match);
+
+impl fmt::Display for MatchLine {
+    ghost output = { λ line. Some (match_line line.0) };
+
+    fn fmt<W: fmt::Write>(&self, f: &mut fmt::Formatter<W>) -> fmt::Result {
+        let Match { pair, reliable } = self.0;
+        writeln!(
+            f,
+            "pair {} {} {}",
+            pair.writer,
+            pair.reader,
+            match_name(reliable)
+        )
+    }
+}
+
+/// What the line of a match says of it: whether both are reliable.
+#[tactic(auto, unfolding(crate::specs::ListText::match_text))]
+fn match_name(reliable: bool) -> &'static str
+    ensures { result.now ≡ match_text reliable }
+{
+    if reliable { "reliable" } else { "best-effort" }
+}
+
+#[derive(Drop)]
+struct EndpointLine<'a>(&'a Endpoint<'a>);
+
+impl fmt::Display for EndpointLine<'_> {
+    ghost output = { λ line. Some (endpoint_line (endpoint_value line.0.now)) };
+
+    fn fmt<W: fmt::Write>(&self, f: &mut fmt::Formatter<W>) -> fmt::Result {
+        let endpoint = self.0;
+        write!(
+            f,
+            "{} {} topic {} ",
+            side_name(endpoint.side),
+            endpoint.guid,
+            NameText(endpoint.topic)
+        )?;
+        writeln!(
+            f,
+            "type {} {} {}",
+            NameText(endpoint.type_name),
+            reliability_name(endpoint.reliability),
+            durability_name(endpoint.durability)
+        )
+    }
 }

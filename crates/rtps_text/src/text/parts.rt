@@ -1,43 +1,16 @@
 //! Appends the parts of a line to a growing text. Nothing is formatted on the way: a part is copied once.
 
-ghost use Rattle.std.specs.Prelude.{◌≡◌, ◌++◌, ◌∷◌, [], ◌*◌, ◌≤◌, codes, length, take, IsAscii, OnOk};
-ghost use Rattle.std.specs.String.{string_bytes};
+ghost use Rattle.std.specs.Prelude.{◌≡◌, ◌++◌, ◌∷◌, [], ◌*◌, ◌≤◌, codes, length, take, IsAscii, OnOk, string_bytes};
 ghost use Rattle.hex.specs.Hex.{encode_lower};
-ghost use Rattle.rtps_wire.specs.Values.{payload_value};
-ghost use Rattle.rtps_text.specs.ShowTail.{IsTailIn, tail_text};
-ghost use Rattle.rtps_text.specs.ShowText.{bitmap_text, destination_text, digit_of, order_text, payload_text, state_text, time_text, version_text};
+ghost use Rattle.rtps_text.specs.ShowText.{IsTailIn, tail_text, bitmap_text, destination_text, digit_of, order_text, state_text, time_text, version_text};
 
-use itoa::{Buffer, Integer};
 use rtps_ids::{GuidPrefix, NumberSet, Order, Stamp, Version};
+use rtps_lines::{push_decimal, push_field};
 use rtps_receiver::State;
-use rtps_wire::Payload;
 use std::alloc::AllocError;
 
 static DIGITS: [u8; 16] = *b"0123456789abcdef";
 
-/// Appends a number in decimal.
-#[inline(always)]
-pub(crate) fn push_number<N: Integer>(text: &mut String, number: N) -> Result<(), AllocError>
-    ensures { OnOk result (string_bytes text.new ≡ string_bytes text.old ++ N.text number) }
-{
-    let mut buffer = Buffer::new();
-    text.push_str(buffer.format(number))
-}
-
-/// Appends a number behind its name.
-#[inline(always)]
-pub(crate) fn push_field<N: Integer>(
-    text: &mut String,
-    name: &str,
-    number: N,
-) -> Result<(), AllocError>
-    ensures { OnOk result (string_bytes text.new ≡ string_bytes text.old ++ (name.now ++ N.text number)) }
-{
-    text.push_str(name)?;
-    push_number(text, number)
-}
-
-/// Appends octets as lower-case hexadecimal digits, two each. There are 16 octets at most.
 #[inline(always)]
 pub(crate) fn push_digits(text: &mut String, octets: &[u8]) -> Result<(), AllocError>
     requires { length octets.now ≤ 16 }
@@ -58,7 +31,6 @@ fn digits_from(octets: &[u8]) -> [u8; 32]
     rtps_digits::encode(filled)
 }
 
-/// Digits as a text.
 fn text_of(digits: &[u8]) -> &str
     requires { IsAscii digits.now }
     ensures { result.now ≡ digits.now }
@@ -106,55 +78,23 @@ pub(crate) fn order_name(order: Order) -> &'static str
     }
 }
 
-/// Appends the flag by which someone asks for no answer.
 #[tactic(auto, unfolding(crate::specs::ShowText::digit_of))]
 #[inline(always)]
-pub(crate) fn push_final(text: &mut String, flag: bool) -> Result<(), AllocError>
-    ensures { OnOk result (string_bytes text.new ≡ string_bytes text.old ++ (codes " final " ++ digit_of flag)) }
+pub(crate) fn push_flag(text: &mut String, name: &str, flag: bool) -> Result<(), AllocError>
+    ensures { OnOk result (string_bytes text.new ≡ string_bytes text.old ++ (name.now ++ digit_of flag)) }
 {
-    text.push_str(if flag { " final 1" } else { " final 0" })
+    text.push_str(name)?;
+    text.push_str(if flag { "1" } else { "0" })
 }
 
-/// Appends the flag by which a writer says that it lives.
-#[tactic(auto, unfolding(crate::specs::ShowText::digit_of))]
-#[inline(always)]
-pub(crate) fn push_live(text: &mut String, flag: bool) -> Result<(), AllocError>
-    ensures { OnOk result (string_bytes text.new ≡ string_bytes text.old ++ (codes " live " ++ digit_of flag)) }
-{
-    text.push_str(if flag { " live 1" } else { " live 0" })
-}
-
-/// Appends the flag by which a writer says that a sample is a key.
-#[tactic(auto, unfolding(crate::specs::ShowText::digit_of))]
-#[inline(always)]
-pub(crate) fn push_key(text: &mut String, flag: bool) -> Result<(), AllocError>
-    ensures { OnOk result (string_bytes text.new ≡ string_bytes text.old ++ (codes " key " ++ digit_of flag)) }
-{
-    text.push_str(if flag { " key 1" } else { " key 0" })
-}
-
-/// Appends a version, with a dot between its parts.
 #[tactic(auto, unfolding(crate::specs::ShowText::version_text))]
 pub(crate) fn push_version(text: &mut String, version: Version) -> Result<(), AllocError>
     ensures { OnOk result (string_bytes text.new ≡ string_bytes text.old ++ version_text version) }
 {
-    push_number(text, version.major)?;
+    push_decimal(text, version.major)?;
     push_field(text, ".", version.minor)
 }
 
-/// Appends a field that says what a payload is, and how many octets it has.
-#[tactic(auto, unfolding(crate::specs::ShowText::payload_text))]
-pub(crate) fn push_payload(text: &mut String, payload: Payload<'_>) -> Result<(), AllocError>
-    ensures { OnOk result (string_bytes text.new ≡ string_bytes text.old ++ (codes " payload " ++ payload_text (payload_value payload.entry))) }
-{
-    match payload {
-        Payload::Absent => text.push_str(" payload absent"),
-        Payload::Whole(octets) => push_field(text, " payload whole ", octets.len()),
-        Payload::Key(octets) => push_field(text, " payload key ", octets.len()),
-    }
-}
-
-/// Appends seconds and fractions, or that there are none.
 #[tactic(auto, unfolding(crate::specs::ShowText::time_text))]
 pub(crate) fn push_time(text: &mut String, time: Option<Stamp>) -> Result<(), AllocError>
     ensures { OnOk result (string_bytes text.new ≡ string_bytes text.old ++ time_text time) }
@@ -162,11 +102,10 @@ pub(crate) fn push_time(text: &mut String, time: Option<Stamp>) -> Result<(), Al
     let Some(stamp) = time else {
         return text.push_str("none");
     };
-    push_number(text, stamp.seconds)?;
+    push_decimal(text, stamp.seconds)?;
     push_field(text, " ", stamp.fraction)
 }
 
-/// Appends whom an act is for.
 #[tactic(auto, unfolding(crate::specs::ShowText::destination_text))]
 fn push_destination(text: &mut String, dest: Option<GuidPrefix>) -> Result<(), AllocError>
     ensures { OnOk result (string_bytes text.new ≡ string_bytes text.old ++ destination_text dest) }
@@ -204,7 +143,6 @@ fn make_tail(tail: &mut String, state: &State) -> Result<(), AllocError>
     push_state(tail, state)
 }
 
-/// Appends from whom, for whom and when an act in this state is.
 #[tactic(auto, unfolding(crate::specs::ShowText::state_text))]
 fn push_state(text: &mut String, state: &State) -> Result<(), AllocError>
     ensures { OnOk result (string_bytes text.new ≡ string_bytes text.old ++ (codes " " ++ (state_text state.now ++ codes "\n"))) }
@@ -218,7 +156,6 @@ fn push_state(text: &mut String, state: &State) -> Result<(), AllocError>
     text.push_str("\n")
 }
 
-/// Appends the longs that hold the bits of a set, or a dash where it has none.
 pub(crate) fn push_bitmap(text: &mut String, set: &NumberSet) -> Result<(), AllocError>
     ensures { OnOk result (string_bytes text.new ≡ string_bytes text.old ++ bitmap_text set.now) }
 {

@@ -1,23 +1,18 @@
-ghost use Rattle.std.specs.Prelude.{◌≡◌, [], ◌∷◌, ◌++◌, IfOk, None, OnOk, Some};
-ghost use Rattle.std.specs.String.{string_bytes};
+ghost use Rattle.std.specs.Prelude.{◌≡◌, [], ◌∷◌, ◌++◌, IfOk, OnOk, Some, string_bytes, option_map};
 ghost use Rattle.rtps_receiver.specs.Acts.{state_behind};
-ghost use Rattle.std.specs.Option.{option_map};
 ghost use Rattle.rtps_wire.specs.DataFrag.{data_frag_value};
 ghost use Rattle.rtps_wire.specs.Reading.{outcomes_left};
 ghost use Rattle.rtps_wire.specs.Values.{body_value, item_value};
-ghost use Rattle.rtps_text.specs.ShowTail.{IsTailIn, says_of_state};
-ghost use Rattle.rtps_text.specs.ShowText.{IsShownWith, datagram_line, datagram_text, fragments_at as fragments_at_lem, outcomes_text, refusal_line, text_from};
+ghost use Rattle.rtps_text.specs.ShowText.{IsTailIn, says_of_state, IsShownWith, datagram_line, datagram_text, fragments_at as fragments_at_lem, outcomes_text, refusal_line, text_from};
 
-use crate::recording::Recording;
-use crate::text::Ending;
 use crate::text::item_lines::{push_data_frag, push_item, push_origin, push_skipped};
-use crate::text::parts::push_field;
 use rtps_fragments::Fragments;
 use rtps_ids::Memory;
+use rtps_lines::push_field;
 use rtps_receiver::State;
+use rtps_report::{Ending, Recording};
 use rtps_wire::{Body, DataFrag, Header, Item, Items, Refusal};
 use std::alloc::{AllocError, Global};
-use std::fmt;
 
 /// A datagram, and what becomes of fragments in it.
 #[derive(Clone, Copy)]
@@ -41,7 +36,6 @@ pub fn show_text(
     Ok((text, Ending::Clean))
 }
 
-/// Appends the lines of all datagrams. The tail is there for its room.
 fn push_datagrams(
     text: &mut String,
     tail: &mut String,
@@ -58,7 +52,6 @@ fn push_datagrams(
     Ok(())
 }
 
-/// Appends the lines of a datagram of this number.
 fn push_datagram(
     text: &mut String,
     tail: &mut String,
@@ -73,13 +66,13 @@ fn push_datagram(
             push_items(text, tail, State::at_start(header), items, datagram)
         }
         Err(refusal) => {
-            push_unread(text, number)?;
-            write!(text, "{}", RefusalLine(refusal))
+            push_field(text, "datagram ", number)?;
+            text.push_str(" unread\n")?;
+            push_refusal(text, refusal)
         }
     }
 }
 
-/// Appends the line of a datagram that has a header.
 fn push_opened(text: &mut String, number: usize, header: &Header) -> Result<(), AllocError>
     ensures { OnOk result (string_bytes text.new ≡ string_bytes text.old ++ datagram_line number (Some header.now)) }
 {
@@ -87,15 +80,7 @@ fn push_opened(text: &mut String, number: usize, header: &Header) -> Result<(), 
     push_origin(text, header.version, header.vendor, header.prefix)
 }
 
-/// Appends the line of a datagram that has none.
-fn push_unread(text: &mut String, number: usize) -> Result<(), AllocError>
-    ensures { OnOk result (string_bytes text.new ≡ string_bytes text.old ++ datagram_line number None) }
-{
-    push_field(text, "datagram ", number)?;
-    text.push_str(" unread\n")
-}
-
-/// Appends the lines of what is left of a datagram, from a state of the receiver on. No item is made of a submessage that
+/// The lines of what is left of a datagram, from a state of the receiver on. No item is made of a submessage that
 /// is skipped. The end of an act's line is made once for all acts in one state, in the tail.
 fn push_items(
     text: &mut String,
@@ -124,7 +109,7 @@ fn push_items(
                 push_item(text, tail, &state, &item)?;
                 interpret(&mut state, tail, &item);
             }
-            Some(Err(refusal)) => write!(text, "{}", RefusalLine(refusal))?,
+            Some(Err(refusal)) => push_refusal(text, refusal)?,
             None => return Ok(()),
         }
     }
@@ -157,7 +142,6 @@ fn interpret(state: &mut State, tail: &mut String, item: &Item<'_>)
     }
 }
 
-/// Whether a body says something of the state of what follows it.
 #[inline(always)]
 fn says_state(body: &Body<'_>) -> bool
     ensures { result ≡ says_of_state (body_value body.now) }
@@ -168,14 +152,8 @@ fn says_state(body: &Body<'_>) -> bool
     )
 }
 
-/// The line of a refusal.
-#[derive(Drop)]
-struct RefusalLine(Refusal);
-
-impl fmt::Display for RefusalLine {
-    ghost output = { λ line. Some (refusal_line line.0) };
-
-    fn fmt<W: fmt::Write>(&self, f: &mut fmt::Formatter<W>) -> fmt::Result {
-        writeln!(f, "refused {} {}", self.0.at, self.0.fault)
-    }
+fn push_refusal(text: &mut String, refusal: Refusal) -> Result<(), AllocError>
+    ensures { OnOk result (string_bytes text.new ≡ string_bytes text.old ++ refusal_line refusal) }
+{
+    writeln!(text, "refused {} {}", refusal.at, refusal.fault)
 }

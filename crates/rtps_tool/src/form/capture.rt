@@ -1,12 +1,12 @@
 ghost use Rattle.std.specs.Prelude.{◌≡◌, List, ℕ, length, Ok, IfErr, IfOk, MatchResult};
 ghost use Rattle.rtps_capture.specs.Capture.{AreWithin};
-ghost use Rattle.rtps_text.specs.DatagramSpan.{AreSpans, pieces};
+ghost use Rattle.rtps_report.specs.DatagramSpan.{AreSpans, pieces};
 ghost use Rattle.rtps_tool.specs.Outcomes.{IsFaultOf};
 ghost use Rattle.rtps_tool.specs.RecordingCapture.{octets_in, recording_of_capture};
 
 use crate::faults::RecFault;
 use rtps_capture::{ByteRange, Captures};
-use rtps_text::{DatagramSpan, Links, Reasons, Recording};
+use rtps_report::{DatagramSpan, Links, Reasons, Recording};
 use std::alloc::Global;
 
 /// Reads a recording of so many datagrams at most from a capture of those that are read. It keeps the octets of the capture, and

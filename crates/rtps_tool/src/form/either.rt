@@ -8,7 +8,7 @@ use crate::form::capture::read_capture;
 use crate::form::hex_lines::read_text;
 use crate::runs::Limits;
 use rtps_capture::{Captures, capture_order, is_pcapng};
-use rtps_text::Recording;
+use rtps_report::Recording;
 use std::alloc::Global;
 
 /// Reads a recording in one of two forms, which the first four octets tell apart, within the usual limits

@@ -7,7 +7,7 @@ ghost use Rattle.rtps_tool.specs.RecordingText.{is_datagram_line as is_datagram_
 
 use crate::faults::RecFault;
 use crate::form::line_reader::LineReader;
-use rtps_text::{DatagramList, Recording};
+use rtps_report::{DatagramList, Recording};
 use std::alloc::Global;
 
 /// The most digits of a datagram: two for each of 65,535 octets, as UDP carries no more.

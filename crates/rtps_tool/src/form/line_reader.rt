@@ -6,7 +6,7 @@ ghost use Rattle.rtps_tool.specs.Unfinished.{IsFaultWithin, IsReadUpTo, recordin
 
 use crate::faults::RecFault;
 use crate::form::hex_lines::{DIGITS_MAX, line_end_behind, read_line, without_return};
-use rtps_text::DatagramList;
+use rtps_report::DatagramList;
 use std::alloc::Global;
 
 /// The most octets of a line that are kept while it is unfinished: its digits and a carriage return.

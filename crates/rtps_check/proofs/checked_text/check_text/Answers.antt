@@ -1,33 +1,31 @@
-use Rattle.std.proofs.Common.{◌∙◌, ℕ, Bor, List, ap, map, subst, sym}
-use Rattle.rtps_evidence.specs.Explanation.{IsExplainedBy}
-use Rattle.rtps_fragments.specs.RecordedSamples.{intake_as}
-use Rattle.rtps_text.specs.Asked.{asked_value}
-use Rattle.rtps_text.specs.Findings.{ending_as}
-use Rattle.rtps_check.specs.ByTopic.{AreByTopic}
-use Rattle.rtps_check.specs.Notes.{short_in}
-use Rattle.rtps_check.specs.Parted.{IsPartedAs}
-use Rattle.rtps_check.proofs.CheckedLemmas.{same_text}
+use Rattle.std.proofs.Common.{◌∙◌, List, ap, map, subst}
+use Rattle.rtps_report.specs.Vocabulary.{Explanation, explanation_value}
+use Rattle.rtps_report.specs.declared.advice.Scope.{Scope}
+use Rattle.rtps_report.specs.Asked.{asked_value}
+use Rattle.rtps_report.specs.ByTopic.{AreByTopic}
+use Rattle.rtps_report.specs.FullReport.{report_value}
+use Rattle.rtps_report.specs.NoteFacts.{note_facts, scope_of}
+use Rattle.rtps_report.specs.declared.note_facts.NoteFacts.{NoteFacts}
+use Rattle.rtps_check.specs.CheckText.{text_by}
 use Rattle.rtps_check.proofs.checked_text.check_text.Goals as goal
 
 pub returns : goal.returns
-returns g c =
-    let view : Bor (List ℕ) → List ℕ = λ datagram. datagram.now in
-    let asked = asked_value c.args.asked.now in
-    let parted = c.in_ok-parted.parted in
-    let same = ap (map view) c.deref.ensures.value ∙ c.in_ok-datagrams.ensures in
-    let whole = c.in_ok-whole.ensures _ c.in_ok-index.ensures in
-    let explains = subst (λ all. IsExplainedBy asked.from (intake_as asked.fragments all) c.in_ok-whole.whole) (sym same) whole in
+returns c =
+    let report = c.args.report.now in
+    let asked = asked_value report.asked.now in
+    let recording = report.recording.now in
     let rows = c.in_ok-rows.rows.items in
     let left_out = c.in_ok-left_out.left_out.items in
+    let text = λ (scope : Scope) (facts : NoteFacts) (all left : List Explanation).
+    text_by scope facts (map explanation_value all) (map explanation_value left) report.ending in
+    let scope = scope_of asked recording (report_value report) in
+    let facts = note_facts asked recording (report_value report) in
     record {
-      parted = parted;
-      parts = subst (λ all. IsPartedAs asked all parted) same (c.in_ok-parted.ensures explains);
       rows = rows;
-      rows_by_topic = subst (λ all. AreByTopic all rows) c.deref-2.ensures.value c.in_ok-rows.ensures;
+      rows_by_topic = subst (λ all. AreByTopic all rows) c.deref.ensures.value c.in_ok-rows.ensures;
       left_out = left_out;
-      left_out_by_topic = subst (λ all. AreByTopic all left_out) c.deref-3.ensures.value c.in_ok-left_out.ensures;
-      is_text = c.in_ok-text.ensures
-          ∙ same_text c.ending_of-ending.result parted.explained.counts c.first_asked.ensures c.deref-4.ensures.value c.deref-5.ensures.value c.reasons.ensures
-          (c.short_in.ensures ∙ ap short_in (ap (map view) c.deref-6.ensures.value ∙ c.in_ok-datagrams.ensures));
-      ends = c.ending_of-ending.ensures ∙ ap (ending_as asked) c.facts_of.ensures;
+      left_out_by_topic = subst (λ all. AreByTopic all left_out) c.deref-2.ensures.value c.in_ok-left_out.ensures;
+      is_text = c.in_ok-text.ensures ∙ ap (λ first. text first c.notes_on.result c.deref-3.result.now c.deref-4.result.now) c.scope_of.ensures
+          ∙ ap (λ known. text scope known c.deref-3.result.now c.deref-4.result.now) c.notes_on.ensures
+          ∙ ap (λ all. text scope facts all c.deref-4.result.now) c.deref-3.ensures.value ∙ ap (λ left. text scope facts rows left) c.deref-4.ensures.value;
     }

@@ -1,12 +1,10 @@
-use Rattle.std.proofs.Common.{◌≡◌, ◌∙◌, ◌+◌, ◌++◌, List, ℕ, ap, arith, filter, sym}
+use Rattle.std.proofs.Common.{◌≡◌, ◌∙◌, ◌+◌, ◌++◌, List, ℕ, ap, arith, filter, sym, flat_map}
 use Rattle.std.proofs.lemmas.Int.{ints}
 use Rattle.std.proofs.lemmas.List.{flat_map_more}
-use Rattle.std.specs.List.{flat_map, range_with_len}
-use Rattle.json.specs.Token.{Token}
-use Rattle.json.specs.Tree.{json_tokens}
+use Rattle.std.specs.List.{range_with_len}
 use Rattle.rtps_ids.specs.NumberSet.{is_member}
-use Rattle.rtps_page.specs.ChartEntries.{one_gone_json}
 use Rattle.rtps_page.proofs.ChartLemmas.{member_no, member_yes}
+use Rattle.rtps_page.proofs.Written.{json_tokens, one_gone_json, Token}
 use Rattle.rtps_page.proofs.chart_entries.push_members.Goals as goal
 use Rattle.rtps_page.proofs.chart_entries.push_members.Goals.{then-has_number+in_ok-push_one_gone, else-has_number}
 

@@ -1,15 +1,10 @@
-use Rattle.std.proofs.Common.{◌≡◌, ◌∙◌, ◌++◌, ◌∷◌, [], List, ap, append-nil, arith, codes, map, sym}
+use Rattle.std.proofs.Common.{◌≡◌, ◌∙◌, ◌++◌, ◌∷◌, [], List, ap, append-nil, arith, codes, map, sym, flat_map}
 use Rattle.std.proofs.lemmas.Int.{ints}
 use Rattle.std.proofs.lemmas.List.Concat.{flat_map-append}
 use Rattle.std.proofs.lemmas.List.Folds.{flat_map-map}
-use Rattle.std.proofs.lemmas.Result.{on_ok_weaker}
-use Rattle.std.specs.List.{flat_map}
 use Rattle.json.specs.Json.{Json}
-use Rattle.json.specs.Token.{Token}
-use Rattle.json.specs.Tree.{json_tokens}
 use Rattle.rtps_receiver.specs.Values.{act_body_value}
-use Rattle.rtps_text.proofs.Offered.{two_parts}
-use Rattle.rtps_page.specs.ChartEntries.{entries_at, entry_json, gone_json, members_of, one_gone_json}
+use Rattle.rtps_page.proofs.Written.{entries_at, entry_json, gone_json, json_tokens, members_of, on_ok_weaker, one_gone_json, Token, two_parts}
 use Rattle.rtps_page.proofs.chart_entries.push_said.Goals as goal
 
 pub returns-in_ok-push_gone-in-Heartbeat-clause-tokens : goal.returns-in_ok-push_gone-in-Heartbeat-clause-tokens

@@ -1,7 +1,7 @@
 use Rattle.std.proofs.Common.{List, ◌∙◌, ap, length}
-use Rattle.rtps_audit.specs.Placed.{PlacedValue, placed_in}
-use Rattle.rtps_page.specs.ChartEntries.{entries_by}
+use Rattle.rtps_audit.specs.Placed.{PlacedValue}
 use Rattle.rtps_page.proofs.EntryLemmas.{entries_from}
+use Rattle.rtps_page.proofs.Written.{entries_by, placed_in}
 use Rattle.rtps_page.proofs.chart_room.entries_known.Goals as goal
 
 pub returns-clause-entries : goal.returns-clause-entries

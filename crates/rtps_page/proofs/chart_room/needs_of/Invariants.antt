@@ -1,14 +1,10 @@
-use Rattle.std.proofs.Common.{◌≡◌, length, map, take}
-use Rattle.std.specs.Prelude.{IfSome}
-use Rattle.rtps_evidence.specs.Explanation.{explanation_value}
+use Rattle.std.proofs.Common.{◌≡◌, length, map, take, IfSome}
+use Rattle.rtps_report.specs.Vocabulary.{explanation_value, Intake}
 use Rattle.rtps_audit.specs.Index.{IsIndexBy}
-use Rattle.rtps_audit.specs.Intake.{Intake}
-use Rattle.rtps_audit.specs.Placed.{placed_in}
-use Rattle.rtps_page.specs.ChartEntries.{entries_by}
 use Rattle.rtps_page.specs.ChartRoom.{need_of}
+use Rattle.rtps_page.proofs.Written.{entries_by, placed_in}
 use Rattle.rtps_page.proofs.chart_room.needs_of.Given as goal
 
--- what the rows so far take, and how many entries the last writer has
 abbrev pub invariant-loop-row : goal.invariant-loop-row
 invariant-loop-row l = (intake : Intake) → IsIndexBy intake l.index → record {
   needs : l.needs.items ≡ map (λ row. need_of (placed_in intake.acts) (explanation_value row)) (take l.row-index l.rows);

@@ -1,10 +1,9 @@
-use Rattle.std.proofs.Common.{◌≡◌, ◌∙◌, List, filter, map, subst}
-use Rattle.std.specs.Prelude.{IfOk}
+use Rattle.std.proofs.Common.{◌≡◌, ◌∙◌, List, filter, map, subst, IfOk}
 use Rattle.rtps_evidence.specs.Explanation.{explanation_value}
-use Rattle.rtps_audit.specs.Placed.{placed_in}
 use Rattle.rtps_page.specs.ChartRoom.{need_of}
 use Rattle.rtps_page.specs.declared.chart_room.Need.{Need}
 use Rattle.rtps_page.proofs.ChartLemmas.{in_both_turns, mapped_twice}
+use Rattle.rtps_page.proofs.Written.{placed_in}
 use Rattle.rtps_page.proofs.chart_room.pairs_with_charts.Goals as goal
 
 pub returns : goal.returns

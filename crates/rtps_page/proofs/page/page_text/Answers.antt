@@ -1,14 +1,31 @@
+use Rattle.std.proofs.Common.{◌++◌, ◌∙◌, List, ℕ, ap, refl}
+use Rattle.json.specs.Print.{print}
 use Rattle.rtps_fragments.specs.RecordedSamples.{intake_as}
+use Rattle.rtps_page.specs.Page.{page_json}
+use Rattle.rtps_page.specs.SafeText.{in_html, in_json, safe_text}
+use Rattle.rtps_page.specs.declared.page_parts.TheConstants.{HEAD, MIDDLE, TAIL}
+use Rattle.rtps_page.proofs.PageLemmas.{page_within}
+use Rattle.rtps_page.proofs.ReadLemmas.{reads_back}
+use Rattle.rtps_page.proofs.SafeLemmas.{text_is_safe, text_is_shown}
+use Rattle.rtps_page.proofs.Written.{asked_value, json_tokens, report_value}
 use Rattle.rtps_page.proofs.page.page_text.Goals as goal
 
 pub returns : goal.returns
-returns g c =
-    let intake = intake_as c.args.asked.now.fragments c.args.recording.now.datagrams in
+returns c =
+    let report = c.args.report.now in
+    let asked = asked_value report.asked.now in
+    let plain = c.args.plain.now in
+    let directory = c.directory-directory.result.now in
+    let json = page_json asked report.recording.now (report_value report) directory in
+    let object = c.deref.ensures.value ∙ c.in_ok-data.ensures.is_text in
     record {
-      explained = c.in_ok-explained.explained;
-      explains = c.in_ok-explained.ensures (c.in_ok-whole.ensures intake c.in_ok-index.ensures);
-      directory = c.directory.result.now;
-      is_map = c.directory.ensures intake c.in_ok-index.ensures;
-      is_page = c.in_ok-page.ensures;
-      ends = c.ending_asked.ensures;
+      directory = directory;
+      is_map = c.directory-directory.ensures (intake_as report.asked.now.fragments report.recording.now.datagrams) c.requires;
+      is_page = record {
+        is_page = ap (λ octets. octets.items) c.from_utf8_unchecked.ensures.value ∙ c.in_ok-page.ensures.text
+            ∙ ap (λ (l : List ℕ). HEAD.now ++ (safe_text in_html plain ++ (MIDDLE.now ++ (safe_text in_json l ++ TAIL.now)))) object;
+        text_is_shown = text_is_shown plain;
+        data_is_safe = text_is_safe in_json (print (json_tokens json)) (record { of_ampersand = refl; of_less = refl; of_greater = refl });
+        reads_back = reads_back json (page_within asked report.recording.now (report_value report) directory) c.in_ok-data.ensures.reads_back;
+      };
     }

@@ -1,12 +1,5 @@
 use Rattle.std.proofs.Common.{◌++◌, ◌∷◌, ◌∙◌, List, None, ap, append-nil, codes, map, sym}
-use Rattle.std.proofs.lemmas.Result.{on_ok_weaker}
-use Rattle.json.specs.Token.{Token, key}
-use Rattle.json.specs.Tree.{json_tokens}
-use Rattle.rtps_audit.specs.Placed.{placed_in}
-use Rattle.rtps_text.specs.JsonText.{array_of}
-use Rattle.rtps_text.proofs.Offered.{two_parts}
-use Rattle.rtps_page.specs.ChartRoom.{writers_behind}
-use Rattle.rtps_page.specs.PageData.{answers_json, writer_json}
+use Rattle.rtps_page.proofs.Written.{Token, answers_json, array_of, json_tokens, key, on_ok_weaker, placed_in, two_parts, writer_json, writers_behind}
 use Rattle.rtps_page.proofs.page_data.push_charts.Goals as goal
 
 pub returns-clause-tokens : goal.returns-clause-tokens
@@ -16,6 +9,6 @@ returns-clause-tokens c = λ intake is.
     let pairs = c.args.pairs.now in
     let one : List Token = key (codes "writers") ∷ json_tokens (array_of (map (writer_json acts) (writers_behind None pairs))) in
     let two : List Token = key (codes "answers") ∷ json_tokens (array_of (map (answers_json acts) pairs)) in
-    on_ok_weaker c.push_answered.result
-    (λ last. two_parts start one two (c.in_ok-push_all_writers.ensures.tokens intake is) last ∙ ap (λ l. start ++ (one ++ l)) (sym (append-nil two)))
-    (c.push_answered.ensures.tokens intake is)
+    on_ok_weaker c.push_all_answers.result
+    (λ last. two_parts start one two (c.in_ok-push_writers.ensures.tokens intake is) last ∙ ap (λ l. start ++ (one ++ l)) (sym (append-nil two)))
+    (c.push_all_answers.ensures.tokens intake is)

@@ -1,14 +1,8 @@
-use Rattle.std.proofs.Common.{◌≡◌, ◌++◌, ◌∷◌, [], ◌∙◌, Bool, List, ℕ, ap, append-nil, arith, codes, decimal, map, sym}
+use Rattle.std.proofs.Common.{◌≡◌, ◌++◌, ◌∷◌, [], ◌∙◌, Bool, List, ℕ, ap, append-nil, arith, codes, decimal, map, sym, string_bytes}
 use Rattle.std.proofs.lemmas.Int.{ints}
-use Rattle.std.proofs.lemmas.Result.{on_ok_weaker}
-use Rattle.std.specs.String.{string_bytes}
 use Rattle.json.specs.Json.{string}
-use Rattle.json.specs.Token.{Token, boolean, key, number}
-use Rattle.json.specs.Tree.{json_tokens}
-use Rattle.rtps_text.specs.Asked.{are_read}
-use Rattle.rtps_text.specs.JsonText.{array_of}
-use Rattle.rtps_text.proofs.Offered.{seven_parts}
-use Rattle.rtps_page.specs.PageData.{expect_json}
+use Rattle.rtps_report.specs.Asked.{are_read}
+use Rattle.rtps_page.proofs.Written.{array_of, boolean, expect_json, json_tokens, key, number, on_ok_weaker, seven_parts, Token}
 use Rattle.rtps_page.proofs.page_data.push_option_members.Goals as goal
 
 pub returns-clause-tokens : goal.returns-clause-tokens

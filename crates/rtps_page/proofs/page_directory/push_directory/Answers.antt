@@ -1,11 +1,6 @@
 use Rattle.std.proofs.Common.{◌++◌, ◌∷◌, ◌∙◌, List, ap, append-nil, codes, map, sym}
-use Rattle.std.proofs.lemmas.Result.{on_ok_weaker}
-use Rattle.json.specs.Token.{Token, key}
-use Rattle.json.specs.Tree.{json_tokens}
 use Rattle.rtps_discovery.specs.Directory.{settled_in}
-use Rattle.rtps_text.specs.JsonText.{array_of}
-use Rattle.rtps_text.proofs.Offered.{two_parts}
-use Rattle.rtps_page.specs.PageData.{endpoint_json, guid_json}
+use Rattle.rtps_page.proofs.Written.{array_of, endpoint_json, guid_json, json_tokens, key, on_ok_weaker, Token, two_parts}
 use Rattle.rtps_page.proofs.page_directory.push_directory.Goals as goal
 
 pub returns-clause-tokens : goal.returns-clause-tokens

@@ -1,14 +1,9 @@
-use Rattle.std.proofs.Common.{◌++◌, ◌∷◌, [], ◌∙◌, List, ap, codes, sym}
-use Rattle.std.specs.List.{flat_map}
-use Rattle.json.specs.Token.{Token, begin_array, end_array, key}
-use Rattle.json.specs.Tree.{json_tokens}
+use Rattle.std.proofs.Common.{◌++◌, ◌∷◌, [], ◌∙◌, List, ap, codes, flat_map, sym, take_all}
 use Rattle.std.proofs.lemmas.List.Folds.{flat_map-map}
 use Rattle.rtps_discovery.specs.Directory.{settled_in}
 use Rattle.rtps_discovery.specs.Endpoint.{EndpointValue, endpoint_value}
 use Rattle.rtps_discovery.specs.declared.endpoint.Endpoint.{Endpoint}
-use Rattle.rtps_text.proofs.Offered.{four_parts}
-use Rattle.rtps_page.specs.PageData.{endpoint_json}
-use Rattle.rtps_page.proofs.PageLemmas.{mapped_tokens}
+use Rattle.rtps_page.proofs.Written.{Token, begin_array, end_array, endpoint_json, four_parts, json_tokens, key, mapped_tokens}
 use Rattle.rtps_page.proofs.page_directory.push_settled.Goals as goal
 
 pub returns-clause-tokens : goal.returns-clause-tokens
@@ -17,9 +12,11 @@ returns-clause-tokens c =
     let flat : List EndpointValue → List Token = λ endpoints. flat_map (λ endpoint. json_tokens (endpoint_json endpoint)) endpoints in
     let settled = settled_in c.args.directory.now.endpoints in
     let read : List Endpoint → List Token = λ endpoints. flat_map (λ endpoint. json_tokens (endpoint_json (endpoint_value endpoint))) endpoints in
+    let listed = c.in_ok-endpoints.endpoints.items in
+    let all = take_all c.loop-endpoint.endpoint-index c.deref-endpoint-items.result.now c.loop-endpoint-test.false ∙ c.deref-endpoint-items.ensures.value in
     four_parts start (key (codes "endpoints") ∷ []) (begin_array ∷ []) (flat settled) (end_array ∷ []) c.in_ok-key.ensures.ok c.in_ok-begin_array.ensures.ok
-    (c.in_ok-push_endpoints.ensures.tokens
+    (c.loop-endpoint.invariant.0
     ∙ ap (λ l. c.begin_array.new.self.tokens ++ l)
-    (ap read c.deref.ensures.value ∙ sym (flat_map-map (λ endpoint. json_tokens (endpoint_json endpoint)) endpoint_value c.in_ok-endpoints.endpoints.items) ∙ ap flat c.in_ok-endpoints.ensures))
+    (ap read all ∙ sym (flat_map-map (λ endpoint. json_tokens (endpoint_json endpoint)) endpoint_value listed) ∙ ap flat c.in_ok-endpoints.ensures))
     c.in_ok-end_array.ensures.ok
     ∙ ap (λ tokens. start ++ key (codes "endpoints") ∷ tokens) (sym (mapped_tokens endpoint_json settled))

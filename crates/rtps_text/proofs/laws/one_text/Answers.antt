@@ -1,19 +1,18 @@
-use Rattle.std.proofs.Common.{◌≡◌, List, map, sym, ◌∙◌, ap, ap₂}
-use Rattle.rtps_receiver.specs.Acts.{acts_in}
-use Rattle.rtps_discovery.specs.Directory.{DirectoryValue}
+use Rattle.std.proofs.Common.{◌≡◌, List, sym, ◌∙◌, ap, ap₂}
+use Rattle.rtps_report.specs.Vocabulary.{acts_in, acts_together, Counts, DirectoryValue, intake_as, intake_of, Row}
 use Rattle.rtps_discovery.specs.Notice.{faults_in}
-use Rattle.rtps_audit.specs.Intake.{acts_together, intake_of}
-use Rattle.rtps_audit.specs.declared.report.Counts.{Counts}
-use Rattle.rtps_audit.specs.declared.report.Row.{Row}
-use Rattle.rtps_evidence.specs.Explanation.{ExplanationValue, explanation_value}
-use Rattle.rtps_fragments.specs.RecordedSamples.{intake_as}
-use Rattle.rtps_text.specs.AuditText.{ending_of, facts_of_report, missed_rows, report_text}
-use Rattle.rtps_text.specs.Findings.{ending_as}
-use Rattle.rtps_text.specs.JsonText.{json_line, report_json}
+use Rattle.rtps_report.specs.Findings.{ending_as}
+use Rattle.rtps_report.specs.Reported.{facts_of_report, missed_rows}
+use Rattle.rtps_report.proofs.Offered.{HasOneForm, one_rows, rows_told_from_once, rows_told_once}
+use Rattle.rtps_text.specs.ReportText.{IsReportLine, ending_of, report_text, IsExplainedRows}
 use Rattle.rtps_text.specs.ListText.{directory_text}
-use Rattle.rtps_text.specs.WhyText.{ending_of_rows, explained_text, facts_of_rows}
-use Rattle.rtps_text.proofs.AskedLemmas.{one_explained, one_rows}
 use Rattle.rtps_text.proofs.laws.one_text.Goals as goal
+
+one_why : HasOneForm IsExplainedRows
+one_why rows counts recording text other is also = is ∙ sym also
+
+one_line : HasOneForm IsReportLine
+one_line rows counts recording text other is also = is.is_text ∙ sym also.is_text
 
 pub returns-clause-shown : goal.returns-clause-shown
 returns-clause-shown c = λ recording one other ending last (is, ends) (also, too). (is ∙ sym also, ends ∙ sym too)
@@ -33,22 +32,6 @@ returns-clause-audited c = λ from recording one other ending last is also.
       is.ends ∙ ap ending_of same.0 ∙ sym also.ends,
     )
 
-pub returns-clause-explained : goal.returns-clause-explained
-returns-clause-explained c = λ from recording one other ending last is also.
-    let same = c.one_explanation.ensures from (intake_of recording.datagrams) is.explained also.explained is.explains also.explains in (
-      is.is_text ∙ ap (λ (rows : List ExplanationValue). explained_text rows is.explained.counts recording.ignored) same.0
-          ∙ ap (λ (counts : Counts). explained_text (map explanation_value also.explained.rows.items) counts recording.ignored) same.1 ∙ sym also.is_text,
-      is.ends ∙ ap ending_of_rows same.0 ∙ sym also.ends,
-    )
-
-pub returns-clause-json : goal.returns-clause-json
-returns-clause-json c = λ from recording one other ending last is also.
-    let same = c.one_explanation.ensures from (intake_of recording.datagrams) is.explained also.explained is.explains also.explains in (
-      is.is_line.is_text ∙ ap (λ (rows : List ExplanationValue). json_line (report_json rows is.explained.counts recording)) same.0
-          ∙ ap (λ (counts : Counts). json_line (report_json (map explanation_value also.explained.rows.items) counts recording)) same.1 ∙ sym also.is_line.is_text,
-      is.ends ∙ ap ending_of_rows same.0 ∙ sym also.ends,
-    )
-
 pub returns-clause-audited_as : goal.returns-clause-audited_as
 returns-clause-audited_as c = λ asked recording one other ending last is also.
     let datagrams = recording.datagrams in
@@ -60,20 +43,14 @@ returns-clause-audited_as c = λ asked recording one other ending last is also.
       is.ends ∙ ap₂ (λ (rows : List Row) (counts : Counts). ending_as asked (facts_of_report (missed_rows asked.from (intake_as asked.fragments datagrams) rows) rows counts recording)) rows counts ∙ sym also.ends,
     )
 
+pub returns-clause-explained : goal.returns-clause-explained
+returns-clause-explained c = rows_told_from_once c.one_explanation.ensures IsExplainedRows one_why
+
+pub returns-clause-json : goal.returns-clause-json
+returns-clause-json c = rows_told_from_once c.one_explanation.ensures IsReportLine one_line
+
 pub returns-clause-explained_as : goal.returns-clause-explained_as
-returns-clause-explained_as c = λ asked recording one other ending last is also.
-    let whole = c.one_explanation.ensures asked.from (intake_as asked.fragments recording.datagrams) is.explains.whole also.explains.whole is.explains.explains also.explains.explains in
-    let rows = one_explained asked recording.datagrams is.explained also.explained is.explains also.explains whole.0 in
-    let counts = is.explains.counts ∙ whole.1 ∙ sym also.explains.counts in (
-      is.is_text ∙ ap₂ (λ (rows : List ExplanationValue) (counts : Counts). explained_text rows counts recording.ignored) rows counts ∙ sym also.is_text,
-      is.ends ∙ ap₂ (λ (rows : List ExplanationValue) (counts : Counts). ending_as asked (facts_of_rows rows counts recording)) rows counts ∙ sym also.ends,
-    )
+returns-clause-explained_as c = rows_told_once c.one_full_report.ensures IsExplainedRows one_why
 
 pub returns-clause-json_as : goal.returns-clause-json_as
-returns-clause-json_as c = λ asked recording one other ending last is also.
-    let whole = c.one_explanation.ensures asked.from (intake_as asked.fragments recording.datagrams) is.explains.whole also.explains.whole is.explains.explains also.explains.explains in
-    let rows = one_explained asked recording.datagrams is.explained also.explained is.explains also.explains whole.0 in
-    let counts = is.explains.counts ∙ whole.1 ∙ sym also.explains.counts in (
-      is.is_line.is_text ∙ ap₂ (λ (rows : List ExplanationValue) (counts : Counts). json_line (report_json rows counts recording)) rows counts ∙ sym also.is_line.is_text,
-      is.ends ∙ ap₂ (λ (rows : List ExplanationValue) (counts : Counts). ending_as asked (facts_of_rows rows counts recording)) rows counts ∙ sym also.ends,
-    )
+returns-clause-json_as c = rows_told_once c.one_full_report.ensures IsReportLine one_line

@@ -1,8 +1,6 @@
-use Rattle.rtps_text.specs.AuditText.{IsAuditedAs, IsAuditedFrom}
-use Rattle.rtps_text.specs.JsonText.{IsJsonTextAs, IsJsonTextFrom}
+use Rattle.rtps_text.specs.ReportText.{IsAuditedAs, IsAuditedFrom, IsJsonTextAs, IsJsonTextFrom, IsExplainedTextAs, IsExplainedTextFrom}
 use Rattle.rtps_text.specs.ListText.{IsListed}
 use Rattle.rtps_text.specs.ShowText.{IsShown}
-use Rattle.rtps_text.specs.WhyText.{IsExplainedTextAs, IsExplainedTextFrom}
 use Rattle.rtps_tool.proofs.RunsLemmas.{runs_agree}
 use Rattle.rtps_tool.proofs.laws.runs_agree.Goals as goal
 

@@ -1,5 +1,5 @@
-use Rattle.rtps_text.specs.Asked.{plainly}
-use Rattle.rtps_text.specs.AuditText.{IsAuditedAs, IsAuditedFrom}
+use Rattle.rtps_report.specs.Asked.{plainly}
+use Rattle.rtps_text.specs.ReportText.{IsAuditedAs, IsAuditedFrom}
 use Rattle.rtps_text.proofs.Offered.{plainly_audited}
 use Rattle.rtps_tool.proofs.RunsLemmas.{runs_weaker, runs_with}
 use Rattle.rtps_tool.proofs.runs.run_audit_from.Goals as goal

@@ -1,7 +1,7 @@
 use Rattle.std.proofs.Common.{◌+◌, ◌-◌, ◌∙◌, ◌++◌, ◌∷◌, [], List, ap, subst, sym, arith}
 use Rattle.rtps_capture.specs.Pieces.{AreKept, clashes_with}
 use Rattle.rtps_capture.specs.declared.pieces.Piece.{Piece}
-use Rattle.rtps_capture.proofs.PieceLemmas.{added, same_kept}
+use Rattle.rtps_capture.proofs.KeptLemmas.{added, same_kept}
 use Rattle.rtps_capture.proofs.pieces.Pieces.add.Goals as goal
 
 pub overflow_add-self : goal.overflow_add-self

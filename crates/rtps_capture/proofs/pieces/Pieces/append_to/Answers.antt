@@ -1,7 +1,7 @@
 use Rattle.std.proofs.Common.{◌∙◌, ◌++◌, List, ap}
 use Rattle.rtps_capture.specs.Pieces.{in_order, joined}
 use Rattle.rtps_capture.specs.declared.pieces.Piece.{Piece}
-use Rattle.rtps_capture.proofs.PieceLemmas.{values_are}
+use Rattle.rtps_capture.proofs.KeptLemmas.{values_are}
 use Rattle.rtps_capture.proofs.pieces.Pieces.append_to.Goals as goal
 
 pub loop-piece-init : goal.loop-piece-init

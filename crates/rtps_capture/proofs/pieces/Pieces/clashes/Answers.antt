@@ -1,5 +1,5 @@
 use Rattle.std.proofs.Common.{◌∙◌, sym}
-use Rattle.rtps_capture.proofs.PieceLemmas.{IsFrontApart, apart_all, back_none, back_tells, before_clashes, front_apart, front_none}
+use Rattle.rtps_capture.proofs.FoundLemmas.{IsFrontApart, apart_all, back_none, back_tells, before_clashes, front_apart, front_none}
 use Rattle.rtps_capture.proofs.pieces.Pieces.clashes.Goals as goal
 use Rattle.rtps_capture.proofs.pieces.Pieces.clashes.Goals.{in-Some+else-not-stands_before, in_default}
 

@@ -1,7 +1,7 @@
 use Rattle.std.proofs.Common.{List, subst}
 use Rattle.rtps_capture.specs.Pieces.{AreKept}
 use Rattle.rtps_capture.specs.declared.pieces.Piece.{Piece}
-use Rattle.rtps_capture.proofs.PieceLemmas.{dropped}
+use Rattle.rtps_capture.proofs.KeptLemmas.{dropped}
 use Rattle.rtps_capture.proofs.pieces.Pieces.drop_oldest.Goals as goal
 
 pub overflow_sub-self : goal.overflow_sub-self

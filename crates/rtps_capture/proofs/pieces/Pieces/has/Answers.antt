@@ -1,7 +1,8 @@
 use Rattle.std.proofs.Common.{◌∙◌, ap, sym}
 use Rattle.std.specs.Option.{option_copied}
 use Rattle.rtps_capture.specs.Pieces.{in_order, is_same}
-use Rattle.rtps_capture.proofs.PieceLemmas.{any-in_order, get_is, repeat_found, repeat_none}
+use Rattle.rtps_capture.proofs.PieceLemmas.{any-in_order}
+use Rattle.rtps_capture.proofs.FoundLemmas.{get_is, repeat_found, repeat_none}
 use Rattle.rtps_capture.proofs.pieces.Pieces.has.Goals as goal
 
 pub returns-in-Some : goal.returns-in-Some

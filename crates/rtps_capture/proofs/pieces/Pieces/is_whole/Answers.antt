@@ -1,6 +1,6 @@
 use Rattle.std.proofs.Common.{Bool, ℕ, ◌≡◌, ◌<◌, ◌∙◌, false, true, zero, suc, refl, ap, sym, arith}
 use Rattle.std.specs.Prelude.{◌&&◌, nat_eq, not}
-use Rattle.rtps_capture.proofs.PieceLemmas.{last_tells, none_kept}
+use Rattle.rtps_capture.proofs.KeptLemmas.{last_tells, none_kept}
 use Rattle.rtps_capture.proofs.pieces.Pieces.is_whole.Goals as goal
 
 -- what cannot be more than 0

@@ -8,9 +8,8 @@ use Rattle.rtps_evidence.specs.Missed.{AreMissed, place_announced}
 use Rattle.rtps_evidence.specs.Received.{AreReceived}
 use Rattle.rtps_evidence.specs.WriterSummary.{IsHeardBy, IsSplit}
 use Rattle.rtps_evidence.proofs.ClaimedLemmas.{withdrawals_same}
-use Rattle.rtps_evidence.specs.Evidence.{first_by, other_by, teller_by}
 use Rattle.rtps_evidence.specs.Locations.{announcement_of}
-use Rattle.rtps_evidence.proofs.OriginLemmas.{amounts_same, first_by_same, other_by_same, teller_by_same}
+use Rattle.rtps_evidence.proofs.OriginLemmas.{amounts_same}
 use Rattle.rtps_evidence.proofs.evidence.Evidence.of_row.Goals as goal
 
 pub returns-clause-evidence : goal.returns-clause-evidence
@@ -39,9 +38,5 @@ returns-clause-evidence c = λ intake is summary judged.
       received = subst (λ n. AreReceived from n writer reader all c.in_ok-received.received) last (c.in_ok-received.ensures intake is lacking);
       missed = subst (λ n. AreMissed from n announced writer reader all c.in_ok-missed-2.missed) last
           (c.in_ok-missed-2.ensures intake announced is (λ n low high. c.in_ok-missed.ensures intake is n (ap (λ l. stretches_have l n) c.deref.ensures.value ∙ lacking n low high)));
-      questions = c.questions_since-questions.ensures intake.acts acts answers;
-      teller = c.teller_of.ensures ∙ ap (teller_by row.verdict writer reader) acts ∙ teller_by_same row.verdict writer reader all;
-      claim = c.claim_of.ensures intake is;
-      first = c.first_of.ensures ∙ ap (first_by row.verdict writer reader) acts ∙ first_by_same row.verdict writer reader all;
-      other = c.other_of.ensures ∙ ap (other_by row.verdict writer reader) acts ∙ other_by_same row.verdict writer reader all;
+      grounds = c.grounds_of.ensures intake is;
     }

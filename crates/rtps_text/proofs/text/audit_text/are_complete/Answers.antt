@@ -2,7 +2,7 @@ use Rattle.std.proofs.Common.{rules}
 use Rattle.std.proofs.lemmas.Iterator.Search.{all_from_yields_List}
 use Rattle.std.proofs.lemmas.Iterator.{YieldsList-from_slice}
 use Rattle.rtps_audit.specs.declared.report.Row.{Row}
-use Rattle.rtps_text.specs.AuditText.{is_complete}
+use Rattle.rtps_report.specs.Reported.{is_complete}
 use Rattle.rtps_text.proofs.text.audit_text.are_complete.Goals as goal
 
 pub returns : goal.returns

@@ -1,9 +1,10 @@
 use Rattle.std.proofs.Common.{◌∙◌, ap}
 use Rattle.rtps_fragments.specs.RecordedSamples.{intake_as}
-use Rattle.rtps_text.specs.Asked.{asked_value}
-use Rattle.rtps_text.specs.AuditText.{missed_rows, report_text}
-use Rattle.rtps_text.specs.Findings.{ending_as}
-use Rattle.rtps_text.proofs.AskedLemmas.{ending_same}
+use Rattle.rtps_report.specs.Asked.{asked_value}
+use Rattle.rtps_report.specs.Reported.{missed_rows}
+use Rattle.rtps_text.specs.ReportText.{report_text}
+use Rattle.rtps_report.specs.Findings.{ending_as}
+use Rattle.rtps_report.proofs.Offered.{ending_same}
 use Rattle.rtps_text.proofs.text.audit_text.audit_text.Goals as goal
 
 pub returns : goal.returns

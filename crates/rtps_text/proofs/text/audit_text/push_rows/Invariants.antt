@@ -1,9 +1,6 @@
-use Rattle.std.proofs.Common.{◌≡◌, ◌++◌, take}
-use Rattle.std.specs.List.{flat_map}
-use Rattle.std.specs.String.{string_bytes}
-use Rattle.rtps_text.specs.AuditText.{row_line}
+use Rattle.std.proofs.Common.{◌≡◌, ◌++◌, take, flat_map, string_bytes}
+use Rattle.rtps_text.specs.ReportText.{row_line}
 use Rattle.rtps_text.proofs.text.audit_text.push_rows.Given as goal
 
--- the lines so far
 abbrev pub invariant-loop-row : goal.invariant-loop-row
 invariant-loop-row l = string_bytes l.text ≡ string_bytes l.initial.text ++ flat_map row_line (take l.row-index l.rows)

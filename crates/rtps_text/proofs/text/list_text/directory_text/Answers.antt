@@ -1,8 +1,6 @@
-use Rattle.std.proofs.Common.{◌≡◌, ◌++◌, ◌∙◌, List, ap, append_assoc, length, sym}
+use Rattle.std.proofs.Common.{◌≡◌, ◌++◌, ◌∙◌, List, ap, append_assoc, length, sym, flat_map, string_bytes}
 use Rattle.std.proofs.lemmas.List.{length-map}
 use Rattle.std.proofs.lemmas.List.Folds.{flat_map-map}
-use Rattle.std.specs.List.{flat_map}
-use Rattle.std.specs.String.{string_bytes}
 use Rattle.rtps_discovery.specs.Directory.{settled_in, unsettled_in}
 use Rattle.rtps_discovery.specs.Endpoint.{EndpointValue, endpoint_value}
 use Rattle.rtps_discovery.specs.Matching.{matches_among}
@@ -34,6 +32,6 @@ returns c =
     let line : counts_line c.len.result c.len-2.result c.unsettled.result faults ≡ last =
     ap (λ n. counts_line n c.len-2.result c.unsettled.result faults) p
     ∙ (ap (λ n. counts_line (length directory.participants) n c.unsettled.result faults) e ∙ ap (λ n. counts_line (length directory.participants) (length settled) n faults) c.unsettled.ensures) in
-    c.in_ok-write.ensures.bytes ∙ (ap (λ bytes. bytes ++ counts_line c.len.result c.len-2.result c.unsettled.result faults) three
+    c.in_ok-writeln.ensures.bytes ∙ (ap (λ bytes. bytes ++ counts_line c.len.result c.len-2.result c.unsettled.result faults) three
     ∙ (ap (λ bytes. ((participants ++ endpoints) ++ matches) ++ bytes) line
     ∙ (append_assoc (participants ++ endpoints) matches last ∙ append_assoc participants endpoints (matches ++ last))))

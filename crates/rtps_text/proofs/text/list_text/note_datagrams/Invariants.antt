@@ -1,10 +1,8 @@
 use Rattle.std.proofs.Common.{◌≡◌, ◌*◌, ◌++◌, ◌≤◌, ◌^◌, ℕ, List, length}
-use Rattle.rtps_discovery.specs.Directory.{IsMapOf}
-use Rattle.rtps_receiver.specs.Acts.{acts_in}
+use Rattle.rtps_report.specs.Vocabulary.{acts_in, IsMapOf}
 use Rattle.rtps_discovery.specs.Notice.{faults_in}
 use Rattle.rtps_text.proofs.text.list_text.note_datagrams.Given as goal
 
--- the map of the acts of the datagrams so far, and how many had a fault
 abbrev pub invariant-loop-octets : goal.invariant-loop-octets
 invariant-loop-octets l =
     (goal.iterator-loop-octets).can_next l.octets-iterator

@@ -1,8 +1,6 @@
-use Rattle.std.proofs.Common.{◌≡◌, ◌++◌, ◌+◌, ◌∙◌, ℕ, sym, ap, rules, arith, append_assoc, slice_index, []}
+use Rattle.std.proofs.Common.{◌≡◌, ◌++◌, ◌+◌, ◌∙◌, ℕ, sym, ap, rules, arith, append_assoc, slice_index, [], flat_map, string_bytes}
 use Rattle.std.proofs.lemmas.List.{flat_map_more}
 use Rattle.std.proofs.lemmas.List.FromFn.{map-range_with_len_more}
-use Rattle.std.specs.List.{flat_map}
-use Rattle.std.specs.String.{string_bytes}
 use Rattle.hex.specs.Hex.{encode_lower}
 use Rattle.rtps_ids.specs.NumberSet.{NumberSetValue}
 use Rattle.rtps_text.specs.ShowText.{first_longs, long_digits}

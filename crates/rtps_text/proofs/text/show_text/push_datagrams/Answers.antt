@@ -1,6 +1,4 @@
-use Rattle.std.proofs.Common.{◌++◌, ◌+◌, ◌∙◌, ap, sym, arith, length}
-use Rattle.std.proofs.lemmas.List.{append_assoc, append-nil}
-use Rattle.std.specs.String.{string_bytes}
+use Rattle.std.proofs.Common.{◌++◌, ◌+◌, ◌∙◌, ap, sym, arith, length, append_assoc, append-nil, string_bytes}
 use Rattle.rtps_text.specs.ShowText.{text_from}
 use Rattle.rtps_text.proofs.ShowLemmas.{text_from-cons, text_from-nil}
 use Rattle.rtps_text.proofs.text.show_text.push_datagrams.Goals as goal

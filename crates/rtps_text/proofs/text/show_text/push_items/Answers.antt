@@ -1,16 +1,13 @@
-use Rattle.std.proofs.Common.{◌≡◌, ◌∷◌, [], ◌++◌, ◌∙◌, ap, sym, List, None, Ok, Err, append_assoc}
-use Rattle.std.proofs.lemmas.List.{append-nil}
-use Rattle.std.specs.String.{string_bytes}
+use Rattle.std.proofs.Common.{◌≡◌, ◌∷◌, [], ◌++◌, ◌∙◌, ap, sym, List, None, Ok, Err, append_assoc, append-nil, string_bytes}
 use Rattle.rtps_wire.specs.Reading.{Outcome, outcome_value, outcomes_left}
 use Rattle.rtps_wire.specs.Skipped.{skipped_id, skipped_next}
 use Rattle.rtps_text.specs.ShowText.{fragments_at, item_line, outcomes_text, unread_line}
 use Rattle.rtps_receiver.specs.Acts.{state_behind}
-use Rattle.rtps_text.proofs.ShowLemmas.{outcomes_text-item, outcomes_text-skipped}
+use Rattle.rtps_text.proofs.ShowLemmas.{outcomes_text-item, unread_more}
 use Rattle.rtps_wire.proofs.Offered.{next_stands_at, refusal_is_last, skipped_first}
 use Rattle.rtps_wire.specs.Values.{item_value}
 use Rattle.rtps_text.proofs.text.show_text.push_items.Goals as goal
 
--- the line of fragments that are read, and then those behind it; the state stays
 pub items-preserved-in_ok-push_data_frag-in-Some-fragments_at : goal.items-preserved-in_ok-push_data_frag-in-Some-fragments_at
 items-preserved-in_ok-push_data_frag-in-Some-fragments_at c =
     let fragments = fragments_at c.args.datagram.fragments c.args.datagram.octets.now in
@@ -18,23 +15,14 @@ items-preserved-in_ok-push_data_frag-in-Some-fragments_at c =
     let old = string_bytes c.items.text in
     let left = outcomes_left c.items.items in
     let later = outcomes_left c.take_skipped.new.self in
-    let id = c.in-Some.id in
-    let at = c.at-at.result in
-    let first = skipped_first left id c.in-Some.ensures.id in
+    let first = skipped_first left c.in-Some.id c.in-Some.ensures.id in
     let item = first.0 in
     let next : left ≡ Ok item ∷ later = first.2 ∙ ap (λ l. Ok item ∷ l) (sym c.in-Some.ensures.left) in
-    let place = next_stands_at c.items.items item later next in
-    let line : string_bytes c.push_data_frag.new.text ≡ old ++ unread_line state at id (fragments at) =
-    c.in_ok-push_data_frag-in-Some-fragments_at.ensures.line ∙ ap (λ found. old ++ unread_line state at id found) c.in-Some-fragments_at.ensures in (
-      ap (λ bytes. bytes ++ outcomes_text fragments state later) line
-          ∙ append_assoc old (unread_line state at id (fragments at)) (outcomes_text fragments state later)
-          ∙ ap (λ n. old ++ (unread_line state n id (fragments n) ++ outcomes_text fragments state later)) (c.at-at.ensures ∙ sym place)
-          ∙ ap (λ bytes. old ++ bytes) (sym (outcomes_text-skipped fragments state item later id first.1))
-          ∙ ap (λ (more : List Outcome). old ++ outcomes_text fragments state more) (sym next) ∙ c.items.invariant.0,
+    let line = c.in_ok-push_data_frag-in-Some-fragments_at.ensures.line ∙ ap (λ found. old ++ unread_line state c.at-at.result c.in-Some.id found) c.in-Some-fragments_at.ensures in (
+      unread_more fragments state old _ _ left later item c.in-Some.id c.at-at.result line next first.1 (c.at-at.ensures ∙ sym (next_stands_at c.items.items item later next)) c.items.invariant.0,
       c.in_ok-push_data_frag-in-Some-fragments_at.ensures.tail,
     )
 
--- the line of a submessage that is skipped, and then those behind it; the state stays, and so does the tail
 pub items-preserved-in_ok-push_skipped-in-None : goal.items-preserved-in_ok-push_skipped-in-None
 items-preserved-in_ok-push_skipped-in-None c =
     let fragments = fragments_at c.args.datagram.fragments c.args.datagram.octets.now in
@@ -42,23 +30,15 @@ items-preserved-in_ok-push_skipped-in-None c =
     let old = string_bytes c.items.text in
     let left = outcomes_left c.items.items in
     let later = outcomes_left c.take_skipped.new.self in
-    let id = c.in-Some.id in
-    let at = c.at-at.result in
-    let first = skipped_first left id c.in-Some.ensures.id in
+    let first = skipped_first left c.in-Some.id c.in-Some.ensures.id in
     let item = first.0 in
     let next : left ≡ Ok item ∷ later = first.2 ∙ ap (λ l. Ok item ∷ l) (sym c.in-Some.ensures.left) in
-    let place = next_stands_at c.items.items item later next in
-    let line : string_bytes c.push_skipped.new.text ≡ old ++ unread_line state at id (fragments at) =
-    c.in_ok-push_skipped-in-None.ensures ∙ ap (λ found. old ++ unread_line state at id found) c.in-None.ensures in (
-      ap (λ bytes. bytes ++ outcomes_text fragments state later) line
-          ∙ append_assoc old (unread_line state at id (fragments at)) (outcomes_text fragments state later)
-          ∙ ap (λ n. old ++ (unread_line state n id (fragments n) ++ outcomes_text fragments state later)) (c.at-at.ensures ∙ sym place)
-          ∙ ap (λ bytes. old ++ bytes) (sym (outcomes_text-skipped fragments state item later id first.1))
-          ∙ ap (λ (more : List Outcome). old ++ outcomes_text fragments state more) (sym next) ∙ c.items.invariant.0,
+    let line = c.in_ok-push_skipped-in-None.ensures ∙ ap (λ found. old ++ unread_line state c.at-at.result c.in-Some.id found) c.in-None.ensures in (
+      unread_more fragments state old _ _ left later item c.in-Some.id c.at-at.result line next first.1 (c.at-at.ensures ∙ sym (next_stands_at c.items.items item later next)) c.items.invariant.0,
       c.items.invariant.1,
     )
 
--- the line of an item, and then those behind it; the state stays, and so does the tail
+-- the line of an item, and then those behind it
 pub items-preserved-in-Some-Ok : goal.items-preserved-in-Some-Ok
 items-preserved-in-Some-Ok c =
     let fragments = fragments_at c.args.datagram.fragments c.args.datagram.octets.now in
@@ -88,8 +68,8 @@ items-preserved c =
     ap outcomes_left (sym c.in_default.ensures.left) ∙ c.in-Some-Err.ensures.steps ∙ ap (λ o. outcome_value o ∷ later) c.in-Some-Err.field-0-is in
     let none : later ≡ [] = refusal_is_last left refusal later step in
     let last : outcomes_left left ≡ Err refusal ∷ [] = step ∙ ap (λ (more : List Outcome). Err refusal ∷ more) none in (
-      ap (λ (more : List Outcome). string_bytes c.write.new.self ++ outcomes_text fragments c.items.state more) none
-          ∙ append-nil _ ∙ c.in_ok-write-in-Some-Err.ensures.bytes
+      ap (λ (more : List Outcome). string_bytes c.push_refusal.new.text ++ outcomes_text fragments c.items.state more) none
+          ∙ append-nil _ ∙ c.in_ok-push_refusal-in-Some-Err.ensures
           ∙ ap (λ (more : List Outcome). string_bytes c.items.text ++ outcomes_text fragments c.items.state more) (sym last) ∙ c.items.invariant.0,
       c.items.invariant.1,
     )

@@ -1,9 +1,9 @@
 use Rattle.std.proofs.lemmas.Result.{on_ok_weaker}
-use Rattle.std.proofs.Common.{◌+◌}
-use Rattle.std.specs.String.{string_bytes}
+use Rattle.std.proofs.Common.{◌+◌, ◌++◌, ◌∙◌, ap, string_bytes}
 use Rattle.rtps_evidence.specs.Explanation.{evidence_value}
-use Rattle.rtps_text.specs.WhyText.{missed_lines, not_received_line, received_line, shown_by}
-use Rattle.rtps_text.proofs.PartLemmas.{four_parts}
+use Rattle.rtps_report.specs.Reported.{number_of}
+use Rattle.rtps_lines.proofs.Offered.{four_parts}
+use Rattle.rtps_text.specs.ReportText.{missed_lines, not_received_line, received_line, shown_by}
 use Rattle.rtps_text.proofs.text.why_text.push_rest.Goals as goal
 
 pub returns : goal.returns
@@ -11,6 +11,6 @@ returns c =
     let evidence = evidence_value c.args.evidence.now in
     on_ok_weaker c.push_shown.result
     (four_parts (string_bytes c.args.text.now) (received_line evidence.received (evidence.payloads + evidence.gone + evidence.untold)) (missed_lines evidence.missed evidence.first_missed)
-    (not_received_line evidence.not_received) (shown_by evidence.verdict evidence)
-    c.in_ok-push_received.ensures c.in_ok-push_missed.ensures c.in_ok-write.ensures.bytes)
+    (not_received_line evidence.not_received) (shown_by (number_of evidence.verdict) evidence.grounds)
+    (c.in_ok-writeln.ensures.bytes ∙ ap (λ numbers. string_bytes c.args.text.now ++ received_line evidence.received numbers) c.sum_of-numbers.ensures) c.in_ok-push_missed.ensures c.in_ok-write.ensures.bytes)
     c.push_shown.ensures

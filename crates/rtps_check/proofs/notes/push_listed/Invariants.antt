@@ -1,9 +1,0 @@
-use Rattle.std.proofs.Common.{◌≡◌, ◌++◌, map, take}
-use Rattle.std.specs.List.{flat_map}
-use Rattle.std.specs.String.{string_bytes}
-use Rattle.rtps_check.proofs.notes.push_listed.Given as goal
-
--- the texts so far
-abbrev pub invariant-loop-other : goal.invariant-loop-other
-invariant-loop-other l =
-    string_bytes l.text ≡ string_bytes l.initial.text ++ flat_map (λ other. l.separator ++ other) (map string_bytes (take l.other-index l.others))

@@ -1,0 +1,112 @@
+ghost use Rattle.std.specs.Prelude.{◌≡◌, ◌<◌, ◌^◌, filter, map, List};
+ghost use Rattle.rtps_receiver.specs.Values.{ActValue};
+ghost use Rattle.rtps_audit.specs.Index.{IsIndexBy};
+ghost use Rattle.rtps_audit.specs.Intake.{Intake};
+ghost use Rattle.rtps_audit.specs.Placed.{answers_among, is_from, placed_in, placed_value};
+ghost use Rattle.rtps_audit.specs.Speech.{natural as natural_lem};
+ghost use Rattle.rtps_evidence.specs.Grounds.{grounds_by, grounds_value, number_in};
+ghost use Rattle.rtps_evidence.specs.Grounds.GroundsValue.{ConflictGrounds, OpenGrounds};
+ghost use Rattle.rtps_evidence.specs.Locations.{first_sent as first_sent_lem, other_sent as other_sent_lem, teller_of};
+ghost use Rattle.rtps_evidence.specs.Questions.{asked_since as asked_since_lem, last_asked as last_asked_lem};
+
+use crate::acknowledgement::{Claim, find_claim};
+use crate::location::Location;
+use crate::questions::questions_since;
+use crate::sent_payload::{Sent, first_sent, other_sent};
+use crate::teller::{Teller, find_teller};
+use rtps_audit::{Answer, Index, Placed, Row, Verdict};
+use rtps_discovery::Pair;
+
+/// What a verdict rests on, beside what all rows have.
+#[derive(Clone, Copy, PartialEq, Eq, Debug)]
+pub enum Grounds<'a> {
+    Complete,
+    Open {
+        /// The first act that tells the reader of the number; None where nothing does.
+        teller: Option<Teller>,
+        /// How many HEARTBEATs without the final flag the reader hears from the writer behind its last answer to it, or behind the
+        /// beginning where there is none.
+        asked_since: u64,
+        /// Where the last of them stands.
+        last_asked: Option<Location>,
+    },
+    Conflict {
+        /// The first payload for the number.
+        first: Option<Sent<'a>>,
+        /// The first payload behind that one that is another.
+        other: Option<Sent<'a>>,
+    },
+    Unfounded {
+        /// The first act that tells the reader of the number, before the claim or behind it; None where nothing does.
+        teller: Option<Teller>,
+        /// The first answer in the datagram of the verdict that claims the number.
+        claim: Option<Claim>,
+    },
+}
+
+/// A number of a verdict, or 0 for one below it.
+fn natural(number: i64) -> u64
+    ensures value { result ≡ natural_lem number }
+    ensures in_range { result < 2 ^ 63 }
+{
+    number.max(0).cast_unsigned()
+}
+
+/// The number of a verdict, or 0 for one below it.
+fn number_of(verdict: &Verdict) -> u64
+    ensures value { result ≡ number_in verdict.now }
+    ensures in_range { result < 2 ^ 63 }
+{
+    match *verdict {
+        Verdict::Complete { last } => natural(last),
+        Verdict::Open { number } => natural(number),
+        Verdict::Conflict { number } => natural(number),
+        Verdict::Unfounded { number, .. } => natural(number),
+    }
+}
+
+/// Where the verdict is open, by what the writer says and the answers.
+fn open_grounds<'a>(acts: &[Placed<'a>], answers: &[Answer], pair: Pair, number: u64) -> Grounds<'a>
+    requires { number < 2 ^ 63 }
+    ensures { (recording : List (List ActValue)) → map placed_value acts.now ≡ filter (is_from pair.writer) (placed_in recording)
+        → answers.now ≡ answers_among pair (placed_in recording)
+        → grounds_value result ≡ OpenGrounds (teller_of pair.writer pair.reader number (placed_in recording))
+        (asked_since_lem pair.writer pair.reader (placed_in recording)) (last_asked_lem pair.writer pair.reader (placed_in recording)) }
+{
+    let questions = questions_since(acts, answers, pair);
+    Grounds::Open {
+        teller: find_teller(acts, pair, number),
+        asked_since: questions.count,
+        last_asked: questions.last,
+    }
+}
+
+/// Where the verdict is conflict, by what the writer says.
+fn conflict_grounds<'a>(acts: &[Placed<'a>], pair: Pair, number: u64) -> Grounds<'a>
+    ensures { (recording : List (List ActValue)) → map placed_value acts.now ≡ filter (is_from pair.writer) (placed_in recording)
+        → grounds_value result ≡ ConflictGrounds (first_sent_lem pair.writer pair.reader number (placed_in recording))
+        (other_sent_lem pair.writer pair.reader number (placed_in recording)) }
+{
+    Grounds::Conflict {
+        first: first_sent(acts, pair, number),
+        other: other_sent(acts, pair, number),
+    }
+}
+
+/// What the verdict of a row rests on.
+pub(crate) fn grounds_of<'a>(index: &Index<'a>, row: Row) -> Grounds<'a>
+    ensures { (intake : Intake) → IsIndexBy intake index.now → grounds_value result ≡ grounds_by row.verdict row.pair (placed_in intake.acts) }
+{
+    let pair = row.pair;
+    let acts = index.acts_of(pair.writer);
+    let number = number_of(&row.verdict);
+    match row.verdict {
+        Verdict::Complete { .. } => Grounds::Complete,
+        Verdict::Open { .. } => open_grounds(acts, index.answers_of(pair), pair, number),
+        Verdict::Conflict { .. } => conflict_grounds(acts, pair, number),
+        Verdict::Unfounded { datagram, .. } => Grounds::Unfounded {
+            teller: find_teller(acts, pair, number),
+            claim: find_claim(index, pair, datagram, number),
+        },
+    }
+}

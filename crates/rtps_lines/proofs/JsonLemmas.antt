@@ -1,0 +1,213 @@
+-- Facts on the tokens of a report as JSON, on how deep it nests, and on numbers.
+use Rattle.std.proofs.Common.{◌≡◌, ◌++◌, ◌∷◌, [], ◌∙◌, ◌+◌, ◌<◌, ◌≤◌, ◌^◌, ◌%◌, ◌==◌, ℕ, Bool, true, if◌then◌else◌, List, Option, None, Some, ap, append_assoc, append-nil, arith, cond, decimal, drop, false, get_or, length, map, option_and_then, refl, suc, sym, zero}
+use Rattle.std.proofs.lemmas.Bool.{and_from, le-leb, ne_eqb}
+use Rattle.std.proofs.lemmas.Fmt.{decimal_by_steps_wide, decimal_digit, decimal_is_IsNumeral_wide}
+use Rattle.std.proofs.lemmas.List.Concat.{flat_map-append}
+use Rattle.std.proofs.lemmas.List.Folds.{flat_map-map}
+use Rattle.std.proofs.lemmas.List.{drop_all, get_or_append_left, length-append}
+use Rattle.std.proofs.lemmas.Str.Parse.{digit_at}
+use Rattle.std.specs.Char.{is_ascii_digit}
+use Rattle.std.specs.List.{flat_map, prefix_len}
+use Rattle.json.proofs.Printed.Trees.{value-json_tokens}
+use Rattle.json.specs.Json.{Json, document, if_last, max_depth, null, string, value}
+use Rattle.json.specs.Lex.{tokens}
+use Rattle.json.specs.Print.{IsNumber, print}
+use Rattle.json.specs.Token.{begin_array, begin_object, end_array, end_object, key}
+use Rattle.json.specs.Tree.{depth, items_depth, items_tokens, json_tokens, members_depth, members_tokens}
+use Rattle.json.specs.Word.{after_exponent, after_fraction, after_number, after_whole, head}
+use Rattle.rtps_report.specs.Vocabulary.{Absent, Announcement, Claim, Complete, CompleteGrounds, Conflict, ConflictGrounds, Counts, EvidenceValue, Explanation, ExplanationValue, FirstMissed, GroundsValue, Key, Location, NotReceived, Open, OpenGrounds, PayloadValue, SentValue, Teller, Unfounded, UnfoundedGrounds, Verdict, Whole, explanation_value}
+use Rattle.rtps_report.specs.declared.recording.Reasons.{Reasons}
+use Rattle.rtps_report.specs.declared.advice.Scope.{Scope}
+use Rattle.rtps_report.specs.Advice.{advice_of, is_noted, sentence_of}
+use Rattle.rtps_report.specs.Recording.{RecordingValue}
+use Rattle.rtps_lines.specs.JsonText.{Member, advice_members, announcement_json, array_of, claim_json, counts_members, delivery_members, evidence_members, first_missed_members, ignored_members, items_of, members_of, not_received_json, object_of, pair_members, payload_members, place_json, place_members, reasons_members, report_json, row_json, rows_members, sent_json, shown_members, teller_json, tokens_of, tokens_of_member, verdict_members}
+
+-- ---- tokens
+
+pub front : (members more : List Member) → members_tokens (members_of (members ++ more)) ≡ tokens_of members ++ members_tokens (members_of more)
+front [] more = refl
+front ((name, json) ∷ members) more =
+    ap (λ rest. key name ∷ (json_tokens json ++ rest)) (front members more) ∙ sym (append_assoc (key name ∷ json_tokens json) (tokens_of members) (members_tokens (members_of more)))
+
+pub whole : (members : List Member) → members_tokens (members_of members) ≡ tokens_of members ++ end_object ∷ []
+whole [] = refl
+whole ((name, json) ∷ members) = ap (λ rest. key name ∷ (json_tokens json ++ rest)) (whole members) ∙ sym (append_assoc (key name ∷ json_tokens json) (tokens_of members) (end_object ∷ []))
+
+-- an object of six parts
+pub row_tokens : (a b c d e f : List Member)
+    → json_tokens (object_of (a ++ (b ++ (c ++ (d ++ (e ++ f)))))) ≡ begin_object ∷ (tokens_of a ++ (tokens_of b ++ (tokens_of c ++ (tokens_of d ++ (tokens_of e ++ (tokens_of f ++ end_object ∷ []))))))
+row_tokens a b c d e f =
+    ap (λ rest. begin_object ∷ rest)
+    (front a (b ++ (c ++ (d ++ (e ++ f))))
+    ∙ ap (λ rest. tokens_of a ++ rest) (front b (c ++ (d ++ (e ++ f)))
+    ∙ ap (λ rest. tokens_of b ++ rest) (front c (d ++ (e ++ f))
+    ∙ ap (λ rest. tokens_of c ++ rest) (front d (e ++ f) ∙ ap (λ rest. tokens_of d ++ rest) (front e f ∙ ap (λ rest. tokens_of e ++ rest) (whole f))))))
+
+-- a member and three parts
+pub audit_tokens : (a : Member) (b c d : List Member) → tokens_of (a ∷ (b ++ (c ++ d))) ≡ tokens_of_member a ++ (tokens_of b ++ (tokens_of c ++ tokens_of d))
+audit_tokens a b c d =
+    ap (λ rest. tokens_of_member a ++ rest)
+    (flat_map-append tokens_of_member b (c ++ d) ∙ ap (λ rest. tokens_of b ++ rest) (flat_map-append tokens_of_member c d))
+
+-- an object
+pub object_tokens : (members : List Member) → json_tokens (object_of members) ≡ begin_object ∷ (tokens_of members ++ end_object ∷ [])
+object_tokens members = ap (λ rest. begin_object ∷ rest) (whole members)
+
+list_tokens : (values : List Json) → items_tokens (items_of values) ≡ flat_map json_tokens values ++ end_array ∷ []
+list_tokens [] = refl
+list_tokens (value ∷ values) =
+    ap (λ rest. json_tokens value ++ rest) (list_tokens values) ∙ sym (append_assoc (json_tokens value) (flat_map json_tokens values) (end_array ∷ []))
+
+-- an array of values that are made alike
+pub mapped_tokens : {X : Type 0} (f : X → Json) (xs : List X) → json_tokens (array_of (map f xs)) ≡ begin_array ∷ (flat_map (λ x. json_tokens (f x)) xs ++ end_array ∷ [])
+mapped_tokens f xs = ap (λ rest. begin_array ∷ rest) (list_tokens (map f xs) ∙ ap (λ rest. rest ++ end_array ∷ []) (flat_map-map json_tokens f xs))
+
+-- the array of rows
+pub rows_tokens : (scope : Option Scope) (rows : List Explanation)
+    → flat_map (λ row. json_tokens (row_json scope (explanation_value row))) rows ++ end_array ∷ [] ≡ items_tokens (items_of (map (row_json scope) (map explanation_value rows)))
+rows_tokens scope [] = refl
+rows_tokens scope (row ∷ rows) =
+    let first = json_tokens (row_json scope (explanation_value row)) in
+    append_assoc first (flat_map (λ each. json_tokens (row_json scope (explanation_value each))) rows) (end_array ∷ []) ∙ ap (λ rest. first ++ rest) (rows_tokens scope rows)
+
+-- ---- depth
+
+pub joined : (most : ℕ) (one other : List Member) → members_depth (members_of one) ≤ most → members_depth (members_of other) ≤ most → members_depth (members_of (one ++ other)) ≤ most
+joined most [] other h k = k
+joined most ((name, json) ∷ one) other h k = let rest = joined most one other (omega (arith, h)) k in omega (arith, h, rest)
+
+announcement_within : (announcement : Option Announcement) → depth (announcement_json announcement) ≤ 1
+announcement_within None = omega arith
+announcement_within (Some announcement) = omega arith
+
+claim_within : (claim : Option Claim) → depth (claim_json claim) ≤ 1
+claim_within None = omega arith
+claim_within (Some claim) = omega arith
+
+teller_within : (teller : Option Teller) → depth (teller_json teller) ≤ 1
+teller_within None = omega arith
+teller_within (Some teller) = omega arith
+
+payload_within : (payload : Option PayloadValue) → members_depth (members_of (payload_members payload)) ≤ 0
+payload_within None = omega arith
+payload_within (Some Absent) = omega arith
+payload_within (Some (Whole octets)) = omega arith
+payload_within (Some (Key octets)) = omega arith
+
+sent_within : (sent : Option SentValue) → depth (sent_json sent) ≤ 1
+sent_within None = omega arith
+sent_within (Some sent) =
+    let members = joined 0 (payload_members sent.payload) (place_members sent.place) (payload_within sent.payload) (omega arith) in
+    omega (arith, members)
+
+verdict_within : (verdict : Verdict) → members_depth (members_of (verdict_members verdict)) ≤ 2
+verdict_within (Complete last) = omega arith
+verdict_within (Open n) = omega arith
+verdict_within (Conflict n) = omega arith
+verdict_within (Unfounded datagram n) = omega arith
+
+evidence_within : (evidence : EvidenceValue) → members_depth (members_of (evidence_members evidence)) ≤ 2
+evidence_within evidence = omega (arith, announcement_within evidence.announcement, claim_within evidence.acknowledgement)
+
+place_within : (place : Option Location) → depth (place_json place) ≤ 1
+place_within None = omega arith
+place_within (Some place) = omega arith
+
+not_received_within : (kept : Option NotReceived) → depth (not_received_json kept) ≤ 2
+not_received_within None = omega arith
+not_received_within (Some kept) = omega (arith, teller_within kept.gone, place_within kept.acknowledged)
+
+first_missed_within : (first : Option FirstMissed) → members_depth (members_of (first_missed_members first)) ≤ 2
+first_missed_within None = omega arith
+first_missed_within (Some first) = omega (arith, teller_within first.gone)
+
+delivery_within : (evidence : EvidenceValue) → members_depth (members_of (delivery_members evidence)) ≤ 2
+delivery_within evidence = omega (arith, not_received_within evidence.not_received, first_missed_within evidence.first_missed)
+
+shown_within : (grounds : GroundsValue) → members_depth (members_of (shown_members grounds)) ≤ 2
+shown_within CompleteGrounds = omega arith
+shown_within (OpenGrounds teller count last) = omega (arith, teller_within teller, place_within last)
+shown_within (ConflictGrounds first other) = omega (arith, sent_within first, sent_within other)
+shown_within (UnfoundedGrounds teller claim) = omega (arith, claim_within claim, teller_within teller)
+
+sentence_within : (some : Bool) (sentence : List ℕ) → depth (if some then string sentence else null) ≤ 0
+sentence_within true sentence = omega arith
+sentence_within false sentence = omega arith
+
+advice_within : (scope : Option Scope) (row : ExplanationValue) → members_depth (members_of (advice_members scope row)) ≤ 2
+advice_within None row = omega arith
+advice_within (Some scope) row = omega (arith, sentence_within (is_noted row) (sentence_of (advice_of scope row.evidence)))
+
+row_within : (scope : Option Scope) (row : ExplanationValue) → depth (row_json scope row) ≤ 3
+row_within scope row =
+    let evidence = row.evidence in
+    let advice = advice_members scope row in
+    let shown = joined 2 (shown_members evidence.grounds) advice (shown_within evidence.grounds) (advice_within scope row) in
+    let last = joined 2 (delivery_members evidence) (shown_members evidence.grounds ++ advice) (delivery_within evidence) shown in
+    let late = joined 2 (evidence_members evidence) (delivery_members evidence ++ (shown_members evidence.grounds ++ advice)) (evidence_within evidence) last in
+    let later = joined 2 (verdict_members evidence.verdict) (evidence_members evidence ++ (delivery_members evidence ++ (shown_members evidence.grounds ++ advice))) (verdict_within evidence.verdict) late in
+    let all = joined 2 (pair_members row) (verdict_members evidence.verdict ++ (evidence_members evidence ++ (delivery_members evidence ++ (shown_members evidence.grounds ++ advice)))) (omega arith) later in
+    omega (arith, all)
+
+rows_within : (scope : Option Scope) (rows : List ExplanationValue) → items_depth (items_of (map (row_json scope) rows)) ≤ 3
+rows_within scope [] = omega arith
+rows_within scope (row ∷ rows) = omega (arith, row_within scope row, rows_within scope rows)
+
+ignored_within : (ignored : Option ℕ) → members_depth (members_of (ignored_members ignored)) ≤ 0
+ignored_within None = omega arith
+ignored_within (Some ignored) = omega arith
+
+reasons_within : (reasons : Option Reasons) → members_depth (members_of (reasons_members reasons)) ≤ 0
+reasons_within None = omega arith
+reasons_within (Some reasons) = omega arith
+
+pub rows_depth : (scope : Option Scope) (rows : List ExplanationValue) (counts : Counts) (recording : RecordingValue) → members_depth (members_of (rows_members scope rows counts recording)) ≤ 4
+rows_depth scope rows counts recording =
+    let frames = joined 0 (ignored_members recording.ignored) (reasons_members recording.reasons) (ignored_within recording.ignored) (reasons_within recording.reasons) in
+    let last = joined 0 (counts_members counts) (ignored_members recording.ignored ++ reasons_members recording.reasons) (omega arith) frames in
+    omega (arith, rows_within scope rows, last)
+
+pub report_depth : (rows : List ExplanationValue) (counts : Counts) (recording : RecordingValue) → depth (report_json rows counts recording) ≤ 5
+report_depth rows counts recording = omega (arith, rows_depth None rows counts recording)
+
+pub report_within : (rows : List ExplanationValue) (counts : Counts) (recording : RecordingValue) → depth (report_json rows counts recording) ≤ max_depth
+report_within rows counts recording = omega (arith, report_depth rows counts recording)
+
+-- the grammar of JSON reads a value back, where its tokens are read back
+pub reads_back : (json : Json) → depth json ≤ max_depth → tokens (print (json_tokens json)) ≡ json_tokens json → document (print (json_tokens json)) ≡ Some json
+reads_back json within read =
+    ap (option_and_then (λ p. if_last p.0 p.1)) (ap (value max_depth) (read ∙ sym (append-nil (json_tokens json))) ∙ value-json_tokens json max_depth [] within)
+
+-- ---- numbers
+
+all_digits : (digits : List ℕ) → ((i : ℕ) → i < length digits → (48 ≤ get_or digits i 0) × (get_or digits i 0 ≤ 57)) → prefix_len is_ascii_digit digits ≡ length digits
+all_digits [] h = refl
+all_digits (digit ∷ digits) h =
+    let first = h 0 (omega arith) in
+    let rest = all_digits digits (λ i l. h (suc i) (omega arith)) in
+    ap (λ b. cond b (1 + prefix_len is_ascii_digit digits) 0) (and_from _ _ (le-leb 48 digit first.0) (le-leb digit 57 first.1)) ∙ omega arith
+
+whole_digits : (digits : List ℕ) → 48 < get_or digits 0 0 → prefix_len is_ascii_digit digits ≡ length digits → (after_whole digits ≡ Some []) × ((head digits == 45) ≡ false)
+whole_digits [] first all = absurd (omega arith)
+whole_digits (digit ∷ digits) first all = (
+  rw (ne_eqb digit 48 (λ e. omega arith), all, ne_eqb (suc (length digits)) 0 (λ e. omega arith)) (ap Some (drop_all (length digits) digits (omega arith))),
+  ne_eqb digit 45 (λ e. omega arith),
+)
+
+-- no number but 0 begins with the digit 0
+first_digit : (n : ℕ) → 0 < n → n < 10 ^ 64 → 48 < get_or (decimal n) 0 0
+first_digit n some small =
+    (decimal_by_steps_wide (λ m digits. (0 < length digits) × (0 < m → 48 < get_or digits 0 0)) (λ m l. (omega arith, λ a. omega arith))
+    (λ m digits l h. (omega (arith, length-append digits ((48 + m % 10) ∷ [])), λ a. omega (arith, get_or_append_left digits ((48 + m % 10) ∷ []) 0 0 h.0, h.1 (omega arith)))) n small).1 some
+
+whole_decimal : (n : ℕ) → n < 10 ^ 64 → (after_whole (decimal n) ≡ Some []) × ((head (decimal n) == 45) ≡ false)
+whole_decimal zero h = let e = decimal_digit 0 (omega arith) in (ap after_whole e, ap (λ l. head l == 45) e)
+whole_decimal (suc n) h =
+    whole_digits (decimal (suc n)) (first_digit (suc n) (omega arith) h) (all_digits _ (λ i l. digit_at _ i (decimal_is_IsNumeral_wide (suc n) h).0.1 l))
+
+-- a number of any size is one of JSON
+pub is_number : (n : ℕ) → n < 2 ^ 128 → IsNumber (decimal n)
+unfolding after_number
+is_number n h =
+    let w = whole_decimal n (omega (arith, h)) in
+    ap (λ o. option_and_then after_exponent (option_and_then after_fraction o)) (ap (λ b. after_whole (cond b (drop 1 (decimal n)) (decimal n))) w.1 ∙ w.0)

@@ -1,0 +1,4 @@
+mod CheckLemmas
+mod JsonLemmas
+pub mod Offered
+mod PartLemmas

@@ -1,0 +1,41 @@
+use Rattle.std.proofs.Common.{◌++◌, ◌∷◌, ◌∙◌, ℕ, List, Some, append-nil, ap, ap₂, codes, map, sym}
+use Rattle.std.proofs.lemmas.List.Concat.{flat_map-append}
+use Rattle.std.proofs.lemmas.Result.{on_ok_weaker}
+use Rattle.std.specs.String.{string_bytes}
+use Rattle.json.specs.Json.{string as text}
+use Rattle.json.specs.Token.{Token, key}
+use Rattle.json.specs.Tree.{json_tokens}
+use Rattle.rtps_report.specs.Asked.{asked_value}
+use Rattle.rtps_report.specs.FullReport.{report_value, rows_of}
+use Rattle.rtps_report.specs.NoteFacts.{scope_of}
+use Rattle.rtps_report.specs.declared.advice.Scope.{Scope}
+use Rattle.rtps_lines.specs.CheckMembers.{notes_members, report_causes, report_notes, status_members}
+use Rattle.rtps_lines.specs.JsonText.{array_of, rows_members, tokens_of, tokens_of_member}
+use Rattle.rtps_lines.specs.Notes.{short_notes}
+use Rattle.rtps_lines.proofs.PartLemmas.{three_parts}
+use Rattle.rtps_lines.proofs.check_members.push_check_members.Goals as goal
+
+pub returns-clause-tokens : goal.returns-clause-tokens
+returns-clause-tokens c =
+    let start : List Token = c.args.writer.now.tokens in
+    let report = c.args.report.now in
+    let asked = asked_value report.asked.now in
+    let recording = report.recording.now in
+    let value = report_value report in
+    let rows = rows_of value in
+    let status = status_members report.ending (report_causes asked value) in
+    let members = rows_members (Some (scope_of asked recording value)) rows report.explained.counts recording in
+    let notes = notes_members (report_notes asked recording value) in
+    let first = c.in_ok-push_status.ensures.tokens
+    ∙ ap (λ (all : List (List ℕ)). start ++ tokens_of (status_members report.ending all)) (ap (map string_bytes) c.deref.ensures.value ∙ c.in_ok-causes.ensures) in
+    let second = c.in_ok-push_report_members.ensures.tokens
+    ∙ ap (λ (scope : Scope). c.push_status.new.writer.tokens ++ tokens_of (rows_members (Some scope) rows report.explained.counts recording)) c.scope_of.ensures in
+    on_ok_weaker c.push_texts.result
+    (λ last.
+    three_parts start (tokens_of status) (tokens_of members) (tokens_of notes) first second
+    (last ∙ ap (λ (all : List (List ℕ)). c.push_report_members.new.writer.tokens ++ key (codes "notes") ∷ json_tokens (array_of (map text all)))
+    (ap (map string_bytes) c.deref-2.ensures.value ∙ c.in_ok-notes.ensures ∙ ap₂ short_notes c.notes_on.ensures (c.len.ensures ∙ report.left_out.ok.0))
+    ∙ ap (λ tokens. c.push_report_members.new.writer.tokens ++ tokens) (sym (append-nil (key (codes "notes") ∷ json_tokens (array_of (map text (report_notes asked recording value)))))))
+    ∙ ap (λ tokens. start ++ tokens)
+    (ap (λ tokens. tokens_of status ++ tokens) (sym (flat_map-append tokens_of_member members notes)) ∙ sym (flat_map-append tokens_of_member status (members ++ notes))))
+    c.push_texts.ensures.tokens

@@ -1,0 +1,40 @@
+-- The members of the object of a report that is checked.
+-- own: other programs read the outcome, its reasons and what to do without taking lines apart. They stand around those of `audit --json`.
+use Rattle.std.specs.Prelude.{◌++◌, ℕ, List, [], ◌∷◌, codes, length, map, Some}
+use Rattle.json.specs.Json.{string}
+use Rattle.rtps_report.specs.FullReport.{AskedValue, RecordingValue, ReportValue, rows_of}
+use Rattle.rtps_report.specs.NoteFacts.{note_facts, scope_of}
+use Rattle.rtps_report.specs.Totals.{totals_of}
+use Rattle.rtps_report.specs.declared.findings.Ending.{Ending}
+use Rattle.rtps_report.specs.declared.findings.Ending.TheVariants.{Clean}
+use Rattle.rtps_lines.specs.Causes.{causes_of, findings_in}
+use Rattle.rtps_lines.specs.JsonText.{Member, array_of, rows_members}
+use Rattle.rtps_lines.specs.Notes.{short_notes}
+
+-- how a run ends, in a word
+abbrev pub status_text : Ending → List ℕ
+status_text Clean = codes "clean"
+status_text ending = codes "unclean"
+
+-- the members that stand first: how the run ends, and why it does not end clean
+abbrev pub status_members : Ending → List (List ℕ) → List Member
+status_members ending causes = (codes "status", string (status_text ending)) ∷ (codes "because", array_of (map string causes)) ∷ []
+
+-- the one that stands last: what weakens the report
+abbrev pub notes_members : List (List ℕ) → List Member
+notes_members notes = (codes "notes", array_of (map string notes)) ∷ []
+
+-- why the run of this report does not end clean
+abbrev pub report_causes : AskedValue → ReportValue → List (List ℕ)
+report_causes asked report = causes_of (totals_of asked.from (rows_of report)) (findings_in report.ending)
+
+-- what weakens it
+abbrev pub report_notes : AskedValue → RecordingValue → ReportValue → List (List ℕ)
+report_notes asked recording report = short_notes (note_facts asked recording report) (length report.left_out)
+
+-- all members: those of `audit --json`, with what to do for each row, between them
+abbrev pub check_members : AskedValue → RecordingValue → ReportValue → List Member
+check_members asked recording report =
+    status_members report.ending (report_causes asked report)
+    ++ (rows_members (Some (scope_of asked recording report)) (rows_of report) report.explained.counts recording
+    ++ notes_members (report_notes asked recording report))

@@ -1,0 +1,191 @@
+-- A report as an object of JSON. RFC 8259 "The JavaScript Object Notation (JSON) Data Interchange Format".
+-- own: other programs read the rows, what each rests on, and the counts. Members stand in this order, no space stands between tokens,
+-- and numbers are integers in decimal. Names are strings of what `list` writes between the quotes, and places are as `why` writes them.
+use Rattle.std.specs.Prelude.{ℕ, ℤ, ◌≡◌, ◌++◌, if◌then◌else◌, List, [], ◌∷◌, codes, length, map, Option, None, Some}
+use Rattle.std.specs.Fmt.{decimal, signed_decimal}
+use Rattle.std.specs.List.{flat_map}
+use Rattle.json.specs.Json.{Json, null, number, string, array, object, Items, no_items, item, Members, no_members, member, document}
+use Rattle.json.specs.Print.{print}
+use Rattle.json.specs.Token.{Token, key}
+use Rattle.json.specs.Tree.{json_tokens}
+use Rattle.rtps_report.specs.Vocabulary.{Absent, Announcement, Claim, Complete, CompleteGrounds, Conflict, ConflictGrounds, Counts, EvidenceValue, ExplanationValue, FirstMissed, GroundsValue, Key, Location, NotReceived, Open, OpenGrounds, PayloadValue, SentValue, Teller, Unfounded, UnfoundedGrounds, Verdict, Whole}
+use Rattle.rtps_report.specs.declared.recording.Reasons.{Reasons}
+use Rattle.rtps_report.specs.declared.advice.Scope.{Scope}
+use Rattle.rtps_report.specs.Advice.{advice_of, is_noted, sentence_of}
+use Rattle.rtps_report.specs.Recording.{RecordingValue}
+use Rattle.rtps_lines.specs.Lines.{kind_text}
+use Rattle.rtps_parts.specs.Names.{guid_text, octet_text}
+
+-- a name and a value of an object
+abbrev pub Member : Type 0
+Member = List ℕ × Json
+
+-- these members, in their order
+abbrev pub members_of : List Member → Members
+members_of [] = no_members
+members_of ((name, value) ∷ members) = member name value (members_of members)
+
+-- the object of these members
+abbrev pub object_of : List Member → Json
+object_of members = object (members_of members)
+
+-- these values as the items of an array, in their order
+abbrev pub items_of : List Json → Items
+items_of [] = no_items
+items_of (value ∷ values) = item value (items_of values)
+
+-- the array of these values
+abbrev pub array_of : List Json → Json
+array_of values = array (items_of values)
+
+-- a number that is not below 0
+abbrev pub count_json : ℕ → Json
+count_json n = number (decimal n)
+
+-- a number that may be below 0
+abbrev pub number_json : ℤ → Json
+number_json n = number (signed_decimal n)
+
+-- where a submessage stands
+abbrev pub place_members : Location → List Member
+place_members place = (codes "datagram", count_json place.datagram) ∷ (codes "at", count_json place.at) ∷ []
+
+-- the last number that the writer announced, and the submessage that did so first; null where there is none
+abbrev pub announcement_json : Option Announcement → Json
+announcement_json None = null
+announcement_json (Some announcement) =
+    object_of ((codes "number", number_json announcement.number) ∷ (codes "by", string (kind_text announcement.kind)) ∷ place_members announcement.place)
+
+-- an answer of the reader, or null where there is none
+abbrev pub claim_json : Option Claim → Json
+claim_json None = null
+claim_json (Some claim) = object_of ((codes "below", number_json claim.below) ∷ place_members claim.place)
+
+-- the submessage that told a number first, or null where none did
+abbrev pub teller_json : Option Teller → Json
+teller_json None = null
+teller_json (Some teller) = object_of ((codes "by", string (kind_text teller.kind)) ∷ place_members teller.place)
+
+-- where a submessage stands, or null where there is none
+abbrev pub place_json : Option Location → Json
+place_json None = null
+place_json (Some place) = object_of (place_members place)
+
+-- the least number that is not received, and what keeps it; null where all are received
+abbrev pub not_received_json : Option NotReceived → Json
+not_received_json None = null
+not_received_json (Some kept) = object_of ((codes "number", count_json kept.number) ∷ (codes "gone", teller_json kept.gone) ∷ (codes "acknowledged", place_json kept.acknowledged) ∷ [])
+
+-- the least number that is missed, the answer that asks for it last, and what told it gone since; no member where none is
+abbrev pub first_missed_members : Option FirstMissed → List Member
+first_missed_members None = []
+first_missed_members (Some first) =
+    (codes "first_missed", object_of ((codes "number", count_json first.number) ∷ (codes "asked", place_json (Some first.asked)) ∷ (codes "gone", teller_json first.gone) ∷ [])) ∷ []
+
+-- the name of a kind of payload, and so many octets
+abbrev pub carried_members : List ℕ → ℕ → List Member
+carried_members kind octets = (codes "payload", string kind) ∷ (codes "octets", count_json octets) ∷ []
+
+-- the kind of a payload and how many octets it has; nothing where there is no payload
+abbrev pub payload_members : Option PayloadValue → List Member
+payload_members None = []
+payload_members (Some Absent) = carried_members (codes "absent") 0
+payload_members (Some (Whole octets)) = carried_members (codes "whole") (length octets)
+payload_members (Some (Key octets)) = carried_members (codes "key") (length octets)
+
+-- what was sent for a number, or null where nothing was
+abbrev pub sent_json : Option SentValue → Json
+sent_json None = null
+sent_json (Some sent) = object_of (payload_members sent.payload ++ place_members sent.place)
+
+-- the name of a topic or a type: a string of what `list` writes between the quotes
+abbrev pub name_json : List ℕ → Json
+name_json name = string (flat_map octet_text name)
+
+-- whom the row is of: the writer, the reader, the topic and the type
+abbrev pub pair_members : ExplanationValue → List Member
+pair_members row = (codes "writer", string (guid_text row.pair.writer)) ∷ (codes "reader", string (guid_text row.pair.reader))
+    ∷ (codes "topic", name_json row.topic) ∷ (codes "type", name_json row.type_name) ∷ []
+
+-- the verdict and its number, as in the report's row
+abbrev pub verdict_members : Verdict → List Member
+verdict_members (Complete last) = (codes "verdict", string (codes "complete")) ∷ (codes "number", number_json last) ∷ []
+verdict_members (Open n) = (codes "verdict", string (codes "open")) ∷ (codes "number", number_json n) ∷ []
+verdict_members (Conflict n) = (codes "verdict", string (codes "conflict")) ∷ (codes "number", number_json n) ∷ []
+verdict_members (Unfounded datagram n) =
+    (codes "verdict", string (codes "unfounded")) ∷ (codes "number", number_json n) ∷ (codes "datagram", count_json datagram) ∷ []
+
+-- what is said of each pair, whatever its verdict is
+abbrev pub evidence_members : EvidenceValue → List Member
+evidence_members evidence = (codes "announced", announcement_json evidence.announcement) ∷ (codes "acknowledged", claim_json evidence.acknowledgement)
+    ∷ (codes "payloads", count_json evidence.payloads) ∷ (codes "gone", count_json evidence.gone) ∷ (codes "untold", count_json evidence.untold) ∷ []
+
+-- which numbers are received, and which are missed
+abbrev pub delivery_members : EvidenceValue → List Member
+delivery_members evidence = (codes "received", count_json evidence.received) ∷ (codes "not_received", not_received_json evidence.not_received)
+    ∷ (codes "missed", count_json evidence.missed) ∷ first_missed_members evidence.first_missed
+
+-- what the verdict rests on
+abbrev pub shown_members : GroundsValue → List Member
+shown_members CompleteGrounds = []
+shown_members (OpenGrounds teller count last) = (codes "told", teller_json teller) ∷ (codes "asked_since", count_json count) ∷ (codes "last_asked", place_json last) ∷ []
+shown_members (ConflictGrounds first other) = (codes "sent", array_of (sent_json first ∷ sent_json other ∷ [])) ∷ []
+shown_members (UnfoundedGrounds teller claim) = (codes "claimed", claim_json claim) ∷ (codes "told", teller_json teller) ∷ []
+
+-- what to do for a row that someone has to look at, and null for another, where advice is asked for
+abbrev pub advice_members : Option Scope → ExplanationValue → List Member
+advice_members None row = []
+advice_members (Some scope) row = (codes "advice", if is_noted row then string (sentence_of (advice_of scope row.evidence)) else null) ∷ []
+
+-- a row of the report with its evidence
+abbrev pub row_json : Option Scope → ExplanationValue → Json
+row_json scope row =
+    object_of (pair_members row
+    ++ (verdict_members row.evidence.verdict
+    ++ (evidence_members row.evidence ++ (delivery_members row.evidence ++ (shown_members row.evidence.grounds ++ advice_members scope row)))))
+
+-- how many frames of a capture gave no datagram; a text has none
+abbrev pub ignored_members : Option ℕ → List Member
+ignored_members None = []
+ignored_members (Some ignored) = (codes "ignored", count_json ignored) ∷ []
+
+-- for which reasons they gave none, where any capture was read
+abbrev pub reasons_members : Option Reasons → List Member
+reasons_members None = []
+reasons_members (Some reasons) = (codes "pieces", count_json reasons.pieces) ∷ (codes "cut", count_json reasons.cut) ∷ (codes "other", count_json reasons.other)
+    ∷ (codes "links", count_json reasons.links.number) ∷ []
+
+-- what was counted
+abbrev pub counts_members : Counts → List Member
+counts_members counts = (codes "datagrams", count_json counts.datagrams) ∷ (codes "refused", count_json counts.refused) ∷ (codes "skipped", count_json counts.skipped)
+    ∷ (codes "fragments", count_json counts.fragments) ∷ (codes "undirected", count_json counts.undirected) ∷ (codes "unsettled", count_json counts.unsettled) ∷ []
+
+-- the rows, under their name
+abbrev pub pairs_member : Option Scope → List ExplanationValue → Member
+pairs_member scope rows = (codes "pairs", array_of (map (row_json scope) rows))
+
+-- what is told of these rows and counts, and of the frames of this recording; with advice, where that is asked for
+abbrev pub rows_members : Option Scope → List ExplanationValue → Counts → RecordingValue → List Member
+rows_members scope rows counts recording =
+    pairs_member scope rows ∷ (counts_members counts ++ (ignored_members recording.ignored ++ reasons_members recording.reasons))
+
+-- the whole report, as an object: `audit --json` tells no advice
+abbrev pub report_json : List ExplanationValue → Counts → RecordingValue → Json
+report_json rows counts recording = object_of (rows_members None rows counts recording)
+
+-- the tokens of a member: its name, and those of its value
+abbrev pub tokens_of_member : Member → List Token
+tokens_of_member (name, value) = key name ∷ json_tokens value
+
+-- the tokens of these members, in their order
+abbrev pub tokens_of : List Member → List Token
+tokens_of members = flat_map tokens_of_member members
+
+-- the text of a value, and a line feed (10)
+abbrev pub json_line : Json → List ℕ
+json_line value = print (json_tokens value) ++ 10 ∷ []
+
+-- that text, of which the grammar of JSON reads what stands before the line feed back as the value
+pub record IsJsonLine (value : Json) (text : List ℕ) : Type 0 where
+  pub is_text : text ≡ json_line value
+  pub reads_back : document (print (json_tokens value)) ≡ Some value

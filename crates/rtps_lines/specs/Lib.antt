@@ -1,0 +1,6 @@
+pub mod Causes
+pub mod CheckMembers
+pub mod JsonText
+pub mod Lines
+pub mod Notes
+pub mod QosNames

@@ -1,0 +1,93 @@
+-- The lines that `why` and `check` print alike of a row. own: one space stands between fields, so that common tools can take a line
+-- apart. A place is the number of a datagram, from 1, and that of a submessage's first octet in it, from 0, as `show` writes them.
+use Rattle.std.specs.Prelude.{ℕ, ℤ, ◌++◌, List, [], ◌∷◌, codes, length, Option, None, Some}
+use Rattle.std.specs.Fmt.{decimal, signed_decimal}
+use Rattle.rtps_report.specs.Vocabulary.{Absent, Announcement, Claim, Complete, Conflict, FirstMissed, Key, Location, Open, PayloadValue, SentValue, Teller, Unfounded, Verdict, Whole}
+use Rattle.rtps_evidence.specs.declared.location.Kind.{Kind}
+use Rattle.rtps_evidence.specs.declared.location.Kind.TheVariants.{Data, Heartbeat, AckNack, Gap, DataFrag}
+
+-- a line of fields: a space (32) after each, but a line feed (10) after the last
+abbrev pub line_of : List (List ℕ) → List ℕ
+line_of [] = 10 ∷ []
+line_of (field ∷ []) = field ++ 10 ∷ []
+line_of (field ∷ next ∷ fields) = field ++ 32 ∷ line_of (next ∷ fields)
+
+-- the kind of a payload, and how many octets it has
+unfoldable pub payload_text : PayloadValue → List ℕ
+payload_text Absent = codes "absent"
+payload_text (Whole octets) = codes "whole " ++ decimal (length octets)
+payload_text (Key octets) = codes "key " ++ decimal (length octets)
+
+-- the number behind `complete` is the last announced one, and each other is the least that shows the verdict
+unfoldable pub verdict_text : Verdict → List ℕ
+verdict_text (Complete last) = codes "complete " ++ signed_decimal last
+verdict_text (Open number) = codes "open " ++ signed_decimal number
+verdict_text (Conflict number) = codes "conflict " ++ signed_decimal number
+verdict_text (Unfounded datagram number) = codes "unfounded " ++ (decimal datagram ++ 32 ∷ signed_decimal number)
+
+-- a line behind two spaces
+abbrev pub inner_line : List (List ℕ) → List ℕ
+inner_line fields = 32 ∷ 32 ∷ line_of fields
+
+-- the submessage, by the name that `show` gives it
+unfoldable pub kind_text : Kind → List ℕ
+kind_text Data = codes "data"
+kind_text Heartbeat = codes "heartbeat"
+kind_text AckNack = codes "acknack"
+kind_text Gap = codes "gap"
+kind_text DataFrag = codes "data_frag"
+
+-- where an act stands in the recording
+unfoldable pub place_text : Location → List ℕ
+place_text place = codes "in datagram " ++ (decimal place.datagram ++ (codes " at " ++ decimal place.at))
+
+-- the line of the last number that the writer announced, and of the submessage that did so first
+abbrev pub announced_line : Option Announcement → List ℕ
+announced_line None = inner_line (codes "announced nothing" ∷ [])
+announced_line (Some announcement) =
+    inner_line (codes "announced" ∷ signed_decimal announcement.number ∷ codes "by" ∷ kind_text announcement.kind ∷ place_text announcement.place ∷ [])
+
+-- the line of the greatest base of the reader's answers, and of the answer that had it first
+abbrev pub acknowledged_line : Option Claim → List ℕ
+acknowledged_line None = inner_line (codes "acknowledged nothing" ∷ [])
+acknowledged_line (Some claim) = inner_line (codes "acknowledged below" ∷ signed_decimal claim.below ∷ place_text claim.place ∷ [])
+
+-- the line of a number and of the submessage that told it first, if one did
+abbrev pub told_line : ℤ → Option Teller → List ℕ
+told_line number None = inner_line (codes "number" ∷ signed_decimal number ∷ codes "told nowhere" ∷ [])
+told_line number (Some teller) =
+    inner_line (codes "number" ∷ signed_decimal number ∷ codes "told by" ∷ kind_text teller.kind ∷ place_text teller.place ∷ [])
+
+-- the line of the answer that claimed a number too early, if there is one
+abbrev pub claimed_line : Option Claim → List ℕ
+claimed_line None = []
+claimed_line (Some claim) = inner_line (codes "claimed below" ∷ signed_decimal claim.below ∷ place_text claim.place ∷ [])
+
+-- a payload, if there is one
+abbrev pub carried_text : Option PayloadValue → List ℕ
+carried_text None = []
+carried_text (Some payload) = payload_text payload
+
+-- the line of a payload that was sent for a number, if one was
+abbrev pub sent_line : ℤ → Option SentValue → List ℕ
+sent_line number None = []
+sent_line number (Some sent) =
+    inner_line (codes "number" ∷ signed_decimal number ∷ codes "payload" ∷ carried_text sent.payload ∷ place_text sent.place ∷ [])
+
+-- a place, and a comma behind it
+abbrev pub place_comma : Location → List ℕ
+place_comma place = place_text place ++ codes ","
+
+-- what told a number gone since it was asked for
+unfoldable pub since_text : Option Teller → List ℕ
+since_text None = codes "not told gone since"
+since_text (Some teller) = codes "told gone by " ++ (kind_text teller.kind ++ 32 ∷ place_text teller.place)
+
+-- the line of a number that is missed, behind four spaces: the answer that asks for it last, and what told it gone since
+abbrev pub asked_line : FirstMissed → List ℕ
+asked_line first = 32 ∷ 32 ∷ inner_line (codes "number" ∷ decimal first.number ∷ codes "asked for" ∷ place_comma first.asked ∷ since_text first.gone ∷ [])
+
+-- how often the writer asked for an answer since the last one
+abbrev pub questions_line : ℕ → Option Location → List ℕ
+questions_line count None = inner_line (codes "not asked since its last answer" ∷ [])
+questions_line count (Some place) = inner_line (codes "asked" ∷ decimal count ∷ codes "times since its last answer, last" ∷ place_text place ∷ [])

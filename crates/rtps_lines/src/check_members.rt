@@ -1,0 +1,56 @@
+ghost use Rattle.std.specs.Prelude.{◌≡◌, ◌++◌, IfOk, OnOk, map};
+ghost use Rattle.std.specs.String.{string_bytes};
+ghost use Rattle.rtps_report.specs.Asked.{asked_value};
+ghost use Rattle.rtps_report.specs.FullReport.{report_value};
+ghost use Rattle.rtps_lines.specs.CheckMembers.{check_members, report_causes, status_members, status_text};
+ghost use Rattle.rtps_lines.specs.JsonText.{tokens_of};
+
+use crate::causes::causes_of;
+use crate::json_members::{push_text, push_texts};
+use crate::json_object::push_report_members;
+use crate::notes::short_notes;
+use json::Writer;
+use rtps_report::{Ending, FullReport, notes_on, scope_of, totals_of};
+use std::alloc::{AllocError, Global};
+
+fn status_name(ending: &Ending) -> &'static str
+    ensures { result.now ≡ status_text ending.now }
+{
+    match ending {
+        Ending::Clean => "clean",
+        Ending::Unclean | Ending::Unmet(_) => "unclean",
+    }
+}
+
+fn push_status(writer: &mut Writer, ending: &Ending, causes: &[String]) -> Result<(), AllocError>
+    ensures tokens { OnOk result (writer.new.tokens
+        ≡ writer.old.tokens ++ tokens_of (status_members ending.now (map string_bytes causes.now))) }
+    ensures before { writer.new.before ≡ writer.old.before }
+{
+    push_text(writer, "status", status_name(ending))?;
+    push_texts(writer, "because", causes)
+}
+
+fn report_causes_of(alloc: Global, report: &FullReport<'_>) -> Result<Vec<String>, AllocError>
+    ensures { IfOk result (λ causes. map string_bytes causes.items ≡ report_causes (asked_value report.now.asked.now) (report_value report.now)) }
+{
+    let totals = totals_of(&report.explained.rows, report.asked.first_asked());
+    causes_of(alloc, &totals, &report.ending)
+}
+
+/// Appends the members of the object of a report that is checked. After an `Err` what was written is of no use.
+pub fn push_check_members(
+    alloc: Global,
+    writer: &mut Writer,
+    report: &FullReport<'_>,
+) -> Result<(), AllocError>
+    ensures tokens { OnOk result (writer.new.tokens ≡ writer.old.tokens
+        ++ tokens_of (check_members (asked_value report.now.asked.now) report.now.recording.now (report_value report.now))) }
+    ensures before { writer.new.before ≡ writer.old.before }
+{
+    let causes = report_causes_of(alloc, report)?;
+    let notes = short_notes(alloc, &notes_on(report), report.left_out.len())?;
+    push_status(writer, &report.ending, &causes)?;
+    push_report_members(alloc, writer, report, Some(scope_of(report)))?;
+    push_texts(writer, "notes", &notes)
+}

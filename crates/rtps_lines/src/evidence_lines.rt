@@ -1,0 +1,150 @@
+ghost use Rattle.std.specs.Prelude.{◌≡◌, ◌++◌, OnOk, Some};
+ghost use Rattle.std.specs.Option.{option_map};
+ghost use Rattle.std.specs.String.{string_bytes};
+ghost use Rattle.rtps_evidence.specs.Locations.{sent_value};
+ghost use Rattle.rtps_lines.specs.Lines.{acknowledged_line, announced_line, asked_line, claimed_line, questions_line, sent_line, since_text, told_line, verdict_text};
+
+use crate::fields::{PlaceComma, PlaceText, kind_name, push_field, push_payload};
+use rtps_audit::Verdict;
+use rtps_evidence::{Announcement, Claim, FirstMissed, Location, Sent, Teller};
+use std::alloc::AllocError;
+use std::fmt;
+
+/// A verdict and its numbers.
+#[derive(Drop)]
+pub struct VerdictText(pub Verdict);
+
+impl fmt::Display for VerdictText {
+    ghost output = { λ text. Some (verdict_text text.0) };
+
+    #[tactic(auto, unfolding(crate::specs::Lines::verdict_text))]
+    fn fmt<W: fmt::Write>(&self, f: &mut fmt::Formatter<W>) -> fmt::Result {
+        match self.0 {
+            Verdict::Complete { last } => write!(f, "complete {last}"),
+            Verdict::Open { number } => write!(f, "open {number}"),
+            Verdict::Conflict { number } => write!(f, "conflict {number}"),
+            Verdict::Unfounded { datagram, number } => write!(f, "unfounded {datagram} {number}"),
+        }
+    }
+}
+
+#[derive(Drop)]
+pub struct AnnouncedLine(pub Option<Announcement>);
+
+impl fmt::Display for AnnouncedLine {
+    ghost output = { λ line. Some (announced_line line.0) };
+
+    fn fmt<W: fmt::Write>(&self, f: &mut fmt::Formatter<W>) -> fmt::Result {
+        let Some(announcement) = self.0 else {
+            return writeln!(f, "  announced nothing");
+        };
+        let (kind, place) = (kind_name(announcement.kind), PlaceText(announcement.place));
+        writeln!(f, "  announced {} by {kind} {place}", announcement.number)
+    }
+}
+
+#[derive(Drop)]
+pub struct AcknowledgedLine(pub Option<Claim>);
+
+impl fmt::Display for AcknowledgedLine {
+    ghost output = { λ line. Some (acknowledged_line line.0) };
+
+    fn fmt<W: fmt::Write>(&self, f: &mut fmt::Formatter<W>) -> fmt::Result {
+        let Some(claim) = self.0 else {
+            return writeln!(f, "  acknowledged nothing");
+        };
+        let place = PlaceText(claim.place);
+        writeln!(f, "  acknowledged below {} {place}", claim.below)
+    }
+}
+
+#[derive(Drop)]
+pub struct ToldLine(pub i64, pub Option<Teller>);
+
+impl fmt::Display for ToldLine {
+    ghost output = { λ line. Some (told_line line.0 line.1) };
+
+    fn fmt<W: fmt::Write>(&self, f: &mut fmt::Formatter<W>) -> fmt::Result {
+        let number = self.0;
+        let Some(teller) = self.1 else {
+            return writeln!(f, "  number {number} told nowhere");
+        };
+        let (kind, place) = (kind_name(teller.kind), PlaceText(teller.place));
+        writeln!(f, "  number {number} told by {kind} {place}")
+    }
+}
+
+/// The line of the answer that claimed a number too early; nothing where there is none.
+#[derive(Drop)]
+pub struct ClaimedLine(pub Option<Claim>);
+
+impl fmt::Display for ClaimedLine {
+    ghost output = { λ line. Some (claimed_line line.0) };
+
+    fn fmt<W: fmt::Write>(&self, f: &mut fmt::Formatter<W>) -> fmt::Result {
+        let Some(claim) = self.0 else {
+            return Ok(());
+        };
+        let place = PlaceText(claim.place);
+        writeln!(f, "  claimed below {} {place}", claim.below)
+    }
+}
+
+#[derive(Drop)]
+pub struct AskedLine(pub FirstMissed);
+
+impl fmt::Display for AskedLine {
+    ghost output = { λ line. Some (asked_line line.0) };
+
+    fn fmt<W: fmt::Write>(&self, f: &mut fmt::Formatter<W>) -> fmt::Result {
+        let first = self.0;
+        let (asked, since) = (PlaceComma(first.asked), SinceText(first.gone));
+        writeln!(f, "    number {} asked for {asked} {since}", first.number)
+    }
+}
+
+#[derive(Drop)]
+struct SinceText(Option<Teller>);
+
+impl fmt::Display for SinceText {
+    ghost output = { λ text. Some (since_text text.0) };
+
+    #[tactic(auto, unfolding(crate::specs::Lines::since_text))]
+    fn fmt<W: fmt::Write>(&self, f: &mut fmt::Formatter<W>) -> fmt::Result {
+        let Some(teller) = self.0 else {
+            return write!(f, "not told gone since");
+        };
+        let (kind, place) = (kind_name(teller.kind), PlaceText(teller.place));
+        write!(f, "told gone by {kind} {place}")
+    }
+}
+
+#[derive(Drop)]
+pub struct QuestionsLine(pub u64, pub Option<Location>);
+
+impl fmt::Display for QuestionsLine {
+    ghost output = { λ line. Some (questions_line line.0 line.1) };
+
+    fn fmt<W: fmt::Write>(&self, f: &mut fmt::Formatter<W>) -> fmt::Result {
+        let Some(place) = self.1 else {
+            return writeln!(f, "  not asked since its last answer");
+        };
+        let (times, place) = (self.0, PlaceText(place));
+        writeln!(
+            f,
+            "  asked {times} times since its last answer, last {place}"
+        )
+    }
+}
+
+/// Appends the line of what was sent for a number; nothing where nothing was.
+pub fn push_sent(text: &mut String, number: i64, sent: Option<Sent<'_>>) -> Result<(), AllocError>
+    ensures { OnOk result (string_bytes text.new ≡ string_bytes text.old ++ sent_line number (option_map sent_value sent.entry)) }
+{
+    let Some(sent) = sent else {
+        return Ok(());
+    };
+    push_field(text, "  number ", number)?;
+    push_payload(text, sent.payload)?;
+    writeln!(text, " {}", PlaceText(sent.place))
+}

@@ -1,0 +1,25 @@
+//! What the forms of a report say alike: names and places as text, the lines of what a verdict rests on, and the report as an object of
+//! JSON.
+#![tactic(auto)]
+
+mod causes;
+mod check_members;
+mod evidence_lines;
+mod fields;
+mod json_members;
+mod json_object;
+mod notes;
+
+pub use causes::{causes_of, push_last};
+pub use check_members::push_check_members;
+pub use evidence_lines::{
+    AcknowledgedLine, AnnouncedLine, AskedLine, ClaimedLine, QuestionsLine, ToldLine, VerdictText,
+    push_sent,
+};
+pub use fields::{
+    PlaceComma, PlaceText, durability_name, kind_name, push_decimal, push_field, push_payload,
+    reliability_name, side_name,
+};
+pub use json_members::{push_count, push_guid, push_name, push_number, push_text, push_texts};
+pub use json_object::{json_line, push_report, push_report_members};
+pub use notes::{notes_of, topic_name};

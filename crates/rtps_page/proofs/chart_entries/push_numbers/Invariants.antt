@@ -1,9 +1,0 @@
-use Rattle.std.proofs.Common.{◌≡◌, ◌++◌, take}
-use Rattle.std.specs.List.{flat_map}
-use Rattle.json.specs.Tree.{json_tokens}
-use Rattle.rtps_text.specs.JsonText.{number_json}
-use Rattle.rtps_page.proofs.chart_entries.push_numbers.Given as goal
-
--- the numbers so far
-abbrev pub invariant-loop-number : goal.invariant-loop-number
-invariant-loop-number l = (l.writer.tokens ≡ l.initial.writer.tokens ++ flat_map (λ number. json_tokens (number_json number)) (take l.number-index l.numbers)) × (l.writer.before ≡ l.initial.writer.before)

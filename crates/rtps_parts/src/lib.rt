@@ -1,0 +1,10 @@
+//! Texts as lists of parts, and tables of them.
+#![tactic(auto)]
+
+mod name;
+mod part;
+mod table;
+
+pub use name::{NameOctets, NameText};
+pub use part::{Part, Words, push_joined, push_rendered, render, words_for};
+pub use table::push_table;

@@ -1,0 +1,48 @@
+use Rattle.std.proofs.Common.{◌≡◌, ◌∙◌, ℕ, Bor, List, ap, map, refl, rules, subst, sym}
+use Rattle.std.proofs.lemmas.Fn.{filter_same}
+use Rattle.std.proofs.lemmas.Result.{IfOk-weaker}
+use Rattle.rtps_report.specs.Vocabulary.{ActValue, IsReportBy, IsReportFrom, acts_in}
+use Rattle.rtps_report.specs.Asked.{asked_value}
+use Rattle.rtps_report.specs.Reported.{is_row_kept}
+use Rattle.rtps_report.specs.Rows.{IsFilterOf, RowsValue, rows_value}
+use Rattle.rtps_report.proofs.AskedLemmas.{all_rows, plain_intake, plain_rows}
+use Rattle.rtps_report.proofs.asked_report.plain_report.Goals as goal
+
+pub returns-then-is_plain : goal.returns-then-is_plain
+returns-then-is_plain g c =
+    let view : Bor (List ℕ) → List ℕ = λ datagram. datagram.now in
+    let datagrams = c.args.recording.now.datagrams in
+    let asked = asked_value c.args.asked.now in
+    let plain = sym c.is_plain.ensures ∙ c.if-is_plain.true in
+    IfOk-weaker c.audit_watched.result _ _
+    (λ report exact.
+    let reports = subst (λ intake. IsReportBy asked.from intake report) (sym (plain_intake asked datagrams plain))
+    (subst (λ all. IsReportFrom asked.from all report) (ap (map view) c.deref.ensures.value ∙ c.in_ok-datagrams.ensures) exact.report) in
+    record {
+      whole = report;
+      reports = reports;
+      directory = reports.directory;
+      is_map = reports.is_map;
+      rows = sym (all_rows asked (acts_in datagrams) reports.directory (plain_rows asked plain) report.rows.items);
+      counts = refl;
+    })
+    c.audit_watched.ensures
+
+pub returns : goal.returns
+returns g c =
+    let acts = acts_in c.args.recording.now.datagrams in
+    let rows = rows_value c.args.asked.now.rows in
+    let wanted : IsFilterOf rows acts c.in_ok-wanted.wanted = c.in_ok-wanted.ensures in
+    let by = c.directory-directory.result.now in
+    record {
+      whole = c.in_ok-rows.field-0;
+      reports = (c.in_ok-rows.ensures _ c.in_ok-index.ensures).report;
+      directory = by;
+      is_map = c.directory-directory.ensures _ c.in_ok-index.ensures;
+      rows = filter_same _ (is_row_kept rows acts by) _
+          (λ row b f k.
+          let told : (asked : RowsValue) (acts : List ActValue) → IsFilterOf asked acts c.in_ok-wanted.wanted → b ≡ is_row_kept asked acts by row = search rules in
+          (told rows acts wanted, search rules))
+          _ _ c.retain.ensures.filtered;
+      counts = refl;
+    }

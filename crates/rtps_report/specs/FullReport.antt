@@ -1,0 +1,99 @@
+-- The report that is asked for, with what each row rests on, and how its run ends.
+-- own: all that is told of a recording beside its acts is told of this one value, so no two forms of it can disagree.
+use Rattle.std.specs.Prelude.{ℕ, ◌≡◌, ◌==◌, ◌&&◌, Bool, false, not, if◌then◌else◌, List, count_by, filter, length, map}
+use Rattle.std.specs.List.{list_all}
+use Rattle.rtps_audit.specs.Index.{IsIndexBy}
+use Rattle.rtps_report.specs.Vocabulary.{ActValue, Clean, Counts, Ending, Explained, Explanation, ExplanationValue, Facts, IsExplainedBy, IsExplainedFrom, Unclean, acts_in, explanation_value, intake_as}
+pub use Rattle.rtps_report.specs.Asked.{AskedValue, asked_value}
+use Rattle.rtps_report.specs.Findings.{ending_as}
+pub use Rattle.rtps_report.specs.Recording.{RecordingValue}
+use Rattle.rtps_report.specs.Reported.{is_complete}
+use Rattle.rtps_report.specs.Rows.{RowsValue, is_kept}
+use Rattle.rtps_report.specs.declared.full_report.FullReport.{FullReport}
+
+-- The rows are those of the report that are asked for, each explained, in its order, and the counts are the report's.
+pub record IsExplainedAs (asked : AskedValue) (recording : List (List ℕ)) (explained : Explained) : Type 0 where
+  pub whole : Explained
+  pub explains : IsExplainedBy asked.from (intake_as asked.fragments recording) whole
+  pub rows : explained.rows.items ≡ filter (λ row. is_kept asked.rows (acts_in recording) row.topic.now row.pair) whole.rows.items
+  pub counts : explained.counts ≡ whole.counts
+
+-- these topics, of whatever pairs
+abbrev pub of_all_pairs : RowsValue → RowsValue
+of_all_pairs rows = record { topics = rows.topics; observed = false }
+
+-- the row has a topic that is asked for, and is not asked for itself: the recording cannot speak of its pair
+abbrev pub is_left_out : RowsValue → List ActValue → Explanation → Bool
+is_left_out rows acts row = is_kept (of_all_pairs rows) acts row.topic.now row.pair && not (is_kept rows acts row.topic.now row.pair)
+
+-- the rows that are asked for, and those that are left out, in the order of the report
+pub record IsPartedAs (asked : AskedValue) (recording : List (List ℕ)) (explained : Explained) (left_out : List Explanation) : Type 0 where
+  pub explains : IsExplainedAs asked recording explained
+  pub left_out_too : left_out ≡ filter (is_left_out asked.rows (acts_in recording)) explains.whole.rows.items
+
+-- how many of these rows have missed numbers
+abbrev pub missed_in : List ExplanationValue → ℕ
+missed_in rows = count_by (λ row. not (row.evidence.missed == 0)) rows
+
+-- what is known of a report with these rows and counts
+abbrev pub facts_of_rows : List ExplanationValue → Counts → RecordingValue → Facts
+facts_of_rows rows counts recording =
+    record {
+      rows = length rows;
+      missed = missed_in rows;
+      complete = list_all (λ row. is_complete row.evidence.verdict) rows;
+      counts = counts;
+      reasons = recording.reasons;
+    }
+
+-- what is told of a recording: the rows that are asked for, those that are left out, and how the run ends
+pub record ReportValue : Type 0 where
+  pub explained : Explained
+  pub left_out : List Explanation
+  pub ending : Ending
+
+-- what the code knows, as a value
+abbrev pub report_value : FullReport → ReportValue
+report_value report = record { explained = report.explained; left_out = report.left_out.items; ending = report.ending }
+
+-- the rows of a report that are asked for, as values
+abbrev pub rows_of : ReportValue → List ExplanationValue
+rows_of report = map explanation_value report.explained.rows.items
+
+-- what is told of this recording, of what is asked
+pub record IsFullReport (asked : AskedValue) (recording : RecordingValue) (report : ReportValue) : Type 0 where
+  pub parts : IsPartedAs asked recording.datagrams report.explained report.left_out
+  pub ends : report.ending ≡ ending_as asked (facts_of_rows (rows_of report) report.explained.counts recording)
+
+-- the code has it, beside what it is of and the index that it is by
+pub record IsReportOf (asked : AskedValue) (recording : RecordingValue) (report : FullReport) : Type 0 where
+  pub asks : asked_value report.asked.now ≡ asked
+  pub records : report.recording.now ≡ recording
+  pub indexes : IsIndexBy (intake_as asked.fragments recording.datagrams) report.index
+  pub is_report : IsFullReport asked recording (report_value report)
+
+-- A text of what is asked of a recording, and how the run ends, by what it is of a report.
+pub record IsTold (IsForm : AskedValue → RecordingValue → ReportValue → List ℕ → Type 0) (asked : AskedValue) (recording : RecordingValue) (text : List ℕ) (ending : Ending) : Type 0 where
+  pub report : ReportValue
+  pub is_report : IsFullReport asked recording report
+  pub is_text : IsForm asked recording report text
+  pub ends : ending ≡ report.ending
+
+-- a form that tells of rows and counts alone, and of what is known of a recording without its datagrams
+abbrev pub RowsForm : Type 1
+RowsForm = List ExplanationValue → Counts → RecordingValue → List ℕ → Type 0
+
+-- such a text of what is asked
+abbrev pub AreRowsTold : RowsForm → AskedValue → RecordingValue → List ℕ → Ending → Type 0
+AreRowsTold IsForm = IsTold (λ asked recording report text. IsForm (rows_of report) report.explained.counts recording text)
+
+-- the run ends clean where each verdict is complete, as after `audit`
+abbrev pub ending_of_rows : List ExplanationValue → Ending
+ending_of_rows rows = if list_all (λ row. is_complete row.evidence.verdict) rows then Clean else Unclean
+
+-- such a text of all rows by the numbers from `from` on
+pub record AreRowsToldFrom (IsForm : RowsForm) (from : ℕ) (recording : RecordingValue) (text : List ℕ) (ending : Ending) : Type 0 where
+  pub explained : Explained
+  pub explains : IsExplainedFrom from recording.datagrams explained
+  pub is_text : IsForm (map explanation_value explained.rows.items) explained.counts recording text
+  pub ends : ending ≡ ending_of_rows (map explanation_value explained.rows.items)

@@ -1,0 +1,14 @@
+pub mod Advice
+pub mod Asked
+pub mod ByTopic
+pub mod DatagramSpan
+pub mod Findings
+pub mod FullReport
+pub mod Laws
+pub mod NoteFacts
+pub mod Patterns
+pub mod Recording
+pub mod Reported
+pub mod Rows
+pub mod Totals
+pub mod Vocabulary

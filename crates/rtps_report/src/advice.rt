@@ -1,0 +1,207 @@
+ghost use Rattle.std.specs.Prelude.{◌≡◌};
+ghost use Rattle.std.specs.Option.{option_map};
+ghost use Rattle.rtps_evidence.specs.Explanation.{evidence_value, explanation_value};
+ghost use Rattle.rtps_evidence.specs.Locations.{sent_value};
+ghost use Rattle.rtps_wire.specs.Values.{payload_value};
+ghost use Rattle.rtps_report.specs.Advice.{advice_of as advice_of_lem, are_alike as are_alike_lem, conflict_advice as conflict_advice_lem, is_above as is_above_lem, is_noted as is_noted_lem, open_advice as open_advice_lem, sentence_of, stand_together as stand_together_lem, unfounded_advice as unfounded_advice_lem};
+
+use crate::totals::{is_complete, natural, number_of};
+use rtps_evidence::{Announcement, Claim, Evidence, Explanation, Grounds, Sent, Teller};
+use rtps_wire::Payload;
+
+/// What an advice needs to know beside its pair.
+#[derive(Clone, Copy)]
+pub struct Scope {
+    /// The number from which on numbers are asked for.
+    pub from: u64,
+    /// Whether parts of the recording were not read that may have samples.
+    pub unread: bool,
+}
+
+/// What to do for a pair.
+#[derive(Clone, Copy, PartialEq, Eq, Debug)]
+pub enum Advice {
+    /// Complete: numbers are missed.
+    Dropped,
+    /// Open: numbers are missed.
+    AskedFor,
+    /// Open: nothing tells the number, and not all was read.
+    OpenUnread,
+    /// Open: nothing tells the number.
+    OpenUntold,
+    /// Open: the reader was not asked since its last answer.
+    NotAsked,
+    /// Open: it was asked, and acknowledged nothing.
+    NeverAnswered,
+    /// Open: it was asked since its last answer.
+    Silent,
+    /// Conflict: two payloads of one kind and size.
+    Alike,
+    /// Conflict: two others.
+    Unlike,
+    /// Unfounded: told in the datagram of the claim.
+    Relayed,
+    /// Unfounded: not all was read.
+    UnfoundedUnread,
+    /// Unfounded: told later.
+    Late,
+    /// Unfounded: told nowhere, and not announced.
+    Unannounced,
+    /// Unfounded: told nowhere, the first number that is asked for.
+    BeganLate,
+    /// Unfounded: told nowhere.
+    Lacking,
+}
+
+fn open_advice(
+    scope: Scope,
+    evidence: &Evidence<'_>,
+    teller: Option<Teller>,
+    asked_since: u64,
+) -> Advice
+    ensures { result ≡ open_advice_lem scope (evidence_value evidence.now) teller asked_since }
+{
+    if evidence.missed > 0 {
+        Advice::AskedFor
+    } else if teller.is_none() {
+        if scope.unread {
+            Advice::OpenUnread
+        } else {
+            Advice::OpenUntold
+        }
+    } else if asked_since == 0 {
+        Advice::NotAsked
+    } else if evidence.acknowledgement.is_none() {
+        Advice::NeverAnswered
+    } else {
+        Advice::Silent
+    }
+}
+
+fn are_alike(one: Payload<'_>, other: Payload<'_>) -> bool
+    ensures { result ≡ are_alike_lem (payload_value one.entry) (payload_value other.entry) }
+{
+    match (one, other) {
+        (Payload::Absent, Payload::Absent) => true,
+        (Payload::Whole(one), Payload::Whole(other)) => other.len() == one.len(),
+        (Payload::Key(one), Payload::Key(other)) => other.len() == one.len(),
+        _ => false,
+    }
+}
+
+fn conflict_advice(first: Option<Sent<'_>>, other: Option<Sent<'_>>) -> Advice
+    ensures { result ≡ conflict_advice_lem (option_map sent_value first.entry) (option_map sent_value other.entry) }
+{
+    match (first, other) {
+        (Some(first), Some(other)) if are_alike(first.payload, other.payload) => Advice::Alike,
+        _ => Advice::Unlike,
+    }
+}
+
+fn stand_together(teller: Option<Teller>, claim: Option<Claim>) -> bool
+    ensures { result ≡ stand_together_lem teller claim }
+{
+    match (teller, claim) {
+        (Some(teller), Some(claim)) => teller.place.datagram == claim.place.datagram,
+        _ => false,
+    }
+}
+
+fn is_above(announcement: Option<Announcement>, number: i64) -> bool
+    ensures { result ≡ is_above_lem announcement number }
+{
+    match announcement {
+        None => true,
+        Some(announcement) => announcement.number < number,
+    }
+}
+
+fn unfounded_advice(
+    scope: Scope,
+    evidence: &Evidence<'_>,
+    teller: Option<Teller>,
+    claim: Option<Claim>,
+) -> Advice
+    ensures { result ≡ unfounded_advice_lem scope (evidence_value evidence.now) teller claim }
+{
+    if stand_together(teller, claim) {
+        Advice::Relayed
+    } else if scope.unread {
+        Advice::UnfoundedUnread
+    } else if teller.is_none() {
+        let number = number_of(&evidence.verdict);
+        if is_above(evidence.announcement, number) {
+            Advice::Unannounced
+        } else if natural(number) == scope.from {
+            Advice::BeganLate
+        } else {
+            Advice::Lacking
+        }
+    } else {
+        Advice::Late
+    }
+}
+
+/// Whether someone has to look at a row.
+pub fn is_noted(row: &Explanation<'_>) -> bool
+    ensures { result ≡ is_noted_lem (explanation_value row.now) }
+{
+    !is_complete(&row.evidence.verdict) || row.evidence.missed > 0
+}
+
+/// What to do for a pair.
+pub fn advice_of(scope: Scope, evidence: &Evidence<'_>) -> Advice
+    ensures { result ≡ advice_of_lem scope (evidence_value evidence.now) }
+{
+    match evidence.grounds {
+        Grounds::Complete => Advice::Dropped,
+        Grounds::Open {
+            teller,
+            asked_since,
+            ..
+        } => open_advice(scope, evidence, teller, asked_since),
+        Grounds::Conflict { first, other } => conflict_advice(first, other),
+        Grounds::Unfounded { teller, claim } => unfounded_advice(scope, evidence, teller, claim),
+    }
+}
+
+impl Advice {
+    /// In one sentence.
+    #[tactic(auto, unfolding(crate::specs::Advice::sentence_of))]
+    pub fn sentence(self) -> &'static str
+        ensures { result.now ≡ sentence_of self }
+    {
+        match self {
+            Advice::Dropped =>
+                "the writer dropped it before the reader got it: look at the network, or raise the history depth or the lifespan",
+            Advice::AskedFor =>
+                "the reader asked for it and may still lack it: look at the network and the writer, or record longer",
+            Advice::OpenUnread =>
+                "it may be in a fragment or frame that was not read: see below what to do for these",
+            Advice::OpenUntold =>
+                "the recording does not have it: record at the writer's side, on the interface that it uses",
+            Advice::NotAsked =>
+                "the reader may have all: stop publishing, wait some seconds, and only then end the recording",
+            Advice::NeverAnswered =>
+                "the reader was asked and acknowledged nothing: see that it runs, and record both directions",
+            Advice::Silent =>
+                "the reader was asked and did not answer: it ended, nothing reaches it, or its answers take another way",
+            Advice::Alike =>
+                "compare their octets: the writer makes a new payload to resend it, or two processes use one GUID",
+            Advice::Unlike =>
+                "two processes use one GUID, as after a copied disk image or a restart; or the writer has a defect",
+            Advice::Relayed =>
+                "the sample and the answer are in one datagram: a relay packed them, or the recording was changed",
+            Advice::UnfoundedUnread =>
+                "it may be in a fragment or frame that was not read: see below what to do for these",
+            Advice::Late =>
+                "the datagrams are out of order, or the copy that the reader received is not here: record on one host",
+            Advice::Unannounced =>
+                "the reader acknowledged what nobody announced: it has a defect, or another writer had this GUID before",
+            Advice::BeganLate =>
+                "record from before the start; for a reader that joined late, --from gives the first number that it should get",
+            Advice::Lacking =>
+                "the recording lacks it: see how many packets tcpdump says it dropped, and switch off shared memory",
+        }
+    }
+}

@@ -1,0 +1,68 @@
+ghost use Rattle.std.specs.Prelude.{◌≡◌};
+
+use crate::rows::Rows;
+use rtps_fragments::Fragments;
+use rtps_ids::SeqNum;
+
+/// What is asked of an audit: by which numbers, which rows, and what else has to be so for its run to end clean.
+#[derive(Clone, Copy, Debug)]
+pub struct Asked<'a> {
+    /// The number from which on the audit asks: smaller numbers are not asked for.
+    pub from: SeqNum,
+    /// The rows that the report has. Its counts are those of the whole recording.
+    pub rows: Rows<'a>,
+    /// How many rows it has to have, or more; None where any number will do.
+    pub expect: Option<u64>,
+    /// Whether it also has to have a row, no row with missed numbers, and nothing that is left out of the recording: no
+    /// fragments, no unsettled GUIDs, and, where any capture was read, no frame that was ignored as a piece, as cut, or for its
+    /// link type.
+    pub strict: bool,
+    /// What becomes of samples that come in fragments.
+    pub fragments: Fragments,
+}
+
+impl Asked<'_> {
+    ghost use Rattle.rtps_report.specs.Asked.{are_read, asked_value, asks_all_rows as asks_all_rows_lem, is_plain as is_plain_lem, plainly as plainly_lem};
+
+    /// All rows by the numbers from `from` on, and nothing else. Fragments are skipped.
+    pub fn plainly(from: SeqNum) -> Self
+        ensures { asked_value result ≡ plainly_lem from }
+    {
+        Asked {
+            from,
+            rows: Rows {
+                topics: &[],
+                observed: false,
+            },
+            expect: None,
+            strict: false,
+            fragments: Fragments::Skipped,
+        }
+    }
+
+    /// The number from which on is asked.
+    pub fn first_asked(&self) -> u64
+        ensures { result ≡ self.now.from }
+    {
+        self.from.get().cast_unsigned()
+    }
+
+    pub(crate) fn asks_all_rows(&self) -> bool
+        ensures { result ≡ asks_all_rows_lem (asked_value self.now) }
+    {
+        self.rows.topics.is_empty() && !self.rows.observed
+    }
+
+    /// Whether samples that come in fragments are read.
+    pub fn reads_fragments(&self) -> bool
+        ensures { result ≡ are_read self.now.fragments }
+    {
+        matches!(self.fragments, Fragments::Read)
+    }
+
+    pub(crate) fn is_plain(&self) -> bool
+        ensures { result ≡ is_plain_lem (asked_value self.now) }
+    {
+        self.asks_all_rows() && !self.reads_fragments()
+    }
+}

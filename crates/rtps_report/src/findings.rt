@@ -1,0 +1,135 @@
+ghost use Rattle.std.specs.Prelude.{◌≡◌, Option};
+ghost use Rattle.rtps_report.specs.Asked.{asked_value};
+ghost use Rattle.rtps_report.specs.Findings.{are_none, ending_by, few_of as few_of_lem, findings_of as findings_of_lem, no_findings};
+
+use crate::asked::Asked;
+use crate::recording::{Links, Reasons, known, no_links};
+use rtps_audit::Counts;
+
+/// How a run ends that wrote its whole text.
+#[derive(Clone, Copy, Debug, PartialEq, Eq)]
+pub enum Ending {
+    /// There is nothing to report.
+    Clean,
+    /// An audit found a pair that is not complete, and what else was asked of its report is so.
+    Unclean,
+    /// Something that was asked of a report beside complete pairs is not so.
+    Unmet(Findings),
+}
+
+/// That a report has fewer rows than it has to have.
+#[derive(Clone, Copy, PartialEq, Eq, Debug)]
+pub struct FewRows {
+    pub rows: u64,
+    pub expected: u64,
+}
+
+/// What a report has, or lacks, against what was asked of it. A number is 0 where nothing of its kind was found, and where it
+/// was not asked for.
+#[derive(Clone, Copy, PartialEq, Eq, Debug)]
+pub struct Findings {
+    /// It has fewer rows than were expected.
+    pub few: Option<FewRows>,
+    /// It has no row.
+    pub empty: bool,
+    /// How many of its rows have missed numbers.
+    pub missed: u64,
+    /// The fragments that were not read, or whose samples never came whole.
+    pub fragments: u128,
+    /// GUIDs whose announcements disagree, which are in no row.
+    pub unsettled: u64,
+    // Frames of a capture, by the reasons that it knows.
+    pub pieces: u64,
+    pub cut: u64,
+    pub links: Links,
+}
+
+/// What is known of a report, to hold it against what was asked.
+#[derive(Clone, Copy)]
+pub struct Facts {
+    pub rows: u64,
+    /// How many of them have missed numbers.
+    pub missed: u64,
+    /// Whether each is complete.
+    pub complete: bool,
+    pub counts: Counts,
+    pub reasons: Option<Reasons>,
+}
+
+impl Findings {
+    /// Nothing was found.
+    pub fn none() -> Findings
+        ensures { result ≡ no_findings }
+    {
+        Findings {
+            few: None,
+            empty: false,
+            missed: 0,
+            fragments: 0,
+            unsettled: 0,
+            pieces: 0,
+            cut: 0,
+            links: no_links(),
+        }
+    }
+
+    /// Whether nothing was found.
+    pub fn is_none(&self) -> bool
+        ensures { result ≡ are_none self.now }
+    {
+        self.few.is_none()
+            && !self.empty
+            && self.missed == 0
+            && self.fragments == 0
+            && self.unsettled == 0
+            && self.pieces == 0
+            && self.cut == 0
+            && self.links.number == 0
+    }
+}
+
+fn few_of(expect: Option<u64>, rows: u64) -> Option<FewRows>
+    ensures { result ≡ few_of_lem expect rows }
+{
+    match expect {
+        Some(expected) if rows < expected => Some(FewRows { rows, expected }),
+        _ => None,
+    }
+}
+
+fn findings_of(asked: &Asked<'_>, facts: &Facts) -> Findings
+    ensures { result ≡ findings_of_lem (asked_value asked.now) facts.now }
+{
+    let few = few_of(asked.expect, facts.rows);
+    if !asked.strict {
+        return Findings {
+            few,
+            ..Findings::none()
+        };
+    }
+    let reasons = known(facts.reasons);
+    Findings {
+        few,
+        empty: facts.rows == 0,
+        missed: facts.missed,
+        fragments: facts.counts.fragments,
+        unsettled: facts.counts.unsettled,
+        pieces: reasons.pieces,
+        cut: reasons.cut,
+        links: reasons.links,
+    }
+}
+
+/// How a run ends that printed a report of which this is known.
+pub fn ending_of(asked: &Asked<'_>, facts: &Facts) -> Ending
+    ensures { result ≡ ending_by (findings_of_lem (asked_value asked.now) facts.now) facts.now.complete }
+{
+    let findings = findings_of(asked, facts);
+    if !findings.is_none() {
+        Ending::Unmet(findings)
+    } else if facts.complete {
+        Ending::Clean
+    } else {
+        Ending::Unclean
+    }
+}

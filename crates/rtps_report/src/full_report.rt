@@ -1,0 +1,78 @@
+ghost use Rattle.std.specs.Prelude.{IfOk};
+ghost use Rattle.rtps_audit.specs.Index.{IsIndexBy};
+ghost use Rattle.rtps_fragments.specs.RecordedSamples.{intake_as};
+ghost use Rattle.rtps_report.specs.Asked.{asked_value};
+ghost use Rattle.rtps_report.specs.FullReport.{IsReportOf};
+
+use crate::asked::Asked;
+use crate::findings::{Ending, ending_of};
+use crate::parted::parted_of;
+use crate::recording::{Recording, datagrams_of};
+use crate::totals::facts_of;
+use rtps_audit::{Index, Watch};
+use rtps_evidence::{Explained, Explanation, explain_index};
+use rtps_fragments::{Samples, index_as};
+use rtps_ids::Memory;
+use std::alloc::Global;
+
+/// A recording, and what is asked of it.
+#[derive(Clone, Copy)]
+pub struct Subject<'a> {
+    pub recording: &'a Recording,
+    pub asked: &'a Asked<'a>,
+}
+
+/// The report that is asked for, with what each of its rows rests on. What is told of a recording is told of this.
+#[derive(Drop)]
+pub struct FullReport<'a> {
+    pub recording: &'a Recording,
+    pub asked: &'a Asked<'a>,
+    /// By which the rows are: what was announced, and what writers and readers say.
+    pub index: Index<'a>,
+    /// The rows that are asked for, in the order of the report, and what was counted.
+    pub explained: Explained<'a>,
+    /// Rows of topics that are asked for, of pairs that the recording cannot speak of.
+    pub left_out: Vec<Explanation<'a>>,
+    /// How a run ends that tells of it.
+    pub ending: Ending,
+}
+
+/// The index of a recording by which the verdicts are that are asked for. `samples` is where the samples are put that it borrows.
+/// `Memory` is answered where there is none for it.
+pub(crate) fn index_asked<'a>(
+    alloc: Global,
+    recording: &'a Recording,
+    asked: &Asked<'_>,
+    samples: &'a mut Samples,
+) -> Result<Index<'a>, Memory>
+    ensures { IfOk result (IsIndexBy (intake_as asked.now.fragments recording.now.datagrams)) }
+{
+    let datagrams = datagrams_of(alloc, recording)?;
+    let index = index_as(alloc, &datagrams, asked.fragments, samples)?;
+    Ok(index)
+}
+
+/// The report on a recording, of what is asked. `samples` is where the samples are put that it borrows. It tells how far it is.
+/// `Memory` is answered where what is kept cannot grow.
+pub fn report_on<'a, P: Watch>(
+    alloc: Global,
+    subject: Subject<'a>,
+    samples: &'a mut Samples,
+    watch: &mut P,
+) -> Result<FullReport<'a>, Memory>
+    ensures { IfOk result (IsReportOf (asked_value subject.entry.asked.now) subject.entry.recording.now) }
+{
+    let Subject { recording, asked } = subject;
+    let index = index_asked(alloc, recording, asked, samples)?;
+    let whole = explain_index(alloc, &index, asked.from, watch)?;
+    let parted = parted_of(alloc, whole, asked, recording)?;
+    let ending = ending_of(asked, &facts_of(&parted.explained, recording));
+    Ok(FullReport {
+        recording,
+        asked,
+        index,
+        explained: parted.explained,
+        left_out: parted.left_out,
+        ending,
+    })
+}

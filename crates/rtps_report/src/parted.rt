@@ -1,0 +1,62 @@
+ghost use Rattle.std.specs.Prelude.{◌≡◌, List, IfOk};
+ghost use Rattle.rtps_receiver.specs.Values.{ActValue};
+ghost use Rattle.rtps_evidence.specs.Explanation.{IsExplainedBy};
+ghost use Rattle.rtps_fragments.specs.RecordedSamples.{intake_as};
+ghost use Rattle.rtps_report.specs.Asked.{asked_value};
+ghost use Rattle.rtps_report.specs.Rows.{IsFilterOf, RowsValue};
+ghost use Rattle.rtps_report.specs.FullReport.{IsPartedAs, is_left_out as is_left_out_lem, of_all_pairs};
+
+use crate::asked::Asked;
+use crate::recording::Recording;
+use crate::rows::{RowFilter, Rows};
+use rtps_evidence::{Explained, Explanation};
+use rtps_ids::Memory;
+use std::alloc::Global;
+
+/// The rows that are asked for, and those that are left out: their topics are asked for, and the recording cannot speak of
+/// their pairs.
+#[derive(Drop)]
+pub(crate) struct Parted<'a> {
+    pub(crate) explained: Explained<'a>,
+    pub(crate) left_out: Vec<Explanation<'a>>,
+}
+
+/// Whether the topic of a row is asked for, and it is not asked for itself.
+fn is_left_out(row: &Explanation<'_>, wanted: &RowFilter<'_>, of_topic: &RowFilter<'_>) -> bool
+    ensures { (asked : RowsValue) (acts : List ActValue) → IsFilterOf asked acts wanted.now
+        → IsFilterOf (of_all_pairs asked) acts of_topic.now → result ≡ is_left_out_lem asked acts row.now }
+{
+    of_topic.keeps(row.topic, row.pair) && !wanted.keeps(row.topic, row.pair)
+}
+
+/// The rows of a report on this recording, parted by what is asked. `Memory` is answered where what is kept cannot grow.
+pub(crate) fn parted_of<'a>(
+    alloc: Global,
+    whole: Explained<'a>,
+    asked: &Asked<'_>,
+    recording: &Recording,
+) -> Result<Parted<'a>, Memory>
+    ensures { IsExplainedBy asked.now.from (intake_as asked.now.fragments recording.now.datagrams) whole.entry
+        → IfOk result (λ parted. IsPartedAs (asked_value asked.now) recording.now.datagrams parted.explained parted.left_out.items) }
+{
+    if asked.asks_all_rows() {
+        return Ok(Parted {
+            explained: whole,
+            left_out: Vec::new(alloc),
+        });
+    }
+    let wanted = RowFilter::of(alloc, asked.rows, recording)?;
+    let of_all_pairs = Rows {
+        observed: false,
+        ..asked.rows
+    };
+    let of_topic = RowFilter::of(alloc, of_all_pairs, recording)?;
+    let Explained { mut rows, counts } = whole;
+    let mut left_out = Vec::from_slice(alloc, &rows)?;
+    left_out.retain(|row| is_left_out(row, &wanted, &of_topic));
+    rows.retain(|row| wanted.keeps(row.topic, row.pair));
+    Ok(Parted {
+        explained: Explained { rows, counts },
+        left_out,
+    })
+}

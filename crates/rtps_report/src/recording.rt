@@ -1,0 +1,139 @@
+ghost use Rattle.std.specs.Prelude.{◌≡◌, ◌<◌, ◌^◌, IfOk, length, map, Some, None};
+ghost use Rattle.rtps_report.specs.DatagramSpan.{AreSpans, pieces};
+ghost use Rattle.rtps_report.specs.Recording.{ignored_by, known as known_lem};
+
+use crate::datagram_list::{DatagramList, Datagrams};
+use crate::datagram_span::DatagramSpan;
+use std::alloc::{AllocError, Global};
+use std::marker::Model;
+
+/// How many frames of a capture gave no datagram, by the reason, as they are told where any capture is read.
+#[derive(Clone, Copy, PartialEq, Eq, Debug)]
+pub struct Reasons {
+    /// They have fragments of packets that were never whole.
+    pub pieces: u64,
+    /// Their captured octets end before their packet does, or the file ends within them.
+    pub cut: u64,
+    /// They carry no UDP over IP.
+    pub other: u64,
+    /// Their interface is not declared, or its link type is not read.
+    pub links: Links,
+}
+
+/// Frames whose link type is not read.
+#[derive(Clone, Copy, PartialEq, Eq, Debug)]
+pub struct Links {
+    pub number: u64,
+    /// The link type of the first of them; None where there is none, or its interface is not declared.
+    pub first: Option<u32>,
+}
+
+pub(crate) fn no_links() -> Links
+    ensures { result ≡ record { number = 0; first = None } }
+{
+    Links {
+        number: 0,
+        first: None,
+    }
+}
+
+/// The reasons; none of each where they are not known.
+pub(crate) fn known(reasons: Option<Reasons>) -> Reasons
+    ensures { result ≡ known_lem reasons }
+{
+    match reasons {
+        Some(reasons) => reasons,
+        None => Reasons {
+            pieces: 0,
+            cut: 0,
+            other: 0,
+            links: no_links(),
+        },
+    }
+}
+
+/// Datagrams in the order in which they were sent, and of a capture how many of its frames were ignored.
+#[derive(Drop)]
+pub struct Recording {
+    list: DatagramList,
+    ignored: Option<u64>,
+    reasons: Option<Reasons>,
+}
+
+impl Model for Recording {
+    ghost use Rattle.rtps_report.specs.Recording.{RecordingValue};
+
+    ghost Value = { RecordingValue };
+
+    ghost view = { λ recording. record { datagrams = recording.list; ignored = recording.ignored; reasons = recording.reasons } };
+}
+
+impl Recording {
+    /// The recording that is these datagrams, which no frames carry.
+    pub fn of_text(list: DatagramList) -> Recording
+        ensures { result ≡ record { datagrams = list; ignored = None; reasons = None } }
+    {
+        Recording {
+            list,
+            ignored: None,
+            reasons: None,
+        }
+    }
+
+    /// The recording that is the datagrams that stand so in a capture, of which so many frames gave none.
+    pub fn of_capture(octets: Vec<u8>, spans: Vec<DatagramSpan>, ignored: u64) -> Recording
+        requires { AreSpans octets.items spans.items }
+        ensures { result ≡ record { datagrams = pieces octets.items spans.items; ignored = Some ignored; reasons = None } }
+    {
+        Recording {
+            list: DatagramList::at_spans(octets, spans),
+            ignored: Some(ignored),
+            reasons: None,
+        }
+    }
+
+    /// The recording that is the datagrams that stand so among octets of a capture, of which so many frames gave none.
+    pub fn of_any_capture(octets: Vec<u8>, spans: Vec<DatagramSpan>, reasons: Reasons) -> Recording
+        requires spans { AreSpans octets.items spans.items }
+        requires few { ignored_by reasons < 2 ^ 64 }
+        ensures { result ≡ record { datagrams = pieces octets.items spans.items; ignored = Some (ignored_by reasons); reasons = Some reasons } }
+    {
+        Recording {
+            list: DatagramList::at_spans(octets, spans),
+            ignored: Some(reasons.pieces + reasons.cut + reasons.other + reasons.links.number),
+            reasons: Some(reasons),
+        }
+    }
+
+    /// Its datagrams, in their order. There are no more than a `usize` counts.
+    pub fn datagrams(&self) -> Datagrams<'_>
+        ensures all { result ≡ self.now.datagrams }
+        ensures few { length self.now.datagrams < 2 ^ 64 }
+    {
+        self.list.datagrams()
+    }
+
+    /// How many frames of a capture gave no datagram; None where it was no capture.
+    pub fn ignored(&self) -> Option<u64>
+        ensures { result ≡ self.now.ignored }
+    {
+        self.ignored
+    }
+
+    /// For which reasons they gave none; None where not any capture was read.
+    pub fn reasons(&self) -> Option<Reasons>
+        ensures { result ≡ self.now.reasons }
+    {
+        self.reasons
+    }
+}
+
+pub(crate) fn datagrams_of(alloc: Global, recording: &Recording) -> Result<Vec<&[u8]>, AllocError>
+    ensures { IfOk result (λ datagrams. map (λ datagram. datagram.now) datagrams.items ≡ recording.now.datagrams) }
+{
+    let mut datagrams = Vec::with_capacity(alloc, recording.list.len())?;
+    for octets in recording.datagrams() {
+        datagrams.push(octets)?;
+    }
+    Ok(datagrams)
+}

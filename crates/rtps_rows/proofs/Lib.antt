@@ -1,3 +1,0 @@
-mod ContactLemmas
-mod PatternLemmas
-mod RowLemmas

@@ -1,5 +1,0 @@
-use Rattle.rtps_rows.proofs.PatternLemmas.{fits_as_filled as as_filled}
-use Rattle.rtps_rows.proofs.laws.fits_as_filled.Goals as goal
-
-pub returns : goal.returns
-returns c = as_filled

@@ -1,7 +1,0 @@
-use Rattle.std.proofs.Common.{◌≡◌, take, true}
-use Rattle.rtps_rows.specs.Patterns.{is_plain}
-use Rattle.rtps_rows.proofs.pattern.cut.Given as goal
-
--- there is none so far
-abbrev pub invariant-loop-place : goal.invariant-loop-place
-invariant-loop-place l = is_plain (take l.place l.pattern) ≡ true

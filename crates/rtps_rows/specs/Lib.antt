@@ -1,4 +1,0 @@
-pub mod Contacts
-pub mod Filter
-pub mod Patterns
-pub mod Rows

@@ -1,0 +1,29 @@
+use Rattle.std.proofs.Common.{List, refl, subst, sym}
+use Rattle.std.specs.String.{string_bytes}
+use Rattle.rtps_audit.specs.Index.{IsIndexBy}
+use Rattle.rtps_fragments.specs.RecordedSamples.{intake_as}
+use Rattle.rtps_report.specs.Asked.{AskedValue, asked_value}
+use Rattle.rtps_report.specs.FullReport.{report_value}
+use Rattle.rtps_report.specs.Recording.{RecordingValue}
+use Rattle.rtps_tool.specs.Commands.{IsFormOf}
+use Rattle.rtps_tool.proofs.runs.told.Goals as goal
+
+pub form_text-requires : goal.form_text-requires
+form_text-requires g c =
+    let report = c.in_ok-report.report in
+    let is = c.in_ok-report.ensures in
+    let by_asked = subst (λ (asked : AskedValue). IsIndexBy (intake_as asked.fragments c.args.subject.recording.now.datagrams) report.index) (sym is.asks) is.indexes in
+    subst (λ (recording : RecordingValue). IsIndexBy (intake_as report.asked.now.fragments recording.datagrams) report.index) (sym is.records) by_asked
+
+pub returns : goal.returns
+returns g c =
+    let report = c.in_ok-report.report in
+    let is = c.in_ok-report.ensures in
+    let text = string_bytes c.in_ok-text.text in
+    let by_asked = subst (λ (asked : AskedValue). IsFormOf c.args.form asked report.recording.now (report_value report) text) is.asks c.in_ok-text.ensures in
+    record {
+      report = report_value report;
+      is_report = is.is_report;
+      is_text = subst (λ (recording : RecordingValue). IsFormOf c.args.form (asked_value c.args.subject.asked.now) recording (report_value report) text) is.records by_asked;
+      ends = refl;
+    }
