@@ -6,8 +6,7 @@
 PROGRAM is rtps-audit, and CALLS the built program of crates/rtps_trials. Each call that CALLS knows, and each subcommand
 of PROGRAM, is run once for each request for memory that it makes, and this request is refused. A call has to return that
 memory was refused. When it is made again, it has to return what it returns without a refusal. A subcommand has to end with
-status 3, and must not have written anything; or it goes on, and has to answer the same to the octet. It goes on where reading the
-command line does without that memory, and where std makes a list of an iterator: it asks for less room once more is refused.
+status 3, and must not have written anything. Reading the command line may succeed all the same; then it has to choose the same.
 Each prints a line with how many requests were refused. The last line is 'N passed, M failed'.
 
 One request is refused by tests/refuse_requests.c, which is built with the compiler of the toolchain.
@@ -53,6 +52,14 @@ def run(library, words, request, text, mark):
     lines = done.stderr.decode().splitlines()
     told = [line for line in lines if line != 'refused']
     return (done.stdout.decode(), told, done.returncode), len(told) < len(lines)
+
+
+def requests_of(library, words):
+    """how many requests a run makes"""
+    request = 1
+    while run(library, words, request, b'', 0)[1]:
+        request += 1
+    return request - 1
 
 
 def sweep(library, words, text, wanted, may_go_on, mark=0):
@@ -175,7 +182,8 @@ def of_program(library, program, recording):
     runs.append((' of any capture', ['audit', '--any', '-'], file_of('examples', 'ipv6.pcapng')))
     runs.append((' of packets in fragments', ['show', '--any', '-'], packets_in_fragments(recording_of(recording))))
     for name, words, text in runs:
-        yield f"rtps-audit {' '.join(words)}{name}", [program, *words], text, nothing, ALL
+        of_words = requests_of(library, [program, *words[:-1], 'absent.rec'])
+        yield f"rtps-audit {' '.join(words)}{name}", [program, *words], text, nothing, of_words
 
 
 def main():

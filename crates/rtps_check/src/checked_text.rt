@@ -27,7 +27,6 @@ struct Told<'r, 'a> {
     ending: Ending,
 }
 
-/// How many of the pairs are complete, and how many of the numbers are received.
 fn complete_line(totals: &Totals) -> [Part<'static>; 4]
     ensures { flat_map part_text result ≡ complete_line_lem totals.now }
 {

@@ -40,7 +40,6 @@ fn topic_row<'a>(rows: &[Explanation<'a>], from: u64) -> [Part<'a>; 8]
     ]
 }
 
-/// The heads and what is told of topics.
 fn table_rows<'a>(
     alloc: Global,
     topics: &[&[Explanation<'a>]],

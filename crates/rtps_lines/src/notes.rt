@@ -184,7 +184,6 @@ fn left_out_by(pairs: usize, names: &str) -> [Part<'_>; 3]
     ]
 }
 
-/// Appends the note on pairs that are left out, which stand by topic; nothing where there is none.
 fn push_left_out(
     alloc: Global,
     notes: &mut Vec<String>,

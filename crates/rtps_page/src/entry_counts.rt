@@ -17,7 +17,6 @@ pub(crate) fn has_number(set: &NumberSet, number: u64) -> bool
     set.contains(number.cast_signed())
 }
 
-/// How many numbers a set has.
 fn members_among(set: &NumberSet) -> u64
     ensures value { result ≡ length (members_of set.now) }
     ensures few { result ≤ 256 }

@@ -26,7 +26,6 @@ pub fn page_text(alloc: Global, report: &FullReport<'_>, plain: &str) -> Result<
     Ok(unsafe { String::from_utf8_unchecked(page) })
 }
 
-/// How many octets a page has at least.
 fn least_size(plain: &str, object: &[u8]) -> usize {
     let texts = HEAD.len() + MIDDLE.len() + TAIL.len();
     plain
@@ -35,7 +34,6 @@ fn least_size(plain: &str, object: &[u8]) -> usize {
         .saturating_add(texts)
 }
 
-/// The page with this text and this data.
 fn joined(alloc: Global, plain: &str, object: &[u8]) -> Result<Vec<u8>, AllocError>
     requires { IsUtf8 object.now }
     ensures utf8 { IfOk result (λ page. IsUtf8 page.items) }

@@ -69,11 +69,14 @@ fn strict_report<P: Watch>(
 fn rows_in(alloc: Global, explained: &[Explanation<'_>]) -> Result<Vec<Row>, AllocError>
     ensures { IfOk result (λ rows. rows.items ≡ map row_of explained.now) }
 {
-    let rows = explained.iter().map(|row| Row {
-        pair: row.pair,
-        verdict: row.evidence.verdict,
-    });
-    rows.collect(alloc)
+    let mut rows = Vec::with_capacity(alloc, explained.len())?;
+    for row in explained {
+        rows.push(Row {
+            pair: row.pair,
+            verdict: row.evidence.verdict,
+        })?;
+    }
+    Ok(rows)
 }
 
 fn plain_report<P: Watch>(

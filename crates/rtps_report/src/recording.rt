@@ -131,5 +131,9 @@ impl Recording {
 pub(crate) fn datagrams_of(alloc: Global, recording: &Recording) -> Result<Vec<&[u8]>, AllocError>
     ensures { IfOk result (λ datagrams. map (λ datagram. datagram.now) datagrams.items ≡ recording.now.datagrams) }
 {
-    recording.datagrams().collect(alloc)
+    let mut datagrams = Vec::with_capacity(alloc, recording.list.len())?;
+    for octets in recording.datagrams() {
+        datagrams.push(octets)?;
+    }
+    Ok(datagrams)
 }

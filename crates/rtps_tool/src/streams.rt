@@ -8,8 +8,8 @@ ghost use Rattle.rtps_tool.specs.declared.runs.Limits.{Limits as LimitsValue};
 ghost use Rattle.rtps_tool.specs.declared.faults.RunFault.TheVariants.{Input};
 
 use crate::faults::{RecFault, RunFault};
-use crate::form::capture::read_capture;
 use crate::form::either::{begins_capture, read_recording_within};
+use crate::form::frames::read_capture;
 use crate::form::line_reader::{KEPT_MAX, LineReader};
 use crate::runs::Limits;
 use rtps_capture::Captures;

@@ -44,7 +44,6 @@ fn note_datagrams<'a>(
     Ok(faults)
 }
 
-/// The lines of a directory, and of so many faults.
 fn directory_text(alloc: Global, directory: &Directory<'_>, faults: u128) -> Result<String, Memory>
     ensures { IfOk result (λ text. string_bytes text ≡ directory_text_lem directory.now faults) }
 {

@@ -3,6 +3,5 @@ use Rattle.rtps_evidence.specs.Explanation.{explanation_value}
 use Rattle.rtps_check.specs.CheckText.{noted_lines}
 use Rattle.rtps_check.proofs.sections.lines_of.Given as goal
 
--- the lines so far
 abbrev pub invariant-loop-row : goal.invariant-loop-row
 invariant-loop-row l = string_bytes l.lines ≡ flat_map (noted_lines l.scope) (map explanation_value (take l.row-index l.rows))

@@ -3,7 +3,6 @@ use Rattle.rtps_evidence.specs.Explanation.{explanation_value}
 use Rattle.rtps_check.specs.CheckText.{section}
 use Rattle.rtps_check.proofs.sections.push_sections.Given as goal
 
--- the topics so far
 abbrev pub invariant-loop-rows : goal.invariant-loop-rows
 invariant-loop-rows l =
     string_bytes l.text ≡ string_bytes l.initial.text ++ flat_map (section l.scope) (map (λ topic. map explanation_value topic.now) (take l.rows-index l.topics))

@@ -4,7 +4,6 @@ use Rattle.rtps_parts.specs.Parts.{part_text}
 use Rattle.rtps_check.specs.CheckText.{table_head, topic_row}
 use Rattle.rtps_check.proofs.topic_table.table_rows.Given as goal
 
--- the rows so far
 abbrev pub invariant-loop-topic : goal.invariant-loop-topic
 invariant-loop-topic l =
     map (λ row. map part_text row.items) l.rows.items

@@ -4,6 +4,5 @@ use Rattle.rtps_ids.specs.NumberSet.{is_member}
 use Rattle.rtps_page.proofs.Written.{json_tokens, one_gone_json}
 use Rattle.rtps_page.proofs.chart_entries.push_members.Given as goal
 
--- the numbers of the first bits
 abbrev pub invariant-loop-bit : goal.invariant-loop-bit
 invariant-loop-bit l = (l.writer.tokens ≡ l.initial.writer.tokens ++ flat_map (λ number. json_tokens (one_gone_json l.fn.head.place l.fn.head.named.now number)) (filter (is_member l.set) (range_with_len l.set.base l.bit))) × (l.writer.before ≡ l.initial.writer.before)

@@ -2,7 +2,6 @@ use Rattle.std.proofs.Common.{◌≡◌, take}
 use Rattle.rtps_page.specs.ChartRoom.{given_from}
 use Rattle.rtps_page.proofs.chart_room.give_all.Given as goal
 
--- the rows so far had their turn
 abbrev pub invariant-loop-need : goal.invariant-loop-need
 invariant-loop-need l = record {
   room : l.left ≡ (given_from l.fn.turn l.fn.room (take l.need-index l.needs)).room;

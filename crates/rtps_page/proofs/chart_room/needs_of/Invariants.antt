@@ -5,7 +5,6 @@ use Rattle.rtps_page.specs.ChartRoom.{need_of}
 use Rattle.rtps_page.proofs.Written.{entries_by, placed_in}
 use Rattle.rtps_page.proofs.chart_room.needs_of.Given as goal
 
--- what the rows so far take, and how many entries the last writer has
 abbrev pub invariant-loop-row : goal.invariant-loop-row
 invariant-loop-row l = (intake : Intake) → IsIndexBy intake l.index → record {
   needs : l.needs.items ≡ map (λ row. need_of (placed_in intake.acts) (explanation_value row)) (take l.row-index l.rows);

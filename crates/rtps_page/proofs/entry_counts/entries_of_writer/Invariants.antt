@@ -3,7 +3,6 @@ use Rattle.rtps_audit.specs.Placed.{placed_value}
 use Rattle.rtps_page.proofs.Written.{entries_by}
 use Rattle.rtps_page.proofs.entry_counts.entries_of_writer.Given as goal
 
--- those of the acts so far
 abbrev pub invariant-loop-placed : goal.invariant-loop-placed
 invariant-loop-placed l = record {
   value : l.count ≡ length (entries_by l.fn.writer (map placed_value (take l.placed-index l.acts)));

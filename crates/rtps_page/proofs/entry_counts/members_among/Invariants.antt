@@ -3,7 +3,6 @@ use Rattle.std.specs.List.{range_with_len}
 use Rattle.rtps_ids.specs.NumberSet.{is_member}
 use Rattle.rtps_page.proofs.entry_counts.members_among.Given as goal
 
--- the numbers of the first bits
 abbrev pub invariant-loop-bit : goal.invariant-loop-bit
 invariant-loop-bit l = record {
   value : l.count ≡ length (filter (is_member l.set) (range_with_len l.set.base l.bit));

@@ -2,7 +2,6 @@ use Rattle.std.proofs.Common.{◌≡◌, ◌≤◌, ◌-◌, ◌++◌, drop, len
 use Rattle.rtps_page.specs.SafeText.{escape_in, safe_text}
 use Rattle.rtps_page.proofs.safe_text.push_safe.Given as goal
 
--- what stands for the text so far, and what is left
 abbrev pub invariant-runs : goal.invariant-runs
 invariant-runs l = (l.start ≤ length l.text) × (l.out.items ++ safe_text (escape_in l.place) (drop l.start l.text) ≡ l.initial.out.items ++ safe_text (escape_in l.place) l.text)
 

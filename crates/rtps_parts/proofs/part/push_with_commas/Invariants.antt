@@ -4,7 +4,6 @@ use Rattle.std.specs.Str.{IsAscii}
 use Rattle.rtps_parts.specs.Parts.{with_commas}
 use Rattle.rtps_parts.proofs.part.push_with_commas.Given as goal
 
--- the digits so far, and those that are left
 abbrev pub invariant-digits : goal.invariant-digits
 invariant-digits l = record {
   ascii : IsAscii l.rest;

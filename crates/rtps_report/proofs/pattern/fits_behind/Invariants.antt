@@ -2,7 +2,6 @@ use Rattle.std.proofs.Common.{◌≡◌, ◌+◌, ◌∷◌, length}
 use Rattle.rtps_report.specs.Patterns.{fits, star}
 use Rattle.rtps_report.proofs.pattern.fits_behind.Given as goal
 
--- what is left of the topic fits what is left of the pattern exactly where the whole does
 abbrev pub invariant-parts : goal.invariant-parts
 invariant-parts l = fits (star ∷ l.fn.pattern) l.fn.topic ≡ fits (star ∷ l.rest) l.left
 

@@ -3,7 +3,6 @@ use Rattle.rtps_evidence.specs.Explanation.{explanation_value}
 use Rattle.rtps_report.specs.ByTopic.{topics_of}
 use Rattle.rtps_report.proofs.topics.topics_of.Given as goal
 
--- the topics so far, and those of the rows that are left
 abbrev pub invariant-topics : goal.invariant-topics
 invariant-topics l = record {
   within : l.start ≤ length l.rows;

@@ -3,7 +3,6 @@ use Rattle.rtps_evidence.specs.Explanation.{explanation_value}
 use Rattle.rtps_report.specs.Totals.{AreWithin, totals_of}
 use Rattle.rtps_report.proofs.totals.totals_of.Given as goal
 
--- what is counted of the rows so far
 abbrev pub invariant-loop-row : goal.invariant-loop-row
 invariant-loop-row l = record {
   counted : l.totals ≡ totals_of l.from (map explanation_value (take l.row-index l.rows));

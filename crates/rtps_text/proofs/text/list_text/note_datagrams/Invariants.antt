@@ -3,7 +3,6 @@ use Rattle.rtps_report.specs.Vocabulary.{acts_in, IsMapOf}
 use Rattle.rtps_discovery.specs.Notice.{faults_in}
 use Rattle.rtps_text.proofs.text.list_text.note_datagrams.Given as goal
 
--- the map of the acts of the datagrams so far, and how many had a fault
 abbrev pub invariant-loop-octets : goal.invariant-loop-octets
 invariant-loop-octets l =
     (goal.iterator-loop-octets).can_next l.octets-iterator

@@ -2,6 +2,5 @@ use Rattle.std.proofs.Common.{◌≡◌, ◌++◌, take, flat_map, string_bytes}
 use Rattle.rtps_text.specs.ListText.{match_line}
 use Rattle.rtps_text.proofs.text.list_text.push_matches.Given as goal
 
--- the lines so far
 abbrev pub invariant-loop-found : goal.invariant-loop-found
 invariant-loop-found l = string_bytes l.text ≡ string_bytes l.initial.text ++ flat_map match_line (take l.found-index l.matches)

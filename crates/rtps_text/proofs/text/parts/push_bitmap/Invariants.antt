@@ -2,6 +2,5 @@ use Rattle.std.proofs.Common.{◌≡◌, ◌++◌, flat_map, string_bytes}
 use Rattle.rtps_text.specs.ShowText.{first_longs, long_digits}
 use Rattle.rtps_text.proofs.text.parts.push_bitmap.Given as goal
 
--- the first longs were appended
 abbrev pub invariant-loop-i : goal.invariant-loop-i
 invariant-loop-i l = string_bytes l.text ≡ string_bytes l.initial.text ++ flat_map long_digits (first_longs l.set l.i)

@@ -2,7 +2,6 @@ use Rattle.std.proofs.Common.{◌≡◌, ◌++◌, ◌+◌, length, string_bytes
 use Rattle.rtps_text.specs.ShowText.{text_from}
 use Rattle.rtps_text.proofs.text.show_text.push_datagrams.Given as goal
 
--- the lines so far, and those of the datagrams that are left
 abbrev pub invariant-loop-octets : goal.invariant-loop-octets
 invariant-loop-octets l =
     (goal.iterator-loop-octets).can_next l.octets-iterator

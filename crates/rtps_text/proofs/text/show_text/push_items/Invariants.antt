@@ -3,7 +3,6 @@ use Rattle.rtps_wire.specs.Reading.{outcomes_left}
 use Rattle.rtps_text.specs.ShowText.{IsTailIn, fragments_at, outcomes_text}
 use Rattle.rtps_text.proofs.text.show_text.push_items.Given as goal
 
--- the lines so far, and those of what is left; and the tail is one in the state
 abbrev pub invariant-items : goal.invariant-items
 invariant-items l =
     (string_bytes l.text ++ outcomes_text (fragments_at l.datagram.fragments l.datagram.octets.now) l.state (outcomes_left l.items) ≡ string_bytes l.initial.text ++ outcomes_text (fragments_at l.datagram.fragments l.datagram.octets.now) l.fn.start (outcomes_left l.fn.items))

@@ -3,7 +3,6 @@ use Rattle.rtps_evidence.specs.Explanation.{explanation_value}
 use Rattle.rtps_text.specs.ReportText.{explanation_text}
 use Rattle.rtps_text.proofs.text.why_text.push_rows.Given as goal
 
--- the lines so far
 abbrev pub invariant-loop-row : goal.invariant-loop-row
 invariant-loop-row l =
     string_bytes l.text ≡ string_bytes l.initial.text ++ flat_map (λ row. explanation_text (explanation_value row)) (take l.row-index l.rows)

@@ -5,7 +5,7 @@ use Rattle.rtps_capture.specs.declared.byte_range.ByteRange.{ByteRange}
 use Rattle.rtps_capture.specs.declared.captures.Captures.TheVariants.{Any, Classic}
 use Rattle.rtps_tool.specs.RecordingCapture.{octets_in, recording_of_capture, recording_told}
 use Rattle.rtps_tool.proofs.CaptureLemmas.{capture_fault, recording_told-is}
-use Rattle.rtps_tool.proofs.form.capture.read_capture.Goals as goal
+use Rattle.rtps_tool.proofs.form.frames.read_capture.Goals as goal
 
 pub returns-in_err-reading : goal.returns-in_err-reading
 unfolding recording_of_capture

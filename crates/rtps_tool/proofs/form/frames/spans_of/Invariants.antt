@@ -1,6 +1,6 @@
 use Rattle.std.proofs.Common.{◌≡◌, take}
 use Rattle.rtps_tool.proofs.CaptureLemmas.{ranges_of}
-use Rattle.rtps_tool.proofs.form.capture.spans_of.Given as goal
+use Rattle.rtps_tool.proofs.form.frames.spans_of.Given as goal
 
 -- the spans so far
 abbrev pub invariant-loop-range : goal.invariant-loop-range

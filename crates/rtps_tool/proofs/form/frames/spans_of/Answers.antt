@@ -3,7 +3,7 @@ use Rattle.std.proofs.lemmas.List.{take_all}
 use Rattle.rtps_capture.specs.Capture.{AreWithin}
 use Rattle.rtps_tool.specs.RecordingCapture.{octets_in}
 use Rattle.rtps_tool.proofs.CaptureLemmas.{pieces_octets, ranges_of, spans_within}
-use Rattle.rtps_tool.proofs.form.capture.spans_of.Goals as goal
+use Rattle.rtps_tool.proofs.form.frames.spans_of.Goals as goal
 
 pub returns-clause-octets : goal.returns-clause-octets
 returns-clause-octets c = λ octets.
