@@ -1,7 +1,7 @@
 """The text of `rtps-audit check`, from the values of a report: what a person and a test job ask of a recording.
 
 `check_lines` gives the lines, `because` the reasons for which the recording is not clean. Both are written from what is
-meant, and not from the program. The guide prints the tables ADVICE and NOTES.
+meant, and not from the program. The guide prints the table ADVICE.
 """
 
 # ---- what to do for a pair: of its verdict, the first case that fits

@@ -29,7 +29,7 @@ import sys
 import reference
 from asked import GREATEST, Asked
 from fragments import payloads_told
-from random_recordings import A, B, READERS, START, some_delivery, some_pieces, text_of_datagrams
+from random_recordings import A, READERS, START, some_delivery, some_pieces, text_of_datagrams
 from reference import answered, heard, kept, spoken
 
 GONE = ('gone',)

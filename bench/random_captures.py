@@ -1,7 +1,7 @@
 """Random captures, for comparisons with the second implementation: files of both forms with whole packets, pieces in every
 disorder and what is no UDP, some of them cut or changed.
 """
-from capture_writer import (ETHERNET, HOST, HOST_6, IPV4, IPV6, MICROSECONDS, NANOSECONDS, block, cooked_1, cooked_2, enhanced, ethernet,
+from capture_writer import (ETHERNET, HOST, HOST_6, IPV4, IPV6, MICROSECONDS, NANOSECONDS, block, cooked_1, cooked_2, enhanced,
                             extension, fragment, fragment_6, interface, old, option, packet, packet_6, record, section, simple, start,
                             summed, tagged, udp)
 from random_recordings import A, some_delivery

@@ -19,7 +19,7 @@ sys.dont_write_bytecode = True
 import program
 import capture_reader
 import reference
-from capture_writer import (ETHERNET, HOST, RAW_IP, block, capture, cooked_1, cooked_2, enhanced, ethernet, extension, fragment, fragment_6,
+from capture_writer import (ETHERNET, HOST, block, capture, cooked_1, cooked_2, enhanced, ethernet, extension, fragment, fragment_6,
                             interface, old, packet, packet_6, pcapng, record, section, simple, start, summed, tagged, udp, udp_4, udp_6)
 from captures import BASE, DATAGRAM, FRAMED, HEADER, SHOWN, audited, with_octets
 from program import ROOT, file_of, text_of

@@ -11,7 +11,7 @@ import sys
 
 sys.dont_write_bytecode = True
 from hostile import changed
-from program import ROOT, Counts, file_of, text_of
+from program import Counts, file_of, text_of
 from reference import recording_of
 
 CHANGED = ['complete', 'complete_with_a_gap', 'conflict', 'two_claims_in_one_datagram', 'readers_that_are_told_apart']

@@ -520,6 +520,7 @@ class PageTests(Counts):
                 tab = self.open(name, '#pair-1', dark=dark)
                 found = tab.evaluate('faintTexts(4.5)')
                 self.holds(f'{name}: contrast, {"dark" if dark else "light"}', [], found['faint'])
+                self.holds(f'{name}: there are texts', True, found['count'] > 10)
                 self.holds(f'{name}: by ear', [], tab.evaluate('unspoken()'))
                 tab.close()
 
