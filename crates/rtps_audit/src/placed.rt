@@ -41,6 +41,7 @@ fn body_of<'a>(body: &ActBody<'a>) -> ActBody<'a>
             number: fragment.number,
             told: fragment.told,
         }),
+        ActBody::NackFrag(nack_frag) => ActBody::NackFrag(*nack_frag),
     }
 }
 
