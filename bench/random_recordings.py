@@ -257,8 +257,8 @@ def some_delivery(rng, in_fragments=False):
     return datagrams
 
 
-TOPICS = b'pose', b'rt/odom', b'rt/scan', b'odom', b'a*b', b'aXbYbZc', b'', b'rt/\xff\x0a'
-PATTERNS = '*', '**', 'rt/*', '*/odom', '*odom', 'a*b', 'a*b*c', 'pose', 'p*e', '', 'rt', '*o*o*', 'rt/*\n', 'a*bc'
+TOPICS = b'pose', b'rt/odom', b'rt/odom', b'rt/scan', b'odom', b'/odom', b'a*b', b'aXbYbZc', b'', b'rt/\xff\x0a', b'rq/xRequest', b'rr/xReply', b'rq/xReply'
+PATTERNS = '*', '**', 'rt/*', '/*', '*/odom', '/odom', '*odom', 'a*b', 'a*b*c', 'pose', 'p*e', '', 'rt', '*o*o*', 'rt/*\n', 'a*bc', '* request', '/x reply', 'rq/*t'
 
 
 def names_of(topic):

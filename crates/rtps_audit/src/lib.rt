@@ -21,7 +21,7 @@ mod word;
 pub use announced_places::AnnouncedPlace;
 pub use answer::Answer;
 pub use index::Index;
-pub use placed::Placed;
+pub use placed::{Placed, place};
 pub use plain_judge::{judge, judge_by, judge_from};
 pub use report::{Counts, Report, Row, Unwatched, Watch, audit, audit_from, audit_watched};
 pub use rtps_coverage::{Coverage, MergedRanges, PlainRanges};

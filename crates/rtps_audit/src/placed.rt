@@ -46,7 +46,7 @@ fn body_of<'a>(body: &ActBody<'a>) -> ActBody<'a>
 }
 
 /// A copy of an act, in its datagram.
-fn place<'a>(datagram: usize, act: &Act<'a>) -> Placed<'a>
+pub fn place<'a>(datagram: usize, act: &Act<'a>) -> Placed<'a>
     ensures datagram { result.datagram ≡ datagram }
     ensures act { act_value result.act ≡ act_value act.now }
 {

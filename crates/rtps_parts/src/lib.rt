@@ -2,9 +2,12 @@
 #![tactic(auto)]
 
 mod name;
+pub mod laws;
 mod part;
+mod ros;
 mod table;
 
 pub use name::{NameOctets, NameText};
 pub use part::{Part, Words, push_joined, push_rendered, render, words_for};
+pub use ros::{RosTopic, TypeText, ros_topic};
 pub use table::push_table;

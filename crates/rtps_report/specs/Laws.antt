@@ -15,6 +15,9 @@ use Rattle.rtps_fragments.specs.Sending.{sending_of}
 use Rattle.rtps_fragments.specs.declared.fragments.Fragments.TheVariants as fragments
 use Rattle.rtps_report.specs.FullReport.{AskedValue, IsExplainedAs, IsFullReport, IsPartedAs, RecordingValue, ReportValue, rows_of}
 use Rattle.rtps_report.specs.Reported.{IsReportAs}
+use Rattle.rtps_report.specs.Talk.{TalkValue}
+use Rattle.rtps_discovery.specs.declared.matching.Pair.{Pair}
+use Rattle.rtps_ids.specs.declared.identity.GuidPrefix.{GuidPrefix}
 use Rattle.rtps_report.specs.RowFacts.{left_in, row_from}
 
 -- of each recording there is one such text, and one ending
@@ -73,12 +76,23 @@ StaysWithoutFragments IsText =
     (asked : AskedValue) (recording : RecordingValue) (text : List ℕ) (ending : Ending) → IsWithoutFragments recording.datagrams
     → IsText (record asked { fragments = fragments.Read }) recording text ending ↔ IsText (record asked { fragments = fragments.Skipped }) recording text ending
 
+-- the same is told of who does not talk
+pub record TellSame (one other : TalkValue) : Type 0 where
+  pub hosts : (prefix : GuidPrefix) → one.hosts prefix ≡ other.hosts prefix
+  pub silence : (pair : Pair) → one.silence pair ≡ other.silence pair
+  pub unmatched : one.unmatched ≡ other.unmatched
+  pub one_way : one.one_way ≡ other.one_way
+  pub best_effort : one.best_effort ≡ other.best_effort
+  pub best_effort_total : one.best_effort_total ≡ other.best_effort_total
+  pub participants : one.participants ≡ other.participants
+
 -- two reports tell the same
 pub record AreSame (one other : ReportValue) : Type 0 where
   pub rows : rows_of one ≡ rows_of other
   pub counts : one.explained.counts ≡ other.explained.counts
   pub left_out : map explanation_value one.left_out ≡ map explanation_value other.left_out
   pub ending : one.ending ≡ other.ending
+  pub talk : TellSame one.talk other.talk
 
 -- of what is asked of a recording there is one report
 abbrev pub HasOneFullReport : Type 0
